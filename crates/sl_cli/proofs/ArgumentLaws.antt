@@ -1,7 +1,8 @@
 -- Words of several parts: what is read of the parts one by one is what the whole word stands for.
 use Rattle.sl_area.specs.Places.{is_base}
 use Rattle.sl_area.specs.Layouts.{Sizes, layout_of}
-use Rattle.sl_cli.specs.Arguments.{is_new_lockspace, is_stretch, is_stretch_size, is_stretch_start, new_lockspace, stretch_of}
+use Rattle.sl_cli.specs.Arguments.{is_new_lockspace, is_stretch, is_stretch_size, is_stretch_start, new_lockspace, paired_said, stretch_of}
+use Rattle.sl_cli.specs.CommandWords.{is_format}
 use Rattle.sl_cli.specs.Readings.{lockspace_read, no_host, number_part, stretch_read, text_part, three_read}
 use Rattle.sl_text.proofs.PartLaws.{four_read-is}
 use Rattle.sl_text.specs.Forms.{word_at}
@@ -11,7 +12,7 @@ use Rattle.sl_words.specs.Results.{ensure, ◌>>=◌}
 use Rattle.sl_words.specs.Words.{choose}
 use Rattle.std.proofs.Common.{Bool, List, [], ap, arith, eqb, false, length, refl, suc, sym, true, ℕ, ◌&&◌, ◌≡◌, ◌∙◌, ◌∷◌}
 use Rattle.std.proofs.lemmas.Bool.{ne_eqb}
-use Rattle.std.specs.Prelude.{Err, None, Ok, Result, if◌then◌else◌}
+use Rattle.std.specs.Prelude.{Err, None, Ok, Option, Result, Some, if◌then◌else◌, is_some}
 use Rattle.std.specs.Result.{result_ok}
 
 -- A lockspace's word.
@@ -60,6 +61,11 @@ stretch_read-is sector w =
     three_parts (text_part is_path) (number_part (is_stretch_start sector)) (number_part (is_stretch_size sector))
     (λ path offset size. record { path = path; offset = offset; size = size }) (unread 58 w).column (unread 58 w).words
 
+-- Of two tests the first fails.
+pub no_first : {A B : Type 0} (a b : Bool) (x : A) (y : B) → choose a x ≡ None → choose (a && b) y ≡ None
+no_first true b x y h = absurd cc
+no_first false b x y h = refl
+
 -- Of two tests the second fails.
 pub no_second : {A B : Type 0} (a b : Bool) (x : A) (y : B) → choose b x ≡ None → choose (a && b) y ≡ None
 no_second true true x y h = absurd cc
@@ -72,3 +78,16 @@ no_third true true true x y h = absurd cc
 no_third true true false x y h = refl
 no_third true false c x y h = refl
 no_third false b c x y h = refl
+
+-- Of four tests the fourth fails.
+pub no_fourth : {A B : Type 0} (a b c d : Bool) (x : A) (y : B) → choose d x ≡ None → choose (a && (b && (c && d))) y ≡ None
+no_fourth true true true true x y h = absurd cc
+no_fourth true true true false x y h = refl
+no_fourth true true false d x y h = refl
+no_fourth true false c d x y h = refl
+no_fourth false b c d x y h = refl
+
+-- The word of a format says pairs where it is 2.
+pub format_said : (f : Option (List ℕ)) → paired_said f ≡ choose (is_format f) (is_some f)
+format_said None = refl
+format_said (Some w) = refl

@@ -95,7 +95,9 @@ replay = built_shape (codes "replay") []
 
 -- The words of `gen`: each by its place.
 abbrev pub gen_rules : List Rule
-gen_rules = rule_with (codes "seed") None (Some 1) ∷ rule_with (codes "hosts") None (Some 2) ∷ rule_with (codes "events") None (Some 3) ∷ []
+gen_rules =
+    rule_with (codes "seed") None (Some 1) ∷ rule_with (codes "hosts") None (Some 2) ∷ rule_with (codes "events") None (Some 3)
+    ∷ rule_with (codes "format") None (Some 4) ∷ []
 
 abbrev pub generate : Shape
 generate = built_shape (codes "gen") gen_rules

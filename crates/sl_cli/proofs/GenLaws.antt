@@ -1,4 +1,4 @@
--- The parser takes the words behind `gen` that the reader takes, and finds in them what the reader finds: up to three words that are no options,
+-- The parser takes the words behind `gen` that the reader takes, and finds in them what the reader finds: up to four words that are no options,
 -- one behind the other, and a first `--` anywhere.
 use Rattle.clap.proofs.OnLiterals.{clap_on_literals}
 use Rattle.clap.specs.Faults.{check_fault, settle_fault, turn_fault, walk_fault}
@@ -9,7 +9,7 @@ use Rattle.sl_cli.proofs.BuiltCommand.{gen_rules, generate, no_defaults, no_faul
 use Rattle.sl_cli.proofs.Letters.{behind, first_char}
 use Rattle.sl_cli.proofs.Steps.{AreTexts, word_cases}
 use Rattle.sl_cli.proofs.Turns.{Fails, Pending, Plain, fails_with, first_fails, is_short, no_dashes, no_long, walk_at}
-use Rattle.sl_cli.specs.CommandWords.{is_machine_count, is_seed, seeding_in, three_in, use_of, without_dashes}
+use Rattle.sl_cli.specs.CommandWords.{is_event_count, is_machine_count, is_seed, seeded_in, seeding_in, use_of, without_dashes}
 use Rattle.sl_cli.specs.Parses.{seeding_of}
 use Rattle.sl_cli.specs.declared.reading.Words.{Words}
 use Rattle.std.proofs.Common.{Bool, List, None, Option, Some, [], ap, eqb, false, inl, inr, refl, subst, sym, true, ℕ, ◌&&◌, ◌≡◌, ◌∙◌, ◌∷◌, ◌⊎◌}
@@ -25,14 +25,16 @@ data Got : Type 0 where
   none_got : Got
   one_got : Text → Got
   two_got : Text → Text → Got
-  all_got : Text → Text → Text → Got
+  three_got : Text → Text → Text → Got
+  all_got : Text → Text → Text → Text → Got
 
 -- They stand before what is left.
 abbrev before : Got → List Text → List Text
 before none_got ws = ws
 before (one_got s) ws = s ∷ ws
 before (two_got s h) ws = s ∷ h ∷ ws
-before (all_got s h e) ws = s ∷ h ∷ e ∷ ws
+before (three_got s h e) ws = s ∷ h ∷ e ∷ ws
+before (all_got s h e f) ws = s ∷ h ∷ e ∷ f ∷ ws
 
 abbrev row : Text → Text → Row
 row name v = row_for (use_of name v)
@@ -42,19 +44,22 @@ abbrev rows_at : Got → List Row
 rows_at none_got = []
 rows_at (one_got s) = []
 rows_at (two_got s h) = row (codes "seed") s ∷ []
-rows_at (all_got s h e) = row (codes "seed") s ∷ row (codes "hosts") h ∷ []
+rows_at (three_got s h e) = row (codes "seed") s ∷ row (codes "hosts") h ∷ []
+rows_at (all_got s h e f) = row (codes "seed") s ∷ row (codes "hosts") h ∷ row (codes "events") e ∷ []
 
 abbrev pending_at : Got → Pending
 pending_at none_got = None
 pending_at (one_got s) = Some (codes "seed", s ∷ [])
 pending_at (two_got s h) = Some (codes "hosts", h ∷ [])
-pending_at (all_got s h e) = Some (codes "events", e ∷ [])
+pending_at (three_got s h e) = Some (codes "events", e ∷ [])
+pending_at (all_got s h e f) = Some (codes "format", f ∷ [])
 
 abbrev place_at : Got → ℕ
 place_at none_got = 1
 place_at (one_got s) = 2
 place_at (two_got s h) = 3
-place_at (all_got s h e) = 4
+place_at (three_got s h e) = 4
+place_at (all_got s h e f) = 5
 
 abbrev stand : Got → Bool → Walk
 stand g trailing = walk_at (rows_at g) (pending_at g) idle (place_at g) trailing
@@ -76,7 +81,7 @@ end_rows w ws = settled_rows gen_rules (held_after w ws).pending (held_after w w
 
 -- What the rows ask for.
 abbrev says : List Row → Option Words
-says rows = seeding_in (seeding_of rows).seed (seeding_of rows).hosts (seeding_of rows).events
+says rows = seeding_in (seeding_of rows).seed (seeding_of rows).hosts (seeding_of rows).events (seeding_of rows).format
 
 -- ---- one word
 
@@ -98,16 +103,22 @@ two_more s word true v = (refl, refl)
 two_more s word false p = (rw (p.no_dashes, p.no_long, p.no_short) refl, rw (p.no_dashes, p.no_long, p.no_short) refl)
 
 three_more : (s h word : Text) (trailing : Bool) → IsValue trailing word
-    → (turn (stand (two_got s h) trailing) word ≡ []) × (after (stand (two_got s h) trailing) word ≡ stand (all_got s h word) trailing)
+    → (turn (stand (two_got s h) trailing) word ≡ []) × (after (stand (two_got s h) trailing) word ≡ stand (three_got s h word) trailing)
 unfolding clap_on_literals
 three_more s h word true v = (refl, refl)
 three_more s h word false p = (rw (p.no_dashes, p.no_long, p.no_short) refl, rw (p.no_dashes, p.no_long, p.no_short) refl)
 
--- A fourth is too many.
-too_many : (s h e word : Text) (trailing : Bool) → IsValue trailing word → Fails (turn (stand (all_got s h e) trailing) word)
+four_more : (s h e word : Text) (trailing : Bool) → IsValue trailing word
+    → (turn (stand (three_got s h e) trailing) word ≡ []) × (after (stand (three_got s h e) trailing) word ≡ stand (all_got s h e word) trailing)
 unfolding clap_on_literals
-too_many s h e word true v = fails_with _ _
-too_many s h e word false p = rw (p.no_dashes, p.no_long, p.no_short) (fails_with _ _)
+four_more s h e word true v = (refl, refl)
+four_more s h e word false p = (rw (p.no_dashes, p.no_long, p.no_short) refl, rw (p.no_dashes, p.no_long, p.no_short) refl)
+
+-- A fifth is too many.
+too_many : (s h e f word : Text) (trailing : Bool) → IsValue trailing word → Fails (turn (stand (all_got s h e f) trailing) word)
+unfolding clap_on_literals
+too_many s h e f word true v = fails_with _ _
+too_many s h e f word false p = rw (p.no_dashes, p.no_long, p.no_short) (fails_with _ _)
 
 dashes_turn : (rows : List Row) (pending : Pending) (position : ℕ) → turn (walk_at rows pending idle position false) (45 ∷ 45 ∷ []) ≡ []
 dashes_turn rows pending position = refl
@@ -147,8 +158,8 @@ left_of false ws = without_dashes ws
 -- Both take the words and say the same, or neither does.
 abbrev Agree : Got → Bool → List Text → Type 0
 Agree g trailing ws =
-    ((rest (stand g trailing) ws ≡ []) × (says (end_rows (stand g trailing) ws) ≡ three_in (before g (left_of trailing ws))))
-    ⊎ (Fails (rest (stand g trailing) ws) × (three_in (before g (left_of trailing ws)) ≡ None))
+    ((rest (stand g trailing) ws ≡ []) × (says (end_rows (stand g trailing) ws) ≡ seeded_in (before g (left_of trailing ws))))
+    ⊎ (Fails (rest (stand g trailing) ws) × (seeded_in (before g (left_of trailing ws)) ≡ None))
 
 value_left : (word : Text) (ws : List Text) (trailing : Bool) → IsValue trailing word → left_of trailing (word ∷ ws) ≡ word ∷ left_of trailing ws
 value_left word ws true v = refl
@@ -159,14 +170,14 @@ carried : (g n : Got) (trailing behind : Bool) (word : Text) (ws : List Text) �
     → before g (left_of trailing (word ∷ ws)) ≡ before n (left_of behind ws) → Agree n behind ws → Agree g trailing (word ∷ ws)
 carried g n trailing behind word ws passes goes same (inl both) = inl (
   turn_passes (stand g trailing) (stand n behind) word ws passes goes ∙ both.0,
-  ap says (rows_pass (stand g trailing) (stand n behind) word ws goes) ∙ both.1 ∙ ap three_in (sym same),
+  ap says (rows_pass (stand g trailing) (stand n behind) word ws goes) ∙ both.1 ∙ ap seeded_in (sym same),
 )
 carried g n trailing behind word ws passes goes same (inr neither) = inr (
   λ none. neither.0 (sym (turn_passes (stand g trailing) (stand n behind) word ws passes goes) ∙ none),
-  ap three_in same ∙ neither.1,
+  ap seeded_in same ∙ neither.1,
 )
 
-refused : (g : Got) (trailing : Bool) (word : Text) (ws : List Text) → Fails (turn (stand g trailing) word) → three_in (before g (left_of trailing (word ∷ ws))) ≡ None
+refused : (g : Got) (trailing : Bool) (word : Text) (ws : List Text) → Fails (turn (stand g trailing) word) → seeded_in (before g (left_of trailing (word ∷ ws))) ≡ None
     → Agree g trailing (word ∷ ws)
 refused g trailing word ws fails says_none = inr (turn_fails (stand g trailing) word ws fails, says_none)
 
@@ -180,8 +191,10 @@ at_end (one_got s) true = inl (refl, refl)
 at_end (one_got s) false = inl (refl, refl)
 at_end (two_got s h) true = inl (refl, refl)
 at_end (two_got s h) false = inl (refl, refl)
-at_end (all_got s h e) true = inl (refl, refl)
-at_end (all_got s h e) false = inl (refl, refl)
+at_end (three_got s h e) true = inl (refl, refl)
+at_end (three_got s h e) false = inl (refl, refl)
+at_end (all_got s h e f) true = inl (refl, refl)
+at_end (all_got s h e f) false = inl (refl, refl)
 
 -- ---- a value
 
@@ -194,9 +207,12 @@ value_agrees (one_got s) trailing word ws v later =
     carried (one_got s) (two_got s word) trailing trailing word ws more.0 more.1 (ap (λ us. s ∷ us) (value_left word ws trailing v)) (later (two_got s word))
 value_agrees (two_got s h) trailing word ws v later =
     let more = three_more s h word trailing v in
-    carried (two_got s h) (all_got s h word) trailing trailing word ws more.0 more.1 (ap (λ us. s ∷ h ∷ us) (value_left word ws trailing v)) (later (all_got s h word))
-value_agrees (all_got s h e) trailing word ws v later =
-    refused (all_got s h e) trailing word ws (too_many s h e word trailing v) (ap (λ us. three_in (s ∷ h ∷ e ∷ us)) (value_left word ws trailing v))
+    carried (two_got s h) (three_got s h word) trailing trailing word ws more.0 more.1 (ap (λ us. s ∷ h ∷ us) (value_left word ws trailing v)) (later (three_got s h word))
+value_agrees (three_got s h e) trailing word ws v later =
+    let more = four_more s h e word trailing v in
+    carried (three_got s h e) (all_got s h e word) trailing trailing word ws more.0 more.1 (ap (λ us. s ∷ h ∷ e ∷ us) (value_left word ws trailing v)) (later (all_got s h e word))
+value_agrees (all_got s h e f) trailing word ws v later =
+    refused (all_got s h e f) trailing word ws (too_many s h e f word trailing v) (ap (λ us. seeded_in (s ∷ h ∷ e ∷ f ∷ us)) (value_left word ws trailing v))
 
 -- ---- a word that looks like an option
 
@@ -204,18 +220,23 @@ and_false : (b : Bool) → (b && false) ≡ false
 and_false true = refl
 and_false false = refl
 
--- It is no number.
-no_number : (g : Got) (c : ℕ) (cs : Text) (ws : List Text) → three_in (before g ((45 ∷ c ∷ cs) ∷ ws)) ≡ None
+-- It is no number, and no format.
+no_number : (g : Got) (c : ℕ) (cs : Text) (ws : List Text) → seeded_in (before g ((45 ∷ c ∷ cs) ∷ ws)) ≡ None
 no_number none_got c cs [] = refl
 no_number none_got c cs (x ∷ []) = refl
 no_number none_got c cs (x ∷ y ∷ []) = refl
-no_number none_got c cs (x ∷ y ∷ z ∷ ws) = refl
+no_number none_got c cs (x ∷ y ∷ z ∷ []) = refl
+no_number none_got c cs (x ∷ y ∷ z ∷ u ∷ ws) = refl
 no_number (one_got s) c cs [] = refl
 no_number (one_got s) c cs (x ∷ []) = rw (and_false (is_seed s)) refl
-no_number (one_got s) c cs (x ∷ y ∷ ws) = refl
+no_number (one_got s) c cs (x ∷ y ∷ []) = rw (and_false (is_seed s)) refl
+no_number (one_got s) c cs (x ∷ y ∷ z ∷ ws) = refl
 no_number (two_got s h) c cs [] = rw (and_false (is_machine_count h)) (rw (and_false (is_seed s)) refl)
-no_number (two_got s h) c cs (x ∷ ws) = refl
-no_number (all_got s h e) c cs ws = refl
+no_number (two_got s h) c cs (x ∷ []) = rw (and_false (is_machine_count h)) (rw (and_false (is_seed s)) refl)
+no_number (two_got s h) c cs (x ∷ y ∷ ws) = refl
+no_number (three_got s h e) c cs [] = rw (and_false (is_event_count e)) (rw (and_false (is_machine_count h)) (rw (and_false (is_seed s)) refl))
+no_number (three_got s h e) c cs (x ∷ ws) = refl
+no_number (all_got s h e f) c cs ws = refl
 
 -- It stays where it is.
 hyphen_left : (c : ℕ) (cs : Text) (ws : List Text) → bytes_eq (45 ∷ c ∷ cs) (45 ∷ 45 ∷ []) ≡ false → without_dashes ((45 ∷ c ∷ cs) ∷ ws) ≡ (45 ∷ c ∷ cs) ∷ without_dashes ws
@@ -232,8 +253,8 @@ long_agrees g c cs ws =
 
 short_agrees : (g : Got) (c x : ℕ) (cs : Text) (ws : List Text) → eqb c 45 ≡ false → slice_get (chars (c ∷ cs)) 0 ≡ Some x → Agree g false ((45 ∷ c ∷ cs) ∷ ws)
 short_agrees g c x cs ws no_hyphen first =
-    let none : three_in (before g (without_dashes ((45 ∷ c ∷ cs) ∷ ws))) ≡ None =
-    ap (λ us. three_in (before g us)) (hyphen_left c cs ws (no_dashes c cs no_hyphen)) ∙ no_number g c cs (without_dashes ws) in
+    let none : seeded_in (before g (without_dashes ((45 ∷ c ∷ cs) ∷ ws))) ≡ None =
+    ap (λ us. seeded_in (before g us)) (hyphen_left c cs ws (no_dashes c cs no_hyphen)) ∙ no_number g c cs (without_dashes ws) in
     refused g false (45 ∷ c ∷ cs) ws (short_fails (rows_at g) (pending_at g) (place_at g) c x cs no_hyphen first) none
 
 two_hyphens : (g : Got) (cs : Text) (ws : List Text) → Agree g true ws → Agree g false ((45 ∷ 45 ∷ cs) ∷ ws)
@@ -272,7 +293,7 @@ gen_level ws =
 
 -- The level's faults and rows against what the reader says.
 pub gen_read : (ws : List Text) → AreTexts ws
-    → ((level generate ws ≡ []) × (says (rows_after gen_rules [] ws) ≡ three_in (without_dashes ws))) ⊎ (Fails (level generate ws) × (three_in (without_dashes ws) ≡ None))
+    → ((level generate ws ≡ []) × (says (rows_after gen_rules [] ws) ≡ seeded_in (without_dashes ws))) ⊎ (Fails (level generate ws) × (seeded_in (without_dashes ws) ≡ None))
 gen_read ws texts = elim (all_agree ws none_got texts) [
   | inl both ↦ inl (gen_level ws ∙ both.0, ap says (no_defaults (end_rows (stand none_got false) ws) gen_rules refl) ∙ both.1)
   | inr neither ↦ inr (λ none. neither.0 (sym (gen_level ws) ∙ none), neither.1)

@@ -1,4 +1,5 @@
 pub mod ActionTexts
+pub mod AddedRules
 pub mod ArgumentLaws
 pub mod ArgumentTexts
 pub mod BareCommands

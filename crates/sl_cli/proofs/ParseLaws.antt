@@ -8,7 +8,7 @@ use Rattle.clap.specs.declared.error.Error.{Error}
 use Rattle.clap.specs.declared.error.kind.ErrorKind.TheVariants as kind
 use Rattle.sl_cli.specs.CommandLine.{command_line}
 use Rattle.sl_cli.specs.declared.reading.WordsError.{WordsError}
-use Rattle.std.proofs.Common.{Bool, Err, Result, [], ap, inl, inr, refl, subst, true, ◌≡◌, ◌∙◌}
+use Rattle.std.proofs.Common.{Err, Result, [], ap, inl, inr, refl, subst, true, ◌≡◌, ◌∙◌}
 
 line_is_simple : is_simple command_line ≡ true
 unfolding clap_on_literals

@@ -1,7 +1,7 @@
 -- Words in any order are read, and no others are.
 use Rattle.sl_cli.proofs.ActionTexts.{actions_have_one_text}
 use Rattle.sl_cli.specs.Actions.{action_in}
-use Rattle.sl_cli.specs.CommandWords.{Taken, Use, command_in, ends_here, folder_in, given_by, is_event_count, is_given, is_machine_count, is_only, is_plain, is_seed, nothing_taken, option_named, three_in, use_of, uses_from, with_use, without_dashes}
+use Rattle.sl_cli.specs.CommandWords.{Taken, Use, command_in, ends_here, folder_in, given_by, is_event_count, is_format, is_given, is_machine_count, is_only, is_plain, is_seed, nothing_taken, option_named, seeded_in, use_of, uses_from, with_use, without_dashes}
 use Rattle.sl_cli.specs.Spellings.{AsksFor, IsAsked, OnlyItsWordsAskForAnAction, OptionsComeInAnyOrder, are_apart, is_use, letter_named, option_words, spelled, use_words}
 use Rattle.sl_cli.specs.declared.reading.Words.TheVariants.{Direct, Generate, Help, Live, Replay, Version}
 use Rattle.sl_direct.specs.declared.action.Action.{Action}
@@ -127,16 +127,19 @@ no_replay : (b : Bool) (a : Action) → choose b Replay ≡ Some (Direct a) → 
 no_replay true a h = absurd cc
 no_replay false a h = absurd cc
 
-no_seed : (b : Bool) (s h e : ℕ) (a : Action) → choose b (Generate s h e) ≡ Some (Direct a) → ⊥
-no_seed true s h e a is = absurd cc
-no_seed false s h e a is = absurd cc
+no_seed : (b : Bool) (s h e : ℕ) (paired : Bool) (a : Action) → choose b (Generate s h e paired) ≡ Some (Direct a) → ⊥
+no_seed true s h e paired a is = absurd cc
+no_seed false s h e paired a is = absurd cc
 
-no_gen : (ws : List (List ℕ)) (a : Action) → three_in ws ≡ Some (Direct a) → ⊥
+no_gen : (ws : List (List ℕ)) (a : Action) → seeded_in ws ≡ Some (Direct a) → ⊥
 no_gen [] a h = absurd cc
 no_gen (s ∷ []) a h = absurd cc
 no_gen (s ∷ m ∷ []) a h = absurd cc
-no_gen (s ∷ m ∷ e ∷ []) a h = no_seed (is_seed s && (is_machine_count m && is_event_count e)) (number_of s) (number_of m) (number_of e) a h
-no_gen (s ∷ m ∷ e ∷ w ∷ ws) a h = absurd cc
+no_gen (s ∷ m ∷ e ∷ []) a h =
+    no_seed (is_seed s && (is_machine_count m && (is_event_count e && true))) (number_of s) (number_of m) (number_of e) false a h
+no_gen (s ∷ m ∷ e ∷ f ∷ []) a h =
+    no_seed (is_seed s && (is_machine_count m && (is_event_count e && is_format (Some f)))) (number_of s) (number_of m) (number_of e) true a h
+no_gen (s ∷ m ∷ e ∷ f ∷ w ∷ ws) a h = absurd cc
 
 no_folder : (o : Option (List ℕ)) (a : Action) → option_map (λ w. Live w) o ≡ Some (Direct a) → ⊥
 no_folder None a h = absurd cc

@@ -14,9 +14,11 @@ direct_app =
     (option_rule (codes "lockspace") 115)) (option_rule (codes "resource") 114)) (option_rule (codes "hosts") 110)) (option_rule (codes "stretch") 100))
     (option_rule (codes "geometry") 103)) (option_rule (codes "format") 118)
 
--- `gen SEED HOSTS EVENTS`.
+-- `gen SEED HOSTS EVENTS FORMAT`, of which the last word may be left out.
 abbrev pub gen_app : App
-gen_app = with_rule (with_rule (with_rule (new_app (codes "gen")) (new_rule (codes "seed"))) (new_rule (codes "hosts"))) (new_rule (codes "events"))
+gen_app =
+    with_rule (with_rule (with_rule (with_rule (new_app (codes "gen")) (new_rule (codes "seed"))) (new_rule (codes "hosts"))) (new_rule (codes "events")))
+    (new_rule (codes "format"))
 
 -- `live FOLDER`.
 abbrev pub live_app : App

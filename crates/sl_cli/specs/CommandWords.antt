@@ -116,21 +116,29 @@ is_machine_count w = is_number_that (is_in_range 1 16) w
 abbrev pub is_event_count : List ℕ → Bool
 is_event_count w = is_number_that (is_in_range 0 1000000) w
 
--- The words of all three, each where it was given.
+-- .. of a format, where there is one: 2, where areas have pairs.
+abbrev pub is_format : Option (List ℕ) → Bool
+is_format None = true
+is_format (Some w) = bytes_eq w (codes "2")
+
+-- The words of all four, each where it was given.
 pub record Seeding : Type 0 where
   pub seed : Option (List ℕ)
   pub hosts : Option (List ℕ)
   pub events : Option (List ℕ)
+  pub format : Option (List ℕ)
 
 -- What they ask for.
-abbrev pub seeding_in : Option (List ℕ) → Option (List ℕ) → Option (List ℕ) → Option Words
-seeding_in (Some s) (Some h) (Some e) = choose (is_seed s && (is_machine_count h && is_event_count e)) (Generate (number_of s) (number_of h) (number_of e))
-seeding_in s h e = None
+abbrev pub seeding_in : Option (List ℕ) → Option (List ℕ) → Option (List ℕ) → Option (List ℕ) → Option Words
+seeding_in (Some s) (Some h) (Some e) f =
+    choose (is_seed s && (is_machine_count h && (is_event_count e && is_format f))) (Generate (number_of s) (number_of h) (number_of e) (is_some f))
+seeding_in s h e f = None
 
--- Three words, and no more.
-abbrev pub three_in : List (List ℕ) → Option Words
-three_in (s ∷ h ∷ e ∷ []) = seeding_in (Some s) (Some h) (Some e)
-three_in ws = None
+-- Three words, or a fourth for the format, and no more.
+abbrev pub seeded_in : List (List ℕ) → Option Words
+seeded_in (s ∷ h ∷ e ∷ []) = seeding_in (Some s) (Some h) (Some e) None
+seeded_in (s ∷ h ∷ e ∷ f ∷ []) = seeding_in (Some s) (Some h) (Some e) (Some f)
+seeded_in ws = None
 
 -- The words without the first `--`.
 abbrev pub without_dashes : List (List ℕ) → List (List ℕ)
@@ -139,7 +147,7 @@ without_dashes (w ∷ ws) = if bytes_eq w (codes "--") then ws else w ∷ withou
 
 -- What the words behind `gen` say.
 abbrev pub gen_in : List (List ℕ) → Option Words
-gen_in ws = three_in (without_dashes ws)
+gen_in ws = seeded_in (without_dashes ws)
 
 -- ---- what is given to `live`
 

@@ -22,9 +22,14 @@ given_in rows = record {
   format = first_of (codes "format") rows;
 }
 
--- The words of a seed, of hosts and of events, by what was found.
+-- The words of a seed, of hosts, of events and of a format, by what was found.
 abbrev pub seeding_of : List Row → Seeding
-seeding_of rows = record { seed = first_of (codes "seed") rows; hosts = first_of (codes "hosts") rows; events = first_of (codes "events") rows }
+seeding_of rows = record {
+  seed = first_of (codes "seed") rows;
+  hosts = first_of (codes "hosts") rows;
+  events = first_of (codes "events") rows;
+  format = first_of (codes "format") rows;
+}
 
 -- The command of this name that was met, with what was given to it.
 abbrev pub named_met : Text → List Row → Option Met
@@ -43,7 +48,7 @@ met_in (Some p) = named_met p.0 p.1
 -- What it says.
 abbrev pub said_by : Met → Option Words
 said_by Met.Replay = Some Replay
-said_by (Met.Generate s) = seeding_in s.seed s.hosts s.events
+said_by (Met.Generate s) = seeding_in s.seed s.hosts s.events s.format
 said_by (Met.Direct given) = option_map (λ a. Direct a) (action_in given)
 said_by (Met.Live folder) = option_map (λ w. Live w) folder
 

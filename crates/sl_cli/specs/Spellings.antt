@@ -48,7 +48,7 @@ IsAsked (Dump path offset size g) = IsStretchArg g.sector path offset size × Is
 -- Words that say what can be done.
 abbrev pub CanBeDone : Words → Type 0
 CanBeDone (Direct a) = IsAction a
-CanBeDone (Generate seed hosts events) = (1 ≤ hosts) × (hosts ≤ 16) × (events ≤ 1000000)
+CanBeDone (Generate seed hosts events paired) = (1 ≤ hosts) × (hosts ≤ 16) × (events ≤ 1000000)
 CanBeDone w = Unit {0}
 
 -- ---- its words

@@ -4,13 +4,13 @@ ghost use Rattle.clap.specs.Matches.{found_of};
 ghost use Rattle.clap.specs.Simple.{subcommand_rows_of};
 ghost use Rattle.clap.specs.Walk.{first_of, rows_of};
 ghost use Rattle.sl_cli.specs.Actions.{action_in, area_in, dump_in, init_in, lockspace_in, other_in, read_leader_in, resource_in, upgrade_in};
-ghost use Rattle.sl_cli.specs.CommandWords.{is_event_count, is_machine_count, is_seed, seeding_in};
-ghost use Rattle.sl_cli.specs.Parses.{given_in, met_in, seeding_of};
+ghost use Rattle.sl_cli.specs.CommandWords.{is_event_count, is_format, is_machine_count, is_seed, seeding_in};
+ghost use Rattle.sl_cli.specs.Parses.{given_in, met_in, named_met, seeding_of};
 ghost use Rattle.sl_cli.specs.Spellings.{CanBeDone};
 ghost use Rattle.sl_text.specs.Numbers.{number_of};
 ghost use Rattle.sl_words.specs.Words.{choose};
 ghost use Rattle.sl_cli.specs.declared.reading.Words.TheVariants.{Live};
-ghost use Rattle.std.specs.Prelude.{IfOk, IfSome, codes, option_map, ◌≡◌, ◌≤◌};
+ghost use Rattle.std.specs.Prelude.{IfOk, IfSome, codes, is_some, option_map, ◌≡◌, ◌≤◌};
 
 use crate::arguments::{lockspace_of, paired_said, resource_of, sizes_for, sizes_said, stretch_of};
 use crate::folder::Folder;
@@ -59,7 +59,6 @@ fn value_of<'a>(matches: &ArgMatches<'a>, id: &str) -> Option<&'a str>
 }
 
 /// A new lockspace, for so many hosts.
-#[tactic(auto, using(crate::proofs::ArgumentLaws::no_second))]
 fn new_lockspace(lockspace: &str, hosts: &str, most: &Geometry) -> Option<Action>
     ensures { result ≡ lockspace_in most.now lockspace.now hosts.now }
 {
@@ -70,7 +69,6 @@ fn new_lockspace(lockspace: &str, hosts: &str, most: &Geometry) -> Option<Action
 }
 
 /// A new resource, for so many hosts, with pairs or without.
-#[tactic(auto, using(crate::proofs::ArgumentLaws::no_second))]
 fn new_resource(resource: &str, hosts: &str, most: &Geometry, paired: bool) -> Option<Action>
     ensures { result ≡ resource_in paired most.now resource.now hosts.now }
 {
@@ -199,12 +197,13 @@ impl<'a> Given<'a> {
     }
 }
 
-/// The words of a seed, of a number of hosts and of a number of events: each where it was given.
+/// The words of a seed, of a number of hosts, of a number of events and of a format: each where it was given.
 #[derive(Drop)]
 pub(crate) struct Seeding<'a> {
     seed: Option<&'a str>,
     hosts: Option<&'a str>,
     events: Option<&'a str>,
+    format: Option<&'a str>,
 }
 
 impl<'a> Model for Seeding<'a> {
@@ -217,6 +216,7 @@ impl<'a> Model for Seeding<'a> {
       seed = option_map (λ w. w.now) s.seed;
       hosts = option_map (λ w. w.now) s.hosts;
       events = option_map (λ w. w.now) s.events;
+      format = option_map (λ w. w.now) s.format;
     } };
 }
 
@@ -244,6 +244,13 @@ fn events_of(word: &str) -> Option<u64>
     read_number_within(word.as_bytes(), 0, 1_000_000)
 }
 
+/// Whether areas have pairs, by the word of a format, if it says so.
+fn format_of(word: Option<&str>) -> Option<bool>
+    ensures { let said = option_map (λ w. w.now) word.entry in result ≡ choose (is_format said) (is_some said) }
+{
+    paired_said(word)
+}
+
 impl<'a> Seeding<'a> {
     /// What the parser found.
     pub(crate) fn new(matches: &ArgMatches<'a>) -> Seeding<'a>
@@ -253,13 +260,14 @@ impl<'a> Seeding<'a> {
             seed: value_of(matches, "seed"),
             hosts: value_of(matches, "hosts"),
             events: value_of(matches, "events"),
+            format: value_of(matches, "format"),
         }
     }
 
-    /// What is asked for, if all three are given and each has its form.
-    #[tactic(auto, using(crate::proofs::ArgumentLaws::no_second, crate::proofs::ArgumentLaws::no_third))]
+    /// What is asked for, if all but the format are given and each has its form.
+    #[tactic(auto, using(crate::proofs::ArgumentLaws::no_second, crate::proofs::ArgumentLaws::no_third, crate::proofs::ArgumentLaws::no_fourth))]
     pub(crate) fn words(&self) -> Option<Words>
-        ensures exact { result ≡ seeding_in self.now.seed self.now.hosts self.now.events }
+        ensures exact { result ≡ seeding_in self.now.seed self.now.hosts self.now.events self.now.format }
         ensures can { IfSome result CanBeDone }
     {
         match (self.seed, self.hosts, self.events) {
@@ -267,6 +275,7 @@ impl<'a> Seeding<'a> {
                 seed: seed_of(seed)?,
                 hosts: machines_of(hosts)?,
                 events: events_of(events)?,
+                paired: format_of(self.format)?,
             }),
             _ => None,
         }
@@ -319,11 +328,10 @@ pub(crate) enum Met<'a> {
     Live(Placing<'a>),
 }
 
-/// The command that the parser met.
-pub(crate) fn met_in<'a>(matches: &ArgMatches<'a>) -> Option<Met<'a>>
-    ensures { result ≡ met_in (subcommand_rows_of matches.now) }
+/// The command of this name that the parser met.
+fn met_named<'a>(name: &str, matches: &ArgMatches<'a>) -> Option<Met<'a>>
+    ensures { result ≡ named_met name.now (rows_of (found_of matches.now)) }
 {
-    let (name, matches) = matches.subcommand()?;
     if name == "replay" {
         Some(Met::Replay)
     } else if name == "gen" {
@@ -335,4 +343,12 @@ pub(crate) fn met_in<'a>(matches: &ArgMatches<'a>) -> Option<Met<'a>>
     } else {
         None
     }
+}
+
+/// The command that the parser met.
+pub(crate) fn met_in<'a>(matches: &ArgMatches<'a>) -> Option<Met<'a>>
+    ensures { result ≡ met_in (subcommand_rows_of matches.now) }
+{
+    let (name, matches) = matches.subcommand()?;
+    met_named(name, matches)
 }

@@ -22,12 +22,19 @@ use std::alloc::{AllocError, Global};
 pub enum Words {
     /// Run a schedule, and report it.
     Replay,
-    /// Make a schedule of so many events (0 to 1000000) for so many hosts (1 to 16) from a seed, and run it.
-    Generate { seed: u64, hosts: u32, events: u64 },
+    /// Make a schedule of so many events (0 to 1000000) for so many hosts (1 to 16) from a seed, with pairs or without, and run it.
+    Generate {
+        seed: u64,
+        hosts: u32,
+        events: u64,
+        paired: bool,
+    },
     /// Do this to an area.
     Direct(Action),
     /// Run live machines by a script, on disks that are files below this folder.
-    Live { folder: Folder },
+    Live {
+        folder: Folder,
+    },
     /// Put out the help.
     Help,
     /// Put out the version.

@@ -5,16 +5,18 @@ pub const HELP: &str = "\
 usage: sanlock COMMAND
 
   replay                   run the schedule on standard input, print its report
-  gen SEED HOSTS EVENTS    run the schedule of a seed, print the last line of its
-                           report
+  gen SEED HOSTS EVENTS [2]
+                           run the schedule of a seed, print its words and the
+                           last line of its report; with 2 each host's block has
+                           a pair of sectors
   live FOLDER              run the live script on standard input, with disks in
                            files below FOLDER and child programs; it waits for
                            the children that it starts, and prints at the end
   direct init -s LOCKSPACE -n N [-g GEOMETRY]
                            write the sectors of a lockspace for N hosts
   direct init -r RESOURCE -n N [-v 2] [-g GEOMETRY]
-                           write the sectors of a resource for N hosts; with -v 2
-                           each host's block has a pair of sectors
+                           write the sectors of a resource for N hosts; with
+                           -v 2 each host's block has a pair of sectors
   direct upgrade -r RESOURCE -n N [-g GEOMETRY]
                            give each host's block of a resource for N hosts a
                            pair of sectors
@@ -36,8 +38,8 @@ SEED is below 2^64, HOSTS 1 to 16, EVENTS at most 1000000.
 
 Status: 0 done; 1 a line was refused; 2 bad words; 3 a read and 4 a write
 failed; 5 no memory; 6 a read or a write of an area failed; 7 not the leader,
-or for an upgrade a torn block;
-8 a live machine's threads and its history differ.
+or for an upgrade a torn block; 8 a live machine's threads and its history
+differ.
 ";
 
 /// What `--version` puts out.

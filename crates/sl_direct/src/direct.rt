@@ -69,10 +69,13 @@ fn put_out<K: Sink>(sink: &mut K, text: &[u8], went: Directed) -> Directed
 /// # Answers
 /// `Done` where it was done to its end, and all is written.
 ///
-/// `NotTheLeader` where the sector that `ReadLeader` read spells no leader, or one of other names; what it holds is written in its place.
+/// `NotTheLeader` where the sector that was read spells no leader, or one of other names; for an upgrade also one of an area with pairs, or
+/// for other hosts. What it holds is written in its place, and the area is as it was.
 ///
-/// `AreaFault` only where the area counted a fault in this call. The output ends with the line `area fault`. Of an initialising the
-/// writes before the one that failed stand, and that sector may be torn.
+/// `TornBlock` where a sector that an upgrade read does not spell that host's block. The host is written, and the area is as it was.
+///
+/// `AreaFault` only where the area counted a fault in this call. The output ends with the line `area fault`. Of an initialising and of an
+/// upgrade the writes before the one that failed stand, and that sector may be torn.
 ///
 /// `NoMemory` where there was none. The area is as it was, and the lines that were told before are written.
 ///

@@ -30,6 +30,12 @@ two_machines =
     codes "sanlock 1" ∷ codes "time 100 600 100 0 300" ∷ codes "hosts 2" ∷ codes "ids 2" ∷ codes "disk /d 4" ∷ codes "lockspace ls /d 0" ∷
     codes "resource ls r /d 1048576" ∷ codes "session 1 ls 1 a" ∷ codes "session 2 ls 2 b" ∷ codes "begin" ∷ []
 
+-- The same, in areas with pairs.
+abbrev pub two_machines_with_pairs : List (List ℕ)
+two_machines_with_pairs =
+    codes "sanlock 2" ∷ codes "time 100 600 100 0 300" ∷ codes "hosts 2" ∷ codes "ids 2" ∷ codes "disk /d 4" ∷ codes "lockspace ls /d 0" ∷
+    codes "resource ls r /d 1048576" ∷ codes "session 1 ls 1 a" ∷ codes "session 2 ls 2 b" ∷ codes "begin" ∷ []
+
 -- An exclusive lease is acquired and given up: six calls, a grant, a free.
 abbrev pub acquire_and_release : Row
 acquire_and_release =
@@ -102,6 +108,53 @@ torn_phase2 =
           codes "1 call 1 read /d 1048576 4" ∷ codes "1 call 2 write /d 1049600 block 1 lver 1 mbal 1 bal 0 inp 0 0 mode 0 0" ∷
           codes "1 call 3 read /d 1049600 2" ∷ codes "1 call 4 write /d 1049600 block 1 lver 1 mbal 1 bal 1 inp 1 1 mode 0 0" ∷
           codes "2 call 1 read /d 1048576 4" ∷ codes "2 reply 1 TornBlock 1" ∷ codes "end events 8 calls 5 grants 0 refusals 1 conflicts 0" ∷ [];
+    }
+
+-- A block of a pair is torn: what was read is read once more, and the block before it stands.
+abbrev pub torn_with_pairs : Row
+torn_with_pairs =
+    record {
+      name = codes "torn with pairs";
+      source =
+          two_machines_with_pairs ++ (
+          codes "command 1 acquire -r ls:r:/d:1048576 -p 7" ∷ codes "do 1 1" ∷ codes "do 1 2" ∷ codes "do 1 3" ∷ codes "reset 1" ∷
+          codes "tear 1 4 480" ∷ codes "command 2 acquire -r ls:r:/d:1048576 -p 9" ∷ codes "do 2 1" ∷ codes "do 2 2" ∷ codes "do 2 3" ∷
+          codes "do 2 4" ∷ codes "do 2 5" ∷ codes "do 2 6" ∷ codes "do 2 7" ∷ codes "do 2 8" ∷ codes "do 2 9" ∷ []
+          );
+      report =
+          codes "1 call 1 read /d 1048576 6" ∷ codes "1 call 2 write /d 1049600 block 1 turn 3 lver 1 mbal 1 bal 0 inp 0 0 mode 0 0" ∷
+          codes "1 call 3 read /d 1049600 4" ∷ codes "1 call 4 write /d 1050112 block 1 turn 4 lver 1 mbal 1 bal 1 inp 1 1 mode 0 0" ∷
+          codes "2 call 1 read /d 1048576 6" ∷ codes "2 call 2 read /d 1048576 6" ∷
+          codes "2 call 3 write /d 1050624 block 2 turn 3 lver 1 mbal 2 bal 0 inp 0 0 mode 0 0" ∷ codes "2 call 4 read /d 1049600 4" ∷
+          codes "2 call 5 read /d 1049600 4" ∷ codes "2 call 6 write /d 1051136 block 2 turn 4 lver 1 mbal 2 bal 2 inp 2 1 mode 0 0" ∷
+          codes "2 call 7 read /d 1049600 4" ∷ codes "2 call 8 read /d 1049600 4" ∷
+          codes "2 call 9 write /d 1048576 leader lver 1 owner 2 gen 1 held" ∷ codes "2 grant 9 ls:r ex 1" ∷ codes "2 reply 1 ok 1" ∷
+          codes "end events 16 calls 13 grants 1 refusals 0 conflicts 0" ∷ [];
+    }
+
+-- Both sectors of a pair are torn when a second read samples them, one after the other: the read gives no block of the host.
+abbrev pub torn_twice : Row
+torn_twice =
+    record {
+      name = codes "torn twice";
+      source =
+          two_machines_with_pairs ++ (
+          codes "command 1 acquire -r ls:r:/d:1048576 -p 7" ∷ codes "do 1 1" ∷ codes "do 1 2" ∷ codes "do 1 3" ∷ codes "tear 1 4 100" ∷
+          codes "answer 1 4 failed" ∷ codes "command 2 acquire -r ls:r:/d:1048576 -p 9" ∷ codes "do 2 1" ∷ codes "wake 1" ∷ codes "do 1 5" ∷
+          codes "do 1 6" ∷ codes "do 1 7" ∷ codes "do 1 8" ∷ codes "tear 1 9 100" ∷ codes "sample 2 2 3" ∷ codes "answer 1 9 failed" ∷
+          codes "wake 1" ∷ codes "do 1 10" ∷ codes "do 1 11" ∷ codes "do 1 12" ∷ codes "tear 1 13 100" ∷ codes "sample 2 2 3" ∷
+          codes "answer 2 2 ok" ∷ []
+          );
+      report =
+          codes "1 call 1 read /d 1048576 6" ∷ codes "1 call 2 write /d 1049600 block 1 turn 3 lver 1 mbal 1 bal 0 inp 0 0 mode 0 0" ∷
+          codes "1 call 3 read /d 1049600 4" ∷ codes "1 call 4 write /d 1050112 block 1 turn 4 lver 1 mbal 1 bal 1 inp 1 1 mode 0 0" ∷
+          codes "1 reply 1 IoFault 4" ∷ codes "2 call 1 read /d 1048576 6" ∷ codes "2 call 2 read /d 1048576 6" ∷
+          codes "1 call 5 read /d 1049600 4" ∷ codes "1 call 6 read /d 1049600 4" ∷
+          codes "1 call 7 write /d 1050112 block 1 turn 4 lver 1 mbal 3 bal 1 inp 1 1 mode 0 0" ∷ codes "1 call 8 read /d 1049600 4" ∷
+          codes "1 call 9 write /d 1049600 block 1 turn 5 lver 1 mbal 3 bal 3 inp 1 1 mode 0 0" ∷ codes "1 call 10 read /d 1049600 4" ∷
+          codes "1 call 11 write /d 1049600 block 1 turn 5 lver 1 mbal 5 bal 3 inp 1 1 mode 0 0" ∷ codes "1 call 12 read /d 1049600 4" ∷
+          codes "1 call 13 write /d 1050112 block 1 turn 6 lver 1 mbal 5 bal 5 inp 1 1 mode 0 0" ∷ codes "2 reply 1 TornBlock 1" ∷
+          codes "end events 23 calls 15 grants 0 refusals 2 conflicts 0" ∷ [];
     }
 
 -- Two claims of one free id: the later writer verifies, the other has lost the id.

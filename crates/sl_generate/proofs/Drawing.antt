@@ -188,9 +188,9 @@ module _ {D : Type 0} (commands : Header → List (Form Command)) (stands : D �
   first_drawing h p begins = record { world = world_with (program_of commands) h; draws = first_draws h p begins }
 
   -- All events of the seed are drawn from the header's world on.
-  pub seed_drawn : (h : Header) (p n : PlayState D) (seed hosts events : ℕ) (counts : Counts) → h ≡ gen_header hosts → Begins commands stands h p → DrawsAll commands stands p seed events n
-      → counts ≡ n.counts → IsDrawn (EachStood stands) hosts events 1 (world_with (program_of commands) (gen_header hosts)) seed no_counts counts
-  seed_drawn h p n seed hosts events counts is begins all same =
+  pub seed_drawn : (h : Header) (p n : PlayState D) (seed hosts events : ℕ) (paired : Bool) (counts : Counts) → h ≡ gen_header hosts paired → Begins commands stands h p → DrawsAll commands stands p seed events n
+      → counts ≡ n.counts → IsDrawn (EachStood stands) hosts events 1 (world_with (program_of commands) (gen_header hosts paired)) seed no_counts counts
+  seed_drawn h p n seed hosts events paired counts is begins all same =
       let here : IsDrawn (EachStood stands) h.machines events 1 (world_with (program_of commands) h) seed p.counts n.counts =
       all (world_with (program_of commands) h) (first_draws h p begins) in
       subst (λ (g : Header). IsDrawn (EachStood stands) g.machines events 1 (world_with (program_of commands) g) seed no_counts counts) is
@@ -198,14 +198,14 @@ module _ {D : Type 0} (commands : Header → List (Form Command)) (stands : D �
       (subst (λ k. IsDrawn (EachStood stands) h.machines events 1 (world_with (program_of commands) h) seed k n.counts) begins.counts here))
 
   -- The two lines are those of a made run.
-  pub made_of : (seed hosts events : ℕ) (counts : Counts) (text : List ℕ)
-      → IsDrawn (EachStood stands) hosts events 1 (world_with (program_of commands) (gen_header hosts)) seed no_counts counts
-      → text ≡ as_bytes (gen_line seed hosts events ∷ end_line counts ∷ []) → MadeOf commands stands seed hosts events text
-  made_of seed hosts events counts text g is =
+  pub made_of : (seed hosts events : ℕ) (paired : Bool) (counts : Counts) (text : List ℕ)
+      → IsDrawn (EachStood stands) hosts events 1 (world_with (program_of commands) (gen_header hosts paired)) seed no_counts counts
+      → text ≡ as_bytes (gen_line seed hosts events paired ∷ end_line counts ∷ []) → MadeOf commands stands seed hosts events paired text
+  made_of seed hosts events paired counts text g is =
       record {
         run = g.run;
         generated = g.generated;
         counted = g.counted;
         promised_is = record { is_run = g.is_run; stood = g.fronts };
-        printed = is ∙ ap (λ k. as_bytes (gen_line seed hosts events ∷ end_line k ∷ [])) (sym g.counts);
+        printed = is ∙ ap (λ k. as_bytes (gen_line seed hosts events paired ∷ end_line k ∷ [])) (sym g.counts);
       }

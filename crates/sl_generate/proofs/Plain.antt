@@ -40,8 +40,8 @@ is_plain (suc n) number hosts w x (e ∷ es) counted g d =
     (is_plain n (number + 1) hosts (happens w e.0 e.1) u es (one_less (length es) n counted) g.1 d.1)
 
 pub generated_is_plain : GeneratedIsPlain
-generated_is_plain p seed hosts events written g =
-    let w : World = world_with p (gen_header hosts) in
+generated_is_plain p seed hosts events paired written g =
+    let w : World = world_with p (gen_header hosts paired) in
     g.printed
-    ∙ ap (λ xs. as_bytes (gen_line seed hosts events ∷ end_line (run_counts w no_counts xs) ∷ []))
-    (sym (is_plain events 1 hosts w seed g.run g.counted g.generated (does_from p (gen_header hosts) [] g.run g.promised_is.is_run g.promised_is.is_due)))
+    ∙ ap (λ xs. as_bytes (gen_line seed hosts events paired ∷ end_line (run_counts w no_counts xs) ∷ []))
+    (sym (is_plain events 1 hosts w seed g.run g.counted g.generated (does_from p (gen_header hosts paired) [] g.run g.promised_is.is_run g.promised_is.is_due)))

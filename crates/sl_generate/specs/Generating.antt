@@ -23,14 +23,14 @@ use Rattle.sl_trace.specs.declared.command.Command.{Command}
 use Rattle.sl_trace.specs.declared.effects.Effects.{Effects}
 use Rattle.sl_words.specs.Causes.{Rose}
 use Rattle.std.specs.Io.KnownBytes.{Appends}
-use Rattle.std.specs.Prelude.{List, Option, length, true, [], ℕ, ◌+◌, ◌-◌, ◌∷◌, ◌≡◌}
+use Rattle.std.specs.Prelude.{Bool, List, Option, length, true, [], ℕ, ◌+◌, ◌-◌, ◌∷◌, ◌≡◌}
 
 -- ---- the header
 
 -- A world may begin with the header for so many machines, and the commands of these daemons are then commands of its layout.
-pub record MayGenerate (commands : Header → List (Form Command)) (hosts : ℕ) : Type 0 where
-  pub header : IsHeader (gen_header hosts)
-  pub reads : ReadsCommands commands (gen_header hosts)
+pub record MayGenerate (commands : Header → List (Form Command)) (hosts : ℕ) (paired : Bool) : Type 0 where
+  pub header : IsHeader (gen_header hosts paired)
+  pub reads : ReadsCommands commands (gen_header hosts paired)
 
 -- ---- a world in which is drawn
 
@@ -80,24 +80,24 @@ DrawsAll commands stands p seed events n =
 -- ---- what is written
 
 -- The run of the seed's schedule, of which so much is promised, and of which the last line is written.
-pub record GeneratedOf (promised : Promise) (p : Program) (seed hosts events : ℕ) (written : List ℕ) : Type 0 where
+pub record GeneratedOf (promised : Promise) (p : Program) (seed hosts events : ℕ) (paired : Bool) (written : List ℕ) : Type 0 where
   pub run : List Happening
-  pub generated : IsGenerated 1 hosts (world_with p (gen_header hosts)) seed run
+  pub generated : IsGenerated 1 hosts (world_with p (gen_header hosts paired)) seed run
   pub counted : length run ≡ events
-  pub promised_is : promised p (gen_header hosts) run
-  pub printed : written ≡ as_bytes (gen_line seed hosts events ∷ end_line (run_counts (world_with p (gen_header hosts)) no_counts run) ∷ [])
+  pub promised_is : promised p (gen_header hosts paired) run
+  pub printed : written ≡ as_bytes (gen_line seed hosts events paired ∷ end_line (run_counts (world_with p (gen_header hosts paired)) no_counts run) ∷ [])
 
 -- Of runs made of daemons of this kind.
-abbrev pub MadeOf : {D : Type 0} → (Header → List (Form Command)) → (D → Setting → Trace → Type 0) → ℕ → ℕ → ℕ → List ℕ → Type 0
-MadeOf commands stands seed hosts events written = GeneratedOf (λ p h xs. MadeRun stands p h xs) (program_of commands) seed hosts events written
+abbrev pub MadeOf : {D : Type 0} → (Header → List (Form Command)) → (D → Setting → Trace → Type 0) → ℕ → ℕ → ℕ → Bool → List ℕ → Type 0
+MadeOf commands stands seed hosts events paired written = GeneratedOf (λ p h xs. MadeRun stands p h xs) (program_of commands) seed hosts events paired written
 
 -- What is owed, by how it ended.
-pub data Generates {D : Type 0} (commands : Header → List (Form Command)) (stands : D → Setting → Trace → Type 0) (seed hosts events : ℕ) (taken now : Option (List ℕ))
+pub data Generates {D : Type 0} (commands : Header → List (Form Command)) (stands : D → Setting → Trace → Type 0) (seed hosts events : ℕ) (paired : Bool) (taken now : Option (List ℕ))
     (faults later : ℕ) : Generated → Type 0 where
   -- both lines are written
-  All : (written : List ℕ) → Appends taken now written → MadeOf commands stands seed hosts events written → Generates commands stands seed hosts events taken now faults later Done
+  All : (written : List ℕ) → Appends taken now written → MadeOf commands stands seed hosts events paired written → Generates commands stands seed hosts events paired taken now faults later Done
   -- a write failed, and a front of them is written
-  Part : (written whole : List ℕ) → Appends taken now written → IsFrontOf written whole → MadeOf commands stands seed hosts events whole → Rose faults later
-      → Generates commands stands seed hosts events taken now faults later WriteFault
+  Part : (written whole : List ℕ) → Appends taken now written → IsFrontOf written whole → MadeOf commands stands seed hosts events paired whole → Rose faults later
+      → Generates commands stands seed hosts events paired taken now faults later WriteFault
   -- there was no memory, and nothing is written
-  Nothing : Appends taken now [] → Generates commands stands seed hosts events taken now faults later NoMemory
+  Nothing : Appends taken now [] → Generates commands stands seed hosts events paired taken now faults later NoMemory

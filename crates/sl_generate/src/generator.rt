@@ -102,14 +102,32 @@ fn play_seed<D: Daemon, L: LockTable>(
     seed: u64,
     hosts: u32,
     events: u64,
+    paired: bool,
 ) -> Result<Counts, PlayError>
-    requires { MayGenerate D.commands hosts }
-    ensures { IfOk result (λ counts. IsDrawn (EachStood D.stands) hosts events 1 (world_with (program_of D.commands) (gen_header hosts)) seed reports.no_counts counts) }
+    requires { MayGenerate D.commands hosts paired }
+    ensures { IfOk result (λ counts. IsDrawn (EachStood D.stands) hosts events 1 (world_with (program_of D.commands) (gen_header hosts paired)) seed reports.no_counts counts) }
 {
-    let header = header(alloc, hosts)?;
+    let header = header(alloc, hosts, paired)?;
     let mut play = Play::<D, L>::new(alloc, header)?;
     take_events(alloc, &mut play, seed, events)?;
     Ok(*play.counts())
+}
+
+/// The first line: what was generated. An `Err` is want of memory.
+fn first_line(
+    alloc: Global,
+    seed: u64,
+    hosts: u32,
+    events: u64,
+    paired: bool,
+) -> Result<String, AllocError>
+    ensures { IfOk result (λ line. line.bytes.items ≡ as_bytes (gen_line seed hosts events paired ∷ [])) }
+{
+    if paired {
+        Ok(format!(in alloc; "gen {seed} {hosts} {events} 2\n")?)
+    } else {
+        Ok(format!(in alloc; "gen {seed} {hosts} {events}\n")?)
+    }
 }
 
 /// The two lines: what was generated, and what the last line of its report counts. An `Err` is want of memory.
@@ -118,32 +136,34 @@ fn both_lines(
     seed: u64,
     hosts: u32,
     events: u64,
+    paired: bool,
     counts: &Counts,
 ) -> Result<Vec<u8>, AllocError>
-    ensures { IfOk result (λ text. text.items ≡ as_bytes (gen_line seed hosts events ∷ reports.end_line counts.now ∷ [])) }
+    ensures { IfOk result (λ text. text.items ≡ as_bytes (gen_line seed hosts events paired ∷ reports.end_line counts.now ∷ [])) }
 {
-    let line = format!(in alloc; "gen {seed} {hosts} {events}\n")?;
+    let line = first_line(alloc, seed, hosts, events, paired)?;
     let mut text = Vec::from_slice(alloc, line.as_bytes())?;
     push_end_line(&mut text, counts)?;
     Ok(text)
 }
 
-/// Draws a schedule of so many events for 1 to 16 hosts from the seed, plays it as it is drawn, and puts out the line
-/// `gen SEED HOSTS EVENTS` and the last line of its report.
+/// Draws a schedule of so many events for 1 to 16 hosts from the seed, with pairs or without, plays it as it is drawn, and puts out the line
+/// `gen SEED HOSTS EVENTS`, with a 2 behind it where there are pairs, and the last line of its report.
 pub fn generate<K: Sink, D: Daemon, L: LockTable>(
     alloc: Global,
     seed: u64,
     hosts: u32,
     events: u64,
+    paired: bool,
     sink: &mut K,
 ) -> Generated
-    requires { MayGenerate D.commands hosts }
-    ensures { Generates D.commands D.stands seed hosts events (K.taken sink.old) (K.taken sink.new) (K.faults sink.old) (K.faults sink.new) result }
+    requires { MayGenerate D.commands hosts paired }
+    ensures { Generates D.commands D.stands seed hosts events paired (K.taken sink.old) (K.taken sink.new) (K.faults sink.old) (K.faults sink.new) result }
 {
-    let Ok(counts) = play_seed::<D, L>(alloc, seed, hosts, events) else {
+    let Ok(counts) = play_seed::<D, L>(alloc, seed, hosts, events, paired) else {
         return Generated::NoMemory;
     };
-    let Ok(text) = both_lines(alloc, seed, hosts, events, &counts) else {
+    let Ok(text) = both_lines(alloc, seed, hosts, events, paired, &counts) else {
         return Generated::NoMemory;
     };
     match write_all(sink, &text) {

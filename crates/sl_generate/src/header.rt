@@ -4,10 +4,11 @@ ghost use Rattle.sl_generate.specs.HeaderLines.{gen_session};
 ghost use Rattle.sl_report.specs.Generator.{gen_header, gen_path, gen_resource};
 ghost use Rattle.sl_text.specs.Names.{is_name};
 ghost use Rattle.std.specs.List.{range_with_len};
-ghost use Rattle.std.specs.Prelude.{IfOk, codes, decimal, false, map, true, [], ◌++◌, ◌∷◌, ◌≡◌, ◌≤◌};
+ghost use Rattle.std.specs.Prelude.{IfOk, codes, decimal, map, true, [], ◌++◌, ◌∷◌, ◌≡◌, ◌≤◌};
 
 use sl_area::Geometry;
 use sl_run::{Disk, Header, LockspaceLine, ResourceLine, SessionLine};
+use sl_schedule::geometry_of;
 use sl_text::{FilePath, Name, Seq};
 use sl_time::Timing;
 use std::alloc::{AllocError, Global};
@@ -63,12 +64,12 @@ fn timing() -> Timing
     }
 }
 
-/// The areas of a run of so many hosts, 1 to 16.
-fn geometry(hosts: u32) -> Geometry
+/// The areas of a run of so many hosts, 1 to 16, with pairs or without.
+fn geometry(hosts: u32, paired: bool) -> Geometry
     requires { (1 ≤ hosts) × (hosts ≤ 16) }
-    ensures { result ≡ record { sector = 512; area = 1048576; hosts = hosts; paired = false } }
+    ensures { result ≡ record { sector = 512; area = 1048576; hosts = hosts; paired = paired } }
 {
-    match Geometry::new(SECTOR, AREA, hosts) {
+    match geometry_of(SECTOR, AREA, hosts, paired) {
         Ok(geometry) => geometry,
         Err(_) => unreachable!(),
     }
@@ -120,16 +121,16 @@ fn alone<T: Drop>(alloc: Global, item: T) -> Result<Seq<T>, AllocError>
     Ok(Seq::new(items))
 }
 
-/// The header for so many machines, 1 to 16. An `Err` is want of memory.
-pub(crate) fn header(alloc: Global, hosts: u32) -> Result<Header, AllocError>
+/// The header for so many machines, 1 to 16, whose areas have pairs or not. An `Err` is want of memory.
+pub(crate) fn header(alloc: Global, hosts: u32, paired: bool) -> Result<Header, AllocError>
     requires { (1 ≤ hosts) × (hosts ≤ 16) }
-    ensures { IfOk result (λ h. h ≡ gen_header hosts) }
+    ensures { IfOk result (λ h. h ≡ gen_header hosts paired) }
 {
     Ok(Header {
         timing: timing(),
         grace: 300,
         machines: hosts,
-        geometry: geometry(hosts),
+        geometry: geometry(hosts, paired),
         retries: 0,
         clocks: Seq::new(Vec::new(alloc)),
         disks: alone(

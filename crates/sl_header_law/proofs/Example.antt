@@ -3,7 +3,7 @@ use Rattle.sl_header_law.specs.HeaderLaw.{IsRead, SomeHeadersAreRead, full_heade
 use Rattle.sl_report.specs.ScheduleLines.{header_forms, header_of, header_tests}
 use Rattle.sl_run.specs.declared.header.Header.{Header}
 use Rattle.std.proofs.Common.{[], refl, ◌∷◌}
-use Rattle.std.specs.Prelude.{codes, false}
+use Rattle.std.specs.Prelude.{codes, false, true}
 
 abbrev several : Header
 several =
@@ -11,7 +11,7 @@ several =
       timing = record { io = 1000; fire = 60000; land = 10000; rho = 10 };
       grace = 60000;
       machines = 3;
-      geometry = record { sector = 4096; area = 2097152; hosts = 500; paired = false };
+      geometry = record { sector = 4096; area = 2097152; hosts = 250; paired = true };
       retries = 8;
       clocks = record { machine = 1; reading = 500 } ∷ record { machine = 3; reading = 0 } ∷ [];
       disks = record { path = codes "/d"; mebibytes = 4 } ∷ record { path = codes "/e"; mebibytes = 64 } ∷ [];
@@ -20,7 +20,7 @@ several =
           ∷ record { lockspace = codes "two"; name = codes "lease"; path = codes "/e"; offset = 4194304 } ∷ [];
       sessions = record { machine = 1; lockspace = codes "one"; id = 1; name = codes "host" }
           ∷ record { machine = 1; lockspace = codes "two"; id = 2; name = codes "host" }
-          ∷ record { machine = 2; lockspace = codes "one"; id = 500; name = codes "other" } ∷ [];
+          ∷ record { machine = 2; lockspace = codes "one"; id = 250; name = codes "other" } ∷ [];
     }
 
 abbrev nobody : Header

@@ -1,13 +1,13 @@
 -- The header of lines that were taken is one that a world may begin with.
-use Rattle.sl_area.specs.Layouts.{IsGeometry, Sizes, is_geometry, most_ids, most_ids_of_all, roomy, sizes}
+use Rattle.sl_area.specs.Layouts.{IsGeometry, Sizes, is_geometry, most_ids, most_ids_of_all, roomy}
 use Rattle.sl_header_law.proofs.LineKinds.{area_fits, area_kind, clock_fits, clock_kind, disk_fits, disk_kind, hosts_kind, ids_fit, ids_kind, lease_fits, lease_kind, line_of_times, member_fits, member_kind, retries_kind, sizes_fit, sizes_ranked, times_fit, times_kind, version_kind}
 use Rattle.sl_header_law.proofs.Lists.{first_inside, none_passes, pairs_append, pairs_map}
 use Rattle.sl_header_law.proofs.Made.{IsOffset}
 use Rattle.sl_header_law.proofs.Reading.{read_alike, read_lines}
-use Rattle.sl_header_law.proofs.Taken.{AreHeaderLines, GoesAcross, IsKind, IsLineBehind, StandsIn, across_stand, area_so_far, each_picked, each_stands, few_stand, formed, one_before, pairs_stand, picked_later, same_first, told_before, unpaired}
+use Rattle.sl_header_law.proofs.Taken.{AreHeaderLines, GoesAcross, IsKind, IsLineBehind, StandsIn, across_stand, area_so_far, each_picked, each_stands, few_stand, formed, one_before, pairs_stand, picked_later, same_first, told_before}
 use Rattle.sl_header_law.specs.HeaderLaw.{EachHeaderIsGood}
 use Rattle.sl_plain.proofs.Lists.{any_found, contains_first, in_map}
-use Rattle.sl_report.specs.ScheduleLines.{AreaLine, BeginLine, ClockLine, DiskLine, GeometryLine, HeaderLine, HostsLine, IdsLine, LeaseLine, LvmLine, MemberLine, VersionLine, area_line, clock_line, disk_line, first_line, geometry_line, header_of, hosts_line, ids_line, is_on_disk, lease_line, member_line, no_timing, rank, retries_line, timing_line, version_line}
+use Rattle.sl_report.specs.ScheduleLines.{AreaLine, BeginLine, ClockLine, DiskLine, GeometryLine, HeaderLine, HostsLine, IdsLine, LeaseLine, LvmLine, MemberLine, area_line, clock_line, disk_line, first_line, geometry_line, header_of, hosts_line, ids_line, is_on_disk, lease_line, member_line, no_timing, rank, retries_line, timing_line, version_line}
 use Rattle.sl_report.specs.Schedules.{default_area, default_sector, numbered_lines}
 use Rattle.sl_run.specs.Headers.{GoTogether, IsArea, IsHeader, IsMember}
 use Rattle.sl_run.specs.Worlds.{first_that, mebibyte}
@@ -57,17 +57,6 @@ given_or : {A : Type 0} (xs : List A) (d : A) (P : A → Type 0) → P d → ((x
 given_or [] d P none some = none
 given_or (x ∷ xs) d P none some = some x (contains_first x xs)
 
--- No area has pairs.
-none_paired : (ls : List HeaderLine) → AreHeaderLines ls → first_line version_line false ls ≡ false
-none_paired ls all =
-    given_or (filter_map version_line ls) false (λ b. b ≡ false) refl (λ b has.
-    let s = each_stands (λ b. VersionLine b) version_line 0 version_kind ls all b has in unpaired s.before b s.behind)
-
--- There is never more room.
-no_roomier : (paired : Bool) (n : ℕ) → n ≤ roomy paired most_ids_of_all → n ≤ 2000
-no_roomier true n h = omega arith
-no_roomier false n h = omega arith
-
 -- The first line of a kind that must be there, and what is known of it.
 first_stands : {A : Type 0} (line : A → HeaderLine) (pick : HeaderLine → Option A) (k : ℕ) → IsKind line pick k → (d : A) (ls : List HeaderLine)
     → AreHeaderLines ls → 1 ≤ length (filter_map pick ls) → StandsIn ls (line (first_line pick d ls))
@@ -86,11 +75,14 @@ machines_of ls all begun =
     let s = first_stands (λ m. HostsLine m) hosts_line 2 hosts_kind 0 ls all some in
     formed s.before (HostsLine (first_line hosts_line 0 ls)) s.behind
 
-hosts_of : (ls : List HeaderLine) → AreHeaderLines ls → IsLineBehind ls BeginLine → (1 ≤ first_line ids_line 0 ls) × (first_line ids_line 0 ls ≤ 2000)
+hosts_of : (ls : List HeaderLine) → AreHeaderLines ls → IsLineBehind ls BeginLine
+    → (1 ≤ first_line ids_line 0 ls) × (first_line ids_line 0 ls ≤ roomy (first_line version_line false ls) most_ids_of_all)
 hosts_of ls all begun =
+    let hosts : ℕ = first_line ids_line 0 ls in
     let some : 1 ≤ length (filter_map ids_line ls) = one_before ids_line 3 ids_kind.ranked ls BeginLine begun (omega arith) refl in
     let s = first_stands (λ n. IdsLine n) ids_line 3 ids_kind 0 ls all some in
-    (formed s.before (IdsLine (first_line ids_line 0 ls)) s.behind, no_roomier (first_line version_line false s.before) (first_line ids_line 0 ls) (ids_fit s.before (first_line ids_line 0 ls) s.behind))
+    let same : first_line version_line false s.before ≡ first_line version_line false ls = same_first version_line 0 version_kind.ranked ls (IdsLine hosts) s false (omega arith) refl in
+    (formed s.before (IdsLine hosts) s.behind, subst (λ (b : Bool). hosts ≤ roomy b most_ids_of_all) same (ids_fit s.before hosts s.behind))
 
 -- ---- what may stand alone
 
@@ -104,31 +96,38 @@ no_test false false x y p q = refl
 no_test true b x y p q = absurd cc
 no_test false true x y p q = absurd cc
 
-default_sizes : (hosts : ℕ) → 1 ≤ hosts → hosts ≤ 2000 → IsGeometry (sizes default_sector default_area hosts)
-default_sizes hosts low high = grind (arith, nat_tests)
+-- The sizes in the order in which they are given, with pairs or without.
+abbrev sizes_with : ℕ → ℕ → ℕ → Bool → Sizes
+sizes_with sector area hosts paired = record { sector = sector; area = area; hosts = hosts; paired = paired }
+
+default_sizes : (hosts : ℕ) (paired : Bool) → 1 ≤ hosts → hosts ≤ roomy paired most_ids_of_all → IsGeometry (sizes_with default_sector default_area hosts paired)
+default_sizes hosts true low high = grind (arith, nat_tests)
+default_sizes hosts false low high = grind (arith, nat_tests)
 
 geometry_ranked : (l : HeaderLine) (x : ℕ × ℕ) → geometry_line l ≡ Some x → 3 < rank l
 geometry_ranked (GeometryLine sector mebibytes) x h = omega arith
 geometry_ranked l x h = absurd cc
 
--- The sizes are those of areas for so many hosts.
-abbrev AreSizes : ℕ → ℕ × ℕ → Type 0
-AreSizes hosts x = IsGeometry (sizes x.0 x.1 hosts)
+-- The sizes are those of areas for so many hosts, with pairs or without.
+abbrev AreSizes : ℕ → Bool → ℕ × ℕ → Type 0
+AreSizes hosts paired x = IsGeometry (sizes_with x.0 x.1 hosts paired)
 
-geometry_of : (ls : List HeaderLine) → AreHeaderLines ls → (hosts : ℕ) → first_line ids_line 0 ls ≡ hosts → 1 ≤ hosts → hosts ≤ 2000
-    → AreSizes hosts (first_line geometry_line (default_sector, default_area) ls)
-geometry_of ls all hosts is some few =
-    given_or (filter_map geometry_line ls) (default_sector, default_area) (AreSizes hosts) (default_sizes hosts some few) (λ x has.
+geometry_of : (ls : List HeaderLine) → AreHeaderLines ls → (hosts : ℕ) (paired : Bool) → first_line ids_line 0 ls ≡ hosts → first_line version_line false ls ≡ paired → 1 ≤ hosts
+    → hosts ≤ roomy paired most_ids_of_all → AreSizes hosts paired (first_line geometry_line (default_sector, default_area) ls)
+geometry_of ls all hosts paired is told some few =
+    given_or (filter_map geometry_line ls) (default_sector, default_area) (AreSizes hosts paired) (default_sizes hosts paired some few) (λ x has.
     let p = each_picked geometry_line ls all x has in
     let behind : 3 < rank p.line = geometry_ranked p.line x p.gives in
     let same : first_line ids_line 0 p.stands.before ≡ hosts = same_first ids_line 3 ids_kind.ranked ls p.line p.stands 0 behind refl ∙ is in
+    let pairs : first_line version_line false p.stands.before ≡ paired = same_first version_line 0 version_kind.ranked ls p.line p.stands false (omega arith) refl ∙ told in
     let fit = sizes_fit p.stands.before p.line x p.gives p.stands.behind in
-    let plain : first_line version_line false p.stands.before ≡ false = same_first version_line 0 version_kind.ranked ls p.line p.stands false (omega arith) refl ∙ none_paired ls all in
-    let enough : some_is (λ most. nat_lt most hosts) (most_ids x.0 x.1) ≡ false =
-    subst (λ (n : ℕ). some_is (λ most. nat_lt most n) (most_ids x.0 x.1) ≡ false) same
-    (subst (λ (b : Bool). some_is (λ most. nat_lt (roomy b most) (first_line ids_line 0 p.stands.before)) (most_ids x.0 x.1) ≡ false) plain fit.enough) in
-    (choose_some (is_geometry (sizes x.0 x.1 hosts)) (sizes x.0 x.1 hosts) (sizes x.0 x.1 hosts)
-    (sizes_taken x.0 x.1 hosts some (no_test (is_none (most_ids x.0 x.1)) (some_is (λ most. nat_lt most hosts) (most_ids x.0 x.1)) LimitGeometry LimitIds fit.are enough))).0)
+    let enough : some_is (λ most. nat_lt (roomy paired most) hosts) (most_ids x.0 x.1) ≡ false =
+    subst (λ (n : ℕ). some_is (λ most. nat_lt (roomy paired most) n) (most_ids x.0 x.1) ≡ false) same
+    (subst (λ (b : Bool). some_is (λ most. nat_lt (roomy b most) (first_line ids_line 0 p.stands.before)) (most_ids x.0 x.1) ≡ false) pairs fit.enough) in
+    let z : Sizes = sizes_with x.0 x.1 hosts paired in
+    (choose_some (is_geometry z) z z
+    (sizes_taken x.0 x.1 hosts paired some
+    (no_test (is_none (most_ids x.0 x.1)) (some_is (λ most. nat_lt (roomy paired most) hosts) (most_ids x.0 x.1)) LimitGeometry LimitIds fit.are enough))).0)
 
 -- ---- clocks and disks
 
@@ -345,16 +344,6 @@ member_in : (ls : List HeaderLine) (s : SessionLine) → MemberIs ls s → IsMem
 unfolding header_of
 member_in ls s m = record { machine = m.machine; id = m.id; lockspace = m.lockspace; name = m.name }
 
--- The sizes that these lines give, with pairs or without.
-abbrev sizes_given : List HeaderLine → Bool → Sizes
-sizes_given ls paired =
-    record {
-      sector = (first_line geometry_line (default_sector, default_area) ls).0;
-      area = (first_line geometry_line (default_sector, default_area) ls).1;
-      hosts = first_line ids_line 0 ls;
-      paired = paired;
-    }
-
 is_header : (ls : List HeaderLine) → AreHeaderLines ls → IsLineBehind ls BeginLine → IsHeader (header_of default_sector default_area ls)
 unfolding header_of
 is_header ls all begun =
@@ -364,8 +353,7 @@ is_header ls all begun =
       timing = times.0;
       grace = times.1;
       machines = machines_of ls all begun;
-      geometry = subst (λ (b : Bool). IsGeometry (sizes_given ls b)) (sym (none_paired ls all)) (geometry_of ls all (first_line ids_line 0 ls) refl hosts.0 hosts.1);
-      unpaired = none_paired ls all;
+      geometry = geometry_of ls all (first_line ids_line 0 ls) (first_line version_line false ls) refl refl hosts.0 hosts.1;
       retries = retries_of ls all;
       clocks = clock_is ls all;
       one_clock = pairs_stand (λ c. ClockLine c) clock_line 6 clock_kind (λ a b. a.machine ≢ b.machine) clocks_differ ls all;

@@ -1,6 +1,6 @@
 -- A header that was read is that of lines each of which was taken behind those before it, the last one being `begin`.
 use Rattle.sl_header_law.proofs.Taken.{AreHeaderLines, IsLineBehind, area_so_far, one_more}
-use Rattle.sl_report.specs.Languages.{language_of, whole_language, without_pairs}
+use Rattle.sl_report.specs.Languages.{language_of, whole_language}
 use Rattle.sl_report.specs.ReadingLines.{header_line_in}
 use Rattle.sl_report.specs.ScheduleLines.{BeginLine, HeaderLine, header_forms, header_of}
 use Rattle.sl_report.specs.Schedules.{HeaderReading, Header_read, Header_refused, NumberedLine, default_area, default_sector, header_line_refusal, is_begin, line_refusal, read_header, with_line}
@@ -111,7 +111,7 @@ at_line ls l after h rest on None false read (Some r) all made refused again e =
 at_line ls l after h rest on None false None None all made refused again e = absurd cc
 at_line ls l after h rest on None false (Some m) None all made refused again e =
     going_on ls m (is_begin m) (on (ls ++ m ∷ [])) h after rest all
-    (record { words = words_of l.text; made = ap (λ n. without_pairs (made_by (header_forms n) (words_of l.text))) (sym (area_is ls)) ∙ made; taken = refused }) refl (again (ls ++ m ∷ [])) e
+    (record { words = words_of l.text; made = ap (λ n. made_by (header_forms n) (words_of l.text)) (sym (area_is ls)) ∙ made; taken = refused }) refl (again (ls ++ m ∷ [])) e
 
 pub read_lines : (lines : List NumberedLine) (ls : List HeaderLine) (next : ℕ) (h : Header) (rest : List NumberedLine) → AreHeaderLines ls
     → read_header whole_language ls next lines ≡ Header_read h rest → IsOfLines h

@@ -1,8 +1,8 @@
 -- Lines of a header that were taken one behind the other, and what holds of them because it holds of each behind those before it.
 use Rattle.sl_plain.proofs.Lists.{contains_first, contains_none}
 use Rattle.sl_report.specs.ReadingLines.{header_refusal, is_in_order, is_room_for}
-use Rattle.sl_report.specs.ScheduleLines.{HeaderLine, VersionLine, count_of_rank, first_line, geometry_line, header_forms, header_of, header_tests, rank}
-use Rattle.sl_report.specs.Languages.{least_lines, most_lines, whole_language, without_pairs}
+use Rattle.sl_report.specs.ScheduleLines.{HeaderLine, count_of_rank, first_line, geometry_line, header_forms, header_of, header_tests, rank}
+use Rattle.sl_report.specs.Languages.{least_lines, most_lines, whole_language}
 use Rattle.sl_report.specs.Schedules.{default_area, default_sector}
 use Rattle.sl_run.specs.Worlds.{first_that}
 use Rattle.sl_run.specs.declared.event.Refusal.TheVariants.{Syntax}
@@ -29,10 +29,10 @@ use Rattle.std.specs.Prelude.{is_some, nat_le, nat_lt, unwrap_or, ◌==◌, ◌�
 abbrev pub area_so_far : List HeaderLine → ℕ
 area_so_far ls = (first_line geometry_line (default_sector, default_area) ls).1
 
--- The line is what some words make where no area has pairs, and is not refused behind these.
+-- The line is what some words make, and is not refused behind these.
 pub record IsLineBehind (ls : List HeaderLine) (l : HeaderLine) : Type 0 where
   pub words : List (List ℕ)
-  pub made : without_pairs (made_by (header_forms (area_so_far ls)) words) ≡ Some l
+  pub made : made_by (header_forms (area_so_far ls)) words ≡ Some l
   pub taken : header_refusal whole_language default_sector default_area ls l ≡ None
 
 -- Each of the lines is, behind these and those before it.
@@ -73,27 +73,9 @@ unrefused ls l h =
     each_fails (header_tests (header_of default_sector default_area ls) l)
     (test_fails (not (is_in_order whole_language ls (rank l))) Syntax (header_tests (header_of default_sector default_area ls) l) h.taken).1
 
--- What is taken was made.
-all_made : (o : Option HeaderLine) (l : HeaderLine) → without_pairs o ≡ Some l → o ≡ Some l
-all_made None l h = absurd cc
-all_made (Some (VersionLine true)) l h = absurd cc
-all_made (Some (VersionLine false)) l h = h
-all_made (Some m) l h = h
-
 -- It is well formed, by the size of areas that the lines before it give.
 pub formed : (ls : List HeaderLine) (l : HeaderLine) → IsLineBehind ls l → IsWellFormed (area_so_far ls) l
-formed ls l h = well_formed (area_so_far ls) h.words l (all_made (made_by (header_forms (area_so_far ls)) h.words) l h.made)
-
--- A first line says that areas have no pairs.
-none_made : (o : Option HeaderLine) → without_pairs o ≡ Some (VersionLine true) → ⊥
-none_made None h = absurd cc
-none_made (Some (VersionLine true)) h = absurd cc
-none_made (Some (VersionLine false)) h = absurd cc
-none_made (Some m) h = absurd cc
-
-pub unpaired : (ls : List HeaderLine) (paired : Bool) → IsLineBehind ls (VersionLine paired) → paired ≡ false
-unpaired ls false h = refl
-unpaired ls true h = absurd (none_made (made_by (header_forms (area_so_far ls)) h.words) h.made)
+formed ls l h = well_formed (area_so_far ls) h.words l h.made
 
 -- ---- the order
 

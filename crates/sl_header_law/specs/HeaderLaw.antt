@@ -19,13 +19,13 @@ use Rattle.std.specs.Prelude.{List, codes, length, [], ℕ, ◌∷◌, ◌≡◌
 abbrev pub EachHeaderIsGood : Type 0
 EachHeaderIsGood = (p : Program) → HeadersAreGood (language_of p)
 
--- The lines of a header with several of each, of large sectors and areas.
+-- The lines of a header with several of each, of large sectors, of areas with pairs.
 abbrev pub full_header : List (List ℕ)
 full_header =
-    codes "sanlock 1" ∷ codes "# some of each" ∷ codes "time 1000 60000 10000 10 60000" ∷ codes "hosts 3" ∷ codes "ids 500" ∷ codes "geometry 4096 2"
+    codes "sanlock 2" ∷ codes "# some of each" ∷ codes "time 1000 60000 10000 10 60000" ∷ codes "hosts 3" ∷ codes "ids 250" ∷ codes "geometry 4096 2"
     ∷ codes "lvm 8" ∷ codes "clock 1 500" ∷ codes "clock 3 0" ∷ codes "disk /d 4" ∷ codes "disk /e 64" ∷ codes "lockspace one /d 0" ∷ codes "lockspace two /e 0" ∷ []
     ∷ codes "resource one lease /d 2097152" ∷ codes "resource two lease /e 4194304" ∷ codes "session 1 one 1 host" ∷ codes "session 1 two 2 host"
-    ∷ codes "session 2 one 500 other" ∷ codes "begin" ∷ []
+    ∷ codes "session 2 one 250 other" ∷ codes "begin" ∷ []
 
 -- The lines of a header with no more than must be.
 abbrev pub least_header : List (List ℕ)

@@ -88,7 +88,6 @@ header_with last cs h is count =
       grace = is.grace;
       machines = is.machines;
       geometry = is.geometry;
-      unpaired = is.unpaired;
       retries = is.retries;
       clocks = λ r has. let w = within last 1 cs r has in (w.low, omega (arith, w.high, count), w.below);
       one_clock = one_each last 1 cs;

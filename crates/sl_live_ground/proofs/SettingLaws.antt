@@ -24,7 +24,6 @@ drawn_setting commands h is reads m bits =
     record {
       timing = is.timing;
       layout = (h.geometry, is.geometry, refl);
-      unpaired = is.unpaired;
       digest = sha256_is_digest;
       name = default_name_text_named bits;
       reads = reads;

@@ -116,7 +116,6 @@ is_setting m name named each different =
     record {
       timing = header.timing;
       layout = (witness_header.geometry, header.geometry, refl);
-      unpaired = header.unpaired;
       digest = cheap_is_digest;
       name = named;
       reads = λ text c h. command_as program_digest cheap_digest witness_header.geometry c ((reads_commands (layout_of witness_header.geometry) few text c).0 h).0;

@@ -39,8 +39,8 @@ abbrev pub gen_resource : ℕ → ResourceLine
 gen_resource k = record { lockspace = codes "ls"; name = codes "r" ++ decimal k; path = gen_path; offset = k * mebibyte }
 
 -- The header for so many machines, whose areas have pairs or not.
-abbrev pub gen_header_with : Bool → ℕ → Header
-gen_header_with paired hosts =
+abbrev pub gen_header : ℕ → Bool → Header
+gen_header hosts paired =
     record {
       timing = record { io = 100; fire = 600; land = 100; rho = 0 };
       grace = 300;
@@ -53,10 +53,6 @@ gen_header_with paired hosts =
       resources = map gen_resource (range_with_len 1 4);
       sessions = map (λ m. record { machine = m; lockspace = codes "ls"; id = m; name = gen_host_name m }) (range_with_len 1 hosts);
     }
-
--- .. where no area has pairs.
-abbrev pub gen_header : ℕ → Header
-gen_header hosts = gen_header_with false hosts
 
 -- The least call in flight of the machine.
 abbrev pub least_call : World → ℕ → Option ℕ
@@ -141,20 +137,12 @@ IsGenerated number hosts w x (e ∷ es) =
     (e.0 ≡ gen_event w hosts (draw_of y) (draw_of z) (draw_of u) number) × IsGenerated (number + 1) hosts (happens w e.0 e.1) u es
 
 -- The first line that `gen` prints; a last word says that areas have pairs.
-abbrev pub gen_line_with : Bool → ℕ → ℕ → ℕ → List ℕ
-gen_line_with paired seed hosts events =
+abbrev pub gen_line : ℕ → ℕ → ℕ → Bool → List ℕ
+gen_line seed hosts events paired =
     spaced (codes "gen" ∷ decimal seed ∷ decimal hosts ∷ decimal events ∷ (if paired then codes "2" ∷ [] else []))
 
--- .. where none has.
-abbrev pub gen_line : ℕ → ℕ → ℕ → List ℕ
-gen_line seed hosts events = gen_line_with false seed hosts events
-
 -- What `gen` prints, each daemon doing what is due.
-abbrev pub gen_lines_with : Bool → Program → ℕ → ℕ → ℕ → List (List ℕ)
-gen_lines_with paired p seed hosts events =
-    let w : World = world_with p (gen_header_with paired hosts) in
-    gen_line_with paired seed hosts events ∷ end_line (run_counts w no_counts (gen_run events 1 hosts w seed)) ∷ []
-
--- .. where no area has pairs.
-abbrev pub gen_lines : Program → ℕ → ℕ → ℕ → List (List ℕ)
-gen_lines p seed hosts events = gen_lines_with false p seed hosts events
+abbrev pub gen_lines : Program → ℕ → ℕ → ℕ → Bool → List (List ℕ)
+gen_lines p seed hosts events paired =
+    let w : World = world_with p (gen_header hosts paired) in
+    gen_line seed hosts events paired ∷ end_line (run_counts w no_counts (gen_run events 1 hosts w seed)) ∷ []

@@ -2,7 +2,7 @@
 use Rattle.sl_due.specs.Due.{IsHostTrace, NoIdleJob}
 use Rattle.sl_run.specs.Caused.{IsCaused}
 use Rattle.sl_run.specs.Lawful.{Lawful}
-use Rattle.sl_report.specs.Generator.{IsGenerated, gen_header_with, gen_line_with, gen_lines_with}
+use Rattle.sl_report.specs.Generator.{IsGenerated, gen_header, gen_line, gen_lines}
 use Rattle.sl_report.specs.Languages.{Language}
 use Rattle.sl_report.specs.Reports.{end_line, no_counts, run_counts, run_lines}
 use Rattle.sl_report.specs.ScheduleLines.{refusal_line}
@@ -17,7 +17,7 @@ use Rattle.sl_run.specs.declared.event.Refusal.{Refusal}
 use Rattle.sl_run.specs.declared.header.Header.{Header}
 use Rattle.sl_text.specs.Forms.{as_bytes}
 use Rattle.std.specs.Int.{is_in_range}
-use Rattle.std.specs.Prelude.{Bool, IsTrue, List, MatchBool, false, length, nat_le, [], ℕ, ◌++◌, ◌==◌, ◌↔◌, ◌∷◌, ◌≡◌, ◌≤◌}
+use Rattle.std.specs.Prelude.{Bool, IsTrue, List, MatchBool, length, nat_le, [], ℕ, ◌++◌, ◌==◌, ◌↔◌, ◌∷◌, ◌≡◌, ◌≤◌}
 
 -- A run as it must be, whatever it does: each daemon does what is due, so its trace is lawful, each refusal has its cause and no job is
 -- left idle; at no moment do two running holders conflict.
@@ -91,35 +91,23 @@ HeadersAreGood lang =
     (source : List ℕ) (h : Header) (rest : List NumberedLine) → read_header lang [] 1 (numbered_lines source) ≡ Header_read h rest → IsHeader h
 
 -- `gen`: the run of the seed's schedule, whose areas have pairs or not, and of which the last line is printed.
-pub record GenWith (paired : Bool) (p : Program) (seed hosts events : ℕ) (written : List ℕ) : Type 0 where
+pub record GenOf (p : Program) (seed hosts events : ℕ) (paired : Bool) (written : List ℕ) : Type 0 where
   pub run : List Happening
-  pub events_are : IsGenerated 1 hosts (world_with p (gen_header_with paired hosts)) seed run × (length run ≡ events)
-  pub good : GoodRun p (gen_header_with paired hosts) run
-  pub printed : written ≡ as_bytes (gen_line_with paired seed hosts events ∷ end_line (run_counts (world_with p (gen_header_with paired hosts)) no_counts run) ∷ [])
-
--- .. where no area has pairs.
-abbrev pub GenOf : Program → ℕ → ℕ → ℕ → List ℕ → Type 0
-GenOf p seed hosts events written = GenWith false p seed hosts events written
+  pub events_are : IsGenerated 1 hosts (world_with p (gen_header hosts paired)) seed run × (length run ≡ events)
+  pub good : GoodRun p (gen_header hosts paired) run
+  pub printed : written ≡ as_bytes (gen_line seed hosts events paired ∷ end_line (run_counts (world_with p (gen_header hosts paired)) no_counts run) ∷ [])
 
 -- What `gen` owes for the bytes that it wrote and its status.
-abbrev pub GenHeadlineWith : Bool → Program → ℕ → ℕ → ℕ → List ℕ → ℕ → Type 0
-GenHeadlineWith paired p seed hosts events written status =
-    MatchBool (status == 0) (GenWith paired p seed hosts events written)
-    (IsTrue (is_in_range 4 5 status) × ((report : List ℕ) → GenWith paired p seed hosts events report → IsFrontOf written report))
-
--- .. where no area has pairs: all that is generated today.
-abbrev pub GenHeadline : Program → ℕ → ℕ → ℕ → List ℕ → ℕ → Type 0
-GenHeadline p seed hosts events written status = GenHeadlineWith false p seed hosts events written status
+abbrev pub GenHeadline : Program → ℕ → ℕ → ℕ → Bool → List ℕ → ℕ → Type 0
+GenHeadline p seed hosts events paired written status =
+    MatchBool (status == 0) (GenOf p seed hosts events paired written)
+    (IsTrue (is_in_range 4 5 status) × ((report : List ℕ) → GenOf p seed hosts events paired report → IsFrontOf written report))
 
 -- What is written is the plain program's text: so `gen` has one output, and the program computes it.
-abbrev pub PlainGenWith : Bool → Program → Type 0
-PlainGenWith paired p =
-    (seed hosts events : ℕ) → IsTrue (is_in_range 1 16 hosts) → events ≤ 1000000 → (written : List ℕ) →
-    GenWith paired p seed hosts events written ↔ (written ≡ as_bytes (gen_lines_with paired p seed hosts events))
-
--- .. where no area has pairs.
 abbrev pub PlainGen : Program → Type 0
-PlainGen p = PlainGenWith false p
+PlainGen p =
+    (seed hosts events : ℕ) (paired : Bool) → IsTrue (is_in_range 1 16 hosts) → events ≤ 1000000 → (written : List ℕ) →
+    GenOf p seed hosts events paired written ↔ (written ≡ as_bytes (gen_lines p seed hosts events paired))
 
 -- The plain program computes the report, of whose run this is promised.
 abbrev pub PlainReplay : Promise → Language → Type 0

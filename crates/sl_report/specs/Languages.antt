@@ -1,7 +1,7 @@
 -- What of the schedules' language a program reads. The language of all schedules is the promise; a program that reads less of it says so
 -- by a value of this type, and all that is said of schedules and reports is said of whatever language it reads. What a line says is always
--- read by the forms of all schedules; a narrower language then leaves out some of it. Today's leaves out `sanlock 2`.
-use Rattle.sl_report.specs.ScheduleLines.{HeaderLine, VersionLine}
+-- read by the forms of all schedules; a narrower language then leaves out some of it.
+use Rattle.sl_report.specs.ScheduleLines.{HeaderLine}
 use Rattle.sl_run.specs.Worlds.{Program, whole_program}
 use Rattle.sl_run.specs.declared.event.Event.{Event}
 use Rattle.sl_run.specs.declared.event.Refusal.{Refusal}
@@ -40,9 +40,9 @@ most_lines k =
     else (if k == 7 || k == 8 then Some 8
     else (if k == 9 then Some 256 else Some 1))
 
--- The language of all schedules, of this program: of areas with pairs too.
-abbrev pub language_with_pairs : Program → Language
-language_with_pairs p =
+-- The language of all schedules, of this program.
+abbrev pub language_of : Program → Language
+language_of p =
     record {
       program = p;
       skips = is_skipped;
@@ -52,15 +52,6 @@ language_with_pairs p =
       event = (λ e. e);
       told = (λ r. r);
     }
-
--- What is taken of a header line where no area has pairs: not the first line that says they have.
-abbrev pub without_pairs : Option HeaderLine → Option HeaderLine
-without_pairs (Some (VersionLine true)) = None
-without_pairs l = l
-
--- The language that this program reads: all of it but areas with pairs, which no program plays yet.
-abbrev pub language_of : Program → Language
-language_of p = record (language_with_pairs p) { header_line = without_pairs }
 
 -- The language of the whole program.
 abbrev pub whole_language : Language

@@ -9,7 +9,7 @@ use Rattle.sl_run.specs.declared.header.ResourceLine.{ResourceLine}
 use Rattle.sl_run.specs.declared.header.SessionLine.{SessionLine}
 use Rattle.sl_text.specs.Names.{is_name, is_path}
 use Rattle.sl_time.specs.Times.{IsTiming}
-use Rattle.std.specs.Prelude.{AllPairs, Contains, IsTrue, List, false, length, map, ℕ, ◌%◌, ◌*◌, ◌++◌, ◌+◌, ◌<◌, ◌^◌, ◌↔◌, ◌≡◌, ◌≢◌, ◌≤◌}
+use Rattle.std.specs.Prelude.{AllPairs, Contains, IsTrue, List, length, map, ℕ, ◌%◌, ◌*◌, ◌++◌, ◌+◌, ◌<◌, ◌^◌, ◌↔◌, ◌≡◌, ◌≢◌, ◌≤◌}
 
 -- The area lies on a disk and begins at a multiple of its size.
 pub record IsArea (h : Header) (path : List ℕ) (offset : ℕ) : Type 0 where
@@ -42,8 +42,6 @@ pub record IsHeader (h : Header) : Type 0 where
   pub grace : h.grace ≤ 600000
   pub machines : (1 ≤ h.machines) × (h.machines ≤ 16)
   pub geometry : IsGeometry h.geometry
-  -- each host's block has one sector: of areas with pairs nothing is proved yet
-  pub unpaired : h.geometry.paired ≡ false
   pub retries : h.retries ≤ 8
   pub clocks : (c : FirstReading) → Contains h.clocks c → (1 ≤ c.machine) × (c.machine ≤ h.machines) × (c.reading < 10 ^ 12)
   pub one_clock : AllPairs (λ a b. a.machine ≢ b.machine) h.clocks

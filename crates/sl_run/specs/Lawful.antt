@@ -23,7 +23,7 @@ use Rattle.sl_trace.specs.declared.command.Command.{Command}
 use Rattle.sl_trace.specs.declared.input.Given.{Given}
 use Rattle.sl_words.specs.Bounds.{moments}
 use Rattle.std.specs.List.{AllByRecursion}
-use Rattle.std.specs.Prelude.{AllPairs, IsFalse, IsTrue, List, Ok, bytes_eq, false, ℕ, ◌<◌, ◌≡◌, ◌≤◌}
+use Rattle.std.specs.Prelude.{AllPairs, IsFalse, IsTrue, List, Ok, bytes_eq, ℕ, ◌<◌, ◌≡◌, ◌≤◌}
 
 -- An orderly trace: what holds at each moment of a step, whatever of it is still to come. Safety rests on this alone; none of these
 -- laws names what a host does, only what it may.
@@ -58,8 +58,6 @@ pub record IsGiven (st : Setting) (g : Given) : Type 0 where
 pub record IsSetting (st : Setting) : Type 0 where
   pub timing : IsTiming st.timing
   pub layout : (g : Sizes) × IsGeometry g × (st.layout ≡ layout_with st.layout.digest g)
-  -- each host's block has one sector: of areas with pairs nothing is proved yet
-  pub unpaired : st.layout.paired ≡ false
   pub digest : IsDigest st.layout.digest
   pub name : IsTrue (is_name st.name)
   -- a place within a sector, or an id that no host has, would be written as it was read

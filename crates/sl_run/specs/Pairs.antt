@@ -1,4 +1,4 @@
--- What is owed of areas with pairs, beside safety: a torn write blocks no resource. (Nothing of it is proved yet.)
+-- What is owed of areas with pairs, beside safety: a torn write blocks no resource.
 use Rattle.sl_area.specs.Places.{pair_back, pair_front}
 use Rattle.sl_run.specs.Caused.{IsCaused}
 use Rattle.sl_run.specs.Runs.{AfterEachFront, EachDaemon, Happening, daemons_of}

@@ -1,19 +1,16 @@
 -- What is kept of a header's lines stands for them: their counts, their header, and one more line.
-use Rattle.sl_area.specs.Layouts.{Sizes, most_ids, roomy, sizes}
-use Rattle.sl_report.specs.Languages.{is_skipped, least_lines, most_lines, whole_language, without_pairs}
+use Rattle.sl_area.specs.Layouts.{Sizes, most_ids, roomy}
+use Rattle.sl_report.specs.Languages.{is_skipped, least_lines, most_lines, whole_language}
 use Rattle.sl_report.specs.ReadingLines.{header_line_in, header_refusal, is_in_order}
-use Rattle.sl_report.specs.ScheduleLines.{AreaLine, BeginLine, ClockLine, DiskLine, GeometryLine, HeaderLine, HostsLine, IdsLine, LeaseLine, LvmLine, MemberLine, TimeLine, VersionLine, area_line, clock_line, count_of_rank, disk_line, geometry_line, header_forms, header_of, header_tests, hosts_line, ids_line, lease_line, member_line, no_timing, rank, retries_line, timing_line, version_line}
+use Rattle.sl_report.specs.ScheduleLines.{AreaLine, BeginLine, ClockLine, DiskLine, GeometryLine, HeaderLine, HostsLine, IdsLine, LeaseLine, LvmLine, MemberLine, TimeLine, VersionLine, area_line, clock_line, count_of_rank, disk_line, geometry_line, header_of, header_tests, hosts_line, ids_line, lease_line, member_line, no_timing, rank, retries_line, timing_line, version_line}
 use Rattle.sl_report.specs.Schedules.{default_area, default_sector, header_line_refusal, is_begin, with_line}
 use Rattle.sl_run.specs.Worlds.{first_that, mebibyte}
 use Rattle.sl_run.specs.declared.event.Refusal.TheVariants.{LimitGeometry, LimitIds, Syntax}
 use Rattle.sl_run.specs.declared.event.Refusal.{Refusal}
 use Rattle.sl_run.specs.declared.header.Header.{Header}
-use Rattle.sl_schedule.proofs.SizeLaws.{no_sizes, sizes_taken, some_hosts}
-use Rattle.sl_schedule.specs.HeaderReads.{IsHosts}
+use Rattle.sl_schedule.proofs.SizeLaws.{none_yet, sizes_taken, some_hosts, some_told}
 use Rattle.sl_schedule.specs.declared.header.Added.TheVariants.{Begun, More, Refused}
-use Rattle.sl_schedule.proofs.HeaderReadLaws.{plain_taken}
-use Rattle.sl_schedule.specs.Headers.{HeaderSoFar, IsPlain, Stands, answer_after, answer_now, answer_to, bytes_of, count_at, has_least, has_room, header_now, is_in_place, kept_after, lines_after, no_lines, refusal_now, sizes_now, sizes_of, so_far_after, so_far_with, versions_of}
-use Rattle.sl_text.specs.Forms.{made_by, words_of}
+use Rattle.sl_schedule.specs.Headers.{ArePossible, HeaderSoFar, HostsAreFew, IsPossible, IsWithin, Stands, answer_after, answer_now, answer_to, bytes_of, count_at, default_sizes, has_least, has_room, header_now, is_in_place, kept_after, lines_after, no_lines, refusal_now, sizes_now, sizes_of, so_far_after, so_far_with}
 use Rattle.sl_words.proofs.CaseLaws.{true_or_false}
 use Rattle.sl_words.proofs.WordLaws.{and_true}
 use Rattle.sl_words.specs.Words.{first_of_list, some_is}
@@ -27,7 +24,7 @@ use Rattle.std.proofs.lemmas.List.Sums.{sum_by-append}
 use Rattle.std.proofs.lemmas.List.{append-nil}
 use Rattle.std.specs.List.{filter_map, list_all, range_with_len}
 use Rattle.std.specs.Option.{IfSome, IsSome, option_map, option_to_list}
-use Rattle.std.specs.Prelude.{if◌then◌else◌, is_none, nat_le, nat_lt, unwrap_or, ◌==◌}
+use Rattle.std.specs.Prelude.{is_none, nat_le, nat_lt, unwrap_or, ◌==◌}
 
 -- ---- how many lines of a rank there are
 
@@ -128,14 +125,9 @@ sized_count : (o : Option Sizes) → length (option_to_list (option_map bytes_of
 sized_count None = refl
 sized_count (Some z) = refl
 
--- As many as there are first lines.
-versions_count : (version : Bool) → length (versions_of version) ≡ (if version then 1 else 0)
-versions_count true = refl
-versions_count false = refl
-
 -- The counts are those of what is kept.
 counts : (r : HeaderSoFar) (ls : List HeaderLine) → Stands r ls → (k : ℕ) → k < 12 → count_of_rank ls k ≡ count_at r k
-counts r ls h zero small = version_count ls ∙ ap length h.versions ∙ versions_count r.version
+counts r ls h zero small = version_count ls ∙ ap length h.versions
 counts r ls h (suc zero) small = timing_count ls ∙ ap length h.timings
 counts r ls h (suc (suc zero)) small = hosts_count ls ∙ ap length h.numbers
 counts r ls h (suc (suc (suc zero))) small = ids_count ls ∙ ap length h.ids
@@ -191,22 +183,18 @@ first_is : {A : Type 0} (xs : List A) (o : Option A) (d : A) → xs ≡ option_t
 first_is xs o d e = ap (λ ys. unwrap_or (first_of_list ys) d) e ∙ first_listed o d
 
 -- The sizes that the lines give.
-sizes_are : (o : Option Sizes) (hosts : Option ℕ) → IfSome o (λ z. hosts ≡ Some z.hosts) → IfSome o (λ z. z.paired ≡ false)
+sizes_are : (o : Option Sizes) (hosts : Option ℕ) (version : Option Bool) → IfSome o (λ z. hosts ≡ Some z.hosts) → IfSome o (λ z. version ≡ Some z.paired)
     → record {
       sector = (unwrap_or (option_map bytes_of o) (default_sector, default_area)).0;
       area = (unwrap_or (option_map bytes_of o) (default_sector, default_area)).1;
       hosts = unwrap_or hosts 0;
-      paired = false;
+      paired = unwrap_or version false;
     }
-    ≡ unwrap_or o (sizes default_sector default_area (unwrap_or hosts 0))
-sizes_are None hosts same plain = refl
-sizes_are (Some z) hosts same plain =
-    ap (λ h. record { sector = z.sector; area = z.area; hosts = unwrap_or h 0; paired = false }) same ∙ ap (λ b. record z { paired = b }) (sym plain)
-
--- Whether areas have pairs: none has.
-first_plain : (version : Bool) → unwrap_or (first_of_list (versions_of version)) false ≡ false
-first_plain true = refl
-first_plain false = refl
+    ≡ unwrap_or o (default_sizes (unwrap_or hosts 0) (unwrap_or version false))
+sizes_are None hosts version same pairs = refl
+sizes_are (Some z) hosts version same pairs =
+    ap (λ h. record { sector = z.sector; area = z.area; hosts = unwrap_or h 0; paired = unwrap_or version false }) same
+    ∙ ap (λ v. record z { paired = unwrap_or v false }) pairs
 
 pub header_is : (r : HeaderSoFar) (ls : List HeaderLine) → Stands r ls → header_of default_sector default_area ls ≡ header_now r
 unfolding header_of
@@ -217,9 +205,9 @@ header_is r ls h =
     let bytes : unwrap_or (first_of_list (filter_map geometry_line ls)) (default_sector, default_area) ≡ unwrap_or (option_map bytes_of r.sizes) (default_sector, default_area) =
     first_is _ (option_map bytes_of r.sizes) (default_sector, default_area) h.geometries in
     let retries : unwrap_or (first_of_list (filter_map retries_line ls)) 0 ≡ unwrap_or r.retries 0 = first_is _ r.retries 0 h.retried in
-    let plain : unwrap_or (first_of_list (filter_map version_line ls)) false ≡ false = ap (λ bs. unwrap_or (first_of_list bs) false) h.versions ∙ first_plain r.version in
-    rw (times, machines, hosts, bytes, plain, retries, h.readings, h.paths, h.areas, h.leases, h.members)
-    (ap (λ z. record (header_now r) { geometry = z }) (sizes_are r.sizes r.hosts h.sized h.unpaired))
+    let pairs : unwrap_or (first_of_list (filter_map version_line ls)) false ≡ unwrap_or r.version false = first_is _ r.version false h.versions in
+    rw (times, machines, hosts, bytes, pairs, retries, h.readings, h.paths, h.areas, h.leases, h.members)
+    (ap (λ z. record (header_now r) { geometry = z }) (sizes_are r.sizes r.hosts r.version h.sized h.pairs))
 
 -- ---- refusals
 
@@ -301,29 +289,32 @@ ids_with r ls l h place = no_more_kept ids_line ls l (option_to_list r.hosts) re
 -- The sizes of a line that may stand.
 record SizesTaken (r : HeaderSoFar) (sector area : ℕ) : Type 0 where
   taken : Sizes
-  is : sizes_of sector area (sizes_now r).hosts ≡ Some taken
+  is : sizes_of sector area (sizes_now r).hosts (sizes_now r).paired ≡ Some taken
   bytes : bytes_of taken ≡ (sector, area)
   hosts : r.hosts ≡ Some taken.hosts
-  plain : taken.paired ≡ false
+  pairs : r.version ≡ Some taken.paired
   alone : r.sizes ≡ None
 
-takes_sizes : (r : HeaderSoFar) (sector mebibytes : ℕ) → is_in_place r 4 ≡ true → IfSome r.hosts IsHosts
+takes_sizes : (r : HeaderSoFar) (sector mebibytes : ℕ) → is_in_place r 4 ≡ true → IfSome r.hosts (HostsAreFew r.version)
     → first_that (header_tests (header_now r) (GeometryLine sector mebibytes)) ≡ None → SizesTaken r sector (mebibytes * mebibyte)
 unfolding header_tests
 takes_sizes r sector mebibytes place possible none =
     let area : ℕ = mebibytes * mebibyte in
-    let given = some_hosts r.hosts (least_of r 4 place 3 (omega arith)) possible in
-    let alone = no_sizes r.sizes (room_of r 4 place) in
-    let hosts : (sizes_now r).hosts ≡ given.0 = ap (λ o. (unwrap_or o (sizes default_sector default_area (unwrap_or r.hosts 0))).hosts) alone ∙ ap (λ h. unwrap_or h 0) given.1 in
-    let plain : (sizes_now r).paired ≡ false = ap (λ o. (unwrap_or o (sizes default_sector default_area (unwrap_or r.hosts 0))).paired) alone in
+    let given = some_hosts r.version r.hosts (least_of r 4 place 3 (omega arith)) possible in
+    let told = some_told r.version (least_of r 4 place 0 (omega arith)) in
+    let alone = none_yet r.sizes (room_of r 4 place) in
+    let first : Sizes = default_sizes (unwrap_or r.hosts 0) (unwrap_or r.version false) in
+    let hosts : (sizes_now r).hosts ≡ given.0 = ap (λ o. (unwrap_or o first).hosts) alone ∙ ap (λ h. unwrap_or h 0) given.1 in
+    let pairs : (sizes_now r).paired ≡ told.0 = ap (λ o. (unwrap_or o first).paired) alone ∙ ap (λ v. unwrap_or v false) told.1 in
     let tests : Bool → ℕ → List (Bool × Refusal) = λ paired n. (is_none (most_ids sector area), LimitGeometry) ∷ (some_is (λ most. nat_lt (roomy paired most) n) (most_ids sector area), LimitIds) ∷ [] in
     record {
-      taken = sizes sector area given.0;
-      is = ap (sizes_of sector area) hosts
-          ∙ sizes_taken sector area given.0 given.2 (subst (λ (n : ℕ). first_that (tests false n) ≡ None) hosts (subst (λ (b : Bool). first_that (tests b (sizes_now r).hosts) ≡ None) plain none));
+      taken = record { sector = sector; area = area; hosts = given.0; paired = told.0 };
+      is = ap (λ n. sizes_of sector area n (sizes_now r).paired) hosts ∙ ap (sizes_of sector area given.0) pairs
+          ∙ sizes_taken sector area given.0 told.0 given.2
+          (subst (λ (n : ℕ). first_that (tests told.0 n) ≡ None) hosts (subst (λ (b : Bool). first_that (tests b (sizes_now r).hosts) ≡ None) pairs none));
       bytes = refl;
       hosts = given.1;
-      plain = refl;
+      pairs = told.1;
       alone = alone;
     }
 
@@ -331,7 +322,7 @@ no_bytes : (o : Option Sizes) (xs : List (ℕ × ℕ)) → o ≡ None → xs ≡
 no_bytes None xs none e = e
 no_bytes (Some z) xs none e = absurd cc
 
-geometries_with : (r : HeaderSoFar) (ls : List HeaderLine) (l : HeaderLine) → Stands r ls → is_in_place r (rank l) ≡ true → IfSome r.hosts IsHosts
+geometries_with : (r : HeaderSoFar) (ls : List HeaderLine) (l : HeaderLine) → Stands r ls → is_in_place r (rank l) ≡ true → IfSome r.hosts (HostsAreFew r.version)
     → first_that (header_tests (header_now r) l) ≡ None → filter_map geometry_line (ls ++ l ∷ []) ≡ option_to_list (option_map bytes_of (so_far_with r l).sizes)
 geometries_with r ls (GeometryLine sector mebibytes) h place possible none =
     let t = takes_sizes r sector mebibytes place possible none in
@@ -339,23 +330,26 @@ geometries_with r ls (GeometryLine sector mebibytes) h place possible none =
     ∙ sym (ap (λ o. option_to_list (option_map bytes_of o)) t.is ∙ ap (λ p. p ∷ []) t.bytes)
 geometries_with r ls l h place possible none = no_more_kept geometry_line ls l (option_to_list (option_map bytes_of r.sizes)) refl h.geometries
 
-still_sized : (o : Option Sizes) (hosts : Option ℕ) (n : ℕ) → nat_lt (length (option_to_list hosts)) 1 ≡ true → IfSome o (λ z. hosts ≡ Some z.hosts) → IfSome o (λ z. Some n ≡ Some z.hosts)
-still_sized None hosts n room same = tt
-still_sized (Some z) None n room same = absurd cc
-still_sized (Some z) (Some m) n room same = absurd cc
+-- What sizes go by was told before them, once.
+still_told : {A : Type 0} (o : Option Sizes) (pick : Sizes → A) (told : Option A) (a : A) → nat_lt (length (option_to_list told)) 1 ≡ true
+    → IfSome o (λ z. told ≡ Some (pick z)) → IfSome o (λ z. Some a ≡ Some (pick z))
+still_told None pick told a room same = tt
+still_told (Some z) pick None a room same = absurd cc
+still_told (Some z) pick (Some b) a room same = absurd cc
 
-sized_with : (r : HeaderSoFar) (ls : List HeaderLine) (l : HeaderLine) → Stands r ls → is_in_place r (rank l) ≡ true → IfSome r.hosts IsHosts
+sized_with : (r : HeaderSoFar) (ls : List HeaderLine) (l : HeaderLine) → Stands r ls → is_in_place r (rank l) ≡ true → IfSome r.hosts (HostsAreFew r.version)
     → first_that (header_tests (header_now r) l) ≡ None → IfSome (so_far_with r l).sizes (λ z. (so_far_with r l).hosts ≡ Some z.hosts)
-sized_with r ls (IdsLine n) h place possible none = still_sized r.sizes r.hosts n (room_of r 3 place) h.sized
+sized_with r ls (IdsLine n) h place possible none = still_told r.sizes (λ z. z.hosts) r.hosts n (room_of r 3 place) h.sized
 sized_with r ls (GeometryLine sector mebibytes) h place possible none =
     let t = takes_sizes r sector mebibytes place possible none in subst (λ (o : Option Sizes). IfSome o (λ z. r.hosts ≡ Some z.hosts)) (sym t.is) t.hosts
 sized_with r ls l h place possible none = h.sized
 
-unpaired_with : (r : HeaderSoFar) (ls : List HeaderLine) (l : HeaderLine) → Stands r ls → is_in_place r (rank l) ≡ true → IfSome r.hosts IsHosts
-    → first_that (header_tests (header_now r) l) ≡ None → IfSome (so_far_with r l).sizes (λ z. z.paired ≡ false)
-unpaired_with r ls (GeometryLine sector mebibytes) h place possible none =
-    let t = takes_sizes r sector mebibytes place possible none in subst (λ (o : Option Sizes). IfSome o (λ z. z.paired ≡ false)) (sym t.is) t.plain
-unpaired_with r ls l h place possible none = h.unpaired
+pairs_with : (r : HeaderSoFar) (ls : List HeaderLine) (l : HeaderLine) → Stands r ls → is_in_place r (rank l) ≡ true → IfSome r.hosts (HostsAreFew r.version)
+    → first_that (header_tests (header_now r) l) ≡ None → IfSome (so_far_with r l).sizes (λ z. (so_far_with r l).version ≡ Some z.paired)
+pairs_with r ls (VersionLine paired) h place possible none = still_told r.sizes (λ z. z.paired) r.version paired (room_of r 0 place) h.pairs
+pairs_with r ls (GeometryLine sector mebibytes) h place possible none =
+    let t = takes_sizes r sector mebibytes place possible none in subst (λ (o : Option Sizes). IfSome o (λ z. r.version ≡ Some z.paired)) (sym t.is) t.pairs
+pairs_with r ls l h place possible none = h.pairs
 
 retried_with : (r : HeaderSoFar) (ls : List HeaderLine) (l : HeaderLine) → Stands r ls → is_in_place r (rank l) ≡ true
     → filter_map retries_line (ls ++ l ∷ []) ≡ option_to_list (so_far_with r l).retries
@@ -387,36 +381,30 @@ members_with : (r : HeaderSoFar) (ls : List HeaderLine) (l : HeaderLine) → Sta
 members_with r ls (MemberLine s) h place = one_more_kept member_line ls (MemberLine s) r.sessions s refl h.members
 members_with r ls l h place = no_more_kept member_line ls l r.sessions refl h.members
 
-none_yet : (version : Bool) → nat_lt (if version then 1 else 0) 1 ≡ true → versions_of version ≡ []
-none_yet true room = absurd cc
-none_yet false room = refl
-
 same_count : (m n : ℕ) → m ≡ n → m + 0 ≡ n
 same_count m n e = omega arith
 
-versions_with : (r : HeaderSoFar) (ls : List HeaderLine) (l : HeaderLine) → Stands r ls → is_in_place r (rank l) ≡ true → IsPlain l
-    → filter_map version_line (ls ++ l ∷ []) ≡ versions_of (so_far_with r l).version
-versions_with r ls (VersionLine true) h place plain = absurd cc
-versions_with r ls (VersionLine false) h place plain =
-    one_more_kept version_line ls (VersionLine false) [] false refl (h.versions ∙ none_yet r.version (room_of r 0 place))
-versions_with r ls l h place plain = no_more_kept version_line ls l (versions_of r.version) refl h.versions
+versions_with : (r : HeaderSoFar) (ls : List HeaderLine) (l : HeaderLine) → Stands r ls → is_in_place r (rank l) ≡ true
+    → filter_map version_line (ls ++ l ∷ []) ≡ option_to_list (so_far_with r l).version
+versions_with r ls (VersionLine paired) h place = first_kept version_line ls (VersionLine paired) r.version paired refl h.versions (room_of r 0 place)
+versions_with r ls l h place = no_more_kept version_line ls l (option_to_list r.version) refl h.versions
 
 begins_with : (r : HeaderSoFar) (ls : List HeaderLine) (l : HeaderLine) → Stands r ls → (rank l ≡ 11 → ⊥) → count_of_rank (ls ++ l ∷ []) 11 ≡ 0
 begins_with r ls BeginLine h not_begin = absurd (not_begin refl)
 begins_with r ls l h not_begin = count_with 11 ls l ∙ same_count (count_of_rank ls 11) _ h.begins
 
-stands_with : (r : HeaderSoFar) (ls : List HeaderLine) (l : HeaderLine) → Stands r ls → is_in_place r (rank l) ≡ true → (rank l ≡ 11 → ⊥) → IfSome r.hosts IsHosts
-    → first_that (header_tests (header_now r) l) ≡ None → IsPlain l → Stands (so_far_with r l) (ls ++ l ∷ [])
-stands_with r ls l h place not_begin possible none plain =
+stands_with : (r : HeaderSoFar) (ls : List HeaderLine) (l : HeaderLine) → Stands r ls → is_in_place r (rank l) ≡ true → (rank l ≡ 11 → ⊥) → IfSome r.hosts (HostsAreFew r.version)
+    → first_that (header_tests (header_now r) l) ≡ None → Stands (so_far_with r l) (ls ++ l ∷ [])
+stands_with r ls l h place not_begin possible none =
     record {
       order = (λ k. order_with r ls l h (not_before r (rank l) place) k);
-      versions = versions_with r ls l h place plain;
+      versions = versions_with r ls l h place;
       timings = timings_with r ls l h place;
       numbers = numbers_with r ls l h place;
       ids = ids_with r ls l h place;
       geometries = geometries_with r ls l h place possible none;
       sized = sized_with r ls l h place possible none;
-      unpaired = unpaired_with r ls l h place possible none;
+      pairs = pairs_with r ls l h place possible none;
       retried = retried_with r ls l h place;
       readings = readings_with r ls l h place;
       paths = paths_with r ls l h place;
@@ -439,7 +427,7 @@ stands_at_first =
       ids = refl;
       geometries = refl;
       sized = tt;
-      unpaired = tt;
+      pairs = tt;
       retried = refl;
       readings = refl;
       paths = refl;
@@ -516,33 +504,32 @@ others_pass : (t : Bool) (tests : List (Bool × Refusal)) → first_that ((not t
 others_pass true tests none = none
 others_pass false tests none = absurd cc
 
-stood_for : (r : HeaderSoFar) (ls : List HeaderLine) (l : HeaderLine) (why : Option Refusal) (begin : Bool) → Stands r ls → IfSome r.hosts IsHosts → IsPlain l → refusal_now r l ≡ why → is_begin l ≡ begin
+stood_for : (r : HeaderSoFar) (ls : List HeaderLine) (l : HeaderLine) (why : Option Refusal) (begin : Bool) → Stands r ls → IfSome r.hosts (HostsAreFew r.version) → refusal_now r l ≡ why → is_begin l ≡ begin
     → Stands (elim why [ Some w ↦ r | None ↦ elim begin [ true ↦ no_lines | false ↦ so_far_with r l ] ])
     (elim why [ Some w ↦ ls | None ↦ elim begin [ true ↦ [] | false ↦ with_line ls (Some l) ] ])
-stood_for r ls l (Some w) begin h possible plain why is = h
-stood_for r ls l None true h possible plain why is = stands_at_first
-stood_for r ls l None false h possible plain why is =
+stood_for r ls l (Some w) begin h possible why is = h
+stood_for r ls l None true h possible why is = stands_at_first
+stood_for r ls l None false h possible why is =
     stands_with r ls l h (in_place (is_in_place r (rank l)) (header_tests (header_now r) l) why) (not_last l is) possible
-    (others_pass (is_in_place r (rank l)) (header_tests (header_now r) l) why) plain
+    (others_pass (is_in_place r (rank l)) (header_tests (header_now r) l) why)
 
-stood_after : (r : HeaderSoFar) (ls : List HeaderLine) → Stands r ls → IfSome r.hosts IsHosts → (read : Option HeaderLine) → IfSome read IsPlain
+stood_after : (r : HeaderSoFar) (ls : List HeaderLine) → Stands r ls → IfSome r.hosts (HostsAreFew r.version) → (read : Option HeaderLine)
     → Stands (kept_after r read) (elim (header_line_refusal whole_language ls read) [
       | Some why ↦ ls
       | None ↦ elim (some_is is_begin read) [ true ↦ [] | false ↦ with_line ls read ]
     ])
-stood_after r ls h possible None plain = h
-stood_after r ls h possible (Some l) plain =
+stood_after r ls h possible None = h
+stood_after r ls h possible (Some l) =
     let kept : HeaderSoFar = kept_after r (Some l) in
     let P : Option Refusal → Type 0 = λ o. Stands kept (elim o [
       | Some why ↦ ls
       | None ↦ elim (is_begin l) [ true ↦ [] | false ↦ with_line ls (Some l) ]
     ]) in
-    subst P (sym (refusal_is r ls h l)) (stood_for r ls l (refusal_now r l) (is_begin l) h possible plain refl refl)
+    subst P (sym (refusal_is r ls h l)) (stood_for r ls l (refusal_now r l) (is_begin l) h possible refl refl)
 
-pub stands_after : (r : HeaderSoFar) (ls : List HeaderLine) (line : List ℕ) → Stands r ls → IfSome r.hosts IsHosts → Stands (so_far_after r line) (lines_after ls line)
+pub stands_after : (r : HeaderSoFar) (ls : List HeaderLine) (line : List ℕ) → Stands r ls → IfSome r.hosts (HostsAreFew r.version) → Stands (so_far_after r line) (lines_after ls line)
 stands_after r ls line h possible =
-    let made : Option HeaderLine = made_by (header_forms (header_of default_sector default_area ls).geometry.area) (words_of line) in
-    let read : Option HeaderLine = without_pairs made in
+    let read : Option HeaderLine = header_line_in whole_language (header_of default_sector default_area ls).geometry.area line in
     subst (λ (kept : HeaderSoFar). Stands kept (lines_after ls line))
     (ap (λ area. elim (is_skipped line) [ true ↦ r | false ↦ kept_after r (header_line_in whole_language area line) ]) (sym (area_is r ls h)))
     (elim (is_skipped line) as (λ t. Stands (elim t [ true ↦ r | false ↦ kept_after r read ]) (elim t [
@@ -551,4 +538,23 @@ stands_after r ls line h possible =
         | Some why ↦ ls
         | None ↦ elim (some_is is_begin read) [ true ↦ [] | false ↦ with_line ls read ]
       ]
-    ])) [ true ↦ h | false ↦ stood_after r ls h possible read (plain_taken made) ])
+    ])) [ true ↦ h | false ↦ stood_after r ls h possible read ])
+
+-- ---- what is kept may be a run's
+
+told_by : (o : Option Sizes) (hosts : ℕ) (version : Option Bool) → IfSome o (λ z. version ≡ Some z.paired) → IsSome version
+    → version ≡ Some (unwrap_or o (default_sizes hosts (unwrap_or version false))).paired
+told_by None hosts None same some = absurd cc
+told_by None hosts (Some paired) same some = refl
+told_by (Some z) hosts version same some = same
+
+pub pairs_told : (r : HeaderSoFar) → ArePossible r.version r.times r.hosts r.sizes → IsSome r.version → r.version ≡ Some (sizes_now r).paired
+pairs_told r p some = told_by r.sizes (unwrap_or r.hosts 0) r.version p.pairs some
+
+-- A line in its place, whose values a run may have.
+pub possible : (r : HeaderSoFar) (l : HeaderLine) → is_in_place r (rank l) ≡ true → IsWithin r l → IsPossible r l
+possible r (VersionLine paired) place within = none_yet r.version (room_of r 0 place)
+possible r (TimeLine io fire land rho grace) place within = within
+possible r (IdsLine n) place within = within (given r.version (least_of r 3 place 0 (omega arith)))
+possible r (GeometryLine sector mebibytes) place within = (given r.version (least_of r 4 place 0 (omega arith)), none_yet r.sizes (room_of r 4 place))
+possible r l place within = tt

@@ -1,11 +1,10 @@
 -- Sizes of areas in a header: the rows of their table, as a line names them, and the sizes that a line makes which no test refuses.
-use Rattle.sl_area.specs.Layouts.{IsGeometry, Sizes, geometries, is_geometry, most_ids, sizes}
+use Rattle.sl_area.specs.Layouts.{IsGeometry, Sizes, geometries, is_geometry, most_ids, roomy}
 use Rattle.sl_area.specs.declared.geometry.BadGeometry.{BadGeometry}
 use Rattle.sl_run.specs.Worlds.{first_that, mebibyte}
 use Rattle.sl_run.specs.declared.event.Refusal.TheVariants.{LimitGeometry, LimitIds}
 use Rattle.sl_run.specs.declared.event.Refusal.{Refusal}
-use Rattle.sl_schedule.specs.HeaderReads.{IsHosts}
-use Rattle.sl_schedule.specs.Headers.{row_for, sizes_of}
+use Rattle.sl_schedule.specs.Headers.{HostsAreFew, row_for, sizes_of}
 use Rattle.sl_words.specs.Words.{choose, some_is}
 use Rattle.std.proofs.Common.{Bool, Err, List, None, Ok, Option, Result, Some, [], ap, arith, cond, eqb, false, length, refl, sym, true, ℕ, ◌*◌, ◌&&◌, ◌∙◌, ◌∷◌, ◌≡◌, ◌≤◌, ◌||◌}
 use Rattle.std.proofs.lemmas.Bool.Decides.{Decides-eqb, nat_tests}
@@ -54,22 +53,27 @@ found sector area (x ∷ rows) row h =
       | false ↦ λ e some. found sector area rows row some
     ] refl h
 
--- Where there is none, no number of hosts fits.
-abbrev fits : ℕ → ℕ → ℕ → ℕ × ℕ × ℕ → Bool
-fits sector area hosts row = row.0 == sector && row.1 == area && is_in_range 1 row.2 hosts
+-- Where there is none, no number of hosts fits, with pairs or without.
+abbrev fits : ℕ → ℕ → ℕ → Bool → ℕ × ℕ × ℕ → Bool
+fits sector area hosts paired row = row.0 == sector && row.1 == area && is_in_range 1 (roomy paired row.2) hosts
 
-none_fits : (sector area hosts : ℕ) (rows : List (ℕ × ℕ × ℕ)) → find (is_row sector area) rows ≡ None → list_any (fits sector area hosts) rows ≡ false
-none_fits sector area hosts [] h = refl
-none_fits sector area hosts (x ∷ rows) h =
-    elim (is_row sector area x) as (λ t. cond t (Some x) (find (is_row sector area) rows) ≡ None → (t && is_in_range 1 x.2 hosts || list_any (fits sector area hosts) rows) ≡ false) [
+none_fits : (sector area hosts : ℕ) (paired : Bool) (rows : List (ℕ × ℕ × ℕ)) → find (is_row sector area) rows ≡ None → list_any (fits sector area hosts paired) rows ≡ false
+none_fits sector area hosts paired [] h = refl
+none_fits sector area hosts paired (x ∷ rows) h =
+    elim (is_row sector area x) as (λ t. cond t (Some x) (find (is_row sector area) rows) ≡ None
+    → (t && is_in_range 1 (roomy paired x.2) hosts || list_any (fits sector area hosts paired) rows) ≡ false) [
       | true ↦ λ some. absurd cc
-      | false ↦ λ none. none_fits sector area hosts rows none
+      | false ↦ λ none. none_fits sector area hosts paired rows none
     ] h
 
 -- ---- what the sizes of a line are
 
-pub none_sized : (sector area hosts : ℕ) → None ≡ find (is_row sector area) geometries → None ≡ sizes_of sector area hosts
-none_sized sector area hosts none = ap (λ t. choose t (sizes sector area hosts)) (sym (none_fits sector area hosts geometries (sym none)))
+abbrev sizes_with : ℕ → ℕ → ℕ → Bool → Sizes
+sizes_with sector area hosts paired = record { sector = sector; area = area; hosts = hosts; paired = paired }
+
+pub none_sized : (sector area hosts : ℕ) (paired : Bool) → None ≡ find (is_row sector area) geometries → None ≡ sizes_of sector area hosts paired
+none_sized sector area hosts paired none =
+    ap (λ t. choose t (sizes_with sector area hosts paired)) (sym (none_fits sector area hosts paired geometries (sym none)))
 
 chosen : (z : Sizes) (t : Bool) (r : Result Sizes BadGeometry) → (IsOk r ↔ (t ≡ true)) → IfOk r (λ g. g ≡ z) → result_ok r ≡ choose t z
 chosen z true (Ok g) ok is = ap (λ x. Some x) is
@@ -77,12 +81,13 @@ chosen z true (Err e) ok is = let bad = ok.1 refl in absurd cc
 chosen z false (Ok g) ok is = let bad = ok.0 refl in absurd cc
 chosen z false (Err e) ok is = refl
 
-pub some_sized : (sector area hosts : ℕ) (row : ℕ × ℕ × ℕ) (r : Result Sizes BadGeometry) → Some row ≡ find (is_row sector area) geometries
-    → (IsOk r ↔ IsGeometry (sizes row.0 row.1 hosts)) → IfOk r (λ g. g ≡ sizes row.0 row.1 hosts) → result_ok r ≡ sizes_of sector area hosts
-some_sized sector area hosts row r some ok is =
+pub some_sized : (sector area hosts : ℕ) (paired : Bool) (row : ℕ × ℕ × ℕ) (r : Result Sizes BadGeometry) → Some row ≡ find (is_row sector area) geometries
+    → (IsOk r ↔ IsGeometry (record { sector = row.0; area = row.1; hosts = hosts; paired = paired }))
+    → IfOk r (λ g. g ≡ record { sector = row.0; area = row.1; hosts = hosts; paired = paired }) → result_ok r ≡ sizes_of sector area hosts paired
+some_sized sector area hosts paired row r some ok is =
     let same = found_here sector area row (found sector area geometries row (sym some)) in
-    let z : Sizes = sizes row.0 row.1 hosts in
-    chosen z (is_geometry z) r ok is ∙ ap (λ s. sizes_of s row.1 hosts) same.0 ∙ ap (λ a. sizes_of sector a hosts) same.1
+    let z : Sizes = sizes_with row.0 row.1 hosts paired in
+    chosen z (is_geometry z) r ok is ∙ ap (λ s. sizes_of s row.1 hosts paired) same.0 ∙ ap (λ a. sizes_of sector a hosts paired) same.1
 
 -- ---- a line that no test refuses
 
@@ -98,15 +103,18 @@ or_left : (a b : Bool) → a ≡ true → (a || b) ≡ true
 or_left true b h = refl
 or_left false b h = absurd cc
 
-row_fits : (sector area hosts : ℕ) (rows : List (ℕ × ℕ × ℕ)) → 1 ≤ hosts → is_none (option_map (λ (row : ℕ × ℕ × ℕ). row.2) (find (is_row sector area) rows)) ≡ false
-    → some_is (λ most. nat_lt most hosts) (option_map (λ (row : ℕ × ℕ × ℕ). row.2) (find (is_row sector area) rows)) ≡ false → list_any (fits sector area hosts) rows ≡ true
-row_fits sector area hosts [] some given few = absurd cc
-row_fits sector area hosts (x ∷ rows) some given few =
+row_fits : (sector area hosts : ℕ) (paired : Bool) (rows : List (ℕ × ℕ × ℕ)) → 1 ≤ hosts
+    → is_none (option_map (λ (row : ℕ × ℕ × ℕ). row.2) (find (is_row sector area) rows)) ≡ false
+    → some_is (λ most. nat_lt (roomy paired most) hosts) (option_map (λ (row : ℕ × ℕ × ℕ). row.2) (find (is_row sector area) rows)) ≡ false
+    → list_any (fits sector area hosts paired) rows ≡ true
+row_fits sector area hosts paired [] some given few = absurd cc
+row_fits sector area hosts paired (x ∷ rows) some given few =
     elim (is_row sector area x) as (λ t. is_none (option_map (λ (row : ℕ × ℕ × ℕ). row.2) (cond t (Some x) (find (is_row sector area) rows))) ≡ false
-    → some_is (λ most. nat_lt most hosts) (option_map (λ (row : ℕ × ℕ × ℕ). row.2) (cond t (Some x) (find (is_row sector area) rows))) ≡ false
-    → (t && is_in_range 1 x.2 hosts || list_any (fits sector area hosts) rows) ≡ true) [
-      | true ↦ λ given few. or_left (is_in_range 1 x.2 hosts) (list_any (fits sector area hosts) rows) (within hosts x.2 some few)
-      | false ↦ λ given few. row_fits sector area hosts rows some given few
+    → some_is (λ most. nat_lt (roomy paired most) hosts) (option_map (λ (row : ℕ × ℕ × ℕ). row.2) (cond t (Some x) (find (is_row sector area) rows))) ≡ false
+    → (t && is_in_range 1 (roomy paired x.2) hosts || list_any (fits sector area hosts paired) rows) ≡ true) [
+      | true ↦ λ given few.
+          or_left (is_in_range 1 (roomy paired x.2) hosts) (list_any (fits sector area hosts paired) rows) (within hosts (roomy paired x.2) some few)
+      | false ↦ λ given few. row_fits sector area hosts paired rows some given few
     ] given few
 
 sized_by : (t : Bool) (z : Sizes) → t ≡ true → choose t z ≡ Some z
@@ -114,18 +122,22 @@ sized_by true z h = refl
 sized_by false z h = absurd cc
 
 -- Sizes for some hosts that no test refuses.
-pub sizes_taken : (sector area hosts : ℕ) → 1 ≤ hosts
-    → first_that ((is_none (most_ids sector area), LimitGeometry) ∷ (some_is (λ most. nat_lt most hosts) (most_ids sector area), LimitIds) ∷ []) ≡ None
-    → sizes_of sector area hosts ≡ Some (sizes sector area hosts)
-sizes_taken sector area hosts some none =
-    let tests = first_two (is_none (most_ids sector area)) (some_is (λ most. nat_lt most hosts) (most_ids sector area)) LimitGeometry LimitIds none in
-    sized_by (is_geometry (sizes sector area hosts)) (sizes sector area hosts) (row_fits sector area hosts geometries some tests.0 tests.1)
+pub sizes_taken : (sector area hosts : ℕ) (paired : Bool) → 1 ≤ hosts
+    → first_that ((is_none (most_ids sector area), LimitGeometry) ∷ (some_is (λ most. nat_lt (roomy paired most) hosts) (most_ids sector area), LimitIds) ∷ []) ≡ None
+    → sizes_of sector area hosts paired ≡ Some (record { sector = sector; area = area; hosts = hosts; paired = paired })
+sizes_taken sector area hosts paired some none =
+    let tests = first_two (is_none (most_ids sector area)) (some_is (λ most. nat_lt (roomy paired most) hosts) (most_ids sector area)) LimitGeometry LimitIds none in
+    sized_by (is_geometry (sizes_with sector area hosts paired)) (sizes_with sector area hosts paired) (row_fits sector area hosts paired geometries some tests.0 tests.1)
 
--- No sizes yet, and some hosts.
-pub no_sizes : (o : Option Sizes) → nat_lt (length (option_to_list o)) 1 ≡ true → o ≡ None
-no_sizes None room = refl
-no_sizes (Some z) room = absurd cc
+-- Nothing yet, or something.
+pub none_yet : {A : Type 0} (o : Option A) → nat_lt (length (option_to_list o)) 1 ≡ true → o ≡ None
+none_yet None room = refl
+none_yet (Some a) room = absurd cc
 
-pub some_hosts : (o : Option ℕ) → nat_le 1 (length (option_to_list o)) ≡ true → IfSome o IsHosts → (n : ℕ) × (o ≡ Some n) × (1 ≤ n)
-some_hosts None least is = absurd cc
-some_hosts (Some n) least is = (n, refl, is.0)
+pub some_told : {A : Type 0} (o : Option A) → nat_le 1 (length (option_to_list o)) ≡ true → (a : A) × (o ≡ Some a)
+some_told None least = absurd cc
+some_told (Some a) least = (a, refl)
+
+pub some_hosts : (version : Option Bool) (o : Option ℕ) → nat_le 1 (length (option_to_list o)) ≡ true → IfSome o (HostsAreFew version) → (n : ℕ) × (o ≡ Some n) × (1 ≤ n)
+some_hosts version None least is = absurd cc
+some_hosts version (Some n) least is = (n, refl, is.few.0)

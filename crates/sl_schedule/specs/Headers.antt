@@ -1,5 +1,5 @@
 -- A header, line by line: what is kept of the lines so far, which lists of lines that stands for, and what one more line does.
-use Rattle.sl_area.specs.Layouts.{Sizes, is_geometry, sizes}
+use Rattle.sl_area.specs.Layouts.{Sizes, is_geometry}
 use Rattle.sl_report.specs.Languages.{is_skipped, least_lines, most_lines, whole_language}
 use Rattle.sl_report.specs.ReadingLines.{header_line_in}
 use Rattle.sl_report.specs.ScheduleLines.{AreaLine, BeginLine, ClockLine, DiskLine, GeometryLine, HeaderLine, HostsLine, IdsLine, LeaseLine, LvmLine, MemberLine, TimeLine, VersionLine, area_line, clock_line, count_of_rank, disk_line, geometry_line, header_of, header_tests, hosts_line, ids_line, lease_line, member_line, no_timing, rank, retries_line, timing_line, version_line}
@@ -13,20 +13,21 @@ use Rattle.sl_run.specs.declared.header.Header.{Header}
 use Rattle.sl_run.specs.declared.header.LockspaceLine.{LockspaceLine}
 use Rattle.sl_run.specs.declared.header.ResourceLine.{ResourceLine}
 use Rattle.sl_run.specs.declared.header.SessionLine.{SessionLine}
-use Rattle.sl_schedule.specs.HeaderReads.{IsHosts}
+use Rattle.sl_schedule.specs.HeaderReads.{AreHosts}
 use Rattle.sl_schedule.specs.declared.header.Added.TheVariants.{Begun, More, Refused}
 use Rattle.sl_schedule.specs.declared.header.Added.{Added}
 use Rattle.sl_schedule.specs.declared.header_line.Times.{Times}
 use Rattle.sl_time.specs.Times.{IsTiming, TimingNumbers}
 use Rattle.sl_words.specs.Words.{choose, some_is}
 use Rattle.std.specs.List.{list_all, range_with_len}
-use Rattle.std.specs.Option.{IfSome, option_map, option_to_list}
+use Rattle.std.specs.Option.{IfSome, IsSome, option_map, option_to_list}
 use Rattle.std.specs.Prelude.{Bool, List, None, Option, Some, false, filter_map, if◌then◌else◌, length, nat_le, nat_lt, not, true, unwrap_or, [], ℕ, ◌&&◌, ◌*◌, ◌++◌, ◌==◌, ◌∷◌, ◌≡◌}
 
 -- What is kept of the lines so far: the greatest rank, and what each kind of line said.
 pub record HeaderSoFar : Type 0 where
   pub last : ℕ
-  pub version : Bool
+  -- whether areas have pairs
+  pub version : Option Bool
   pub times : Option (TimingNumbers × ℕ)
   pub machines : Option ℕ
   pub hosts : Option ℕ
@@ -44,7 +45,7 @@ abbrev pub no_lines : HeaderSoFar
 no_lines =
     record {
       last = 0;
-      version = false;
+      version = None;
       times = None;
       machines = None;
       hosts = None;
@@ -61,14 +62,17 @@ no_lines =
 abbrev pub times_seen : Times → TimingNumbers × ℕ
 times_seen t = (record { io = t.io; fire = t.fire; land = t.land; rho = t.rho }, t.grace)
 
--- Times that a run may have, and a number of hosts.
-pub record ArePossible (times : Option (TimingNumbers × ℕ)) (hosts : Option ℕ) : Type 0 where
-  pub timing : IfSome times (λ t. IsTiming t.0)
-  pub number : IfSome hosts IsHosts
+-- A number of hosts that a run may have whose areas have pairs, or none, as the first line told.
+pub record HostsAreFew (version : Option Bool) (hosts : ℕ) : Type 0 where
+  pub paired : Bool
+  pub told : version ≡ Some paired
+  pub few : AreHosts paired hosts
 
--- What first lines give, where there is one or none: that areas have no pairs.
-abbrev pub versions_of : Bool → List Bool
-versions_of version = if version then false ∷ [] else []
+-- Times that a run may have, a number of hosts, and sizes with pairs or without as the first line told.
+pub record ArePossible (version : Option Bool) (times : Option (TimingNumbers × ℕ)) (hosts : Option ℕ) (sizes : Option Sizes) : Type 0 where
+  pub timing : IfSome times (λ t. IsTiming t.0)
+  pub number : IfSome hosts (HostsAreFew version)
+  pub pairs : IfSome sizes (λ z. version ≡ Some z.paired)
 
 -- The bytes of sectors and areas.
 abbrev pub bytes_of : Sizes → ℕ × ℕ
@@ -77,14 +81,13 @@ bytes_of z = (z.sector, z.area)
 -- What is kept stands for these lines.
 pub record Stands (r : HeaderSoFar) (ls : List HeaderLine) : Type 0 where
   pub order : (k : ℕ) → list_all (λ l. nat_le (rank l) k) ls ≡ nat_le r.last k
-  pub versions : filter_map version_line ls ≡ versions_of r.version
+  pub versions : filter_map version_line ls ≡ option_to_list r.version
   pub timings : filter_map timing_line ls ≡ option_to_list r.times
   pub numbers : filter_map hosts_line ls ≡ option_to_list r.machines
   pub ids : filter_map ids_line ls ≡ option_to_list r.hosts
   pub geometries : filter_map geometry_line ls ≡ option_to_list (option_map bytes_of r.sizes)
   pub sized : IfSome r.sizes (λ z. r.hosts ≡ Some z.hosts)
-  -- a block has one sector
-  pub unpaired : IfSome r.sizes (λ z. z.paired ≡ false)
+  pub pairs : IfSome r.sizes (λ z. r.version ≡ Some z.paired)
   pub retried : filter_map retries_line ls ≡ option_to_list r.retries
   pub readings : filter_map clock_line ls ≡ r.clocks
   pub paths : filter_map disk_line ls ≡ r.disks
@@ -93,9 +96,13 @@ pub record Stands (r : HeaderSoFar) (ls : List HeaderLine) : Type 0 where
   pub members : filter_map member_line ls ≡ r.sessions
   pub begins : count_of_rank ls 11 ≡ 0
 
+-- The sizes for so many hosts, with pairs or without, where no line gives the bytes of sectors and areas.
+abbrev pub default_sizes : ℕ → Bool → Sizes
+default_sizes hosts paired = record { sector = default_sector; area = default_area; hosts = hosts; paired = paired }
+
 -- The sizes that the lines give.
 abbrev pub sizes_now : HeaderSoFar → Sizes
-sizes_now r = unwrap_or r.sizes (sizes default_sector default_area (unwrap_or r.hosts 0))
+sizes_now r = unwrap_or r.sizes (default_sizes (unwrap_or r.hosts 0) (unwrap_or r.version false))
 
 -- The header that the lines make.
 abbrev pub header_now : HeaderSoFar → Header
@@ -116,7 +123,7 @@ header_now r =
 -- How many lines of a rank there are.
 abbrev pub count_at : HeaderSoFar → ℕ → ℕ
 count_at r k =
-    if k == 0 then (if r.version then 1 else 0)
+    if k == 0 then length (option_to_list r.version)
     else (if k == 1 then length (option_to_list r.times)
     else (if k == 2 then length (option_to_list r.machines)
     else (if k == 3 then length (option_to_list r.hosts)
@@ -153,17 +160,19 @@ row_for sector mebibytes =
     else (if sector == 4096 && mebibytes == 4 then Some (4096, 4194304, 1000)
     else (if sector == 4096 && mebibytes == 8 then Some (4096, 8388608, 2000) else None))))
 
--- Sizes of these bytes for so many hosts, where there are such.
-abbrev pub sizes_of : ℕ → ℕ → ℕ → Option Sizes
-sizes_of sector area hosts = choose (is_geometry (sizes sector area hosts)) (sizes sector area hosts)
+-- Sizes of these bytes for so many hosts, with pairs or without, where there are such.
+abbrev pub sizes_of : ℕ → ℕ → ℕ → Bool → Option Sizes
+sizes_of sector area hosts paired =
+    let z : Sizes = record { sector = sector; area = area; hosts = hosts; paired = paired } in
+    choose (is_geometry z) z
 
 -- What the lines say, with one more; the line's place apart.
 abbrev pub values_with : HeaderSoFar → HeaderLine → HeaderSoFar
-values_with r (VersionLine paired) = record r { version = true }
+values_with r (VersionLine paired) = record r { version = Some paired }
 values_with r (TimeLine io fire land rho grace) = record r { times = Some (record { io = io; fire = fire; land = land; rho = rho }, grace) }
 values_with r (HostsLine m) = record r { machines = Some m }
 values_with r (IdsLine n) = record r { hosts = Some n }
-values_with r (GeometryLine sector mebibytes) = record r { sizes = sizes_of sector (mebibytes * mebibyte) (sizes_now r).hosts }
+values_with r (GeometryLine sector mebibytes) = record r { sizes = sizes_of sector (mebibytes * mebibyte) (sizes_now r).hosts (sizes_now r).paired }
 values_with r (LvmLine n) = record r { retries = Some n }
 values_with r (ClockLine c) = record r { clocks = r.clocks ++ c ∷ [] }
 values_with r (DiskLine d) = record r { disks = r.disks ++ d ∷ [] }
@@ -176,15 +185,19 @@ values_with r BeginLine = r
 abbrev pub so_far_with : HeaderSoFar → HeaderLine → HeaderSoFar
 so_far_with r l = record (values_with r l) { last = rank l }
 
--- Times and a number of hosts that a run may have, where the line gives them.
-abbrev pub IsPossible : HeaderLine → Type 0
-IsPossible (TimeLine io fire land rho grace) = IsTiming (record { io = io; fire = fire; land = land; rho = rho })
-IsPossible (IdsLine n) = IsHosts n
-IsPossible l = Unit {0}
+-- Times and a number of hosts that a run may have, where the line gives them behind a first line.
+abbrev pub IsWithin : HeaderSoFar → HeaderLine → Type 0
+IsWithin r (TimeLine io fire land rho grace) = IsTiming (record { io = io; fire = fire; land = land; rho = rho })
+IsWithin r (IdsLine n) = IsSome r.version → HostsAreFew r.version n
+IsWithin r l = Unit {0}
 
--- No area has pairs, if the line says so much.
-abbrev pub IsPlain : HeaderLine → Type 0
-IsPlain l = IfSome (version_line l) (λ paired. paired ≡ false)
+-- .. and it stands behind one, if it is none itself.
+abbrev pub IsPossible : HeaderSoFar → HeaderLine → Type 0
+IsPossible r (VersionLine paired) = r.version ≡ None
+IsPossible r (TimeLine io fire land rho grace) = IsTiming (record { io = io; fire = fire; land = land; rho = rho })
+IsPossible r (IdsLine n) = HostsAreFew r.version n
+IsPossible r (GeometryLine sector mebibytes) = IsSome r.version × (r.sizes ≡ None)
+IsPossible r l = Unit {0}
 
 -- ---- one more line, whatever it is
 

@@ -7,22 +7,22 @@
 
 ghost use Rattle.sl_report.specs.Languages.{is_skipped, least_lines, most_lines};
 ghost use Rattle.sl_report.specs.ScheduleLines.{HeaderLine as Spelled, header_tests, is_taken_place, rank, ClockLine, DiskLine, AreaLine, GeometryLine, IdsLine, LeaseLine, MemberLine};
-ghost use Rattle.sl_report.specs.Schedules.{default_area, default_sector, is_begin};
+ghost use Rattle.sl_report.specs.Schedules.{is_begin};
 ghost use Rattle.sl_run.specs.Worlds.{first_that};
-ghost use Rattle.sl_schedule.specs.HeaderReads.{header_seen, HasHosts, IsHosts};
+ghost use Rattle.sl_schedule.specs.HeaderReads.{header_seen, AreHosts, HasHosts};
 ghost use Rattle.sl_schedule.specs.Headers as headers;
-ghost use Rattle.sl_area.specs.Layouts.{roomy, sizes as sizes_with};
+ghost use Rattle.sl_area.specs.Layouts.{roomy};
 ghost use Rattle.sl_time.specs.Times.{IsTiming};
 ghost use Rattle.std.specs.List.{list_all, list_any, range_with_len};
 ghost use Rattle.std.specs.Option.{option_to_list};
-ghost use Rattle.std.specs.Prelude.{bytes_eq, length, nat_le, not, unwrap_or, IfNone, IfOk, IfSome, IsSome, List, OnErr, OnOk, [], ℕ, ◌*◌, ◌+◌, ◌<◌, ◌==◌, ◌&&◌, ◌||◌, ◌≡◌, ◌≤◌};
+ghost use Rattle.std.specs.Prelude.{bytes_eq, length, nat_le, not, unwrap_or, IfNone, IfOk, IfSome, IsSome, List, OnErr, OnOk, Some, [], ℕ, ◌*◌, ◌+◌, ◌<◌, ◌==◌, ◌&&◌, ◌||◌, ◌≡◌, ◌≤◌};
 
 use crate::header_line::{AreaSizes, HeaderLine, Times, header_line};
 use crate::header_tests::{
     has_clock, has_disk, has_resource, is_excluded, is_known, is_name_taken, is_on_disk, is_taken,
     times_refusal,
 };
-use crate::sizes::{row_of, sizes_of};
+use crate::sizes::{geometry_of, row_of, sizes_of};
 use sl_area::Geometry;
 use sl_run::{Disk, FirstReading, Header, LockspaceLine, Refusal, ResourceLine, SessionLine};
 use sl_text::{FilePath, Name, Seq};
@@ -56,7 +56,7 @@ pub enum Added {
 pub struct HeaderReader {
     alloc: Global,
     last: u32,
-    version: bool,
+    version: Option<bool>,
     times: Option<Times>,
     machines: Option<u32>,
     hosts: Option<u32>,
@@ -90,7 +90,7 @@ impl Model for HeaderReader {
       sessions = r.sessions.items;
     } };
 
-    ghost invariant = { λ r. ArePossible (option_map times_seen r.times) r.hosts };
+    ghost invariant = { λ r. ArePossible r.version (option_map times_seen r.times) r.hosts r.sizes };
 }
 
 /// Where a line stands in the header's order: its kind, from 0 for the version to 11 for `begin`.
@@ -98,7 +98,7 @@ pub fn rank(line: &HeaderLine) -> u32
     ensures { result ≡ rank (header_seen line.now) }
 {
     match line {
-        HeaderLine::Version => 0,
+        HeaderLine::Version(_) => 0,
         HeaderLine::Times(_) => 1,
         HeaderLine::Machines(_) => 2,
         HeaderLine::Hosts(_) => 3,
@@ -176,25 +176,25 @@ fn timing_of(times: &Times) -> Timing
     }
 }
 
-/// The sizes of a run with so many hosts.
-fn geometry_of(hosts: u32) -> Geometry
-    requires { IsHosts hosts }
-    ensures { result ≡ sizes_with default_sector default_area hosts }
+/// The sizes of a run with so many hosts, with pairs or without, where no line gives them.
+fn default_sizes(hosts: u32, paired: bool) -> Geometry
+    requires { AreHosts paired hosts }
+    ensures { result ≡ headers.default_sizes hosts paired }
 {
-    match Geometry::new(SECTOR, AREA, hosts) {
+    match geometry_of(SECTOR, AREA, hosts, paired) {
         Ok(geometry) => geometry,
         Err(_) => unreachable!(),
     }
 }
 
 /// These sizes, or those of a run with so many hosts where no line gives them.
-fn sizes_or(sizes: Option<Geometry>, hosts: u32) -> Geometry
-    requires { IsHosts hosts }
-    ensures { result ≡ unwrap_or sizes (sizes_with default_sector default_area hosts) }
+fn sizes_or(sizes: Option<Geometry>, hosts: u32, paired: bool) -> Geometry
+    requires { AreHosts paired hosts }
+    ensures { result ≡ unwrap_or sizes (headers.default_sizes hosts paired) }
 {
     match sizes {
         Some(sizes) => sizes,
-        None => geometry_of(hosts),
+        None => default_sizes(hosts, paired),
     }
 }
 
@@ -224,7 +224,7 @@ impl HeaderReader {
         HeaderReader {
             alloc,
             last: 0,
-            version: false,
+            version: None,
             times: None,
             machines: None,
             hosts: None,
@@ -243,7 +243,7 @@ impl HeaderReader {
         ensures { result ≡ headers.count_at self.now rank }
     {
         match rank {
-            0 => usize::from(self.version),
+            0 => count_of(&self.version),
             1 => count_of(&self.times),
             2 => count_of(&self.machines),
             3 => count_of(&self.hosts),
@@ -312,11 +312,12 @@ impl HeaderReader {
 
     /// Whether areas have pairs so far.
     fn is_paired(&self) -> bool
-        ensures { result ≡ (headers.sizes_now self.now).paired }
+        ensures exact { result ≡ (headers.sizes_now self.now).paired }
+        ensures told { IsSome self.now.version → self.now.version ≡ Some result }
     {
         match &self.sizes {
             Some(sizes) => sizes.is_paired(),
-            None => false,
+            None => self.version.unwrap_or(false),
         }
     }
 
@@ -324,7 +325,7 @@ impl HeaderReader {
     #[tactic(auto, unfolding(sl_report::specs::ScheduleLines::header_tests))]
     fn hosts_refusal(&self, hosts: u64) -> Option<Refusal>
         ensures exact { result ≡ first_that (header_tests (headers.header_now self.now) (IdsLine hosts)) }
-        ensures few { IfNone result (hosts ≤ 2000) }
+        ensures few { IfNone result (1 ≤ hosts → IsSome self.now.version → headers.HostsAreFew self.now.version hosts) }
     {
         if u64::from(roomy(self.is_paired(), MOST_HOSTS)) < hosts {
             return Some(Refusal::LimitIds);
@@ -445,7 +446,7 @@ impl HeaderReader {
     fn value_refusal(&self, line: &HeaderLine) -> Option<Refusal>
         requires { HasHosts (header_seen line.now) }
         ensures exact { result ≡ first_that (header_tests (headers.header_now self.now) (header_seen line.now)) }
-        ensures possible { IfNone result (headers.IsPossible (header_seen line.now)) }
+        ensures within { IfNone result (headers.IsWithin self.now (header_seen line.now)) }
     {
         match line {
             HeaderLine::Times(times) => times_refusal(times),
@@ -456,7 +457,7 @@ impl HeaderReader {
             HeaderLine::Lockspace(line) => self.lockspace_refusal(line),
             HeaderLine::Resource(line) => self.resource_refusal(line),
             HeaderLine::Session(line) => self.session_refusal(line),
-            HeaderLine::Version
+            HeaderLine::Version(_)
             | HeaderLine::Machines(_)
             | HeaderLine::Retries(_)
             | HeaderLine::Begin => None,
@@ -467,7 +468,7 @@ impl HeaderReader {
     fn refusal(&self, line: &HeaderLine) -> Option<Refusal>
         requires { HasHosts (header_seen line.now) }
         ensures exact { result ≡ headers.refusal_now self.now (header_seen line.now) }
-        ensures possible { IfNone result (headers.IsPossible (header_seen line.now)) }
+        ensures possible { IfNone result (headers.IsPossible self.now (header_seen line.now)) }
     {
         if self.is_in_place(rank(line)) {
             self.value_refusal(line)
@@ -478,16 +479,18 @@ impl HeaderReader {
 
     /// Keeps what a line says. After an `Err`, which is want of memory, what was kept is as it was.
     fn keep_value(&mut self, line: HeaderLine) -> Result<(), AllocError>
-        requires { headers.IsPossible (header_seen line) }
+        requires { headers.IsPossible self.old (header_seen line) }
         ensures ok { OnOk result (self.new ≡ headers.values_with self.old (header_seen line)) }
         ensures err { OnErr result (self.new ≡ self.old) }
     {
         match line {
-            HeaderLine::Version => self.version = true,
+            HeaderLine::Version(paired) => self.version = Some(paired),
             HeaderLine::Times(times) => self.times = Some(times),
             HeaderLine::Machines(machines) => self.machines = Some(machines),
             HeaderLine::Hosts(hosts) => self.hosts = Some(hosts as u32),
-            HeaderLine::Areas(areas) => self.sizes = sizes_of(&areas, self.hosts_now()),
+            HeaderLine::Areas(areas) => {
+                self.sizes = sizes_of(&areas, self.hosts_now(), self.is_paired());
+            }
             HeaderLine::Retries(retries) => self.retries = Some(retries),
             HeaderLine::Clock(clock) => self.clocks.push(clock)?,
             HeaderLine::Disk(disk) => self.disks.push(disk)?,
@@ -501,7 +504,7 @@ impl HeaderReader {
 
     /// Keeps a line. After an `Err`, which is want of memory, what was kept is as it was.
     fn keep(&mut self, line: HeaderLine) -> Result<(), AllocError>
-        requires { headers.IsPossible (header_seen line) }
+        requires { headers.IsPossible self.old (header_seen line) }
         ensures ok { OnOk result (self.new ≡ headers.so_far_with self.old (header_seen line)) }
         ensures err { OnErr result (self.new ≡ self.old) }
     {
@@ -520,7 +523,7 @@ impl HeaderReader {
         let HeaderReader {
             alloc: _,
             last: _,
-            version: _,
+            version,
             times,
             machines,
             hosts,
@@ -539,7 +542,7 @@ impl HeaderReader {
             timing: timing_of(&times),
             grace: times.grace,
             machines: machines.unwrap_or(0),
-            geometry: sizes_or(sizes, hosts),
+            geometry: sizes_or(sizes, hosts, version.unwrap_or(false)),
             retries: retries.unwrap_or(0),
             clocks: Seq::new(clocks),
             disks: Seq::new(disks),
@@ -562,7 +565,7 @@ impl HeaderReader {
 
     /// Takes one more line, by what is kept of the lines so far.
     fn add_line(&mut self, line: &[u8]) -> Result<Added, AllocError>
-        ensures hosts { IfSome self.old.hosts IsHosts }
+        ensures hosts { IfSome self.old.hosts (headers.HostsAreFew self.old.version) }
         ensures exact { IfOk result (λ added. added ≡ headers.answer_now self.old line.now) }
         ensures kept { OnOk result (self.new ≡ headers.so_far_after self.old line.now) }
         ensures refused { IfOk result (λ added. headers.IsRefused added → self.new ≡ self.old) }

@@ -7,9 +7,11 @@ ghost use Rattle.sl_schedule.specs.HeaderReads.{header_seen, result_seen, HasHos
 ghost use Rattle.sl_schedule.specs.Reads as reads;
 ghost use Rattle.sl_text.specs.Walks.{five_read, four_read, read_each};
 ghost use Rattle.std.specs.Option.{option_map};
-ghost use Rattle.std.specs.Prelude.{codes, false, [], IfOk, IfSome, ◌<◌, ◌≡◌};
+ghost use Rattle.std.specs.Prelude.{[], IfOk, IfSome, ◌<◌, ◌≡◌};
 
-use crate::parts::{is_verb, next_kept, next_multiple, next_positive, next_reading, next_within};
+use crate::parts::{
+    is_verb, next_kept, next_multiple, next_positive, next_reading, next_version, next_within,
+};
 use sl_run::{Disk, FirstReading, LockspaceLine, ResourceLine, SessionLine};
 use sl_text::words::Words;
 
@@ -33,7 +35,8 @@ pub struct AreaSizes {
 /// A line of a header.
 #[derive(Clone, Copy)]
 pub enum HeaderLine {
-    Version,
+    /// Whether each host's block has a pair of sectors.
+    Version(bool),
     Times(Times),
     Machines(u32),
     Hosts(u64),
@@ -47,14 +50,14 @@ pub enum HeaderLine {
     Begin,
 }
 
-/// `sanlock 1`.
+/// `sanlock 1`, or `sanlock 2` where areas have pairs.
 fn read_version(words: &mut Words) -> Result<HeaderLine, usize>
     ensures hosts { IfOk result (λ l. HasHosts (header_seen l)) }
-    ensures exact { result_seen result ≡ reads.one_read (reads.text_part (codes "1")) (λ _. lines.VersionLine false) words.old }
+    ensures exact { result_seen result ≡ reads.one_read reads.version_part lines.VersionLine words.old }
 {
-    words.expect(b"1")?;
+    let paired = next_version(words)?;
     words.finish()?;
-    Ok(HeaderLine::Version)
+    Ok(HeaderLine::Version(paired))
 }
 
 /// `time IO FIRE LAND RHO GRACE`.

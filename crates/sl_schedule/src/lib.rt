@@ -24,4 +24,5 @@ pub use events::next_event;
 pub use header::{Added, HeaderReader, rank};
 pub use lines::{Line, Lines, line_refusal};
 pub use schedule::{EventLine, event_line, next_event_line, read_header};
+pub use sizes::geometry_of;
 pub use writing::{Counts, push_end_line, push_refusal_line, push_test_line};

@@ -1,7 +1,7 @@
 //! The parts of events and of header lines: what a word must be, and what it stands for. Each reader passes the word where it fits; where
 //! it doesn't, the reader gives the word's column, and the line stays where it was.
 
-ghost use Rattle.sl_report.specs.ScheduleLines.{is_ok_word};
+ghost use Rattle.sl_report.specs.ScheduleLines.{is_ok_word, is_version_word};
 ghost use Rattle.sl_schedule.specs.Reads as reads;
 ghost use Rattle.sl_text.specs.Forms.{exactly};
 ghost use Rattle.sl_text.specs.Numbers.{capped_long, is_number_that};
@@ -80,6 +80,27 @@ pub fn next_ok(words: &mut Words) -> Result<bool, usize>
     ensures left { words.new ≡ left_after result words.old }
 {
     words.accept(words.peek().and_then(ok_of))
+}
+
+/// Whether areas have pairs, as the word of a version says it.
+fn version_of(word: &[u8]) -> Option<bool>
+    ensures { result ≡ choose (is_version_word word.now) (exactly (codes "2") word.now) }
+{
+    if is_verb(word, b"2") {
+        return Some(true);
+    }
+    if is_verb(word, b"1") {
+        return Some(false);
+    }
+    None
+}
+
+/// Reads a version.
+pub fn next_version(words: &mut Words) -> Result<bool, usize>
+    ensures exact { result ≡ next_part reads.version_part words.old }
+    ensures left { words.new ≡ left_after result words.old }
+{
+    words.accept(words.peek().and_then(version_of))
 }
 
 /// The number of bytes that a word gives, if it is no more than a sector has.

@@ -1,12 +1,12 @@
 //! The sizes of areas, as a header may give them.
 
-ghost use Rattle.sl_area.specs.Layouts.{geometries};
+ghost use Rattle.sl_area.specs.Layouts.{IsGeometry, geometries};
 ghost use Rattle.sl_run.specs.Worlds.{mebibyte};
 ghost use Rattle.sl_schedule.specs.Headers as headers;
-ghost use Rattle.std.specs.Prelude.{find, ◌*◌, ◌==◌, ◌&&◌, ◌≡◌};
+ghost use Rattle.std.specs.Prelude.{IfOk, IsOk, find, ◌*◌, ◌==◌, ◌&&◌, ◌↔◌, ◌≡◌};
 
 use crate::header_line::AreaSizes;
-use sl_area::Geometry;
+use sl_area::{BadGeometry, Geometry};
 
 /// The bytes of a mebibyte.
 const MEBIBYTE: u64 = 1_048_576;
@@ -40,10 +40,27 @@ pub fn row_of(areas: &AreaSizes) -> Option<(u32, u64, u32)>
     row_for(areas)
 }
 
-/// The sizes of a run with such areas and so many hosts, if there are such.
-pub fn sizes_of(areas: &AreaSizes, hosts: u32) -> Option<Geometry>
-    ensures { result ≡ headers.sizes_of areas.now.sector (areas.now.mebibytes * mebibyte) hosts }
+/// Sizes of areas with pairs or without, if there are such.
+pub fn geometry_of(
+    sector: u32,
+    area: u64,
+    hosts: u32,
+    paired: bool,
+) -> Result<Geometry, BadGeometry>
+    ensures ok { IsOk result ↔ IsGeometry (record { sector = sector; area = area; hosts = hosts; paired = paired }) }
+    ensures value { IfOk result (λ g. g ≡ record { sector = sector; area = area; hosts = hosts; paired = paired }) }
+{
+    if paired {
+        Geometry::new2(sector, area, hosts)
+    } else {
+        Geometry::new(sector, area, hosts)
+    }
+}
+
+/// The sizes of a run with such areas and so many hosts, with pairs or without, if there are such.
+pub fn sizes_of(areas: &AreaSizes, hosts: u32, paired: bool) -> Option<Geometry>
+    ensures { result ≡ headers.sizes_of areas.now.sector (areas.now.mebibytes * mebibyte) hosts paired }
 {
     let (sector, area, _) = row_of(areas)?;
-    Geometry::new(sector, area, hosts).ok()
+    geometry_of(sector, area, hosts, paired).ok()
 }

@@ -168,7 +168,7 @@ live_caused x y s run =
 folder_is_live : (w : Words) (f : List ℕ) → folder_of w ≡ Some f → IsLive (Some w)
 folder_is_live (Live folder) f is = (folder, refl)
 folder_is_live Replay f is = absurd cc
-folder_is_live (Generate seed hosts events) f is = absurd cc
+folder_is_live (Generate seed hosts events paired) f is = absurd cc
 folder_is_live (Direct a) f is = absurd cc
 folder_is_live Help f is = absurd cc
 folder_is_live Version f is = absurd cc

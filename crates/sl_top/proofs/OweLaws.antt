@@ -11,17 +11,17 @@ use Rattle.sl_top.proofs.TopLaws.{none_written}
 use Rattle.sl_top.specs.Runs.{Generates, Outside, Owes, PutsOut, bad_words_text}
 use Rattle.sl_top.specs.declared.status.Status.TheVariants.{Done, NoMemory}
 use Rattle.sl_top.specs.declared.status.Status.{Status}
-use Rattle.std.proofs.Common.{List, None, Option, Some, [], inr, refl, ℕ}
+use Rattle.std.proofs.Common.{Bool, List, None, Option, Some, [], inr, refl, ℕ}
 
 nothing_told : (taken : Option (List ℕ)) (faults : ℕ) (text : List ℕ) (whole : Status) → PutsOut taken taken faults faults text whole NoMemory
 nothing_told taken faults text whole =
     record { written = []; appends = nothing_put taken; text_is = inr (none_written [] text refl, inr refl); cause = λ e. absurd cc }
 
-none_generated : (seed hosts events : ℕ) (taken : Option (List ℕ)) (faults : ℕ) → Generates seed hosts events taken taken faults faults NoMemory
+none_generated : (seed hosts events : ℕ) (paired : Bool) (taken : Option (List ℕ)) (faults : ℕ) → Generates seed hosts events paired taken taken faults faults NoMemory
 unfolding nothing_told
-none_generated seed hosts events taken faults =
+none_generated seed hosts events paired taken faults =
     record {
-      puts = nothing_told taken faults (as_bytes (gen_lines whole_program seed hosts events)) Done;
+      puts = nothing_told taken faults (as_bytes (gen_lines whole_program seed hosts events paired)) Done;
       promised = λ e. absurd cc;
       headline = (refl, λ report of. none_written [] report refl);
     }
@@ -30,7 +30,7 @@ none_generated seed hosts events taken faults =
 pub nothing_done : (w : Option Words) (x : Outside) → Owes w x x NoMemory
 nothing_done None x = nothing_told x.taken x.sink_faults bad_words_text _
 nothing_done (Some Replay) x = unread x.left x.source_faults x.taken x.sink_faults
-nothing_done (Some (Generate seed hosts events)) x = none_generated seed hosts events x.taken x.sink_faults
+nothing_done (Some (Generate seed hosts events paired)) x = none_generated seed hosts events paired x.taken x.sink_faults
 nothing_done (Some (Direct a)) x = not_begun a x.disks x.device_faults x.taken x.sink_faults
 nothing_done (Some (Live folder)) x = never_run x
 nothing_done (Some Help) x = nothing_told x.taken x.sink_faults _ _

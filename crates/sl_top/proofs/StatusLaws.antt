@@ -249,7 +249,7 @@ live_has_cause folder x y s run =
 pub statuses_have_causes : StatusesHaveCauses
 statuses_have_causes None x y s h = bad_caused x y s h
 statuses_have_causes (Some Replay) x y s h = replay_caused x y s h
-statuses_have_causes (Some (Generate seed hosts events)) x y s h = done_caused (Some (Generate seed hosts events)) x y _ s h.puts
+statuses_have_causes (Some (Generate seed hosts events paired)) x y s h = done_caused (Some (Generate seed hosts events paired)) x y _ s h.puts
 statuses_have_causes (Some (Direct a)) x y s h = direct_caused a x y s h
 statuses_have_causes (Some (Live folder)) x y s h = live_has_cause folder x y s h
 statuses_have_causes (Some Help) x y s h = done_caused (Some Help) x y HELP.now s h

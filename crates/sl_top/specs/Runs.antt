@@ -76,12 +76,12 @@ pub record Replays (left after : Option (List ℕ)) (faults later : ℕ) (taken 
   pub write_fault : s ≡ WriteFault → Rose sink_faults sink_later
 
 -- What a generation owes: the two lines of the plain program, or, by the status, a front of them.
-pub record Generates (seed hosts events : ℕ) (taken now : Option (List ℕ)) (faults later : ℕ) (s : Status) : Type 0 where
-  pub puts : PutsOut taken now faults later (as_bytes (gen_lines whole_program seed hosts events)) Done s
+pub record Generates (seed hosts events : ℕ) (paired : Bool) (taken now : Option (List ℕ)) (faults later : ℕ) (s : Status) : Type 0 where
+  pub puts : PutsOut taken now faults later (as_bytes (gen_lines whole_program seed hosts events paired)) Done s
   -- the run of which the last line is written is the seed's, with as many events, and as it is promised
-  pub promised : s ≡ Done → GeneratedOf PromisedRun whole_program seed hosts events puts.written
+  pub promised : s ≡ Done → GeneratedOf PromisedRun whole_program seed hosts events paired puts.written
   -- .. so it is a good one; and what is written begins whatever tells of one
-  pub headline : GenHeadline whole_program seed hosts events puts.written (code s)
+  pub headline : GenHeadline whole_program seed hosts events paired puts.written (code s)
 
 -- What an action owes, which is done to the disk at its path.
 pub record ActsOn (a : Action) (before now : Disks) (faults later : ℕ) (taken put : Option (List ℕ)) (sink_faults sink_later : ℕ) (s : Status) : Type 0 where
@@ -119,7 +119,7 @@ pub record RunsLive (x y : Outside) (s : Status) : Type 0 where
 abbrev pub Owes : Option Words → Outside → Outside → Status → Type 0
 Owes None x y s = Tells bad_words_text BadWords x y s
 Owes (Some Replay) x y s = Replays x.left y.left x.source_faults y.source_faults x.taken y.taken x.sink_faults y.sink_faults s
-Owes (Some (Generate seed hosts events)) x y s = Generates seed hosts events x.taken y.taken x.sink_faults y.sink_faults s
+Owes (Some (Generate seed hosts events paired)) x y s = Generates seed hosts events paired x.taken y.taken x.sink_faults y.sink_faults s
 Owes (Some (Direct a)) x y s = ActsOn a x.disks y.disks x.device_faults y.device_faults x.taken y.taken x.sink_faults y.sink_faults s
 Owes (Some (Live folder)) x y s = RunsLive x y s
 Owes (Some Help) x y s = Tells HELP.now Done x y s

@@ -37,12 +37,22 @@ fn replay<S: Source, K: Sink>(alloc: Global, source: &mut S, sink: &mut K) -> St
     status_of(play_schedule::<S, K, HostDaemon, LvmLocks>(alloc, source, sink))
 }
 
-/// Makes a schedule of so many events from a seed, plays it in a world of hosts, and puts out the last line of its report.
-fn generate_from<K: Sink>(alloc: Global, seed: u64, hosts: u32, events: u64, sink: &mut K) -> Status
+/// Makes a schedule of so many events from a seed, with pairs or without, plays it in a world of hosts, and puts out the last line of its
+/// report.
+fn generate_from<K: Sink>(
+    alloc: Global,
+    seed: u64,
+    hosts: u32,
+    events: u64,
+    paired: bool,
+    sink: &mut K,
+) -> Status
     requires { (1 ≤ hosts) × (hosts ≤ 16) }
-    ensures { Generates seed hosts events (K.taken sink.old) (K.taken sink.new) (K.faults sink.old) (K.faults sink.new) result }
+    ensures { Generates seed hosts events paired (K.taken sink.old) (K.taken sink.new) (K.faults sink.old) (K.faults sink.new) result }
 {
-    status_of_generated(generate::<K, HostDaemon, LvmLocks>(alloc, seed, hosts, events, sink))
+    status_of_generated(generate::<K, HostDaemon, LvmLocks>(
+        alloc, seed, hosts, events, paired, sink,
+    ))
 }
 
 /// Puts out a text.
@@ -131,8 +141,9 @@ pub fn run_offline<S: Source, K: Sink, D: Devices>(
                 seed,
                 hosts,
                 events,
+                paired,
             },
-        ) => generate_from(alloc, seed, hosts, events, sink),
+        ) => generate_from(alloc, seed, hosts, events, paired, sink),
         Ok(Words::Direct(action)) => direct(alloc, &action, sink, devices),
         Ok(Words::Live { folder: _folder }) => unreachable!(),
         Ok(Words::Help) => tell(sink, HELP.as_bytes(), Status::Done),

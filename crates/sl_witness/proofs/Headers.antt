@@ -137,7 +137,6 @@ seek_header h = do
   some ← seek_le 1 h.machines
   machines ← seek_le h.machines 16
   geometry ← seek_true (is_geometry h.geometry)
-  unpaired ← seek_false h.geometry.paired
   retries ← seek_le h.retries 8
   clocks ← seek_all (λ c. (1 ≤ c.machine) × (c.machine ≤ h.machines) × (c.reading < 10 ^ 12)) (seek_clock h) h.clocks
   one_clock ← seek_pairs (λ a b. a.machine ≢ b.machine) (λ a b. seek_other a.machine b.machine) h.clocks
@@ -158,7 +157,6 @@ seek_header h = do
     grace = grace;
     machines = (some, machines);
     geometry = geometry;
-    unpaired = unpaired;
     retries = retries;
     clocks = clocks;
     one_clock = one_clock;

@@ -110,7 +110,6 @@ first_settings commands h is reads m s at =
     record {
       timing = is.timing;
       layout = (h.geometry, is.geometry, refl);
-      unpaired = is.unpaired;
       digest = sha256_is_digest;
       name = (is.members s (find_inside (λ (x : SessionLine). x.machine == m) h.sessions s at).0).name;
       reads = reads;

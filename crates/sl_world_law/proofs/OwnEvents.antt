@@ -96,7 +96,6 @@ new_is_setting commands h is reads m name named first =
     record {
       timing = is.timing;
       layout = (h.geometry, is.geometry, refl);
-      unpaired = is.unpaired;
       digest = sha256_is_digest;
       name = named;
       reads = reads;

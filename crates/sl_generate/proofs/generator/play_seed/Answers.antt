@@ -16,4 +16,4 @@ take_events-requires g c =
 pub returns : goal.returns
 returns g c =
     seed_drawn g.D.Daemon.commands g.D.Daemon.stands c.in_ok-header.header (state_of g.L.LockTable.locks c.in_ok-play.play) (state_of g.L.LockTable.locks c.take_events.new.play) c.args.seed
-    c.args.hosts c.args.events c.counts.result.now c.in_ok-header.ensures c.in_ok-play.ensures c.in_ok-take_events.ensures c.counts.ensures
+    c.args.hosts c.args.events c.args.paired c.counts.result.now c.in_ok-header.ensures c.in_ok-play.ensures c.in_ok-take_events.ensures c.counts.ensures
