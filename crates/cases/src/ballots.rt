@@ -1,8 +1,8 @@
 //! Ballots.
 ghost use Rattle.std.specs.Prelude.{IsTrue, ◌<◌, ◌^◌, ◌≤◌};
 
-use crate::said::{said, said_two};
-use crate::word::{number_at, number_of, numbers_from, part, short_at, short_of, word};
+use crate::output_words::{said, said_two};
+use crate::word_values::{number_at, number_of, numbers_from, part, short_at, short_of, word};
 use sl_ballot::{
     Ballot, BallotStep, Limit, ballot_run, instance_of, next_mbal, stop_of, value_after_read,
 };

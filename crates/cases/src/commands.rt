@@ -1,7 +1,7 @@
 //! Commands and default names.
 
-use crate::said::said;
-use crate::word::shown;
+use crate::output_words::said;
+use crate::word_values::shown;
 use sl_area::Geometry;
 use sl_command::{parse_command, push_command_text};
 use sl_text::hex::read_hex;

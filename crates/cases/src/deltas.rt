@@ -1,9 +1,9 @@
 //! A delta lease of id 1 of two, with io 100, fire 600, land 100 and rho 0.
 
+use crate::output_words::{add, said};
 use crate::records::sector_of;
-use crate::said::{add, said};
-use crate::watching::sector_named;
-use crate::word::{number_of, part};
+use crate::watches::sector_named;
+use crate::word_values::{number_of, part};
 use sl_area::Geometry;
 use sl_delta::{DeltaCall, DeltaIn, DeltaLease, DeltaOut, Outcome};
 use sl_request::Bitmap;

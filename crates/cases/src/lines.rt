@@ -1,7 +1,7 @@
 //! Lines of schedules.
 
-use crate::said::{add, said, said_two};
-use crate::word::{number_at, short_at, shown, word};
+use crate::output_words::{add, said, said_two};
+use crate::word_values::{number_at, short_at, shown, word};
 use sl_run::{Event, Header, Refusal};
 use sl_schedule::{
     EventLine, Lines, line_refusal, next_event, next_event_line, push_refusal_line, push_test_line,

@@ -1,7 +1,7 @@
 //! A clock, times, a watchdog daemon, a recovery.
 
-use crate::said::{add, said, truth};
-use crate::word::{number_at, number_of, numbers_from, part, short_of, word};
+use crate::output_words::{add, said, truth};
+use crate::word_values::{number_at, number_of, numbers_from, part, short_of, word};
 use sl_escalate::Recovery;
 use sl_text::Name;
 use sl_time::{Clock, MemClock, Timing, TimingBad};

@@ -8,7 +8,7 @@
 //! - `ballots`: ballots, with blocks as `host/lver/mbal/bal/inp`, a list's parts set apart by commas, and `-` where a block is torn.
 //! - `machines`: a clock, times, a watchdog daemon, a recovery, a watch, a delta lease.
 //!
-//! `word` has what the others read of words, and `said` how they print numbers.
+//! `word_values` has what the others read of words, and `output_words` how they print numbers.
 //!
 //! In a text of several words single spaces keep them apart; a word that is left out is read as the empty word or as 0.
 #![tactic(auto)]
@@ -18,12 +18,12 @@ mod commands;
 mod deltas;
 mod lines;
 mod machines;
+mod output_words;
 mod records;
 mod replies;
-mod said;
 mod texts;
-mod watching;
-mod word;
+mod watches;
+mod word_values;
 
 use std::alloc::{AllocError, Global};
 use std::io;
@@ -87,7 +87,7 @@ fn machines_of(alloc: Global, kind: &str, text: &str) -> Result<String, AllocErr
         "clock" => machines::clock(alloc, text),
         "wdmd" => machines::wdmd(alloc, text),
         "recovery" => machines::recovery(alloc, text),
-        "watch" => watching::watch(alloc, text),
+        "watch" => watches::watch(alloc, text),
         "delta" => deltas::delta(alloc, text),
         "ballot" => ballots::ballot(alloc, text),
         "begin" => ballots::begin(alloc, text),

@@ -1,7 +1,7 @@
 //! Sectors, areas, values, requests.
 
-use crate::said::{number_or_none, said, said_two, truth};
-use crate::word::{digits_of, number_at, number_of, part, short_at, short_of, shown, word};
+use crate::output_words::{number_or_none, said, said_two, truth};
+use crate::word_values::{digits_of, number_at, number_of, part, short_at, short_of, shown, word};
 use sl_area::{Geometry, Place};
 use sl_request::{Act, Bitmap, check_request};
 use sl_sector::{

@@ -1,6 +1,6 @@
 //! Replies: each by the name of its case here.
 
-use crate::word::shown;
+use crate::word_values::shown;
 use sl_command::push_reply_text;
 use sl_sector::Owner;
 use sl_text::{Data, Name, Seq};

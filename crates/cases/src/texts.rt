@@ -1,7 +1,7 @@
 //! Words, numbers, digits, names.
 
-use crate::said::{add, truth};
-use crate::word::{digits_of, number_at, shown, word};
+use crate::output_words::{add, truth};
+use crate::word_values::{digits_of, number_at, shown, word};
 use sl_text::hex::{read_hex, read_hex_bytes};
 use sl_text::number::{
     is_multiple, push_number, read_number, read_number_within, read_short_number,

@@ -5,10 +5,10 @@
 #![tactic(auto)]
 
 mod areas;
+mod faulty_adapters;
 mod gates;
 mod outside;
 mod planned;
-mod restless;
 mod streams;
 
 use sl_outside::{FileDevices, LiveDevices};
@@ -26,8 +26,8 @@ fn of_streams<R: Files + AllocGlobal>(rt: &R, case: &str) -> Option<io::Result<S
         "each read fails in turn" => Some(streams::each_read_fails(alloc)),
         "each write fails in turn" => Some(streams::each_write_fails(alloc)),
         "a full sink fails" => Some(streams::a_full_sink(alloc)),
-        "an interrupted read" => Some(restless::an_interrupted_read(alloc)),
-        "a write of nothing" => Some(restless::a_write_of_nothing(alloc)),
+        "an interrupted read" => Some(faulty_adapters::an_interrupted_read(alloc)),
+        "a write of nothing" => Some(faulty_adapters::a_write_of_nothing(alloc)),
         "files of the system" => Some(streams::files_of_the_system(rt, alloc)),
         _ => None,
     }

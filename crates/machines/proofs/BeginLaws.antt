@@ -1,22 +1,22 @@
 -- A header that was read is one that a world may begin with, and the site of its first session makes a setting.
-use Rattle.sl_daemon.specs.Daemons.{begun_with}
-use Rattle.sl_daemon.specs.declared.daemon.Site.{Site}
-use Rattle.sl_header_law.specs.HeaderLaw.{EachHeaderIsGood}
-use Rattle.sl_kept.specs.FirstKept.{session_of}
-use Rattle.sl_kept.specs.Sane.{ReadsCommands}
-use Rattle.sl_live_ground.specs.Grounds.{IsSiteOf}
-use Rattle.sl_live_ground.specs.Laws.{SitesAreSettings}
+use Rattle.sl_world_state.specs.Daemons.{begun_with}
+use Rattle.sl_world_state.specs.declared.daemon.Site.{Site}
+use Rattle.sl_play.specs.Headers.HeaderLaw.{EachHeaderIsGood}
+use Rattle.sl_world_state.specs.FirstKept.{session_of}
+use Rattle.sl_world_state.specs.SaneWorlds.{ReadsCommands}
+use Rattle.sl_live_run.specs.Grounds.{IsSiteOf}
+use Rattle.sl_live_run.specs.Laws.{SitesAreSettings}
 use Rattle.sl_run.specs.Headers.{IsHeader}
 use Rattle.sl_run.specs.Lawful.{IsSetting}
 use Rattle.sl_run.specs.Worlds.{whole_program}
 use Rattle.sl_run.specs.declared.event.Refusal.{Refusal}
 use Rattle.sl_run.specs.declared.header.Header.{Header}
 use Rattle.sl_run.specs.declared.header.SessionLine.{SessionLine}
-use Rattle.sl_schedule_reader.specs.HeaderBegins.{HeaderBegins, HeaderIsRead, lines_left}
-use Rattle.sl_schedule_reader.specs.LineReads.{ReaderState}
+use Rattle.sl_reader.specs.HeaderBegins.{HeaderBegins, HeaderIsRead, lines_left}
+use Rattle.sl_reader.specs.LineReads.{ReaderState}
 use Rattle.sl_text.specs.Forms.{Form}
 use Rattle.sl_trace.specs.declared.command.Command.{Command}
-use Rattle.sl_world_law.specs.Standing.{first_site}
+use Rattle.sl_world_law.specs.WorldsStand.{first_site}
 use Rattle.std.proofs.Common.{List, Ok, Option, Result, Some, [], refl, subst, sym, ℕ, ◌++◌, ◌≡◌}
 
 good_begun : (before after : Option (List ℕ)) (r : ReaderState) (h : Header) → EachHeaderIsGood → HeaderBegins before after r h → IsHeader h

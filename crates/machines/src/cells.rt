@@ -2,15 +2,15 @@
 //!
 //! Each cell has a setting of its own, which is picked where the cell is made.
 
-ghost use Rattle.sl_daemon.specs.Daemons.{begun_with};
+ghost use Rattle.sl_world_state.specs.Daemons.{begun_with};
 ghost use Rattle.sl_run.specs.Headers.{IsHeader};
 ghost use Rattle.sl_run.specs.Lawful.{IsSetting};
 ghost use Rattle.std.specs.Prelude.{◌≡◌};
 
-use crate::opened::{Begun, begin};
+use crate::cell_starts::{Begun, begin};
 use crate::steps::{act, read_step};
 use sl_cell::{CloseError, Differ, HostCell, Seat, Station, Teller};
-use sl_live_host::LiveHost;
+use sl_live_play::LiveHost;
 use sl_text::Seq;
 use sl_trace::Entry;
 use std::alloc::{AllocError, Global};

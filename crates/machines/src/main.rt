@@ -10,10 +10,10 @@
 //! ended is printed, then its output; of replies only the machine, the number of the job and the first word.
 #![tactic(auto)]
 
+mod cell_starts;
 mod cells;
-mod opened;
 mod outside;
-mod played;
+mod played_scripts;
 mod steps;
 
 use outside::read_case;
@@ -30,7 +30,7 @@ fn told<R: Files + Clock + Wait + Threads + AllocGlobal + Copy + Drop + Send + S
 ) -> io::Result<String> {
     match line.strip_prefix("cell ") {
         Some(steps) => cells::told(rt, steps),
-        None => played::told(rt, read_case(rt.alloc(), line)?),
+        None => played_scripts::told(rt, read_case(rt.alloc(), line)?),
     }
 }
 

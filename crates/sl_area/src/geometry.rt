@@ -70,39 +70,38 @@ fn is_geometry(sector: u32, area: u64, hosts: u32, paired: bool) -> bool
 }
 
 impl Geometry {
-    /// The sizes of a run: bytes of a sector and of an area, which must be a row of the table, and the number of hosts, 1 to that row's
-    /// number. Each host's block has one sector.
-    pub fn new(sector: u32, area: u64, hosts: u32) -> Result<Geometry, BadGeometry>
-        ensures ok { IsOk result ↔ IsGeometry (sizes sector area hosts) }
-        ensures value { IfOk result (λ g. g ≡ sizes sector area hosts) }
+    /// The sizes of a run, with pairs or without: bytes of a sector and of an area, which must be a row of the table, and the number of
+    /// hosts, 1 to that row's number. Where each host's block has a pair of sectors, there is room for half of that number.
+    pub fn sized(sector: u32, area: u64, hosts: u32, paired: bool) -> Result<Geometry, BadGeometry>
+        ensures ok { IsOk result ↔ IsGeometry (record { sector = sector; area = area; hosts = hosts; paired = paired }) }
+        ensures value { IfOk result (λ g. g ≡ record { sector = sector; area = area; hosts = hosts; paired = paired }) }
     {
-        if is_geometry(sector, area, hosts, false) {
+        if is_geometry(sector, area, hosts, paired) {
             Ok(Geometry {
                 sector,
                 area,
                 hosts,
-                paired: false,
+                paired,
             })
         } else {
             Err(BadGeometry)
         }
     }
 
-    /// The sizes of a run in which each host's block has a pair of sectors: so there is room for half of the row's number of hosts.
+    /// The sizes of a run in which each host's block has one sector.
+    pub fn new(sector: u32, area: u64, hosts: u32) -> Result<Geometry, BadGeometry>
+        ensures ok { IsOk result ↔ IsGeometry (sizes sector area hosts) }
+        ensures value { IfOk result (λ g. g ≡ sizes sector area hosts) }
+    {
+        Geometry::sized(sector, area, hosts, false)
+    }
+
+    /// The sizes of a run in which each host's block has a pair of sectors.
     pub fn new2(sector: u32, area: u64, hosts: u32) -> Result<Geometry, BadGeometry>
         ensures ok { IsOk result ↔ IsGeometry (paired_sizes sector area hosts) }
         ensures value { IfOk result (λ g. g ≡ paired_sizes sector area hosts) }
     {
-        if is_geometry(sector, area, hosts, true) {
-            Ok(Geometry {
-                sector,
-                area,
-                hosts,
-                paired: true,
-            })
-        } else {
-            Err(BadGeometry)
-        }
+        Geometry::sized(sector, area, hosts, true)
     }
 
     /// Bytes of a sector.

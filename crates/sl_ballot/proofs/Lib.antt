@@ -1,6 +1,6 @@
 pub mod NumberLaws
 pub mod NumberRules
-pub mod Passing
+pub mod ReadOutcomes
 pub mod ReadLaws
 pub mod RiseLaws
 pub mod ReadRules

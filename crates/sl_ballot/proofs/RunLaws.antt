@@ -1,5 +1,5 @@
 -- How a whole ballot ends.
-use Rattle.sl_ballot.proofs.Passing.{stopped_or_on}
+use Rattle.sl_ballot.proofs.ReadOutcomes.{stopped_or_on}
 use Rattle.sl_ballot.proofs.StepLaws.{end_with}
 use Rattle.sl_ballot.specs.Laws.{IsEndWith, IsRunEnd, IsStoppedBy, Passes, RunsEnd}
 use Rattle.sl_ballot.specs.Limits.{limited}

@@ -1,5 +1,5 @@
 -- Which step comes in which phase.
-use Rattle.sl_ballot.proofs.Passing.{stopped_or_on}
+use Rattle.sl_ballot.proofs.ReadOutcomes.{stopped_or_on}
 use Rattle.sl_ballot.specs.Laws.{IsEndWith, IsStoppedBy, StepsFollowPhases}
 use Rattle.sl_ballot.specs.Machine.{BallotState, after_step, ends_with, is_reading, phase1_step, phase2_step, step_in}
 use Rattle.sl_ballot.specs.declared.ballot.BallotStep.TheVariants.{Ahead, Go, Lost, Rival, Won}

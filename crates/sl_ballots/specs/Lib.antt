@@ -6,3 +6,6 @@ pub mod Instances
 pub mod Grants
 pub mod Theorems
 pub mod Residues
+pub mod Pairs
+pub mod PairLogs
+pub mod Grantings

@@ -1,15 +1,15 @@
 -- What is kept along the calls of threads, as they are compared with a history.
 use Rattle.indexmap.specs.IndexSet.{contains}
 use Rattle.sl_cell.proofs.ExpectedLaws.{front_next}
-use Rattle.sl_cell.proofs.Fronts.{all_more, take_next}
+use Rattle.sl_cell.proofs.ListFronts.{all_more, take_next}
 use Rattle.sl_cell.specs.Audits.{Agrees, AreIdleTrue, CanMark, Follows, IsLater, IsMarked, IsTrueOf, Rises, StandsAt, all_calls, is_receipt, is_take, one_if, past, sees}
-use Rattle.sl_cell.specs.Cases.{IsAgain}
+use Rattle.sl_cell.specs.DifferenceCases.{IsAgain}
 use Rattle.sl_cell.specs.Seats.{SeatState}
-use Rattle.sl_cell.specs.declared.marks.Marks.{Marks}
+use Rattle.sl_cell.specs.declared.receipt_marks.Marks.{Marks}
 use Rattle.sl_cell.specs.declared.seat.Made.TheVariants.{Applied, Tested, Took, Unasked}
 use Rattle.sl_cell.specs.declared.seat.Made.{Made}
-use Rattle.sl_plain.proofs.Lists.{got_index, there_is}
-use Rattle.sl_plain.proofs.Places.{count_push, position_none}
+use Rattle.sl_words.proofs.Lists.{got_index, there_is}
+use Rattle.sl_words.proofs.Places.{count_push, position_none}
 use Rattle.sl_words.proofs.CaseLaws.{false_is_true}
 use Rattle.sl_trace.specs.Connections.{Connection, after_move, connections}
 use Rattle.sl_trace.specs.Traces.{Setting}
@@ -139,12 +139,6 @@ took_again m ms made number c r is set so no_more_of =
     subst (IsAgain ms) (sym is) (omega (arith, count))
 
 -- ---- connections along a history
-
-pub follows_more : (st : Setting) (h : List Entry) (k : ℕ) (e : Entry) (cs new : List Connection) → k < length h → e ≡ slice_index_or h k e → Follows st h k cs
-    → new ≡ fold after_move cs e.effects.moves → Follows st h (k + 1) new
-follows_more st h k e cs new lt here so is =
-    is ∙ ap (λ xs. fold after_move xs e.effects.moves) so ∙ ap (λ (x : Entry). fold after_move (connections st (past k h)) x.effects.moves) here
-    ∙ sym (ap (connections st) (front_next h k e lt))
 
 -- ---- calls of a seat
 

@@ -1,20 +1,20 @@
 -- Where seats and a history differ: what is found at one call is a case of all, and no case holds where they agree.
 use Rattle.sl_cell.proofs.AuditLaws.{placed}
 use Rattle.sl_cell.specs.Audits.{Agrees, AreIdleTrue, ContainsAt, IsIdleTrue, IsLater, IsMarked, IsMissing, IsTrueOf, Rises, StandsAt, all_calls, calls_before, is_left, is_receipt, is_take, one_if, sees}
-use Rattle.sl_cell.specs.Cases.{EntryDiffers, FaultAtIdle, FaultIn, IdleDiffers, IdleFault, IsAgain, IsCase, IsCaseOfSome, IsFault, SeenDiffers, Stops, numbered, told_of}
+use Rattle.sl_cell.specs.DifferenceCases.{EntryDiffers, FaultAtIdle, FaultIn, IdleDiffers, IdleFault, IsAgain, IsCase, IsCaseOfSome, IsFault, SeenDiffers, Stops, numbered, told_of}
 use Rattle.sl_cell.specs.Seats.{SeatState, idle_of}
 use Rattle.sl_cell.specs.declared.audit.CloseError.TheVariants.{Differ as Differs, NoMemory}
 use Rattle.sl_cell.specs.declared.audit.CloseError.{CloseError}
 use Rattle.sl_cell.specs.declared.audit.Differ.TheVariants.{Asked, Entry as Received, Idle as Left, Seen, Taken, Tested as TestedSo}
 use Rattle.sl_cell.specs.declared.audit.Differ.{Differ}
-use Rattle.sl_cell.specs.declared.marks.Marks.{Marks}
+use Rattle.sl_cell.specs.declared.receipt_marks.Marks.{Marks}
 use Rattle.sl_cell.specs.declared.seat.Idle.{Idle}
 use Rattle.sl_cell.specs.declared.seat.Made.TheVariants.{Applied, Tested, Took, Unasked}
 use Rattle.sl_cell.specs.declared.seat.Made.{Made}
 use Rattle.sl_cell.specs.declared.seat.Part.TheVariants.{Delta, Resource}
 use Rattle.sl_cell.specs.declared.seat.Part.{Part}
-use Rattle.sl_plain.proofs.Lists.{any_of, contains_first, there_is}
-use Rattle.sl_plain.proofs.Numbers.{number_itself, one_before}
+use Rattle.sl_words.proofs.Lists.{any_of, contains_first, there_is}
+use Rattle.sl_words.proofs.Numbers.{number_itself, one_before}
 use Rattle.sl_trace.specs.Traces.{IsTrace, Setting}
 use Rattle.sl_trace.specs.declared.effects.Call.{Call}
 use Rattle.sl_trace.specs.declared.effects.Entry.{Entry}
@@ -179,26 +179,6 @@ missing_stops st h seats m number e len none marked told =
         ap (λ n. count_by (is_receipt n) (all_calls seats)) (sym is) ∙ marked.found (number - 1) (omega (arith, some, most)) ∙ ap (λ b. one_if b) none.none
 
 -- ---- a fault where a part had no call left
-
-pub case_of_idle : (st : Setting) (h : List Entry) (seats : List SeatState) (k : ℕ) (s : SeatState) (part : Part) (d : Differ) → k < length seats → s ≡ slice_index_or seats k s
-    → FaultAtIdle h (all_calls seats) part s d → IsCase st h seats d
-case_of_idle st h seats k s part d lt is f = go f.fault
-  where
-    go : IdleFault h (all_calls seats) s.calls part f.idle d → IsCase st h seats d
-    go (inl less) = subst (IsCase st h seats) (sym less.0) (
-      s,
-      among seats k s lt is,
-      inr (record { part = part; idle = f.idle; there = f.there; had = refl; says = refl; less = less.1 }),
-    )
-    go (inr left) =
-        subst (IsCase st h seats) (sym left.1)
-        (record { seat = s; among = among seats k s lt is; part = part; idle = f.idle; there = f.there; here = refl; made = left.2; left = left.3 })
-
--- .. of some seat.
-pub idles_stop : (st : Setting) (h : List Entry) (seats : List SeatState) (k : ℕ) (s : SeatState) (e : CloseError) → k < length seats → s ≡ slice_index_or seats k s
-    → Stops (λ d. (part : Part) × FaultAtIdle h (all_calls seats) part s d) e → Stops (IsCase st h seats) e
-idles_stop st h seats k s e lt is so =
-    stops_also (λ d. (part : Part) × FaultAtIdle h (all_calls seats) part s d) (IsCase st h seats) (λ d f. case_of_idle st h seats k s f.0 d lt is f.1) e so
 
 -- A case of this history is one of some history that the daemon could have.
 pub case_of_some : (st : Setting) (h : List Entry) (seats : List SeatState) (e : CloseError) → IsTrace st (reverse h) → Stops (IsCase st h seats) e → Stops (IsCaseOfSome st seats) e

@@ -1,5 +1,5 @@
 -- Where the memory for a step's replies is enough for each.
-use Rattle.sl_cell.proofs.Fronts.{sum_front, sum_more}
+use Rattle.sl_cell.proofs.ListFronts.{sum_front, sum_more}
 use Rattle.sl_cell.specs.Copies.{AreShort, lists_in, lists_of}
 use Rattle.sl_trace.specs.declared.effects.JobReply.{JobReply}
 use Rattle.std.proofs.Common.{arith, length, List, min, slice_index_or, suc, take, zero, ℕ, ◌+◌, ◌<◌, ◌≡◌, ◌≤◌}
@@ -11,10 +11,3 @@ enough (suc a) b m room first longest one same most short =
     let none : m ≡ 0 = omega (arith, one) in
     let is = same none in
     omega (arith, is, most, short)
-
-pub one_list : (longest : ℕ) (rs : List JobReply) (i : ℕ) (d : JobReply) → AreShort longest rs → i < length rs → lists_of (take i rs) + lists_in (slice_index_or rs i d).reply ≤ 1
-one_list longest rs i d short below =
-    let more = sum_more (λ (r : JobReply). lists_in r.reply) rs i d below in
-    let most = sum_front (λ (r : JobReply). lists_in r.reply) rs (i + 1) in
-    let one = short.one in
-    omega (arith, more, most, one)

@@ -1,6 +1,6 @@
 -- What a trace expects goes on entry by entry.
 use Rattle.sl_cell.specs.Expected.{is_due, is_told, opened_after, started_after}
-use Rattle.sl_kept.specs.Steps.{is_spawned_by}
+use Rattle.sl_world_state.specs.Steps.{is_spawned_by}
 use Rattle.sl_trace.specs.Traces.{Answered, Child, Setting, Submitted, Trace, answer_of, answered_in, child_after, child_numbered, children, is_answer_for, is_expected, is_starting, mark, new_call, new_child, submitted}
 use Rattle.sl_trace.specs.declared.effects.Call.{Call}
 use Rattle.sl_trace.specs.declared.effects.Entry.{Entry}
@@ -12,7 +12,7 @@ use Rattle.sl_trace.specs.declared.input.Answer.{Answer}
 use Rattle.sl_trace.specs.declared.input.Input.TheVariants.{Answer as Told, Exit, Line, Number, Spawned, Wake}
 use Rattle.sl_trace.specs.declared.input.Input.{Input}
 use Rattle.sl_words.specs.Words.{choose, some_is}
-use Rattle.sl_cell.proofs.Fronts.{take_next}
+use Rattle.sl_cell.proofs.ListFronts.{take_next}
 use Rattle.std.proofs.Common.{ap, ap₂, arith, refl, reverse, slice_index_or, sym, take, ◌+◌, ◌<◌, ◌∙◌}
 use Rattle.std.proofs.lemmas.Bool.{eqb-true}
 use Rattle.std.proofs.lemmas.List.{reverse-append}

@@ -1,13 +1,13 @@
 -- What was taken, by sets of numbers and by lists of calls.
 use Rattle.indexmap.specs.IndexSet.{contains}
-use Rattle.sl_cell.proofs.Fronts.{take_next}
+use Rattle.sl_cell.proofs.ListFronts.{take_next}
 use Rattle.sl_cell.specs.Audits.{IsIdleTrue, IsMarked, calls_before, is_left, is_take, one_if}
-use Rattle.sl_cell.specs.Cases.{IdleFault}
+use Rattle.sl_cell.specs.DifferenceCases.{IdleFault}
 use Rattle.sl_cell.specs.Idles.{AreLater, IsIdle, is_left_of}
 use Rattle.sl_cell.specs.Seats.{SeatState, idle_of, is_of}
 use Rattle.sl_cell.specs.declared.audit.Differ.TheVariants.{Idle as Left}
 use Rattle.sl_cell.specs.declared.idle.Later.{Later}
-use Rattle.sl_cell.specs.declared.marks.Marks.{Marks}
+use Rattle.sl_cell.specs.declared.receipt_marks.Marks.{Marks}
 use Rattle.sl_cell.specs.declared.seat.Idle.{Idle}
 use Rattle.sl_cell.specs.declared.seat.Made.TheVariants.{Took}
 use Rattle.sl_cell.specs.declared.seat.Made.{Made}
@@ -54,21 +54,6 @@ any_same p q same [] = refl
 any_same p q same (x ∷ xs) = ap₂ (λ a b. a || b) (same x) (any_same p q same xs)
 
 -- ---- what a thread took later
-
-pub later_took : (l l' : Later) (ms : List Made) (number : ℕ) (c : Call)
-    → ((q : ℕ) → contains nat_eq l'.numbers q ≡ cond (c.number == q) true (contains nat_eq l.numbers q)) → AreLater l ms → AreLater l' (ms ++ Took number c ∷ [])
-later_took l l' ms number c taken so = λ q.
-    taken q ∙ turned (c.number == q) (contains nat_eq l.numbers q) ∙ ap (λ b. b || (c.number == q)) (so q) ∙ sym (any_push (is_take q) ms (Took number c))
-  where
-    turned : (a b : Bool) → cond a true b ≡ (b || a)
-    turned true true = refl
-    turned true false = refl
-    turned false true = refl
-    turned false false = refl
-
-pub later_stays : (l : Later) (ms : List Made) (m : Made) → ((q : ℕ) → is_take q m ≡ false) → AreLater l ms → AreLater l (ms ++ m ∷ [])
-later_stays l ms m none so = λ q.
-    so q ∙ sym (or_nothing (list_any (is_take q) ms)) ∙ ap (λ b. list_any (is_take q) ms || b) (sym (none q)) ∙ sym (any_push (is_take q) ms m)
 
 pub later_more : (l : Later) (ms : List Made) (k : ℕ) (m : Made) → k < length ms → m ≡ slice_index_or ms k m → AreLater l (take k ms ++ m ∷ []) → AreLater l (take (k + 1) ms)
 later_more l ms k m lt is so = subst (AreLater l) (ap (λ x. take k ms ++ x ∷ []) is ∙ sym (take_next ms k m lt)) so

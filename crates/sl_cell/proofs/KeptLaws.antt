@@ -1,14 +1,14 @@
 -- What lies under the lock, as it goes on.
-use Rattle.sl_cell.proofs.Fronts.{take_next}
+use Rattle.sl_cell.proofs.ListFronts.{take_next}
 use Rattle.sl_cell.specs.Cells.{AreLast, HasNumbers, IsCore, IsLeft, KeptState, calls_from, calls_in, calls_of, with_entry}
 use Rattle.sl_cell.specs.Seats.{is_of}
 use Rattle.sl_cell.specs.Copies.{AreShort, AreWithin}
 use Rattle.sl_cell.specs.declared.seat.Part.TheVariants.{Delta, Resource}
 use Rattle.sl_cell.specs.declared.seat.Part.{Part}
-use Rattle.sl_daemon.specs.Daemons.{IsNumbered, IsStep, MayCome, begun_with, entry_of}
-use Rattle.sl_daemon.specs.declared.daemon.Most.{Most}
-use Rattle.sl_daemon.specs.declared.daemon.Site.{Site}
-use Rattle.sl_kept_law.proofs.NextNumbers.{calls_next, jobs_next}
+use Rattle.sl_world_state.specs.Daemons.{IsNumbered, IsStep, MayCome, begun_with, entry_of}
+use Rattle.sl_world_state.specs.declared.daemon.Most.{Most}
+use Rattle.sl_world_state.specs.declared.daemon.Site.{Site}
+use Rattle.sl_world_law.proofs.NextNumbers.{calls_next, jobs_next}
 use Rattle.sl_run.specs.Lawful.{IsGiven, IsSetting}
 use Rattle.sl_run.specs.declared.header.Header.{Header}
 use Rattle.sl_text.specs.Forms.{Form}

@@ -1,5 +1,5 @@
-pub mod Fronts
-pub mod Mapped
+pub mod ListFronts
+pub mod MappedLists
 pub mod CopyLaws
 pub mod KeptLaws
 pub mod ExpectedLaws

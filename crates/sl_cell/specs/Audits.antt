@@ -2,7 +2,7 @@
 use Rattle.sl_cell.specs.Seats.{SeatState, is_of}
 use Rattle.indexmap.specs.IndexSet.{contains}
 use Rattle.sl_cell.specs.declared.audit.Basis.{Basis}
-use Rattle.sl_cell.specs.declared.marks.Marks.{Marks}
+use Rattle.sl_cell.specs.declared.receipt_marks.Marks.{Marks}
 use Rattle.sl_cell.specs.declared.seat.Idle.{Idle}
 use Rattle.sl_cell.specs.declared.seat.Made.TheVariants.{Applied, Tested, Took, Unasked}
 use Rattle.sl_cell.specs.declared.seat.Made.{Made}

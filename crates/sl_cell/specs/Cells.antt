@@ -1,13 +1,13 @@
 -- What lies under the lock, and what its calls say.
 use Rattle.sl_cell.specs.Seats.{SeatState, is_of, with_idle}
-use Rattle.sl_cell.specs.declared.inner.NotApplied.TheVariants.{NoMemory, Unasked as NotAsked}
-use Rattle.sl_cell.specs.declared.inner.NotApplied.{NotApplied}
-use Rattle.sl_cell.specs.declared.inner.Receipt.{Receipt}
+use Rattle.sl_cell.specs.declared.daemon_history.NotApplied.TheVariants.{NoMemory, Unasked as NotAsked}
+use Rattle.sl_cell.specs.declared.daemon_history.NotApplied.{NotApplied}
+use Rattle.sl_cell.specs.declared.daemon_history.Receipt.{Receipt}
 use Rattle.sl_cell.specs.declared.seat.Made.TheVariants.{Applied, Tested, Took, Unasked}
 use Rattle.sl_cell.specs.declared.seat.Part.TheVariants.{Delta, Resource}
 use Rattle.sl_cell.specs.declared.seat.Part.{Part}
-use Rattle.sl_daemon.specs.Daemons.{entry_of, spare_numbers}
-use Rattle.sl_daemon.specs.declared.daemon.Most.{Most}
+use Rattle.sl_world_state.specs.Daemons.{entry_of, spare_numbers}
+use Rattle.sl_world_state.specs.declared.daemon.Most.{Most}
 use Rattle.sl_trace.specs.Connections.{connections, test_holds}
 use Rattle.sl_trace.specs.Traces.{IsTrace, Setting, Trace, is_expected, last_reading, next_call, next_job}
 use Rattle.sl_trace.specs.declared.effects.Call.{Call}

@@ -1,5 +1,5 @@
 -- What replies list, and what there must be memory for.
-use Rattle.sl_daemon.specs.declared.daemon.Most.{Most}
+use Rattle.sl_world_state.specs.declared.daemon.Most.{Most}
 use Rattle.sl_trace.specs.declared.effects.Effects.{Effects}
 use Rattle.sl_trace.specs.declared.effects.JobReply.{JobReply}
 use Rattle.sl_trace.specs.declared.reply.Reply.TheVariants.{Hosts, Sessions}

@@ -1,5 +1,5 @@
 -- What a history expects, entry by entry.
-use Rattle.sl_kept.specs.Steps.{is_spawned_by}
+use Rattle.sl_world_state.specs.Steps.{is_spawned_by}
 use Rattle.sl_trace.specs.declared.effects.Call.{Call}
 use Rattle.sl_trace.specs.declared.effects.Entry.{Entry}
 use Rattle.sl_trace.specs.declared.effects.Op.TheVariants.{ReadSectors, WriteRecord}

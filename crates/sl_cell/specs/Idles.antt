@@ -3,7 +3,7 @@ use Rattle.indexmap.specs.IndexSet.{contains}
 use Rattle.sl_cell.specs.Audits.{IsIdleTrue, is_take}
 use Rattle.sl_cell.specs.Seats.{SeatState, idle_of, is_of}
 use Rattle.sl_cell.specs.declared.idle.Later.{Later}
-use Rattle.sl_cell.specs.declared.marks.Marks.{Marks}
+use Rattle.sl_cell.specs.declared.receipt_marks.Marks.{Marks}
 use Rattle.sl_cell.specs.declared.seat.Made.{Made}
 use Rattle.sl_cell.specs.declared.seat.Part.{Part}
 use Rattle.sl_trace.specs.declared.effects.Call.{Call}

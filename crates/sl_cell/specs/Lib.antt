@@ -5,5 +5,5 @@ pub mod Cells
 pub mod Stations
 pub mod Expected
 pub mod Audits
-pub mod Cases
+pub mod DifferenceCases
 pub mod Idles

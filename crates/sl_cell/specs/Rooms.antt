@@ -1,7 +1,7 @@
 -- For how much there is memory.
-use Rattle.sl_cell.specs.declared.replies.Blanks.{Blanks}
-use Rattle.sl_cell.specs.declared.spare.Spare.{Spare}
-use Rattle.sl_daemon.specs.declared.daemon.Most.{Most}
+use Rattle.sl_cell.specs.declared.reply_copies.Blanks.{Blanks}
+use Rattle.sl_cell.specs.declared.step_copies.Spare.{Spare}
+use Rattle.sl_world_state.specs.declared.daemon.Most.{Most}
 use Rattle.std.specs.Prelude.{ℕ, ◌≤◌}
 
 -- There is memory for so many replies, with a list of so many elements.

@@ -5,7 +5,7 @@
 //! once for each thread.
 
 ghost use Rattle.sl_cell.specs.Audits.{Agrees, AnswersNothing, AreIdleTrue, ContainsAt, Follows, IsLater, IsMarked, IsOf, IsTrueOf, IsWithin, Rises, StandsAt, TestsSo, all_calls, sees};
-ghost use Rattle.sl_cell.specs.Cases.{FaultIn, IsCase, IsFault, Stops, numbered, told_of};
+ghost use Rattle.sl_cell.specs.DifferenceCases.{FaultIn, IsCase, IsFault, Stops, numbered, told_of};
 ghost use Rattle.sl_cell.specs.Seats.{SeatState};
 ghost use Rattle.sl_cell.specs.declared.audit.Differ.{Differ as DifferOf};
 ghost use Rattle.sl_cell.specs.declared.seat.Made.{Made as MadeOf};
@@ -14,13 +14,13 @@ ghost use Rattle.sl_trace.specs.Traces.{Setting};
 ghost use Rattle.std.specs.Prelude.{All, Contains, IfErr, IfOk, IsTrue, List, None, OnOk, fold, length, [], ◌++◌, ◌<◌, ◌∷◌, ◌↔◌, ◌≡◌, ◌≤◌, ℕ};
 
 use crate::connections::{Connection, make_moves, test_holds};
-use crate::entries::{copy_entry, copy_numbered};
+use crate::entry_copies::{copy_entry, copy_numbered};
 use crate::expected::is_expected;
 use crate::idle::check_idles;
-use crate::marks::Marks;
+use crate::receipt_marks::Marks;
 use crate::seat::{Made, Seat};
-use crate::spare::copy_input;
-use sl_trace::same::{same_call, same_entry};
+use crate::step_copies::copy_input;
+use sl_trace::step_equality::{same_call, same_entry};
 use sl_trace::{Call, Entry, Input};
 use std::alloc::{AllocError, Global};
 

@@ -1,10 +1,10 @@
 //! The cell: one machine's daemon under its lock, shared by the machine's threads.
 
 ghost use Rattle.sl_cell.specs.Audits.{Agrees, IsOf};
-ghost use Rattle.sl_cell.specs.Cases.{IsCase, IsCaseOfSome, Stops};
+ghost use Rattle.sl_cell.specs.DifferenceCases.{IsCase, IsCaseOfSome, Stops};
 ghost use Rattle.sl_cell.specs.Cells.{IsTaken, IsTested, IsTold, KeepsIdle};
 ghost use Rattle.sl_cell.specs.declared.audit.Differ.{Differ as DifferOf};
-ghost use Rattle.sl_daemon.specs.Daemons.{begun_with};
+ghost use Rattle.sl_world_state.specs.Daemons.{begun_with};
 ghost use Rattle.sl_run.specs.Lawful.{IsSetting};
 ghost use Rattle.sl_run.specs.Headers.{IsHeader};
 ghost use Rattle.sl_trace.specs.Connections.{given_connection};
@@ -14,14 +14,14 @@ ghost use Rattle.std.specs.Prelude.{IfErr, IfOk, None, map, reverse, [], ◌<◌
 
 use crate::audit::{Basis, CloseError};
 use crate::connections::given_connections;
-use crate::inner::{NotApplied, Receipt, Station};
+use crate::daemon_history::{NotApplied, Receipt, Station};
 use crate::kept::Kept;
 use crate::seat::{Part, Seat};
 use crate::teller::Teller;
-use sl_daemon::{Daemon, Site};
 use sl_run::Header;
 use sl_text::Seq;
 use sl_trace::{Call, Effects, Entry, Input};
+use sl_world_state::{Daemon, Site};
 use std::alloc::{AllocError, Global};
 use std::sync::{Mutex, Wait};
 

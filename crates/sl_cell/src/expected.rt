@@ -1,7 +1,7 @@
 //! What a history expects: the question of a trace, asked of its entries one after another. It takes no memory.
 
 ghost use Rattle.sl_cell.specs.Expected.{are_open, is_due, is_told, opened_after, started_after};
-ghost use Rattle.sl_kept.specs.Steps.{is_spawned_by};
+ghost use Rattle.sl_world_state.specs.Steps.{is_spawned_by};
 ghost use Rattle.sl_trace.specs.Traces.{Setting, is_expected, is_starting};
 ghost use Rattle.sl_trace.specs.declared.effects.Start.{Start as StartOf};
 ghost use Rattle.sl_trace.specs.declared.input.Input.TheVariants.{Answer as Told};

@@ -5,7 +5,7 @@
 
 ghost use Rattle.indexmap.specs.IndexSet.{contains};
 ghost use Rattle.sl_cell.specs.Audits.{AreIdleTrue, IsMarked, sees};
-ghost use Rattle.sl_cell.specs.Cases.{FaultAtIdle, Stops};
+ghost use Rattle.sl_cell.specs.DifferenceCases.{FaultAtIdle, Stops};
 ghost use Rattle.sl_cell.specs.Idles.{AreLater, IsIdle, is_left_of};
 ghost use Rattle.sl_cell.specs.declared.seat.Made.{Made as MadeOf};
 ghost use Rattle.sl_cell.specs.declared.seat.Part.{Part as PartOf};
@@ -14,7 +14,7 @@ ghost use Rattle.std.specs.List.{list_any};
 ghost use Rattle.std.specs.Prelude.{Contains, IfErr, IfOk, List, MatchOption, OnOk, [], drop, false, flat_map, fold, nat_eq, take, true, ◌++◌, ◌∷◌, ◌≡◌};
 
 use crate::audit::{CloseError, Differ, sees};
-use crate::marks::Marks;
+use crate::receipt_marks::Marks;
 use crate::seat::{Made, Part, Seat, is_of};
 use indexmap::IndexSet;
 use sl_trace::{Call, Entry};

@@ -1,10 +1,10 @@
 //! What lies under the lock: the daemon with its history, its connections, and its calls that nobody took.
 
 ghost use Rattle.sl_cell.specs.Audits.{Agrees, IsOf};
-ghost use Rattle.sl_cell.specs.Cases.{IsCase, Stops};
+ghost use Rattle.sl_cell.specs.DifferenceCases.{IsCase, Stops};
 ghost use Rattle.sl_cell.specs.Cells.{IsAnswered, IsTaken, IsTested, IsTold, KeepsIdle, Stepped, Takes, Tests, left_of, made_entry, with_entry, with_left};
 ghost use Rattle.sl_cell.specs.Seats.{is_of};
-ghost use Rattle.sl_daemon.specs.Daemons.{begun_with};
+ghost use Rattle.sl_world_state.specs.Daemons.{begun_with};
 ghost use Rattle.sl_run.specs.Lawful.{IsSetting};
 ghost use Rattle.sl_run.specs.Headers.{IsHeader};
 ghost use Rattle.sl_trace.specs.Traces.{IsTrace};
@@ -14,13 +14,13 @@ ghost use Rattle.std.specs.VecDeque.{deque_capacity, deque_len};
 
 use crate::audit::{Basis, CloseError, check_all};
 use crate::connections::{Connection, given_connections, make_moves, test_holds};
-use crate::inner::{Core, NotApplied, Receipt, Station};
+use crate::daemon_history::{Core, NotApplied, Receipt, Station};
 use crate::seat::{Made, Part, Seat, is_of};
 use crate::teller::Teller;
-use sl_daemon::{Daemon, Site};
 use sl_run::Header;
 use sl_text::Seq;
 use sl_trace::{Call, Effects, Entry, Input};
+use sl_world_state::{Daemon, Site};
 use std::alloc::{AllocError, Global};
 use std::collections::VecDeque;
 use std::marker::Model;

@@ -5,7 +5,7 @@ ghost use Rattle.sl_trace.specs.Traces.{Setting, Trace};
 ghost use Rattle.sl_trace.specs.declared.effects.Entry.{Entry};
 ghost use Rattle.std.specs.Prelude.{◌∷◌};
 
-use sl_daemon::Daemon;
+use sl_world_state::Daemon;
 
 /// A daemon of a cell. Each step is written down twice, so there must be memory for what its replies list before it is made.
 pub trait Teller: Daemon {

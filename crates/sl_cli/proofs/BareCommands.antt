@@ -6,7 +6,7 @@ use Rattle.clap.specs.Lexer.{long_of, short_of}
 use Rattle.clap.specs.Simple.{Shape}
 use Rattle.clap.specs.Walk.{Held, Names, Outcome, Step, Text, after_flag, bundle_met, idle, long_or_other, nothing_held, plain, short_or_plain, subcommand_met, walk_from}
 use Rattle.clap.specs.declared.error.kind.ErrorKind.TheVariants as kind
-use Rattle.sl_cli.proofs.Turns.{Fails, fails_with, first_fails}
+use Rattle.sl_cli.proofs.ParserTurns.{Fails, fails_with, first_fails}
 use Rattle.std.proofs.Common.{Bool, List, None, Option, Some, [], cond, false, length, refl, suc, true, zero, ℕ, ◌≡◌, ◌∷◌}
 use Rattle.std.specs.Prelude.{bytes_eq, slice_get}
 use Rattle.std.specs.Str.{chars}

@@ -11,14 +11,14 @@ use Rattle.sl_cli.proofs.BuiltCommand.{direct, gen_rules, generate, live, live_r
 use Rattle.sl_cli.proofs.DirectLaws.{Read, direct_level, direct_read, direct_rows, given_rows}
 use Rattle.sl_cli.proofs.GenLaws.{gen_read}
 use Rattle.sl_cli.proofs.LiveLaws.{live_read}
-use Rattle.sl_cli.proofs.Steps.{AreTexts}
-use Rattle.sl_cli.proofs.Turns.{Fails, fails_with, first_fails}
+use Rattle.sl_cli.proofs.ReaderSteps.{AreTexts}
+use Rattle.sl_cli.proofs.ParserTurns.{Fails, fails_with, first_fails}
 use Rattle.sl_cli.specs.Actions.{action_in}
 use Rattle.sl_cli.specs.CommandLine.{command_line}
 use Rattle.sl_cli.specs.CommandWords.{Use, command_in, given_by, nothing_taken, uses_from}
 use Rattle.sl_cli.specs.Parses.{IsRefused, TakenAs, given_in, met_in, said_by}
-use Rattle.sl_cli.specs.declared.given.Met.{Met}
-use Rattle.sl_cli.specs.declared.reading.Words.TheVariants.{Direct, Live, Replay}
+use Rattle.sl_cli.specs.declared.parsed_command.Met.{Met}
+use Rattle.sl_cli.specs.declared.command_words.Words.TheVariants.{Direct, Live, Replay}
 use Rattle.sl_words.specs.Words.{choose}
 use Rattle.std.proofs.Common.{Bool, List, None, Option, Some, [], ap, false, inl, inr, map, refl, subst, sym, true, ◌≡◌, ◌∙◌, ◌∷◌, ◌⊎◌}
 use Rattle.std.proofs.lemmas.Bool.{cases_Bool}

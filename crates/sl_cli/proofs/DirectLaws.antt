@@ -6,9 +6,9 @@ use Rattle.clap.specs.Walk.{Held, Row, Text, Walk, finished, idle, nothing_held,
 use Rattle.sl_cli.proofs.BareCommands.{level, or_nothing}
 use Rattle.sl_cli.proofs.BuiltCommand.{Key, direct, first_of-rows, name_of, no_defaults, no_faults, rows_for, rules}
 use Rattle.sl_cli.proofs.OptionSteps.{step_at}
-use Rattle.sl_cli.proofs.Steps.{AreTexts, At, Step, end_fails, place_in, rest, taken, turn_passes}
-use Rattle.sl_cli.proofs.Turns as turns
-use Rattle.sl_cli.proofs.Turns.{Fails, Pending, after, turn, unsettled, values_of, walk_at}
+use Rattle.sl_cli.proofs.ReaderSteps.{AreTexts, At, Step, end_fails, place_in, rest, taken, turn_passes}
+use Rattle.sl_cli.proofs.ParserTurns as turns
+use Rattle.sl_cli.proofs.ParserTurns.{Fails, Pending, after, turn, unsettled, values_of, walk_at}
 use Rattle.sl_cli.specs.CommandWords.{Taken, Use, given_by, next_taken, nothing_taken, uses_from}
 use Rattle.sl_cli.specs.Parses.{given_in}
 use Rattle.std.proofs.Common.{Bool, List, None, Option, Some, [], ap, false, inl, inr, refl, subst, sym, ℕ, ◌≡◌, ◌∙◌, ◌∷◌}

@@ -7,11 +7,11 @@ use Rattle.clap.specs.Walk.{Held, Row, Text, Walk, finished, idle, nothing_held,
 use Rattle.sl_cli.proofs.BareCommands.{level, or_nothing}
 use Rattle.sl_cli.proofs.BuiltCommand.{gen_rules, generate, no_defaults, no_faults, row_for}
 use Rattle.sl_cli.proofs.Letters.{behind, first_char}
-use Rattle.sl_cli.proofs.Steps.{AreTexts, word_cases}
-use Rattle.sl_cli.proofs.Turns.{Fails, Pending, Plain, fails_with, first_fails, is_short, no_dashes, no_long, walk_at}
+use Rattle.sl_cli.proofs.ReaderSteps.{AreTexts, word_cases}
+use Rattle.sl_cli.proofs.ParserTurns.{Fails, Pending, Plain, fails_with, first_fails, is_short, no_dashes, no_long, walk_at}
 use Rattle.sl_cli.specs.CommandWords.{is_event_count, is_machine_count, is_seed, seeded_in, seeding_in, use_of, without_dashes}
 use Rattle.sl_cli.specs.Parses.{seeding_of}
-use Rattle.sl_cli.specs.declared.reading.Words.{Words}
+use Rattle.sl_cli.specs.declared.command_words.Words.{Words}
 use Rattle.std.proofs.Common.{Bool, List, None, Option, Some, [], ap, eqb, false, inl, inr, refl, subst, sym, true, ℕ, ◌&&◌, ◌≡◌, ◌∙◌, ◌∷◌, ◌⊎◌}
 use Rattle.std.proofs.lemmas.Bool.{cases_Bool, eqb-true}
 use Rattle.std.specs.List.{fold}

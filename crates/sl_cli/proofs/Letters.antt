@@ -1,7 +1,7 @@
 -- The letters of options: what a letter names for the reader it names for the parser, though the one reads a byte and the other a character.
 use Rattle.clap.specs.Walk.{Text, arg_by_short}
 use Rattle.sl_cli.proofs.BuiltCommand.{Key, format, geometry, hosts, lockspace, name_of, resource, rules, stretch}
-use Rattle.sl_cli.proofs.Turns.{Names}
+use Rattle.sl_cli.proofs.ParserTurns.{Names}
 use Rattle.sl_cli.specs.CommandWords.{option_named}
 use Rattle.std.proofs.Common.{List, None, Some, [], ap, arith, eqb, false, inl, inr, refl, subst, sym, true≢false, ℕ, ◌++◌, ◌<◌, ◌≡◌, ◌∙◌, ◌∷◌, ◌⊎◌}
 use Rattle.std.proofs.lemmas.Bool.{cases_Bool, eq-eqb, eqb-true, ne_eqb}

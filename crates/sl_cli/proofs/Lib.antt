@@ -13,5 +13,5 @@ pub mod OptionSteps
 pub mod ParseLaws
 pub mod SizeWords
 pub mod SpellingLaws
-pub mod Steps
-pub mod Turns
+pub mod ReaderSteps
+pub mod ParserTurns

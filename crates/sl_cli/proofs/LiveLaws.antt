@@ -7,8 +7,8 @@ use Rattle.clap.specs.Walk.{Held, Row, Text, Walk, finished, first_of, idle, not
 use Rattle.sl_cli.proofs.BareCommands.{level, or_nothing}
 use Rattle.sl_cli.proofs.BuiltCommand.{live, live_rules, no_defaults, no_faults}
 use Rattle.sl_cli.proofs.Letters.{behind, first_char}
-use Rattle.sl_cli.proofs.Steps.{AreTexts, word_cases}
-use Rattle.sl_cli.proofs.Turns.{Fails, Pending, Plain, fails_with, first_fails, is_short, no_dashes, no_long, walk_at}
+use Rattle.sl_cli.proofs.ReaderSteps.{AreTexts, word_cases}
+use Rattle.sl_cli.proofs.ParserTurns.{Fails, Pending, Plain, fails_with, first_fails, is_short, no_dashes, no_long, walk_at}
 use Rattle.sl_cli.specs.CommandWords.{folder_in, is_plain}
 use Rattle.sl_words.specs.Words.{choose}
 use Rattle.std.proofs.Common.{Bool, List, None, Option, Some, [], ap, eqb, false, inl, inr, refl, subst, sym, true, ℕ, ◌&&◌, ◌≡◌, ◌∙◌, ◌∷◌, ◌⊎◌}

@@ -4,9 +4,9 @@ use Rattle.clap.specs.Kinds.{or_else}
 use Rattle.clap.specs.Walk.{Row, Text, Walk, attached_value, idle, option, settled_rows, used}
 use Rattle.sl_cli.proofs.BuiltCommand.{Key, has_row_for, name_of, rows_for, rule_for, rules, used_first}
 use Rattle.sl_cli.proofs.Letters.{Known, behind, first_char, letter_cases}
-use Rattle.sl_cli.proofs.Steps.{At, Step, action_step, by_given, doomed, doomed_at_hyphen, place_behind_option, place_in, rest, taken, turn_fails, turn_passes, value_has, value_settled, value_twice, word_cases}
-use Rattle.sl_cli.proofs.Turns as turns
-use Rattle.sl_cli.proofs.Turns.{Fails, Pending, Plain, after, first_fails, later_fails, turn, unsettled, values_of, walk_at}
+use Rattle.sl_cli.proofs.ReaderSteps.{At, Step, action_step, by_given, doomed, doomed_at_hyphen, place_behind_option, place_in, rest, taken, turn_fails, turn_passes, value_has, value_settled, value_twice, word_cases}
+use Rattle.sl_cli.proofs.ParserTurns as turns
+use Rattle.sl_cli.proofs.ParserTurns.{Fails, Pending, Plain, after, first_fails, later_fails, turn, unsettled, values_of, walk_at}
 use Rattle.sl_cli.specs.CommandWords.{Taken, Use, behind_hyphen, next_taken, option_named, use_of, with_option, with_use, with_value, with_word}
 use Rattle.sl_words.specs.Words.{choose, is_empty}
 use Rattle.std.proofs.Common.{Bool, List, None, Option, Some, [], ap, ap₂, drop, eqb, false, inl, inr, refl, subst, sym, true, ℕ, ◌++◌, ◌==◌, ◌≡◌, ◌∙◌, ◌∷◌}

@@ -7,7 +7,7 @@ use Rattle.clap.specs.Values.{kind_of}
 use Rattle.clap.specs.declared.error.Error.{Error}
 use Rattle.clap.specs.declared.error.kind.ErrorKind.TheVariants as kind
 use Rattle.sl_cli.specs.CommandLine.{command_line}
-use Rattle.sl_cli.specs.declared.reading.WordsError.{WordsError}
+use Rattle.sl_cli.specs.declared.command_words.WordsError.{WordsError}
 use Rattle.std.proofs.Common.{Err, Result, [], ap, inl, inr, refl, subst, true, ◌≡◌, ◌∙◌}
 
 line_is_simple : is_simple command_line ≡ true

@@ -3,7 +3,7 @@ use Rattle.sl_cli.proofs.ActionTexts.{actions_have_one_text}
 use Rattle.sl_cli.specs.Actions.{action_in}
 use Rattle.sl_cli.specs.CommandWords.{Taken, Use, command_in, ends_here, folder_in, given_by, is_event_count, is_format, is_given, is_machine_count, is_only, is_plain, is_seed, nothing_taken, option_named, seeded_in, use_of, uses_from, with_use, without_dashes}
 use Rattle.sl_cli.specs.Spellings.{AsksFor, IsAsked, OnlyItsWordsAskForAnAction, OptionsComeInAnyOrder, are_apart, is_use, letter_named, option_words, spelled, use_words}
-use Rattle.sl_cli.specs.declared.reading.Words.TheVariants.{Direct, Generate, Help, Live, Replay, Version}
+use Rattle.sl_cli.specs.declared.command_words.Words.TheVariants.{Direct, Generate, Help, Live, Replay, Version}
 use Rattle.sl_direct.specs.declared.action.Action.{Action}
 use Rattle.sl_text.specs.Numbers.{number_of}
 use Rattle.sl_words.proofs.CaseLaws.{none_some}

@@ -1,7 +1,7 @@
 -- How the words of the command line are read, from the left.
 use Rattle.sl_cli.specs.Actions.{Given, action_in}
-use Rattle.sl_cli.specs.declared.reading.Words.TheVariants.{Direct, Generate, Help, Live, Replay, Version}
-use Rattle.sl_cli.specs.declared.reading.Words.{Words}
+use Rattle.sl_cli.specs.declared.command_words.Words.TheVariants.{Direct, Generate, Help, Live, Replay, Version}
+use Rattle.sl_cli.specs.declared.command_words.Words.{Words}
 use Rattle.sl_text.specs.Numbers.{is_number_that, number_of}
 use Rattle.sl_words.specs.Words.{choose, is_empty}
 use Rattle.std.specs.Int.{is_in_range}

@@ -5,9 +5,9 @@ use Rattle.clap.specs.Walk.{Row, Text, first_of}
 use Rattle.sl_cli.specs.Actions.{Given, action_in}
 use Rattle.sl_cli.specs.CommandLine.{command_line}
 use Rattle.sl_cli.specs.CommandWords.{Seeding, seeding_in}
-use Rattle.sl_cli.specs.declared.given.Met.{Met}
-use Rattle.sl_cli.specs.declared.reading.Words.TheVariants.{Direct, Live, Replay}
-use Rattle.sl_cli.specs.declared.reading.Words.{Words}
+use Rattle.sl_cli.specs.declared.parsed_command.Met.{Met}
+use Rattle.sl_cli.specs.declared.command_words.Words.TheVariants.{Direct, Live, Replay}
+use Rattle.sl_cli.specs.declared.command_words.Words.{Words}
 use Rattle.std.specs.Prelude.{List, None, Option, Some, bytes_eq, codes, if◌then◌else◌, option_map, [], ◌≡◌}
 
 -- What was given, by what was found of each argument.

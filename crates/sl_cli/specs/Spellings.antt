@@ -3,8 +3,8 @@ use Rattle.sl_area.specs.Layouts.{IsGeometry, Sizes, geometries, layout_of}
 use Rattle.sl_cli.specs.Actions.{Given, action_in}
 use Rattle.sl_cli.specs.Arguments.{is_stretch_size, is_stretch_start}
 use Rattle.sl_cli.specs.CommandWords.{Use, given_by, is_given, is_plain, nothing_taken, options, said_in, uses_from}
-use Rattle.sl_cli.specs.declared.reading.Words.TheVariants.{Direct, Generate}
-use Rattle.sl_cli.specs.declared.reading.Words.{Words}
+use Rattle.sl_cli.specs.declared.command_words.Words.TheVariants.{Direct, Generate}
+use Rattle.sl_cli.specs.declared.command_words.Words.{Words}
 use Rattle.sl_direct.specs.Actions.{IsAction}
 use Rattle.sl_direct.specs.declared.action.Action.TheVariants.{Dump, InitLockspace, InitResource, ReadLeader, Upgrade}
 use Rattle.sl_direct.specs.declared.action.Action.{Action}

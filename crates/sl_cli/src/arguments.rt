@@ -127,11 +127,7 @@ fn sizes_with(hosts: u32, most: &Geometry, paired: bool) -> Option<Geometry>
     requires { is_in_range 1 (room_for paired most.now) hosts ≡ true }
     ensures { result ≡ Some (for_hosts paired most.now hosts) }
 {
-    if paired {
-        Geometry::new2(most.sector(), most.area(), hosts).ok()
-    } else {
-        Geometry::new(most.sector(), most.area(), hosts).ok()
-    }
+    Geometry::sized(most.sector(), most.area(), hosts, paired).ok()
 }
 
 /// The sizes for as many hosts as a word says, with pairs or without, if it says so.

@@ -1,9 +1,9 @@
 //! The words of the command line.
 //!
 //! A line's words say `replay`, `gen` with its numbers, `live` with a folder, or `direct` with an action and its options, or ask for the help
-//! or the version; all other words say nothing. `command_line` tells the argument parser, the kit's `clap`, which commands and options there are. `given` takes what the
+//! or the version; all other words say nothing. `command_line` tells the argument parser, the kit's `clap`, which commands and options there are. `parsed_command` takes what the
 //! parser found for each option and makes the action of it; `arguments` reads the words that stand for something: sizes, an area, its
-//! hosts, a stretch of a file. `reading` puts these together: it is all that the rest of the program knows of words. `texts` has what the
+//! hosts, a stretch of a file. `command_words` puts these together: it is all that the rest of the program knows of words. `texts` has what the
 //! program says of itself.
 //!
 //! What words say is a definition of a page, `specs/CommandWords.antt`, in which the parser does not occur: options are taken from the
@@ -15,12 +15,12 @@
 
 mod arguments;
 mod command_line;
+mod command_words;
 mod folder;
-mod given;
 pub mod laws;
-mod reading;
+mod parsed_command;
 mod texts;
 
+pub use command_words::{Words, WordsError, read_words};
 pub use folder::Folder;
-pub use reading::{Words, WordsError, read_words};
 pub use texts::{HELP, VERSION};

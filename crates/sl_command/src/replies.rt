@@ -3,7 +3,7 @@
 //! A reply is a word and what it tells, with one space between: numbers, names, states. What a later read should have told and
 //! could not is `torn`.
 
-ghost use Rattle.std.specs.Prelude.{IfOk, OnErr, OnOk, codes, decimal, map, ◌++◌, ◌∷◌, ◌≡◌, []};
+ghost use Rattle.std.specs.Prelude.{IfOk, OnErr, OnOk, codes, decimal, false, map, ◌++◌, ◌∷◌, ◌≡◌, []};
 ghost use Rattle.sl_command.specs.Lines.{behind, host_word, host_words, session_word};
 ghost use Rattle.sl_sector.specs.RecordTexts.{dash_for_none};
 ghost use Rattle.sl_text.specs.Forms.{spaced};
@@ -243,20 +243,13 @@ fn push_limit(out: &mut Vec<u8>, which: Limited) -> Result<(), AllocError>
     push_counted(out, word, &[most])
 }
 
-/// Adds the text of a reply.
+/// Adds the text of a reply that refuses.
 #[tactic(auto, unfolding(sl_trace::specs::EffectTexts::reply_words))]
-fn push_reply(out: &mut Vec<u8>, reply: &Reply) -> Result<(), AllocError>
+fn push_refusal(out: &mut Vec<u8>, reply: &Reply) -> Result<(), AllocError>
+    requires { texts.is_ok_reply reply.now ≡ false }
     ensures { OnOk result (out.new.items ≡ out.old.items ++ texts.reply_text reply.now) }
 {
     match reply {
-        Reply::Done => push_counted(out, "ok", &[]),
-        Reply::Generation { generation } => push_counted(out, "ok", &[*generation]),
-        Reply::Granted { lver } => push_counted(out, "ok", &[*lver]),
-        Reply::Started { lver, process } => push_counted(out, "ok", &[*lver, u64::from(*process)]),
-        Reply::Value { lver, seq, bytes } => push_value(out, *lver, *seq, bytes),
-        Reply::ValueSet { .. } => push_counted(out, "ok", &[]),
-        Reply::Hosts(states) => push_states(out, states.as_slice()),
-        Reply::Sessions(sessions) => push_sessions(out, sessions.as_slice()),
         Reply::NoSession => push_counted(out, "NoSession", &[]),
         Reply::Joining => push_counted(out, "Joining", &[]),
         Reply::Recovering { renewed } => push_counted(out, "Recovering", &[*renewed]),
@@ -289,6 +282,25 @@ fn push_reply(out: &mut Vec<u8>, reply: &Reply) -> Result<(), AllocError>
         Reply::WrongDelta { lockspace, id } => push_delta(out, lockspace, *id),
         Reply::NoProcess { process } => push_counted(out, "NoProcess", &[u64::from(*process)]),
         Reply::Joined { generation } => push_counted(out, "Joined", &[*generation]),
+        _ => unreachable!(),
+    }
+}
+
+/// Adds the text of a reply.
+#[tactic(auto, unfolding(sl_trace::specs::EffectTexts::reply_words))]
+fn push_reply(out: &mut Vec<u8>, reply: &Reply) -> Result<(), AllocError>
+    ensures { OnOk result (out.new.items ≡ out.old.items ++ texts.reply_text reply.now) }
+{
+    match reply {
+        Reply::Done => push_counted(out, "ok", &[]),
+        Reply::Generation { generation } => push_counted(out, "ok", &[*generation]),
+        Reply::Granted { lver } => push_counted(out, "ok", &[*lver]),
+        Reply::Started { lver, process } => push_counted(out, "ok", &[*lver, u64::from(*process)]),
+        Reply::Value { lver, seq, bytes } => push_value(out, *lver, *seq, bytes),
+        Reply::ValueSet { .. } => push_counted(out, "ok", &[]),
+        Reply::Hosts(states) => push_states(out, states.as_slice()),
+        Reply::Sessions(sessions) => push_sessions(out, sessions.as_slice()),
+        _ => push_refusal(out, reply),
     }
 }
 

@@ -1,5 +1,5 @@
 -- What a session writes on its id's sector is a record.
-use Rattle.sl_delta.specs.Own.{IsOwnRecord}
+use Rattle.sl_delta.specs.OwnSector.{IsOwnRecord}
 use Rattle.sl_area.specs.Layouts.{IsGeometry, Sizes}
 use Rattle.sl_sector.specs.Records.{AreBytes, Fits}
 use Rattle.sl_sector.specs.declared.sector.DeltaState.{DeltaState}

@@ -1,13 +1,13 @@
 -- What no step of a delta lease does.
 use Rattle.sl_delta.specs.Laws.{StepsAreSafe}
-use Rattle.sl_delta.specs.Own.{OwnState, known_with, lease_of}
+use Rattle.sl_delta.specs.OwnSector.{OwnState, known_with, lease_of}
 use Rattle.sl_delta.specs.Steps.{IsFitInput, LeaseState, after_step, after_told, answer_next, begun, call_in, followed, given_following, given_from, given_told, has_open_write, heard, is_over, may_leave, nothing_given, out_of_step, refused_now, shows_by, standing_after, wake_next}
 use Rattle.sl_delta.specs.declared.lease.Standing.TheVariants.{Declined, Gone, Holds, Joins}
 use Rattle.sl_delta.specs.declared.lease.Standing.{Standing}
 use Rattle.sl_delta.specs.declared.lease.OpenDelta.{OpenDelta}
 use Rattle.sl_delta.specs.declared.steps.DeltaIn.TheVariants.{Answered as Told, Leave, Refused, Wake}
 use Rattle.sl_delta.specs.declared.steps.DeltaIn.{DeltaIn}
-use Rattle.sl_delta.specs.Decides.{after_join}
+use Rattle.sl_delta.specs.DeltaDecisions.{after_join}
 use Rattle.sl_delta.specs.declared.steps.DeltaOut.{DeltaOut}
 use Rattle.sl_trace.specs.Deltas.{next_after_free, next_after_renewal, next_renewal}
 use Rattle.sl_trace.specs.declared.delta.DeltaNext.TheVariants.{Nothing}

@@ -1,8 +1,8 @@
 -- An answer is decided alike before and after it is heard.
 use Rattle.sl_area.specs.Layouts.{IsGeometry, Sizes}
 use Rattle.sl_delta.proofs.EnoughLaws.{told_is}
-use Rattle.sl_delta.specs.Decides.{after_join}
-use Rattle.sl_delta.specs.Own.{OwnState, after_answer}
+use Rattle.sl_delta.specs.DeltaDecisions.{after_join}
+use Rattle.sl_delta.specs.OwnSector.{OwnState, after_answer}
 use Rattle.sl_delta.specs.Steps.{FitsRead, IsFitAnswer, IsOwnRead, IsSized, LeaseState, after_told, answer_next, followed, given_following, given_told, heard, is_over, shows_by, survey_shows}
 use Rattle.sl_delta.specs.declared.lease.Standing.TheVariants.{Declined, Gone, Holds, Joins}
 use Rattle.sl_delta.specs.declared.lease.Standing.{Standing}

@@ -1,4 +1,4 @@
-pub mod Own
-pub mod Decides
+pub mod OwnSector
+pub mod DeltaDecisions
 pub mod Laws
 pub mod Steps

@@ -1,7 +1,7 @@
 -- A delta lease by itself: what each step gives, and what it makes of the lease.
 use Rattle.sl_area.specs.Places.{delta_of}
-use Rattle.sl_delta.specs.Decides.{after_join, on_wake}
-use Rattle.sl_delta.specs.Own.{OwnState, after_answer, after_call, known_with, lease_of}
+use Rattle.sl_delta.specs.DeltaDecisions.{after_join, on_wake}
+use Rattle.sl_delta.specs.OwnSector.{OwnState, after_answer, after_call, known_with, lease_of}
 use Rattle.sl_delta.specs.declared.lease.Standing.TheVariants.{Declined, Gone, Holds, Joins}
 use Rattle.sl_delta.specs.declared.lease.Standing.{Standing}
 use Rattle.sl_delta.specs.declared.lease.OpenDelta.{OpenDelta}

@@ -1,10 +1,10 @@
 //! What a call on the own sector is answered.
 
-ghost use Rattle.sl_delta.specs.Own.{answer_in};
+ghost use Rattle.sl_delta.specs.OwnSector.{answer_in};
 ghost use Rattle.sl_delta.specs.Steps.{IsSized};
 ghost use Rattle.std.specs.Prelude.{IfOk, ◌≡◌};
 
-use sl_sectors::Image;
+use sl_sector::Image;
 use sl_trace::Answer;
 use std::alloc::{AllocError, Global};
 use std::sync::Arc;

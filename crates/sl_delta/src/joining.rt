@@ -4,8 +4,8 @@
 //! a record that changed has a writer that lives. The verify read must give the own claim: another's may have landed over it.
 
 ghost use Rattle.sl_area.specs.Layouts.{layout_of, sector_with};
-ghost use Rattle.sl_delta.specs.Decides.{IsFitNext, after_deciding, after_join, after_join_read, after_join_write, after_verify, after_watch, claim_next, claim_waited, first_renewal, first_spelled, is_over_since, on_wake, time_next, watch_next, watched_in};
-ghost use Rattle.sl_delta.specs.Own.{IsOwnRecord, answer_in, lease_of};
+ghost use Rattle.sl_delta.specs.DeltaDecisions.{IsFitNext, after_deciding, after_join, after_join_read, after_join_write, after_verify, after_watch, claim_next, claim_waited, first_renewal, first_spelled, is_over_since, on_wake, time_next, watch_next, watched_in};
+ghost use Rattle.sl_delta.specs.OwnSector.{IsOwnRecord, answer_in, lease_of};
 ghost use Rattle.sl_trace.specs.Deltas.{claim_on, id_held, id_lost, next_after_first};
 ghost use Rattle.sl_words.specs.Bounds.{moments};
 ghost use Rattle.sl_sector.specs.declared.sector.Rec.TheVariants.{DeltaIs};
@@ -15,11 +15,10 @@ ghost use Rattle.std.specs.Prelude.{bytes_eq, ◌<◌, ◌≡◌};
 
 use crate::answer::SectorAnswer;
 use crate::numbers::{has_next, has_passed};
-use crate::own::OwnSector;
+use crate::own_sector::OwnSector;
 use crate::reads::{delta_of, is_free, owner_in, version_in};
 use sl_request::Bitmap;
-use sl_sector::{DeltaRec, DeltaState, Rec};
-use sl_sectors::Image;
+use sl_sector::{DeltaRec, DeltaState, Image, Rec};
 use sl_text::Name;
 use sl_time::Timing;
 use sl_trace::{DeltaNext, DeltaOwner, DeltaVersion, JoinStep, Limited, Reply};

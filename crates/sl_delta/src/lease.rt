@@ -4,8 +4,8 @@
 //! head of a step, or by a read of all ids that shows another in the session's place; from then on nothing is written and the connection
 //! stands still. What else ends a session, what is held and which jobs wait, its daemon knows and the lease doesn't.
 
-ghost use Rattle.sl_delta.specs.Decides.{IsFitNext};
-ghost use Rattle.sl_delta.specs.Own.{IsOwnRecord, answer_in, without_calls};
+ghost use Rattle.sl_delta.specs.DeltaDecisions.{IsFitNext};
+ghost use Rattle.sl_delta.specs.OwnSector.{IsOwnRecord, answer_in, without_calls};
 ghost use Rattle.sl_delta.specs.Steps.{IsFitAnswer, IsFitInput, IsWholeRead, after_step, after_told, answer_next, begun, call_in, called_with, carried, ended, ending, followed, given_by, given_following, given_from, given_told, has_open_write, is_late, is_over, join_next, joined_lease, last_after, last_told, may_leave, move_in, new_lease, nothing_given, out_of_step, outcome_in, purpose_of, record_in_call, refused_move, refused_now, refusing, registered_after, stage_told, standing_after, step_from, survey_shows, wake_next, with_recovery};
 ghost use Rattle.sl_delta.specs.declared.lease.Standing.TheVariants.{Holds};
 ghost use Rattle.sl_delta.specs.declared.steps.DeltaIn.TheVariants.{Answered as Told, Leave, Wake};
@@ -20,7 +20,7 @@ ghost use Rattle.std.specs.Prelude.{IfOk, IfSome, IsTrue, OnErr, OnOk, ℕ, fals
 
 use crate::answer::{SectorAnswer, sector_answer};
 use crate::numbers::{has_next, has_passed};
-use crate::own::OwnSector;
+use crate::own_sector::OwnSector;
 use crate::purposes::{is_survey, writes_own};
 use crate::renewing::{after_free, after_renewal};
 use crate::steps::{DeltaCall, DeltaIn, DeltaOut, Outcome};

@@ -38,13 +38,13 @@
 #![tactic(auto)]
 
 mod answer;
-mod carrying;
-mod hearing;
+mod carried_decisions;
+mod heard_answers;
 mod joining;
 pub mod laws;
 mod lease;
 mod numbers;
-mod own;
+mod own_sector;
 mod purposes;
 mod reads;
 mod renewing;
@@ -53,6 +53,6 @@ mod steps;
 
 pub use answer::SectorAnswer;
 pub use lease::{DeltaLease, OpenDelta, Standing};
-pub use own::OwnSector;
+pub use own_sector::OwnSector;
 pub use renewing::{after_free, after_renewal};
 pub use steps::{DeltaCall, DeltaIn, DeltaOut, Outcome};

@@ -1,7 +1,7 @@
 //! What a joined session does next on its id's sector: it renews, and at last frees it.
 
-ghost use Rattle.sl_delta.specs.Decides.{IsFitNext};
-ghost use Rattle.sl_delta.specs.Own.{answer_in, known_with, lease_of};
+ghost use Rattle.sl_delta.specs.DeltaDecisions.{IsFitNext};
+ghost use Rattle.sl_delta.specs.OwnSector.{answer_in, known_with, lease_of};
 ghost use Rattle.sl_sector.specs.Records.{Fits};
 ghost use Rattle.sl_trace.specs.Deltas.{has_seq_left, is_renewal_due, next_after_free, next_after_renewal, next_free, next_renewal};
 ghost use Rattle.sl_words.specs.Bounds.{moments};
@@ -9,7 +9,7 @@ ghost use Rattle.std.specs.Prelude.{Bool, IsTrue, ◌+◌, ◌<◌, ◌≡◌, �
 
 use crate::answer::SectorAnswer;
 use crate::numbers::{has_next, has_two_next};
-use crate::own::OwnSector;
+use crate::own_sector::OwnSector;
 use sl_request::Bitmap;
 use sl_sector::DeltaState;
 use sl_trace::{DeltaNext, Reply};

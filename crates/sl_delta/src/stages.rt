@@ -1,11 +1,11 @@
 //! The stage of a session by its own sector.
 
-ghost use Rattle.sl_delta.specs.Decides.{IsFitNext};
+ghost use Rattle.sl_delta.specs.DeltaDecisions.{IsFitNext};
 ghost use Rattle.sl_delta.specs.Steps.{joining_wake, stage_holding, stage_joining};
 ghost use Rattle.sl_trace.specs.Sessions.{stage_after};
 ghost use Rattle.std.specs.Prelude.{◌≡◌};
 
-use crate::own::OwnSector;
+use crate::own_sector::OwnSector;
 use sl_trace::{DeltaNext, JoinStep, Stage};
 
 /// The stage of a joining after this step, its call answered or not.

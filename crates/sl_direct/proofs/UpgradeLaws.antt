@@ -73,21 +73,6 @@ broke_back ws (Some x) (Some y) c kept h = subst (λ (z : List ℕ). BrokeOff ws
 
 -- ---- what was found
 
--- A block that was found keeps its rules, and is its host's.
-pub block_kept : (bs : List ℕ) (id : ℕ) (read : Result Rec Bad) → IfOk read (λ r. Spells sha256 bs r) → IfSome (block_in id read) (λ b. IsBlock b × (b.host ≡ id))
-block_kept bs id (Ok (DeltaIs d)) spells = tt
-block_kept bs id (Ok (LeaderIs l)) spells = tt
-block_kept bs id (Ok (BlockIs b)) spells = by (b.host == id) refl
-  where
-    by : (same : Bool) → (b.host == id) ≡ same → IfSome (choose same b) (λ x. IsBlock x × (x.host ≡ id))
-    by true e = (spells.0, eqb-true b.host id e)
-    by false e = tt
-block_kept bs id (Ok (RequestIs q)) spells = tt
-block_kept bs id (Ok (ValueIs v)) spells = tt
-block_kept bs id (Ok (PairIs p)) spells = tt
-block_kept bs id (Ok (PairLeaderIs l)) spells = tt
-block_kept bs id (Err bad) spells = tt
-
 -- So does a leader.
 pub leader_kept : (r : ResourceArg) (hosts : ℕ) (found : Result Leader Bad) (l : Leader) → IfOk found (λ x. IsLeader x) → right_leader r hosts found ≡ Some l → IsLeader l
 leader_kept r hosts (Ok x) l is right = by (has_names r x && x.num_hosts == hosts) right

@@ -2,8 +2,8 @@
 use Rattle.sl_disks.proofs.InitialLaws.{initial_sized}
 use Rattle.sl_disks.proofs.TableLaws.{stands_first, stands_kept, stands_nowhere, stands_set, stands_there}
 use Rattle.sl_disks.specs.Disks.{IsDisks, TableState, first_at, first_disks, first_table, is_sized, is_table, kept_at, kept_on, path_at, path_if, sectors_on, stands_on, table_with, tables_with}
-use Rattle.sl_kept.specs.Changes.{write_sector}
-use Rattle.sl_kept.specs.Kept.{sector_in}
+use Rattle.sl_world_state.specs.Changes.{write_sector}
+use Rattle.sl_world_state.specs.KeptWorld.{sector_in}
 use Rattle.sl_run.specs.Headers.{IsHeader}
 use Rattle.sl_run.specs.declared.header.Disk.{Disk}
 use Rattle.sl_run.specs.declared.header.Header.{Header}

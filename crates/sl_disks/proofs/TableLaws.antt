@@ -1,6 +1,6 @@
 -- Slots of a table, one by one.
 use Rattle.sl_disks.specs.Disks.{stands_at, first_at}
-use Rattle.sl_plain.proofs.Numbers.{one_further, plus_zero}
+use Rattle.sl_words.proofs.Numbers.{one_further, plus_zero}
 use Rattle.sl_run.specs.declared.header.Header.{Header}
 use Rattle.sl_words.proofs.CaseLaws.{none_some, some_value}
 use Rattle.std.proofs.Common.{ap, refl, sym, ◌∙◌}

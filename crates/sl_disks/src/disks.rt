@@ -1,8 +1,8 @@
 //! What stands on the disks of a world.
 
 ghost use Rattle.sl_disks.specs.Disks.{IsDisks, first_at, first_disks, first_table, kept_on, stands_on};
-ghost use Rattle.sl_kept.specs.Changes.{write_sector};
-ghost use Rattle.sl_kept.specs.Kept.{sector_in};
+ghost use Rattle.sl_world_state.specs.Changes.{write_sector};
+ghost use Rattle.sl_world_state.specs.KeptWorld.{sector_in};
 ghost use Rattle.sl_run.specs.Headers.{IsHeader};
 ghost use Rattle.std.specs.Arc.{arc_value};
 ghost use Rattle.std.specs.Option.{option_copied};
@@ -13,7 +13,7 @@ use crate::place::{Place, sectors_on};
 use crate::table::{Table, Tables};
 use sl_area::Geometry;
 use sl_run::Header;
-use sl_sectors::Image;
+use sl_sector::Image;
 use sl_text::{Bytes, FilePath};
 use std::alloc::{AllocError, Global};
 use std::marker::Model;

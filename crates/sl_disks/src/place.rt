@@ -1,6 +1,6 @@
 //! Where calls lie.
 
-ghost use Rattle.sl_kept.specs.Showing.{is_placed_in, place_at, place_in};
+ghost use Rattle.sl_world_state.specs.ShownWorlds.{is_placed_in, place_at, place_in};
 ghost use Rattle.sl_run.specs.Events as events;
 ghost use Rattle.sl_run.specs.Worlds.{mebibyte};
 ghost use Rattle.std.specs.Prelude.{IfOk, bytes_eq, nat_le, position, ◌&&◌, ◌*◌, ◌+◌, ◌-◌, ◌/◌, ◌≡◌};
@@ -20,7 +20,7 @@ pub struct Place {
 }
 
 impl Model for Place {
-    ghost use Rattle.sl_kept.specs.Kept.{Place as PlaceState};
+    ghost use Rattle.sl_world_state.specs.KeptWorld.{Place as PlaceState};
     ghost use Rattle.std.specs.Prelude.{refl};
 
     ghost Value = { PlaceState };
@@ -122,7 +122,7 @@ fn place_at(header: &Header, path: FilePath, offset: u64) -> Option<Place>
 }
 
 /// Where a call lies; none where its last sector lies on no disk.
-#[tactic(auto, unfolding(sl_kept::specs::Showing::place_in))]
+#[tactic(auto, unfolding(sl_world_state::specs::ShownWorlds::place_in))]
 pub fn place_of(header: &Header, call: &Call) -> Option<Place>
     ensures { result ≡ place_in header.now call.now }
 {

@@ -6,7 +6,7 @@ ghost use Rattle.std.specs.List.{list_all};
 ghost use Rattle.std.specs.Option.{option_copied};
 ghost use Rattle.std.specs.Prelude.{IfOk, IfSome, None, OnOk, Some, [], slice_get, ◌^◌, length, map, option_map, replicate, slice_set, true, ◌++◌, ◌<◌, ◌==◌, ◌∷◌, ◌≡◌};
 
-use sl_sectors::Image;
+use sl_sector::Image;
 use sl_text::FilePath;
 use std::alloc::{AllocError, Global};
 use std::marker::Model;

@@ -12,7 +12,7 @@ use Rattle.sl_trace.specs.declared.lease.Aim.TheVariants.{Converts, Releases}
 use Rattle.sl_trace.specs.Leases.{holdings_on, known, orphan_on, shared_on, spot_of}
 use Rattle.sl_sector.specs.declared.sector.Rec.TheVariants.{ValueIs}
 use Rattle.sl_trace.specs.Sessions.{generation_of, holdings_of, is_active, is_joined, is_session_arg, last_renewal, last_seq, present_sessions, session_named, sessions}
-use Rattle.sl_trace.specs.Watching.{sessions_seen, states_seen}
+use Rattle.sl_trace.specs.Sightings.{sessions_seen, states_seen}
 use Rattle.sl_trace.specs.declared.session.Session.{Session}
 use Rattle.sl_trace.specs.Limits.{most_lockspaces}
 use Rattle.sl_trace.specs.Traces.{Setting, Trace, end_of, is_orphan, is_shared, next_job, no_process, spot_of_grant}

@@ -24,6 +24,8 @@ pub mod DeltaReadsAreLawful
 pub mod WatchFactsAreKept
 pub mod WatchFactsConclude
 pub mod LooksAreLawful
-pub mod DeltaPromises
+pub mod DeltaLaws
 pub mod JoinsAreLawful
+pub mod DecidedDeltasAreKept
+pub mod DeltasStayKept
 pub mod DeltasAreKept

@@ -25,4 +25,4 @@ pub mod QuietFactsBegin
 pub mod QuietFactsConclude
 pub mod QuietAtEnd
 pub mod EntriesFollow
-pub mod JobPromises
+pub mod JobLaws

@@ -1,4 +1,5 @@
-pub mod Parts
+pub mod AddedEffects
 pub mod Jobs
 pub mod Sessions
 pub mod Connections
+pub mod Acts

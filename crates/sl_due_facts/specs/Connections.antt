@@ -1,6 +1,6 @@
 pub mod DeltaCalls
-pub mod DeltaPromises
+pub mod DeltaLaws
 pub mod MovedSoFar
-pub mod Promises
+pub mod ConnectionLaws
 pub mod WatchFacts
 pub mod DeltasSoFar

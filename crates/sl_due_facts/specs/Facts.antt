@@ -1,4 +1,4 @@
-pub mod Heard
+pub mod HeardCall
 pub mod CallFacts
 pub mod JobFacts
 pub mod SessionFacts
@@ -8,5 +8,5 @@ pub mod HoldingFacts
 pub mod WorkFacts
 pub mod GrantGrounds
 pub mod ValueFacts
-pub mod Whole
-pub mod Concluding
+pub mod AllFacts
+pub mod ConcludingActs

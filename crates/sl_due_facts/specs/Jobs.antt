@@ -1,2 +1,2 @@
-pub mod Promises
+pub mod JobLaws
 pub mod Acquires

@@ -1,5 +1,6 @@
-pub mod Parts
+pub mod AddedEffects
 pub mod Facts
 pub mod Jobs
 pub mod Sessions
 pub mod Connections
+pub mod Acts

@@ -24,8 +24,10 @@ pub mod WakeCauses
 pub mod RecoveryCauses
 pub mod ExitCauses
 pub mod LaterCauses
+pub mod LinesKeepCauses
 pub mod CausesAreKept
 pub mod RepliesRun
+pub mod RefusalsAreCaused
 pub mod LineCauses
 pub mod QuietMoves
 pub mod LineAnswers

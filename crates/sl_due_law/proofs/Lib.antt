@@ -1,4 +1,4 @@
 pub mod Recovery
 pub mod Causes
-pub mod Whole
-pub mod Due
+pub mod LawfulTraces
+pub mod DueIsLawful

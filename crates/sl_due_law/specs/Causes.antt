@@ -1,5 +1,5 @@
 pub mod CausedSoFar
 pub mod CauseFacts
 pub mod Makings
-pub mod Promises
+pub mod CauseLaws
 pub mod LineCauses

@@ -1,3 +1,3 @@
 pub mod Recovery
 pub mod Causes
-pub mod Whole
+pub mod LawfulTraces

@@ -1,3 +1,3 @@
 pub mod Stops
 pub mod KillFacts
-pub mod Promises
+pub mod RecoveryLaws

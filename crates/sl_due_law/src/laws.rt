@@ -2,5 +2,5 @@
 
 pub mod causes;
 pub mod due;
+pub mod lawful_traces;
 pub mod recovery;
-pub mod whole;

@@ -2,12 +2,12 @@ pub mod WrittenRecords
 pub mod NewestCall
 pub mod GreatestFrees
 pub mod InstancesBegin
-pub mod Places
+pub mod AreasAligned
 pub mod WayStages
 pub mod GivenReads
 pub mod WayNumbers
 pub mod TurnsShown
-pub mod Lawful
+pub mod WaysAreLawful
 pub mod NumbersFollow
 pub mod NextsFit
-pub mod Kept
+pub mod WayFactsHeld

@@ -1,3 +1,3 @@
-pub mod GrantPromises
-pub mod ModePromises
-pub mod ValuePromises
+pub mod GrantLaws
+pub mod ModeLaws
+pub mod ValueLaws

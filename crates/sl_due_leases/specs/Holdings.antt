@@ -1,3 +1,3 @@
 pub mod Moments
 pub mod DecisionGrounds
-pub mod Promises
+pub mod HoldingLaws

@@ -1,3 +1,3 @@
 pub mod LeaseLawful
-pub mod Made
-pub mod Promises
+pub mod LeaseCalls
+pub mod LeaseLaws

@@ -1,4 +1,4 @@
 pub mod Instances
 pub mod Nexts
-pub mod Kept
-pub mod Promises
+pub mod WayFactsHeld
+pub mod WayLaws

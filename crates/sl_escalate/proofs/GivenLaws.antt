@@ -1,8 +1,8 @@
 -- The signals given so far, and what one more does.
-use Rattle.sl_escalate.proofs.Lists.{contains_cases, contains_first, contains_later, contains_none}
+use Rattle.sl_escalate.proofs.ListFacts.{contains_cases, contains_first, contains_later, contains_none}
 use Rattle.sl_escalate.specs.Calls.{Began, EscalateCall, Exited, Stepped, begun_at, holders_left}
-use Rattle.sl_escalate.specs.Due.{due_among, holder_in, is_grace_over, is_told_term, is_untold, kill_among, last_given, signal_due, signal_to, signals_given, with_due}
-use Rattle.sl_escalate.specs.Promises.{NoneTwice, kill_to, term_to}
+use Rattle.sl_escalate.specs.DueSignals.{due_among, holder_in, is_grace_over, is_told_term, is_untold, kill_among, last_given, signal_due, signal_to, signals_given, with_due}
+use Rattle.sl_escalate.specs.SignalLaws.{NoneTwice, kill_to, term_to}
 use Rattle.sl_escalate.specs.declared.holder.Holder.{Holder}
 use Rattle.sl_trace.specs.declared.effects.Sent.{Sent}
 use Rattle.sl_trace.specs.declared.effects.Signal.TheVariants.{Kill, Term}

@@ -1,7 +1,7 @@
 -- What is kept, after one more call.
 use Rattle.sl_escalate.specs.Calls.{Began, EscalateCall, Exited, Stepped, begun_at, holders_left}
-use Rattle.sl_escalate.specs.Due.{due_among, holder_in, is_grace_over, holders_told, last_given, noted, signal_due, signals_given}
-use Rattle.sl_escalate.specs.Stands.{Kept, Stands}
+use Rattle.sl_escalate.specs.DueSignals.{due_among, holder_in, is_grace_over, holders_told, last_given, noted, signal_due, signals_given}
+use Rattle.sl_escalate.specs.KeptRecovery.{Kept, Stands}
 use Rattle.sl_escalate.specs.declared.holder.Holder.{Holder}
 use Rattle.sl_trace.specs.declared.effects.Sent.{Sent}
 use Rattle.sl_words.proofs.CaseLaws.{none_some}

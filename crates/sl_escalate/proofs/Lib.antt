@@ -1,4 +1,4 @@
 pub mod KeptLaws
-pub mod Lists
+pub mod ListFacts
 pub mod GivenLaws
-pub mod PromiseLaws
+pub mod SignalLaws

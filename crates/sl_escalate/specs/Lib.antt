@@ -1,4 +1,4 @@
 pub mod Calls
-pub mod Due
-pub mod Stands
-pub mod Promises
+pub mod DueSignals
+pub mod KeptRecovery
+pub mod SignalLaws

@@ -1,6 +1,6 @@
 //! A process that holds, with the last signal that it was given.
 
-ghost use Rattle.sl_escalate.specs.Due as due;
+ghost use Rattle.sl_escalate.specs.DueSignals as due;
 ghost use Rattle.std.specs.Prelude.{None, map, not, ◌==◌, ◌≡◌};
 
 use sl_trace::{Sent, Signal};

@@ -1,6 +1,6 @@
 //! What the signals keep to, whatever is called.
 
-ghost use Rattle.sl_escalate.specs.Promises.{AllTold, EachOnce, InOrder, KillsWait, LeftAreThere, NoneBefore, OnlyHolders, StepsGive};
+ghost use Rattle.sl_escalate.specs.SignalLaws.{AllTold, EachOnce, InOrder, KillsWait, LeftAreThere, NoneBefore, OnlyHolders, StepsGive};
 
 /// Each step gives the signal that is due then, or none, and no other call gives one.
 pub fn steps_give()

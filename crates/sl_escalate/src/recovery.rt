@@ -13,9 +13,9 @@
 //!   process would go on under a lease that is lost.
 
 ghost use Rattle.sl_escalate.specs.Calls.{Began, EscalateCall, Exited, Stepped, holders_left};
-ghost use Rattle.sl_escalate.specs.Due as due;
-ghost use Rattle.sl_escalate.specs.Due.{signal_due};
-ghost use Rattle.sl_escalate.specs.Stands.{Stands};
+ghost use Rattle.sl_escalate.specs.DueSignals as due;
+ghost use Rattle.sl_escalate.specs.DueSignals.{signal_due};
+ghost use Rattle.sl_escalate.specs.KeptRecovery.{Stands};
 ghost use Rattle.std.specs.Prelude.{IfOk, IsTrue, List, None, OnErr, OnOk, Some, filter, map, not, ◌==◌, [], ℕ, ◌∷◌, ◌≡◌, ◌↔◌};
 
 use crate::holder::{Holder, due_among, is_other, note, untold};
@@ -32,7 +32,7 @@ pub struct Recovery {
 }
 
 impl Model for Recovery {
-    ghost use Rattle.sl_escalate.specs.Stands.{Kept};
+    ghost use Rattle.sl_escalate.specs.KeptRecovery.{Kept};
 
     ghost Value = { Kept };
 

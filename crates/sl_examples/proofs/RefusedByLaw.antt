@@ -10,12 +10,12 @@ use Rattle.sl_due.specs.DueInputs.{leave_holdings, on_exit, on_spawned, take_inp
 use Rattle.sl_due.specs.DueLease.{after_lease_answer, carry_lease, settle}
 use Rattle.sl_due.specs.DueRequests.{after_request_read, after_see_request, after_value_read, request_refusal}
 use Rattle.sl_due.specs.DueWake.{finish, finish_session, join_on_wake, on_wake, renew_on_wake, settle_on_wake, settlings}
-use Rattle.sl_examples.specs.Cheap.{cheap_digest}
-use Rattle.sl_examples.specs.Making.{block, leader, quiet_entry, reads, with_calls, with_moves, writes}
+use Rattle.sl_examples.specs.CheapDigest.{cheap_digest}
+use Rattle.sl_examples.specs.HandmadeTraces.{block, leader, quiet_entry, reads, with_calls, with_moves, writes}
 use Rattle.sl_run.specs.LawfulArea.{LawfulArea, open_block_work}
 use Rattle.sl_run.specs.LawfulDelta.{LawfulDelta, LawfulRenewal}
 use Rattle.sl_run.specs.LawfulParting.{LawfulParting, MayPart}
-use Rattle.sl_run.specs.Saying.{cut_at}
+use Rattle.sl_run.specs.LawForms.{cut_at}
 use Rattle.sl_trace.specs.Ballots.{instance_of, phase1_block, phase2_block, stop_of}
 use Rattle.sl_trace.specs.LeaseWork.{after_bytes, area_next, begin_next, lease_next, settle_begin, settle_next, within_turn}
 use Rattle.sl_trace.specs.Leases.{known}

@@ -26,10 +26,10 @@ use Rattle.sl_trace.specs.Commands.{forms}
 use Rattle.sl_trace.specs.EffectTexts.{reply_words}
 use Rattle.std.specs.Fmt.{digits}
 use Rattle.sl_due.specs.Due.{IsHostTrace}
-use Rattle.sl_examples.specs.Settings.{SettingsMatter, joins_within_sector, reads_within_sectors}
+use Rattle.sl_examples.specs.SettingsMatter.{SettingsMatter, joins_within_sector, reads_within_sectors}
 use Rattle.sl_run.specs.Lawful.{Lawful}
 use Rattle.sl_run.specs.LawfulDelta.{LawfulLook}
-use Rattle.sl_run.specs.Saying.{cut_at}
+use Rattle.sl_run.specs.LawForms.{cut_at}
 use Rattle.sl_trace.specs.declared.session.Session.{Session}
 use Rattle.sl_trace.specs.Traces.{new_call}
 use Rattle.sl_trace.specs.declared.effects.Call.{Call}

@@ -9,7 +9,7 @@ use Rattle.sl_due.specs.DueInputs.{leave_holdings, on_exit, on_spawned, take_inp
 use Rattle.sl_due.specs.DueLease.{after_lease_answer, carry_lease, settle}
 use Rattle.sl_due.specs.DueRequests.{after_request_read, after_see_request, after_value_read, request_refusal}
 use Rattle.sl_due.specs.DueWake.{finish, finish_session, join_on_wake, on_wake, renew_on_wake, settle_on_wake, settlings}
-use Rattle.sl_examples.specs.Rows.{failing, settled_win}
+use Rattle.sl_examples.specs.WorkedSchedules.{failing, settled_win}
 use Rattle.sl_examples.specs.WorldTests.{replays_with_sha}
 use Rattle.sl_trace.specs.Ballots.{instance_of, phase1_block, phase2_block, stop_of}
 use Rattle.sl_trace.specs.LeaseWork.{after_bytes, area_next, begin_next, lease_next, settle_begin, settle_next, within_turn}

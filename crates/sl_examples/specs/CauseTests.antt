@@ -12,7 +12,7 @@ use Rattle.sl_sector.specs.Spelling.{request_in, value_in}
 use Rattle.sl_sector.specs.declared.sector.Rec.TheVariants.{RequestIs}
 use Rattle.sl_sector.specs.declared.sector.Rec.{Rec}
 use Rattle.sl_trace.specs.Sessions.{generation_of, is_active, is_join_call, is_session_arg, session_of_job}
-use Rattle.sl_trace.specs.Watching.{sessions_seen, states_seen}
+use Rattle.sl_trace.specs.Sightings.{sessions_seen, states_seen}
 use Rattle.sl_trace.specs.declared.session.Session.{Session}
 use Rattle.sl_trace.specs.EffectTexts.{reply_text}
 use Rattle.sl_trace.specs.Traces.{Setting, Submitted, Trace, entry_at, gave, is_of_job, is_orphan, is_shared, job_numbered, no_process, record_of, same_place, submitted}

@@ -3,9 +3,9 @@ use Rattle.sl_area.specs.Layouts.{layout_with, sector_with}
 use Rattle.sl_area.specs.Places.{no_request}
 use Rattle.sl_due.specs.Due.{due}
 use Rattle.sl_examples.specs.CauseTests.{uncaused_in}
-use Rattle.sl_examples.specs.Cheap.{cheap_digest}
+use Rattle.sl_examples.specs.CheapDigest.{cheap_digest}
 use Rattle.sl_examples.specs.LawTests.{broken_in}
-use Rattle.sl_examples.specs.Making.{block, leader}
+use Rattle.sl_examples.specs.HandmadeTraces.{block, leader}
 use Rattle.sl_sector.specs.declared.sector.Rec.TheVariants.{RequestIs}
 use Rattle.sl_trace.specs.Commands.{command_in, forms}
 use Rattle.sl_trace.specs.Traces.{Setting, Trace}

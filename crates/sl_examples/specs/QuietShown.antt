@@ -1,6 +1,6 @@
 -- What acquires show beside what may stand in their way: where nothing does they are granted, and without each of these premises alone one is
 -- not.
-use Rattle.sl_examples.specs.QuietRows.{alone_exclusive, alone_shared, answered_failed, answered_late, beside_leases, held_elsewhere, process_exits, second_writer, shared_elsewhere}
+use Rattle.sl_examples.specs.QuietSchedules.{alone_exclusive, alone_shared, answered_failed, answered_late, beside_leases, held_elsewhere, process_exits, second_writer, shared_elsewhere}
 use Rattle.sl_examples.specs.QuietTests.{granted_by, outcome_in, refused_but_for}
 use Rattle.std.specs.Prelude.{codes, ◌≡◌}
 

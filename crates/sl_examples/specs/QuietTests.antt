@@ -1,6 +1,6 @@
 -- An acquire that nothing stands in the way of, as tests that compute: which of its premises a run breaks, each by a name, and whether the
 -- acquire is granted by as many calls as it needs. (They mirror `QuietStart`, `QuietStep` and `IsGrantedQuietly` field by field.)
-use Rattle.sl_examples.specs.Cheap.{cheap_language, cheap_program}
+use Rattle.sl_examples.specs.CheapDigest.{cheap_language, cheap_program}
 use Rattle.sl_examples.specs.WorldTests.{read_events}
 use Rattle.sl_trace.specs.Ballots.{in_instance, next_mbal}
 use Rattle.sl_trace.specs.Counts.{held_here, limit_met, may_act}
@@ -16,7 +16,7 @@ use Rattle.sl_run.specs.declared.event.Event.TheVariants.{Crash, ExitOf, GiveCom
 use Rattle.sl_run.specs.declared.event.Event.{Event}
 use Rattle.sl_sector.specs.declared.sector.Leader.{Leader}
 use Rattle.sl_trace.specs.Sessions.{is_active, session_named, session_numbered}
-use Rattle.sl_trace.specs.Watching.{counts_over}
+use Rattle.sl_trace.specs.Sightings.{counts_over}
 use Rattle.sl_trace.specs.declared.session.Session.{Session}
 use Rattle.sl_text.specs.Forms.{as_bytes}
 use Rattle.sl_trace.specs.Traces.{Answered, Replied, Submitted, Trace, entry_at, is_of_job, is_ok_answer, is_shared, is_write, next_job, reply_to, same_place, submitted, waiting_call}

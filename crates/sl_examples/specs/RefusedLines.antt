@@ -1,5 +1,5 @@
 -- Schedules with a line that is refused, and the report's last line.
-use Rattle.sl_examples.specs.Rows.{one_machine, two_machines}
+use Rattle.sl_examples.specs.WorkedSchedules.{one_machine, two_machines}
 use Rattle.std.specs.Prelude.{List, codes, [], ℕ, ◌++◌, ◌∷◌}
 
 -- A schedule with the last line of its report.

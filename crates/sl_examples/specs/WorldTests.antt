@@ -1,9 +1,9 @@
 -- What safety says of a world, as tests that compute.
 use Rattle.sl_area.specs.Layouts.{record_in}
-use Rattle.sl_examples.specs.Cheap.{cheap_language, cheap_program, replay_cheap}
+use Rattle.sl_examples.specs.CheapDigest.{cheap_language, cheap_program, replay_cheap}
 use Rattle.sl_examples.specs.LawTests.{broken_in_world}
 use Rattle.sl_examples.specs.RefusedLines.{LastLine}
-use Rattle.sl_examples.specs.Rows.{Row, same_lines}
+use Rattle.sl_examples.specs.WorkedSchedules.{Row, same_lines}
 use Rattle.sl_trace.specs.Ballots.{same_owner}
 use Rattle.sl_trace.specs.Leases.{holdings_on}
 use Rattle.sl_report.specs.Languages.{whole_language}
@@ -20,7 +20,7 @@ use Rattle.sl_sector.specs.Spelling.{delta_in}
 use Rattle.sl_sector.specs.declared.sector.Owner.{Owner}
 use Rattle.sl_trace.specs.Deltas.{own_offset}
 use Rattle.sl_trace.specs.Sessions.{is_join_call, joined_after, sessions}
-use Rattle.sl_trace.specs.Watching.{counts_over}
+use Rattle.sl_trace.specs.Sightings.{counts_over}
 use Rattle.sl_text.specs.Forms.{as_bytes}
 use Rattle.sl_trace.specs.Connections.{connection_named}
 use Rattle.sl_trace.specs.Traces.{is_shared}

@@ -1,13 +1,13 @@
 -- Candidates, one kind of event after another.
 use Rattle.sl_generate.specs.Candidates.{call_candidates, first_with, life_candidates, time_candidates, work_event}
-use Rattle.sl_kept.specs.Kept.{KeptState, MachineState, machine_in}
+use Rattle.sl_world_state.specs.KeptWorld.{KeptState, MachineState, machine_in}
 use Rattle.sl_report.specs.Generator.{with_call}
 use Rattle.sl_run.specs.declared.event.Event.TheVariants.{AnswerCall, Do, DropWrite, Test}
 use Rattle.sl_run.specs.declared.event.Event.{Event}
-use Rattle.sl_plain.proofs.Lists.{there_is}
+use Rattle.sl_words.proofs.Lists.{there_is}
 use Rattle.sl_words.proofs.CaseLaws.{none_some, some_value}
 use Rattle.sl_words.specs.Words.{first_of_list, least}
-use Rattle.sl_world_law.specs.Drawing.{candidates_in, ended_in, least_call_in}
+use Rattle.sl_world_law.specs.DrawnCandidates.{candidates_in, ended_in, least_call_in}
 use Rattle.std.proofs.Common.{Bool, List, None, Option, Some, [], ap, ap₂, arith, cond, drop, false, map, refl, suc, sym, true, zero, ℕ, length, ◌%◌, ◌++◌, ◌+◌, ◌-◌, ◌<◌, ◌==◌, ◌≤◌, ◌∙◌, ◌∷◌, ◌≡◌}
 use Rattle.std.proofs.lemmas.Bool.{ne_eqb}
 use Rattle.std.specs.List.{cons_option, enumerate_from}

@@ -1,9 +1,11 @@
 pub mod CandidateLaws
 pub mod DrawLaws
-pub mod Drawing
+pub mod DrawnEvents
 pub mod HeaderLaws
 pub mod HeadersRead
 pub mod NameLaws
-pub mod Plain
+pub mod GeneratedIsPlain
 pub mod TextLaws
-pub mod Written
+pub mod WrittenLines
+pub mod TimelyWorlds
+pub mod StillTime

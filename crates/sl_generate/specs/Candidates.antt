@@ -1,13 +1,13 @@
 -- The candidates of an event, one kind of event after another.
-use Rattle.sl_kept.specs.Kept.{KeptState}
-use Rattle.sl_kept.specs.Refusing.{refusal_in}
+use Rattle.sl_world_state.specs.KeptWorld.{KeptState}
+use Rattle.sl_world_state.specs.Refusals.{refusal_in}
 use Rattle.sl_report.specs.Generator.{gen_host_name, gen_path, gen_resource_word, with_call}
 use Rattle.sl_run.specs.declared.event.Event.TheVariants.{AnswerCall, Crash, Do, DropWrite, ExitOf, GiveCommand, Pass, Reset, Restart, StartDaemon, Test, WakeUp}
 use Rattle.sl_run.specs.declared.event.Event.{Event}
 use Rattle.sl_run.specs.declared.header.Header.{Header}
 use Rattle.sl_text.specs.Forms.{Form, coloned, spaced}
 use Rattle.sl_trace.specs.declared.command.Command.{Command}
-use Rattle.sl_world_law.specs.Drawing.{is_useful_in, least_ended_in, starves_in}
+use Rattle.sl_world_law.specs.DrawnCandidates.{is_useful_in, least_ended_in, starves_in}
 use Rattle.std.specs.List.{range_with_len}
 use Rattle.std.specs.Prelude.{Bool, List, None, Option, Some, codes, decimal, false, filter, find, if◌then◌else◌, is_none, map, option_map, option_to_list, unwrap_or, [], ℕ, ◌%◌, ◌++◌, ◌+◌, ◌==◌, ◌∷◌}
 

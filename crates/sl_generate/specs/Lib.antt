@@ -1,5 +1,6 @@
 pub mod Candidates
-pub mod Drawn
-pub mod Generating
+pub mod DrawnRuns
+pub mod GeneratorPlay
 pub mod HeaderLines
-pub mod Plain
+pub mod GeneratedIsPlain
+pub mod TimelyWorlds

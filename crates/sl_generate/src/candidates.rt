@@ -3,18 +3,18 @@
 //! A list of candidates is made from its end, so each comes to stand in front of those before which it is to be tried.
 
 ghost use Rattle.sl_generate.specs.Candidates.{call_candidates, due_resets, first_with, life_candidates, rare_event, time_candidates, useful_tests, work_event};
-ghost use Rattle.sl_play.specs.Playing.{state_of};
+ghost use Rattle.sl_play.specs.Plays.{state_of};
 ghost use Rattle.sl_report.specs.Generator.{gen_host_name};
-ghost use Rattle.sl_world_law.specs.Drawing.{candidates_in, least_ended_in};
+ghost use Rattle.sl_world_law.specs.DrawnCandidates.{candidates_in, least_ended_in};
 ghost use Rattle.std.specs.Prelude.{IfOk, OnOk, [], codes, decimal, length, ◌++◌, ◌∷◌, ◌≡◌, ◌≤◌};
 
 use crate::draws::Draws;
 use crate::texts::{acquire_text, join_text, release_text};
-use sl_daemon::Daemon;
 use sl_machine::LockTable;
 use sl_play::Play;
 use sl_run::Event;
 use sl_text::Name;
+use sl_world_state::Daemon;
 use std::alloc::{AllocError, Global};
 use std::collections::VecDeque;
 

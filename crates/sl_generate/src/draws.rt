@@ -1,6 +1,6 @@
 //! Draws: numbers that follow from a seed.
 
-ghost use Rattle.sl_generate.specs.Drawn.{state_behind};
+ghost use Rattle.sl_generate.specs.DrawnRuns.{state_behind};
 ghost use Rattle.sl_report.specs.Generator.{draw_of, next_state};
 ghost use Rattle.std.specs.Prelude.{◌≡◌};
 

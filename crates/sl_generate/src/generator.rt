@@ -1,11 +1,11 @@
 //! The schedule of a seed, played as it is drawn.
 
-ghost use Rattle.sl_daemon.specs.Daemons.{program_of};
+ghost use Rattle.sl_world_state.specs.Daemons.{program_of};
 ghost use Rattle.sl_generate.specs.Candidates.{first_allowed};
-ghost use Rattle.sl_generate.specs.Drawn.{IsDrawn};
-ghost use Rattle.sl_generate.specs.Generating.{DrawsAll, Generates, IsDrawing, MayGenerate, TakesDrawn};
-ghost use Rattle.sl_play.specs.Owing.{EachStood};
-ghost use Rattle.sl_play.specs.Playing.{StaysAs, state_of};
+ghost use Rattle.sl_generate.specs.DrawnRuns.{IsDrawn};
+ghost use Rattle.sl_generate.specs.GeneratorPlay.{DrawsAll, Generates, IsDrawing, MayGenerate, TakesDrawn};
+ghost use Rattle.sl_play.specs.PlayIsOwed.{EachStood};
+ghost use Rattle.sl_play.specs.Plays.{StaysAs, state_of};
 ghost use Rattle.sl_report.specs.Generator.{gen_header, gen_line};
 ghost use Rattle.sl_report.specs.Reports as reports;
 ghost use Rattle.sl_run.specs.Worlds.{world_with};
@@ -15,12 +15,12 @@ ghost use Rattle.std.specs.Prelude.{IfOk, OnOk, [], ◌∷◌, ◌≡◌};
 use crate::candidates::candidates;
 use crate::draws::{Draws, draw_event};
 use crate::header::header;
-use sl_daemon::Daemon;
 use sl_io::{Sink, write_all};
 use sl_machine::LockTable;
 use sl_play::{Play, PlayError};
 use sl_run::Event;
 use sl_schedule::{Counts, push_end_line};
+use sl_world_state::Daemon;
 use std::alloc::{AllocError, Global};
 use std::collections::VecDeque;
 

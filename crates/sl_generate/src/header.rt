@@ -8,7 +8,6 @@ ghost use Rattle.std.specs.Prelude.{IfOk, codes, decimal, map, true, [], ◌++�
 
 use sl_area::Geometry;
 use sl_run::{Disk, Header, LockspaceLine, ResourceLine, SessionLine};
-use sl_schedule::geometry_of;
 use sl_text::{FilePath, Name, Seq};
 use sl_time::Timing;
 use std::alloc::{AllocError, Global};
@@ -69,7 +68,7 @@ fn geometry(hosts: u32, paired: bool) -> Geometry
     requires { (1 ≤ hosts) × (hosts ≤ 16) }
     ensures { result ≡ record { sector = 512; area = 1048576; hosts = hosts; paired = paired } }
 {
-    match geometry_of(SECTOR, AREA, hosts, paired) {
+    match Geometry::sized(SECTOR, AREA, hosts, paired) {
         Ok(geometry) => geometry,
         Err(_) => unreachable!(),
     }

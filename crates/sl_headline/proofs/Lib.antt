@@ -1,1 +1,3 @@
-pub mod Promising
+pub mod RunsArePromised
+pub mod Quiet
+pub mod Volumes

@@ -1,1 +1,3 @@
-pub mod Promised
+pub mod PromisedRuns
+pub mod Quiet
+pub mod Volumes

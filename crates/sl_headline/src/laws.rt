@@ -1,8 +1,11 @@
 //! What is promised of made runs.
 
-ghost use Rattle.sl_headline.specs.Promised.{MadeReplaysArePromised, MadeReportsArePromised, MadeRunsArePromised};
+pub mod quiet;
+pub mod volumes;
 
-use sl_daemon::Daemon;
+ghost use Rattle.sl_headline.specs.PromisedRuns.{MadeReplaysArePromised, MadeReportsArePromised, MadeRunsArePromised};
+
+use sl_world_state::Daemon;
 
 /// Where daemons of this kind do what is due, a run made of them is as promised.
 pub fn made_runs_are_promised<D: Daemon>()

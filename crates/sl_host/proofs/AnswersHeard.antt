@@ -1,24 +1,24 @@
 -- An answer that is told part by part is heard as the state functions say.
 use Rattle.sl_area.specs.Layouts.{Layout, layout_of}
 use Rattle.sl_area.specs.Places.{blocks_part, needs_again, pairs_kept}
-use Rattle.sl_host_state.specs.Hears.{hearing, heard_answer, is_heeded_by, job_hearing, kept_heard, lease_told, member_hearing, members_hearing, quiet_hearing, setting_of, shows_other_by, turn_heard}
-use Rattle.sl_host_state.specs.Kept.{HostState, LeaseState, MemberState}
-use Rattle.sl_host_state.specs.Makes.{is_lease_on, lowered}
-use Rattle.sl_host_state.specs.Stands.{is_kept_of}
-use Rattle.sl_host_state.specs.declared.kept.JobState.{JobState}
-use Rattle.sl_host_state.specs.declared.kept.OpenCall.{OpenCall}
-use Rattle.sl_host_state.specs.declared.kept.WaitingCall.{WaitingCall}
-use Rattle.sl_lease.specs.Asked.{leader_given, read_given}
+use Rattle.sl_host_state.specs.HeardInputs.{hearing, heard_answer, is_heeded_by, job_hearing, kept_heard, lease_told, member_hearing, members_hearing, quiet_hearing, setting_of, shows_other_by, turn_heard}
+use Rattle.sl_host_state.specs.KeptState.{HostState, LeaseState, MemberState}
+use Rattle.sl_host_state.specs.MadeEffects.{is_lease_on, lowered}
+use Rattle.sl_host_state.specs.HostStands.{is_kept_of}
+use Rattle.sl_host_state.specs.declared.kept_parts.JobState.{JobState}
+use Rattle.sl_host_state.specs.declared.kept_parts.OpenCall.{OpenCall}
+use Rattle.sl_host_state.specs.declared.kept_parts.WaitingCall.{WaitingCall}
+use Rattle.sl_lease.specs.LeaseQuestions.{leader_given, read_given}
 use Rattle.sl_lease.specs.Changes.{after_failure, after_write}
 use Rattle.sl_lease.specs.Laws.{IsGiven, first_by}
 use Rattle.sl_member.proofs.HostsHear.{hosts_keep_the_same}
 use Rattle.sl_member.proofs.PartsHear.{parts_hear}
-use Rattle.sl_member.proofs.Places.{none_changed}
+use Rattle.sl_member.proofs.LeasesByPlace.{none_changed}
 use Rattle.sl_member.proofs.SpotOrder.{spot_is, spot_past}
 use Rattle.sl_member.specs.Laws.{IsAwaited, IsWaitingFor, area_of_call, heard_by_parts, open_for}
 use Rattle.sl_member.specs.Leases.{AreByPlace, changed_at, first_among, first_if_second, kept_shown, read_shown}
 use Rattle.sl_member.specs.Members.{IsKnown, RunOf, lease_changed, own_told}
-use Rattle.sl_member.specs.Together.{AreApart, changed_member, member_with, side_with}
+use Rattle.sl_member.specs.HostMembers.{AreApart, changed_member, member_with, side_with}
 use Rattle.sl_sector.specs.declared.sector.Block.{Block}
 use Rattle.sl_sector.specs.declared.sector.Leader.{Leader}
 use Rattle.sl_sector.specs.declared.sector.PairBlock.{PairBlock}
@@ -42,11 +42,11 @@ use Rattle.sl_trace.specs.declared.input.Answer.TheVariants.{Failed, Read, Writt
 use Rattle.sl_trace.specs.declared.input.Answer.{Answer}
 use Rattle.sl_host.proofs.AnswersTold.{changed_as, none_changed as all_same, the_member}
 use Rattle.sl_host.proofs.HostStands.{same_run}
-use Rattle.sl_host.specs.Asking.{state_in}
+use Rattle.sl_host.specs.BookQuestions.{state_in}
 use Rattle.sl_host.specs.Books.{BooksState, books_hearing, host_of, kept_of}
-use Rattle.sl_host.specs.Hearing.{AreWaiting, IsTold, LeaseAwaits, MayHear, MemberAwaits, begun_at, first_to, is_over_in, is_own_purpose, is_untold, lease_heard, others_in, own_heard, request_heard, shows_at, survey_heard, turn_to}
-use Rattle.sl_host.specs.declared.telling.Told.TheVariants.{Again, Gave}
-use Rattle.sl_host.specs.declared.telling.Told.{Told}
+use Rattle.sl_host.specs.HeardAnswers.{AreWaiting, IsTold, LeaseAwaits, MayHear, MemberAwaits, begun_at, first_to, is_over_in, is_own_purpose, is_untold, lease_heard, others_in, own_heard, request_heard, shows_at, survey_heard, turn_to}
+use Rattle.sl_host.specs.declared.told_answers.Told.TheVariants.{Again, Gave}
+use Rattle.sl_host.specs.declared.told_answers.Told.{Told}
 use Rattle.sl_words.proofs.CaseLaws.{some_value}
 use Rattle.sl_words.specs.Words.{choose, some_is}
 use Rattle.std.proofs.Common.{ap, arith, refl, subst, sym, true≢false, ◌∙◌}

@@ -1,13 +1,13 @@
 -- What is told to members one after another is told as a whole; refused members that are over go one by one.
 use Rattle.sl_area.specs.Layouts.{Layout, Sizes, layout_of}
 use Rattle.sl_area.specs.Places.{pair_back}
-use Rattle.sl_host_state.specs.Hears.{renewed_of}
-use Rattle.sl_host_state.specs.Kept.{MemberState}
-use Rattle.sl_host_state.specs.declared.kept.OpenCall.{OpenCall}
+use Rattle.sl_host_state.specs.HeardInputs.{renewed_of}
+use Rattle.sl_host_state.specs.KeptState.{MemberState}
+use Rattle.sl_host_state.specs.declared.kept_parts.OpenCall.{OpenCall}
 use Rattle.sl_lease.specs.Reads.{is_asked_again}
 use Rattle.sl_member.specs.Members.{RunOf, own_told, renewing_told}
-use Rattle.sl_member.specs.Together.{AreApart, MembersState, changed_member, member_with, told_survey}
-use Rattle.sl_plain.proofs.Lists.{contains_cases, contains_first, contains_more, contains_none, find_inside, got_inside}
+use Rattle.sl_member.specs.HostMembers.{AreApart, MembersState, changed_member, member_with, told_survey}
+use Rattle.sl_words.proofs.Lists.{contains_cases, contains_first, contains_more, contains_none, find_inside, got_inside}
 use Rattle.sl_sector.specs.declared.sector.PairBlock.{PairBlock}
 use Rattle.sl_trace.specs.LeaseWork.{part_read, read_of_step}
 use Rattle.sl_trace.specs.Sessions.{is_join_call, same_join_step}
@@ -19,7 +19,7 @@ use Rattle.sl_trace.specs.declared.effects.Purpose.TheVariants.{Joining, Lease, 
 use Rattle.sl_trace.specs.declared.effects.Purpose.{Purpose}
 use Rattle.sl_trace.specs.declared.input.Answer.TheVariants.{Read}
 use Rattle.sl_trace.specs.declared.input.Answer.{Answer}
-use Rattle.sl_host.specs.Hearing.{is_over_in, own_heard, renewals_told, request_heard, shows_at, survey_heard, tells_renewals}
+use Rattle.sl_host.specs.HeardAnswers.{is_over_in, own_heard, renewals_told, request_heard, shows_at, survey_heard, tells_renewals}
 use Rattle.sl_words.proofs.CaseLaws.{none_some, some_value}
 use Rattle.std.proofs.Common.{ap, arith, inl, inr, refl, subst, suc, sym, true≢false, zero, ◌∙◌}
 use Rattle.std.proofs.lemmas.Bool.Decides.{Decides-eqb}

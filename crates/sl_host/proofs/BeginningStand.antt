@@ -1,13 +1,13 @@
 -- The sessions that a host begins with, one after another.
-use Rattle.sl_host_state.specs.Kept.{MemberState}
-use Rattle.sl_host_state.specs.Makes.{with_member}
+use Rattle.sl_host_state.specs.KeptState.{MemberState}
+use Rattle.sl_host_state.specs.MadeEffects.{with_member}
 use Rattle.sl_member.specs.Members.{RunOf, blank_member}
-use Rattle.sl_member.specs.Together.{member_with}
+use Rattle.sl_member.specs.HostMembers.{member_with}
 use Rattle.sl_trace.specs.Sessions.{given_session}
 use Rattle.sl_trace.specs.declared.session.Session.{Session}
 use Rattle.sl_trace.specs.declared.input.Given.{Given}
-use Rattle.sl_host.proofs.PassingStands.{front_all, front_more}
-use Rattle.sl_host.specs.Beginning.{MayBeGiven, members_given, sessions_given}
+use Rattle.sl_host.proofs.PassNotes.{front_all, front_more}
+use Rattle.sl_host.specs.NewHosts.{MayBeGiven, members_given, sessions_given}
 use Rattle.sl_words.proofs.CaseLaws.{none_some, some_value}
 use Rattle.sl_words.specs.Orders.{is_text_before, put_in}
 use Rattle.sl_words.specs.Words.{greatest}

@@ -1,8 +1,8 @@
 -- Books follow the state functions.
-use Rattle.sl_host_state.specs.declared.kept.JobState.{JobState}
-use Rattle.sl_host_state.specs.Makes.{job_calling, job_starting}
-use Rattle.sl_host_state.specs.Stands.{kept_waiting}
-use Rattle.sl_host_state.specs.declared.kept.WaitingCall.{WaitingCall}
+use Rattle.sl_host_state.specs.declared.kept_parts.JobState.{JobState}
+use Rattle.sl_host_state.specs.MadeEffects.{job_calling, job_starting}
+use Rattle.sl_host_state.specs.HostStands.{kept_waiting}
+use Rattle.sl_host_state.specs.declared.kept_parts.WaitingCall.{WaitingCall}
 use Rattle.sl_tables.specs.Holdings.{fits}
 use Rattle.sl_tables.specs.Jobs.{changed}
 use Rattle.sl_trace.specs.Traces.{Submitted, is_of_job, job_of, same_place}
@@ -10,7 +10,7 @@ use Rattle.sl_trace.specs.declared.effects.End.{End}
 use Rattle.sl_trace.specs.declared.effects.Grant.{Grant}
 use Rattle.sl_trace.specs.declared.effects.Start.{Start}
 use Rattle.sl_host.specs.Books.{ended_by}
-use Rattle.sl_host.specs.Promises.{BooksFollowStates}
+use Rattle.sl_host.specs.BooksFollow.{BooksFollowStates}
 use Rattle.sl_words.specs.Words.{some_is}
 use Rattle.std.proofs.Common.{ap, refl, sym, ◌∙◌}
 use Rattle.std.specs.Cmp.{nat_eq_equiv}

@@ -1,7 +1,7 @@
 -- Counts over a host's members.
-use Rattle.sl_host_state.specs.Kept.{MemberState}
-use Rattle.sl_host.proofs.PassingStands.{front_all, front_more}
-use Rattle.sl_host.specs.Asking.{leases_in, most_counted}
+use Rattle.sl_host_state.specs.KeptState.{MemberState}
+use Rattle.sl_host.proofs.PassNotes.{front_all, front_more}
+use Rattle.sl_host.specs.BookQuestions.{leases_in, most_counted}
 use Rattle.std.proofs.Common.{ap, arith, ◌∙◌}
 use Rattle.std.proofs.lemmas.List.Sums.{fold-append}
 use Rattle.std.specs.Prelude.{List, Some, [], length, min, slice_get, take, ℕ, ◌+◌, ◌∷◌, ◌≡◌}

@@ -1,7 +1,7 @@
 -- Exits, starts and a step's beginning, as books and members take them.
-use Rattle.sl_host_state.specs.Hears.{begun, counted, member_begun, with_renewing}
-use Rattle.sl_host_state.specs.Kept.{HostState, MemberState}
-use Rattle.sl_member.specs.Together.{begun_by, late_by}
+use Rattle.sl_host_state.specs.HeardInputs.{begun, counted, member_begun, with_renewing}
+use Rattle.sl_host_state.specs.KeptState.{HostState, MemberState}
+use Rattle.sl_member.specs.HostMembers.{begun_by, late_by}
 use Rattle.sl_trace.specs.declared.session.Renewing.{Renewing}
 use Rattle.sl_trace.specs.declared.command.Command.{Command}
 use Rattle.sl_host.specs.Books.{BooksState, books_counting, host_of}

@@ -1,5 +1,5 @@
 -- What a host's members come to.
-use Rattle.sl_host_state.specs.Kept.{MemberState}
+use Rattle.sl_host_state.specs.KeptState.{MemberState}
 use Rattle.sl_member.specs.Members.{RunOf}
 use Rattle.sl_host.specs.Books.{BooksState}
 use Rattle.std.proofs.Common.{ap, arith, refl}

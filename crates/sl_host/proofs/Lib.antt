@@ -1,12 +1,12 @@
 pub mod BooksStand
 pub mod QuestionsStand
 pub mod HostStands
-pub mod Finding
-pub mod PassingStands
+pub mod FoundInList
+pub mod PassNotes
 pub mod RepliesStand
 pub mod LinesHeard
 pub mod HearingsStand
-pub mod Scanning
+pub mod ListScans
 pub mod AnswersTold
 pub mod ReadsTold
 pub mod AnswersHeard

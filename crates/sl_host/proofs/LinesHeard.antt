@@ -1,16 +1,16 @@
 -- A line is heard as a job, and as the leaving of the sessions that it names.
-use Rattle.sl_host_state.specs.Hears.{heard_line, leaves_member, member_leaving}
-use Rattle.sl_host_state.specs.Kept.{HostState, MemberState}
-use Rattle.sl_host_state.specs.Makes.{lowered}
+use Rattle.sl_host_state.specs.HeardInputs.{heard_line, leaves_member, member_leaving}
+use Rattle.sl_host_state.specs.KeptState.{HostState, MemberState}
+use Rattle.sl_host_state.specs.MadeEffects.{lowered}
 use Rattle.sl_member.specs.Members.{leaving_begun}
-use Rattle.sl_member.specs.Together.{left_by}
+use Rattle.sl_member.specs.HostMembers.{left_by}
 use Rattle.sl_trace.specs.Sessions.{is_session_arg}
 use Rattle.sl_trace.specs.declared.session.Begun.{Begun}
 use Rattle.sl_trace.specs.Traces.{KillProgram}
 use Rattle.sl_trace.specs.declared.command.Command.TheVariants.{Acquire, AddLockspace, Convert, GetLvb, HostStatus, InqLockspace, Release, ReleaseOrphan, RemLockspace, Request, RunProgram, SetKillpath, SetLvb, Status, TakeOver}
 use Rattle.sl_trace.specs.declared.command.Command.{Command}
 use Rattle.sl_trace.specs.declared.command.LockspaceArg.{LockspaceArg}
-use Rattle.sl_host.specs.Lining.{leaving_begins, line_begun, lockspace_left}
+use Rattle.sl_host.specs.LineParts.{leaving_begins, line_begun, lockspace_left}
 use Rattle.sl_words.proofs.CaseLaws.{none_some, some_value}
 use Rattle.sl_words.specs.Words.{choose}
 use Rattle.std.proofs.Common.{ap, refl, subst, sym, ◌∙◌}

@@ -1,9 +1,9 @@
 -- What a table finds is what the definitions ask for.
-use Rattle.sl_host_law.specs.Decisions.Deciding.{is_open_on}
+use Rattle.sl_host_law.specs.Decisions.CommandDecisions.{is_open_on}
 use Rattle.std.specs.Prelude.{bytes_eq, nat_le, nat_lt, ◌%◌, ◌*◌, ◌+◌, ◌-◌, ◌/◌, ◌<◌, ◌≤◌}
 use Rattle.std.specs.Cmp.Lexicographic.{nat_list_eq_equiv}
 use Rattle.sl_tables.specs.Opens.{is_on_area, least_on}
-use Rattle.sl_host_state.specs.declared.kept.OpenCall.{OpenCall}
+use Rattle.sl_host_state.specs.declared.kept_parts.OpenCall.{OpenCall}
 use Rattle.sl_area.specs.Layouts.{Layout, Sizes, layout_of}
 use Rattle.std.proofs.lemmas.Bool.{cases_lt, le-leb, leb-true, lt-ltb}
 use Rattle.std.proofs.lemmas.Bool.Decides.{Decides-eqb, Decides-ltb}
@@ -18,7 +18,7 @@ use Rattle.sl_trace.specs.Traces.{Child, is_orphan, is_shared, same_place}
 use Rattle.sl_trace.specs.declared.effects.Grant.{Grant}
 use Rattle.sl_trace.specs.declared.effects.Mode.TheVariants.{Exclusive}
 use Rattle.sl_trace.specs.declared.effects.Spot.{Spot}
-use Rattle.sl_host.specs.Asking.{held_under}
+use Rattle.sl_host.specs.BookQuestions.{held_under}
 use Rattle.sl_words.specs.Words.{choose, least, some_is}
 use Rattle.std.proofs.Common.{ap, refl, ◌∙◌}
 use Rattle.std.specs.List.{list_any}

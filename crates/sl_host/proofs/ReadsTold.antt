@@ -2,23 +2,23 @@
 use Rattle.sl_area.specs.Layouts.{Layout, Sizes, layout_of}
 use Rattle.sl_area.specs.Places.{pairs_kept}
 use Rattle.sl_host.proofs.AnswersTold.{number_of, the_member}
-use Rattle.sl_host.specs.Hearing.{IsTold, first_to, is_over_in, lease_heard}
-use Rattle.sl_host.specs.declared.telling.Told.TheVariants.{Again, Gave}
-use Rattle.sl_host.specs.declared.telling.Told.{Told}
+use Rattle.sl_host.specs.HeardAnswers.{IsTold, first_to, is_over_in, lease_heard}
+use Rattle.sl_host.specs.declared.told_answers.Told.TheVariants.{Again, Gave}
+use Rattle.sl_host.specs.declared.told_answers.Told.{Told}
 use Rattle.sl_host_law.specs.Steps.Leases.{lease_at}
-use Rattle.sl_host_state.specs.Kept.{LeaseState, MemberState}
-use Rattle.sl_host_state.specs.Makes.{is_lease_on, new_lease}
-use Rattle.sl_host_state.specs.declared.kept.LeaseCall.{LeaseCall}
-use Rattle.sl_host_state.specs.declared.kept.OpenCall.{OpenCall}
-use Rattle.sl_lease.specs.Asked.{leader_given, read_given}
+use Rattle.sl_host_state.specs.KeptState.{LeaseState, MemberState}
+use Rattle.sl_host_state.specs.MadeEffects.{is_lease_on, new_lease}
+use Rattle.sl_host_state.specs.declared.kept_parts.LeaseCall.{LeaseCall}
+use Rattle.sl_host_state.specs.declared.kept_parts.OpenCall.{OpenCall}
+use Rattle.sl_lease.specs.LeaseQuestions.{leader_given, read_given}
 use Rattle.sl_lease.specs.Changes.{read_told, turn_told}
 use Rattle.sl_lease.specs.Laws.{first_by}
 use Rattle.sl_lease.specs.declared.side.Side.{Side}
-use Rattle.sl_member.proofs.Places.{kept_stays, read_stays}
+use Rattle.sl_member.proofs.LeasesByPlace.{kept_stays, read_stays}
 use Rattle.sl_member.specs.Leases.{changed_at, first_among, first_if_second, read_shown}
 use Rattle.sl_member.specs.Members.{RunOf, lease_changed}
-use Rattle.sl_member.specs.Together.{AreApart, changed_member, member_with, side_with}
-use Rattle.sl_plain.proofs.Lists.{find_inside, in_map, kept_inside}
+use Rattle.sl_member.specs.HostMembers.{AreApart, changed_member, member_with, side_with}
+use Rattle.sl_words.proofs.Lists.{find_inside, in_map, kept_inside}
 use Rattle.sl_sector.specs.declared.sector.Block.{Block}
 use Rattle.sl_sector.specs.declared.sector.Leader.{Leader}
 use Rattle.sl_sector.specs.declared.sector.PairBlock.{PairBlock}

@@ -1,16 +1,16 @@
 -- Joinings that are refused one by one are refused together.
-use Rattle.sl_host_state.specs.Kept.{HostState, MemberState}
-use Rattle.sl_host_state.specs.Makes.{with_reply}
-use Rattle.sl_host_state.specs.Stands.{is_joining}
-use Rattle.sl_host_state.specs.declared.kept.OpenCall.{OpenCall}
-use Rattle.sl_member.specs.Together.{AreApart, changed_member, is_joining_by, member_with}
+use Rattle.sl_host_state.specs.KeptState.{HostState, MemberState}
+use Rattle.sl_host_state.specs.MadeEffects.{with_reply}
+use Rattle.sl_host_state.specs.HostStands.{is_joining}
+use Rattle.sl_host_state.specs.declared.kept_parts.OpenCall.{OpenCall}
+use Rattle.sl_member.specs.HostMembers.{AreApart, changed_member, is_joining_by, member_with}
 use Rattle.sl_trace.specs.Sessions.{is_join_done}
 use Rattle.sl_time.specs.Times.{TimingNumbers, fail}
 use Rattle.sl_trace.specs.declared.command.Command.{Command}
 use Rattle.sl_trace.specs.declared.reply.Reply.TheVariants.{Generation}
 use Rattle.sl_trace.specs.declared.reply.Reply.{Reply}
 use Rattle.sl_host.specs.Books.{BooksState, books_replying, host_of}
-use Rattle.sl_host.specs.Replying.{HasClaims, moments_by, refusal_of, refused_at, refused_by, writes_in}
+use Rattle.sl_host.specs.ReplyJoinings.{HasClaims, moments_by, refusal_of, refused_at, refused_by, writes_in}
 use Rattle.sl_words.proofs.CaseLaws.{none_some, some_value}
 use Rattle.sl_words.specs.Words.{some_is}
 use Rattle.std.proofs.Common.{ap, arith, refl, subst, suc, sym, true≢false, zero, ◌∙◌}

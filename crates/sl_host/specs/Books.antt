@@ -1,11 +1,11 @@
 -- What a host keeps besides its members, and what its effects make of that.
-use Rattle.sl_host_state.specs.Kept.{HostKept, HostState, Made, MemberState, state_of}
-use Rattle.sl_host_state.specs.declared.kept.JobState.{JobState}
-use Rattle.sl_host_state.specs.declared.kept.OpenCall.{OpenCall}
-use Rattle.sl_host_state.specs.Hears.{children_after, job_hearing, new_job}
-use Rattle.sl_host_state.specs.Makes.{job_calling, job_starting, names_moved}
-use Rattle.sl_host_state.specs.Stands.{kept_call}
-use Rattle.sl_host_state.specs.declared.kept.ValuePair.{ValuePair}
+use Rattle.sl_host_state.specs.KeptState.{HostKept, HostState, Made, MemberState, state_of}
+use Rattle.sl_host_state.specs.declared.kept_parts.JobState.{JobState}
+use Rattle.sl_host_state.specs.declared.kept_parts.OpenCall.{OpenCall}
+use Rattle.sl_host_state.specs.HeardInputs.{children_after, job_hearing, new_job}
+use Rattle.sl_host_state.specs.MadeEffects.{job_calling, job_starting, names_moved}
+use Rattle.sl_host_state.specs.HostStands.{kept_call}
+use Rattle.sl_host_state.specs.declared.kept_parts.ValuePair.{ValuePair}
 use Rattle.sl_sector.specs.declared.sector.Rec.TheVariants.{BlockIs, LeaderIs, PairIs, PairLeaderIs, ValueIs}
 use Rattle.sl_tables.specs.declared.holdings.Holder.TheVariants.{Is}
 use Rattle.sl_tables.specs.declared.holdings.Sought.{Sought}

@@ -1,5 +1,5 @@
 -- A host as code keeps it, and how a change of it is said.
-use Rattle.sl_host_state.specs.Kept.{HostKept, HostState, state_of}
+use Rattle.sl_host_state.specs.KeptState.{HostKept, HostState, state_of}
 use Rattle.sl_trace.specs.declared.command.Command.{Command}
 use Rattle.std.specs.Prelude.{List, Result, ℕ, ◌+◌, ◌≡◌, ◌≤◌}
 

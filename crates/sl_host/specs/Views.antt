@@ -1,5 +1,5 @@
 -- A host's books, by what is seen of it.
-use Rattle.sl_host_state.specs.Kept.{HostKept}
+use Rattle.sl_host_state.specs.KeptState.{HostKept}
 use Rattle.sl_host.specs.Books.{BooksState}
 use Rattle.sl_host.specs.Host.{HostView}
 

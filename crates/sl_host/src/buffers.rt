@@ -5,13 +5,13 @@ ghost use Rattle.sl_host.specs.Books.{AreFew, BuffersState};
 ghost use Rattle.std.specs.List.{list_any};
 ghost use Rattle.std.specs.Prelude.{IfOk, length, [], ◌+◌, ◌++◌, ◌-◌, ◌<◌, ◌==◌, ◌^◌, ◌∷◌, ◌≡◌, ◌≤◌};
 
-use sl_room::Room;
 use sl_sector::{Block, DeltaRec, DeltaState, Leader, PairBlock, Rec, Request, ValueRec};
 use sl_text::{Data, FilePath, Name, Seq};
 use sl_trace::{
     Call, Effects, End, Grant, JobReply, JoinStep, LeaseRead, LeaseStep, Move, Op, Purpose, Sent,
     Start, Work,
 };
+use sl_words::Room;
 use std::alloc::{AllocError, Global};
 use std::marker::Model;
 

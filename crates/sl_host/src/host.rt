@@ -1,6 +1,6 @@
 //! A host: its members and its books.
 
-ghost use Rattle.sl_host_state.specs.Makes.{is_ended_by_move, with_call, with_end, with_grant, with_move, with_signal, with_start};
+ghost use Rattle.sl_host_state.specs.MadeEffects.{is_ended_by_move, with_call, with_end, with_grant, with_move, with_signal, with_start};
 ghost use Rattle.sl_member.specs.Members.{IsOwnCall};
 ghost use Rattle.sl_trace.specs.Traces.{first_child, new_call};
 ghost use Rattle.sl_host.specs.Host.{Becomes, SameRun};

@@ -5,7 +5,7 @@
 //! has less, so this costs no more where it holds much.
 
 ghost use Rattle.sl_trace.specs.Traces.{no_effects};
-ghost use Rattle.sl_host.specs.Reserving.{NumbersLast};
+ghost use Rattle.sl_host.specs.NumbersLast.{NumbersLast};
 ghost use Rattle.std.specs.Prelude.{OnErr, OnOk, true, ◌+◌, ◌<◌, ◌^◌, ◌≡◌, ◌≤◌};
 
 use crate::books::Books;

@@ -1,13 +1,13 @@
 -- Work on a lease that goes on is done, and where it does not nothing is.
 use Rattle.sl_host_answers.specs.Leases.{next_on}
-use Rattle.sl_host_law.specs.Answers.Leasing.{carrying_lease}
+use Rattle.sl_host_law.specs.Answers.LeaseDecisions.{carrying_lease}
 use Rattle.sl_host_law.specs.Questions.Answers.{spot_in}
 use Rattle.sl_host_law.specs.Questions.Jobs.{aim_in, goes_on_in}
 use Rattle.sl_host_law.specs.Steps.Answers.{working_on}
 use Rattle.sl_host_law.specs.Steps.Leases.{answered_next}
 use Rattle.sl_host_law.specs.Steps.Passes.{at_member, member_numbered}
-use Rattle.sl_host_state.specs.Kept.{HostState, MemberState}
-use Rattle.sl_host_state.specs.declared.kept.OpenCall.{OpenCall}
+use Rattle.sl_host_state.specs.KeptState.{HostState, MemberState}
+use Rattle.sl_host_state.specs.declared.kept_parts.OpenCall.{OpenCall}
 use Rattle.sl_host_work.proofs.TurnsStand.{by_number}
 use Rattle.sl_trace.specs.declared.lease.Aim.{Aim}
 use Rattle.sl_trace.specs.declared.lease.LeaseNext.{LeaseNext}

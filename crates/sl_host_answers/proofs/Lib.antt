@@ -1,5 +1,5 @@
 pub mod RequestsStand
 pub mod LeasesStand
 pub mod SurveysStand
-pub mod OwnStand
-pub mod AnsweringStands
+pub mod OwnSectorsStand
+pub mod WholeAnswersStand

@@ -3,28 +3,28 @@ use Rattle.sl_host_answers.specs.Facts.{SurveyKnown}
 use Rattle.sl_host_answers.specs.Surveys.{acting, member_shown, reading_asked, shown_of, spots_of, stopping_by}
 use Rattle.sl_host_answers.specs.declared.surveys.Shown.{Shown}
 use Rattle.sl_host_law.specs.Answers.Surveys.{is_asked_by, reading_requests, recovering_by_read, surveyed_in}
-use Rattle.sl_host_law.specs.Parts.Refusals.{signalling_and_refusing}
-use Rattle.sl_host_law.specs.Parts.Signals.{over, sending}
+use Rattle.sl_host_law.specs.StepParts.Refusals.{signalling_and_refusing}
+use Rattle.sl_host_law.specs.StepParts.Signals.{over, sending}
 use Rattle.sl_host_law.specs.Questions.Members.{begins_by_read_in}
 use Rattle.sl_host_law.specs.Steps.Passes.{at_member, member_numbered}
-use Rattle.sl_host_state.specs.Asks.{stopper_in}
-use Rattle.sl_host_state.specs.Kept.{HostKept, HostState, LeaseState, Made, MemberState}
-use Rattle.sl_host_state.specs.Makes.{with_reply, with_signal, with_start}
-use Rattle.sl_host_state.specs.declared.kept.JobState.{JobState}
+use Rattle.sl_host_state.specs.StepQuestions.{stopper_in}
+use Rattle.sl_host_state.specs.KeptState.{HostKept, HostState, LeaseState, Made, MemberState}
+use Rattle.sl_host_state.specs.MadeEffects.{with_reply, with_signal, with_start}
+use Rattle.sl_host_state.specs.declared.kept_parts.JobState.{JobState}
 use Rattle.sl_host_work.proofs.HoldersFew.{holders_are_few}
 use Rattle.sl_host_work.proofs.RefusalsStand.{stopping_is}
 use Rattle.sl_host_work.specs.Holders.{holders_under, signalling_all}
-use Rattle.sl_host_work.specs.Placed.{IsArea}
-use Rattle.sl_host_work.specs.Stopping.{stopped_of, stopping, stopping_cost}
+use Rattle.sl_host_work.specs.SectorPlaces.{IsArea}
+use Rattle.sl_host_work.specs.Stops.{stopped_of, stopping, stopping_cost}
 use Rattle.sl_host_work.specs.declared.recoveries.Stopped.{Stopped}
 use Rattle.sl_trace.specs.Traces.{first_child}
 use Rattle.sl_trace.specs.declared.effects.Grant.{Grant}
 use Rattle.sl_trace.specs.declared.effects.Signal.TheVariants.{Kill, Term}
 use Rattle.sl_trace.specs.declared.effects.Signal.{Signal}
 use Rattle.sl_trace.specs.declared.reply.Reply.TheVariants.{Recovering}
-use Rattle.sl_host.proofs.PassingStands.{chosen_few, front_all, front_more}
-use Rattle.sl_host.specs.Choosing.{chosen_among}
-use Rattle.sl_host.specs.declared.passing.Chosen.TheVariants.{OfLockspace}
+use Rattle.sl_host.proofs.PassNotes.{chosen_few, front_all, front_more}
+use Rattle.sl_host.specs.ChosenJobs.{chosen_among}
+use Rattle.sl_host.specs.declared.passes.Chosen.TheVariants.{OfLockspace}
 use Rattle.sl_words.proofs.CaseLaws.{some_value}
 use Rattle.sl_words.specs.Bounds.{moments}
 use Rattle.sl_words.specs.Words.{choose}

@@ -1,12 +1,12 @@
 -- What is known of a host that has heard an answer, which the parts of what is due to it rely on. Each holds by a law.
 use Rattle.sl_area.specs.Layouts.{layout_of}
-use Rattle.sl_host_answers.specs.declared.own.JoinAnswer.{JoinAnswer}
+use Rattle.sl_host_answers.specs.declared.own_sectors.JoinAnswer.{JoinAnswer}
 use Rattle.sl_host_law.specs.Questions.Jobs.{command_in, goes_on_in}
 use Rattle.sl_host_law.specs.Steps.Leases.{blocks_at, kept_blocks, lease_at}
-use Rattle.sl_host_state.specs.Kept.{HostKept, MemberState}
-use Rattle.sl_host_work.specs.Asking.{IsNamedFor, IsShown, MayAsk, ReadStands}
-use Rattle.sl_host_work.specs.Placed.{IsArea, IsPlaced}
-use Rattle.sl_member.specs.Together.{member_with}
+use Rattle.sl_host_state.specs.KeptState.{HostKept, MemberState}
+use Rattle.sl_host_work.specs.LeaseQuestions.{IsNamedFor, IsShown, MayAsk, ReadStands}
+use Rattle.sl_host_work.specs.SectorPlaces.{IsArea, IsPlaced}
+use Rattle.sl_member.specs.HostMembers.{member_with}
 use Rattle.sl_sector.specs.declared.sector.Block.{Block}
 use Rattle.sl_trace.specs.declared.delta.DeltaNext.TheVariants.{Join}
 use Rattle.sl_trace.specs.Commands.{IsCommand}
@@ -15,9 +15,9 @@ use Rattle.sl_trace.specs.declared.effects.Grant.{Grant}
 use Rattle.sl_trace.specs.declared.effects.LeaseStep.{LeaseStep}
 use Rattle.sl_trace.specs.declared.effects.Spot.{Spot}
 use Rattle.sl_trace.specs.declared.effects.Work.{Work}
-use Rattle.sl_host.specs.Asking.{state_in}
-use Rattle.sl_host.specs.Replying.{HasClaims}
-use Rattle.sl_host.specs.declared.telling.Told.{Told}
+use Rattle.sl_host.specs.BookQuestions.{state_in}
+use Rattle.sl_host.specs.ReplyJoinings.{HasClaims}
+use Rattle.sl_host.specs.declared.told_answers.Told.{Told}
 use Rattle.sl_trace.specs.declared.input.Answer.TheVariants.{Read}
 use Rattle.sl_words.specs.Bounds.{moments}
 use Rattle.std.specs.Prelude.{Contains, List, Option, Some, true, ℕ, ◌<◌, ◌≡◌}

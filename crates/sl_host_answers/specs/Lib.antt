@@ -3,5 +3,5 @@ pub mod Requests
 pub mod Looks
 pub mod Leases
 pub mod Surveys
-pub mod Own
-pub mod Answering
+pub mod JoiningAnswers
+pub mod WholeAnswers

@@ -2,13 +2,13 @@
 use Rattle.sl_area.specs.Layouts.{Layout}
 use Rattle.sl_due.specs.DueRequests.{signal_of_force, signal_of_request}
 use Rattle.sl_host_law.specs.Questions.Members.{exclusive_at}
-use Rattle.sl_host_state.specs.Kept.{HostState, MemberState}
+use Rattle.sl_host_state.specs.KeptState.{HostState, MemberState}
 use Rattle.sl_sector.specs.declared.sector.Request.{Request}
 use Rattle.sl_trace.specs.Traces.{is_orphan, is_shared, same_place}
 use Rattle.sl_trace.specs.declared.effects.Grant.{Grant}
 use Rattle.sl_trace.specs.declared.effects.Signal.{Signal}
 use Rattle.sl_trace.specs.declared.effects.Spot.{Spot}
-use Rattle.sl_host.specs.Asking.{held_under}
+use Rattle.sl_host.specs.BookQuestions.{held_under}
 use Rattle.sl_words.specs.Words.{choose}
 use Rattle.std.specs.Prelude.{List, None, Option, Some, cond, filter, find, nat_lt, not, option_and_then, option_map, ℕ}
 

@@ -1,12 +1,12 @@
 -- What a read of all ids shows a session, as it is found before it is acted on.
 use Rattle.sl_host_answers.specs.declared.surveys.Shown.{Shown}
 use Rattle.sl_host_law.specs.Answers.Surveys.{is_asked_by, reading_request, reading_request_on}
-use Rattle.sl_host_law.specs.Parts.Signals.{over}
+use Rattle.sl_host_law.specs.StepParts.Signals.{over}
 use Rattle.sl_host_law.specs.Questions.Members.{begins_by_read_in}
-use Rattle.sl_host_state.specs.Kept.{HostKept, HostState, MemberState}
-use Rattle.sl_host_work.specs.Stopping.{stopped_of, stopping}
+use Rattle.sl_host_state.specs.KeptState.{HostKept, HostState, MemberState}
+use Rattle.sl_host_work.specs.Stops.{stopped_of, stopping}
 use Rattle.sl_host_work.specs.declared.recoveries.Stopped.{Stopped}
-use Rattle.sl_member.specs.Together.{member_with}
+use Rattle.sl_member.specs.HostMembers.{member_with}
 use Rattle.sl_trace.specs.declared.session.Session.{Session}
 use Rattle.sl_trace.specs.declared.effects.Grant.{Grant}
 use Rattle.sl_trace.specs.declared.effects.Spot.{Spot}

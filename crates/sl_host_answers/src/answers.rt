@@ -4,45 +4,38 @@
 //! sectors. What a joining does next is decided before the host hears it; all else is asked of the host that has heard. The session of a call may be
 //! gone: then the answer is heard, and does nothing.
 
-ghost use Rattle.sl_delta.specs.Own.{answer_in};
-ghost use Rattle.sl_due.specs.DueRequests.{value_reply};
-ghost use Rattle.sl_host_answers.specs.Answering.{CanAnswer, FitsHeard, FitsSectors, MayAnswer, answer_of, calls_for, calls_of, effects_for, effects_of, is_job_call, is_joining_purpose, is_writing, joined_on};
+ghost use Rattle.sl_delta.specs.OwnSector.{answer_in};
+ghost use Rattle.sl_host_answers.specs.WholeAnswers.{CanAnswer, FitsHeard, FitsSectors, MayAnswer, answer_of, calls_for, calls_of, effects_for, effects_of, is_job_call, is_joining_purpose, is_writing, joined_on};
 ghost use Rattle.sl_trace.specs.Sessions.{is_survey_purpose};
 ghost use Rattle.sl_host_answers.specs.Facts.{JoinKnown};
 ghost use Rattle.sl_host_answers.specs.Surveys.{leases_of};
-ghost use Rattle.sl_host_answers.specs.declared.own.JoinAnswer.{JoinAnswer as JoinAnswerOf};
-ghost use Rattle.sl_delta.specs.Decides.{IsFitNext};
-ghost use Rattle.sl_host_law.specs.Answers.Requests.{answering_job};
-ghost use Rattle.sl_host_law.specs.Questions.Answers.{set_reply_in};
+ghost use Rattle.sl_host_answers.specs.declared.own_sectors.JoinAnswer.{JoinAnswer as JoinAnswerOf};
+ghost use Rattle.sl_delta.specs.DeltaDecisions.{IsFitNext};
 ghost use Rattle.sl_host_law.specs.Replies.Answers.{IsOpen};
 ghost use Rattle.sl_host_law.specs.Steps.Answers.{answering};
-ghost use Rattle.sl_host_law.specs.Steps.Passes.{at_member};
-ghost use Rattle.sl_host_state.specs.Makes.{with_reply};
-ghost use Rattle.sl_host_state.specs.declared.kept.OpenCall.{OpenCall as OpenCallOf};
-ghost use Rattle.sl_host_work.specs.Next.{IsPlain};
+ghost use Rattle.sl_host_state.specs.declared.kept_parts.OpenCall.{OpenCall as OpenCallOf};
+ghost use Rattle.sl_host_work.specs.NextDecisions.{IsPlain};
 ghost use Rattle.sl_lease.specs.Reads.{CanRead, HasPlaces};
-ghost use Rattle.sl_member.specs.Together.{member_with};
 ghost use Rattle.sl_trace.specs.declared.effects.Purpose.TheVariants.{Joining, Lease as LeaseWork, Leaving, Renewal, RequestRead, RequestWrite, SeeRequest, Survey, ValueRead, ValueWrite};
 ghost use Rattle.sl_trace.specs.declared.input.Answer.TheVariants.{Failed, Read, Written};
-ghost use Rattle.sl_trace.specs.declared.reply.Reply.TheVariants.{Done};
-ghost use Rattle.sl_host.specs.Asking.{state_in};
+ghost use Rattle.sl_host.specs.BookQuestions.{state_in};
 ghost use Rattle.sl_host.specs.Host.{Becomes, SameRun, Spends};
 ghost use Rattle.std.specs.Arc.{arc_value};
-ghost use Rattle.std.specs.Prelude.{IfSome, IsTrue, Some, false, find, is_some, length, true, ℕ, ◌*◌, ◌+◌, ◌==◌, ◌≡◌, ◌≤◌};
+ghost use Rattle.std.specs.Prelude.{IfSome, IsTrue, Some, false, find, is_some, length, true, ◌*◌, ◌+◌, ◌==◌, ◌≡◌, ◌≤◌};
 
-use crate::jobs::{answer_failed, answer_requested, answer_set};
+use crate::jobs::{job_failed, job_requested, job_set, job_value};
 use crate::leases::{answer_lease_failed, answer_lease_read, answer_lease_written};
 use crate::looks::answer_look;
-use crate::own::{
+use crate::own_sectors::{
     JoinAnswer, answer_free_failed, answer_freed, answer_joining, answer_renewed, decide_joining,
 };
-use crate::requests::{answer_request, answer_value};
+use crate::requests::answer_request;
 use crate::surveys::answer_survey;
 use sl_delta::SectorAnswer;
 use sl_host::{Host, Notes};
 use sl_host_state::OpenCall;
 use sl_lease::{Blocks, Sectors};
-use sl_sectors::Image;
+use sl_sector::Image;
 use sl_trace::{JoinStep, LeaseStep, Purpose, Spot, Work};
 use std::sync::Arc;
 
@@ -53,68 +46,6 @@ pub enum Heard<'a, S> {
     Sectors(&'a S),
     Written,
     Failed,
-}
-
-// ---- jobs, while the session is there that made the call
-
-/// Whether a member has this number.
-fn is_member(host: &Host, number: u64) -> bool
-    ensures { result ≡ is_some (member_with number host.now.kept.members) }
-{
-    match host.members().numbered(number) {
-        Some(_) => true,
-        None => false,
-    }
-}
-
-/// The call of a job failed.
-fn job_failed(host: &mut Host, call: &OpenCall, job: u64)
-    requires { 1 ≤ host.old.left }
-    ensures state { Becomes host.old host.new (at_member call.now.session (λ m. answering_job job call.now Failed (λ bytes x. x) (λ x. x))) }
-    ensures left { Spends host.old host.new 1 0 }
-    ensures run { SameRun host.old host.new }
-{
-    if is_member(host, call.session) {
-        answer_failed(host, call, job);
-    }
-}
-
-/// A request of it is written.
-fn job_requested(host: &mut Host, call: &OpenCall, job: u64)
-    requires { 1 ≤ host.old.left }
-    ensures state { Becomes host.old host.new (at_member call.now.session (λ m. answering_job job call.now Written (λ bytes x. x) (with_reply job Done))) }
-    ensures left { Spends host.old host.new 1 0 }
-    ensures run { SameRun host.old host.new }
-{
-    if is_member(host, call.session) {
-        answer_requested(host, call, job);
-    }
-}
-
-/// A value of it is written.
-fn job_set(host: &mut Host, call: &OpenCall, job: u64)
-    requires { 1 ≤ host.old.left }
-    ensures state { Becomes host.old host.new (at_member call.now.session (λ m. answering_job job call.now Written (λ bytes x. x) (with_reply job (set_reply_in call.now)))) }
-    ensures left { Spends host.old host.new 1 0 }
-    ensures run { SameRun host.old host.new }
-{
-    if is_member(host, call.session) {
-        answer_set(host, call, job);
-    }
-}
-
-/// A value is read for it.
-fn job_value<S: Sectors>(host: &mut Host, call: &OpenCall, job: u64, sectors: &S)
-    requires left { 1 ≤ host.old.left }
-    requires cut { IsTrue (S.is_cut sectors.now host.old.kept.config.sizes.sector) }
-    requires one { length (S.bytes sectors.now) ≡ host.old.kept.config.sizes.sector }
-    ensures state { Becomes host.old host.new (at_member call.now.session (λ m. answering_job job call.now (Read (S.bytes sectors.now)) (λ bytes x. with_reply job (value_reply x.config.layout bytes) x) (λ x. x))) }
-    ensures left { Spends host.old host.new 1 0 }
-    ensures run { SameRun host.old host.new }
-{
-    if is_member(host, call.session) {
-        answer_value(host, call, job, sectors);
-    }
 }
 
 // ---- calls on own sectors

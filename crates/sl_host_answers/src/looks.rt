@@ -7,11 +7,11 @@ ghost use Rattle.sl_host_law.specs.Answers.Requests.{seeing_request};
 ghost use Rattle.sl_host_law.specs.Questions.Members.{exclusive_at};
 ghost use Rattle.sl_host_law.specs.Steps.Passes.{at_member, member_numbered};
 ghost use Rattle.sl_host_law.specs.Questions.Answers.{spot_in};
-ghost use Rattle.sl_host.specs.Asking.{state_in};
+ghost use Rattle.sl_host.specs.BookQuestions.{state_in};
 ghost use Rattle.sl_host.specs.Host.{Becomes, SameRun, Spends};
 ghost use Rattle.std.specs.Prelude.{IsTrue, Some, length, ◌<◌, ◌==◌, ◌≡◌, ◌≤◌};
 
-use crate::finding::{area_of, exclusive_under, only_record};
+use crate::answer_owners::{area_of, exclusive_under, only_record};
 use sl_area::Geometry;
 use sl_host::Host;
 use sl_host_state::OpenCall;

@@ -9,5 +9,5 @@ pub mod MembersKeepCalls
 pub mod PresentInOrder
 pub mod MomentsAreLater
 pub mod Answers
-pub mod Replies
+pub mod RepliesAreTaken
 pub mod MovesAreTaken

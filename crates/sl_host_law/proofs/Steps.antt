@@ -1,7 +1,7 @@
 pub mod PassesFollow
 pub mod EarlyParts
 pub mod SoundParts
-pub mod Alone
+pub mod JoiningNamesApart
 pub mod BeginningsFollow
 pub mod LeasesAreKnown
 pub mod AnswersAreKnown

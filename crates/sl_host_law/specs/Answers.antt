@@ -1,7 +1,7 @@
-pub mod Refusing
-pub mod Carrying
-pub mod Leasing
-pub mod Answering
+pub mod RefusalsFollow
+pub mod CarriedDecisions
+pub mod LeaseDecisions
+pub mod AnswersFollow
 pub mod Requests
 pub mod Joinings
 pub mod LeaseAnswers
@@ -10,4 +10,4 @@ pub mod Surveys
 pub mod LeasesSetFree
 pub mod PhaseTwo
 pub mod LeasesGoOn
-pub mod Wakings
+pub mod WakingsFollow

@@ -1,2 +1,2 @@
-pub mod Deciding
-pub mod Promises
+pub mod CommandDecisions
+pub mod DecisionLaws

@@ -1,8 +1,8 @@
-pub mod Plain
+pub mod SharedFacts
 pub mod Calls
 pub mod Replies
 pub mod Decisions
 pub mod Questions
-pub mod Parts
+pub mod StepParts
 pub mod Answers
 pub mod Steps

@@ -1,4 +1,4 @@
 pub mod Members
 pub mod Jobs
 pub mod Answers
-pub mod Parts
+pub mod PartQuestions

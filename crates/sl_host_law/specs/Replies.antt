@@ -1,3 +1,3 @@
 pub mod Answers
-pub mod Replies
+pub mod RepliesAreTaken
 pub mod Moves

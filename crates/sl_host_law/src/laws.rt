@@ -5,8 +5,8 @@
 pub mod answers;
 pub mod calls;
 pub mod decisions;
-pub mod parts;
-pub mod plain;
 pub mod questions;
 pub mod replies;
+pub mod shared_facts;
+pub mod step_parts;
 pub mod steps;

@@ -1,17 +1,17 @@
 -- What is found of a member after the end of a holding, or as a conversion begins, is what the state functions do.
-use Rattle.sl_host_law.specs.Answers.Leasing.{carrying_lease}
-use Rattle.sl_host_law.specs.Decisions.Deciding.{held_on}
+use Rattle.sl_host_law.specs.Answers.LeaseDecisions.{carrying_lease}
+use Rattle.sl_host_law.specs.Decisions.CommandDecisions.{held_on}
 use Rattle.sl_host_law.specs.Steps.Leases.{converting_next, kept_blocks, lease_at, releasing_next}
 use Rattle.sl_host_law.specs.Steps.Passes.{at_member, member_numbered}
-use Rattle.sl_host_lines.specs.Ending.{freed_next, freed_of, giving, gone_on, turning, turning_of}
+use Rattle.sl_host_lines.specs.HoldingEnds.{freed_next, freed_of, giving, gone_on, turning, turning_of}
 use Rattle.sl_host_lines.specs.LineFacts.{LeaseReady}
-use Rattle.sl_host_state.specs.Kept.{HostKept, HostState, MemberState}
-use Rattle.sl_host_state.specs.Makes.{with_end, with_reply}
+use Rattle.sl_host_state.specs.KeptState.{HostKept, HostState, MemberState}
+use Rattle.sl_host_state.specs.MadeEffects.{with_end, with_reply}
 use Rattle.sl_host_work.proofs.TurnsStand.{by_number, is_turned}
-use Rattle.sl_host_work.specs.Asking.{IsTurned, MayAsk, MayTurn}
-use Rattle.sl_host_work.specs.Next.{writes_own_block}
+use Rattle.sl_host_work.specs.LeaseQuestions.{IsTurned, MayAsk, MayTurn}
+use Rattle.sl_host_work.specs.NextDecisions.{writes_own_block}
 use Rattle.sl_lease.specs.Bounds.{IsInstance}
-use Rattle.sl_member.specs.Together.{member_with}
+use Rattle.sl_member.specs.HostMembers.{member_with}
 use Rattle.sl_trace.specs.declared.lease.LeaseNext.{LeaseNext}
 use Rattle.sl_trace.specs.declared.session.Session.{Session}
 use Rattle.sl_tables.specs.Holdings.{fits}
@@ -23,7 +23,7 @@ use Rattle.sl_trace.specs.declared.effects.Spot.{Spot}
 use Rattle.sl_trace.specs.declared.effects.Work.TheVariants.{ForJob}
 use Rattle.sl_trace.specs.declared.reply.Reply.TheVariants.{Done}
 use Rattle.sl_host.proofs.QuestionsStand.{find_found}
-use Rattle.sl_host.specs.Asking.{held_under, sought_on, state_in}
+use Rattle.sl_host.specs.BookQuestions.{held_under, sought_on, state_in}
 use Rattle.sl_words.proofs.CaseLaws.{none_some, some_value}
 use Rattle.sl_words.specs.Words.{is_empty}
 use Rattle.std.proofs.Common.{ap, refl, sym, ◌∙◌}

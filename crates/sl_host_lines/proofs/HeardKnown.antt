@@ -3,15 +3,15 @@ use Rattle.sl_area.specs.Layouts.{Sizes}
 use Rattle.sl_host_law.specs.Questions.Members.{exclusive_at}
 use Rattle.sl_host_law.specs.Steps.Leases.{kept_blocks, lease_at}
 use Rattle.sl_host_lines.specs.LineFacts.{LeaseReady, MayConvertAt, MayReleaseAt}
-use Rattle.sl_host_state.specs.Hears.{heard_line, leaves_member, member_leaving}
-use Rattle.sl_host_state.specs.Kept.{HostKept, HostState, LeaseState, MemberState}
-use Rattle.sl_host_state.specs.Makes.{is_lease_on, new_lease, with_end}
-use Rattle.sl_host_work.specs.Asking.{IsOwned}
-use Rattle.sl_host_work.specs.Placed.{IsArea, IsPlaced}
-use Rattle.sl_lease.specs.Asked.{TopStands}
+use Rattle.sl_host_state.specs.HeardInputs.{heard_line, leaves_member, member_leaving}
+use Rattle.sl_host_state.specs.KeptState.{HostKept, HostState, LeaseState, MemberState}
+use Rattle.sl_host_state.specs.MadeEffects.{is_lease_on, new_lease, with_end}
+use Rattle.sl_host_work.specs.LeaseQuestions.{IsOwned}
+use Rattle.sl_host_work.specs.SectorPlaces.{IsArea, IsPlaced}
+use Rattle.sl_lease.specs.LeaseQuestions.{TopStands}
 use Rattle.sl_lease.specs.Bounds.{IsInstance}
 use Rattle.sl_lease.specs.Side.{is_named}
-use Rattle.sl_member.specs.Together.{member_with}
+use Rattle.sl_member.specs.HostMembers.{member_with}
 use Rattle.sl_trace.specs.declared.delta.DeltaKnown.{DeltaKnown}
 use Rattle.sl_trace.specs.declared.session.Begun.{Begun}
 use Rattle.sl_trace.specs.declared.session.Session.{Session}
@@ -20,7 +20,7 @@ use Rattle.sl_trace.specs.declared.command.Command.{Command}
 use Rattle.sl_trace.specs.declared.effects.End.{End}
 use Rattle.sl_trace.specs.declared.effects.Grant.{Grant}
 use Rattle.sl_trace.specs.declared.effects.Spot.{Spot}
-use Rattle.sl_host.specs.Asking.{state_in}
+use Rattle.sl_host.specs.BookQuestions.{state_in}
 use Rattle.sl_host.specs.Host.{Becomes, HostView, SameRun}
 use Rattle.sl_words.proofs.CaseLaws.{none_some, some_value}
 use Rattle.std.proofs.Common.{ap, refl, subst, sym, ◌∙◌}

@@ -1,20 +1,20 @@
 -- A leaving that begins is what the state function says, and makes no more effects than there are holdings and jobs.
 use Rattle.sl_host_law.specs.Steps.Passes.{at_member, member_numbered}
-use Rattle.sl_host_lines.specs.Leaving.{leaving_cost, leaving_for}
-use Rattle.sl_host_state.specs.Hears.{heard_line, new_job}
-use Rattle.sl_host_state.specs.Kept.{HostKept, HostState, MemberState}
-use Rattle.sl_host_state.specs.declared.kept.JobState.{JobState}
+use Rattle.sl_host_lines.specs.LeavingsBegin.{leaving_cost, leaving_for}
+use Rattle.sl_host_state.specs.HeardInputs.{heard_line, new_job}
+use Rattle.sl_host_state.specs.KeptState.{HostKept, HostState, MemberState}
+use Rattle.sl_host_state.specs.declared.kept_parts.JobState.{JobState}
 use Rattle.sl_host_work.proofs.HoldersFew.{holders_are_few}
 use Rattle.sl_host_work.proofs.RefusalsStand.{stopping_is}
 use Rattle.sl_host_work.specs.Holders.{holders_under}
-use Rattle.sl_host_work.specs.Killing.{holders_of_all}
-use Rattle.sl_host_work.specs.Stopping.{stopped_of, stopping}
+use Rattle.sl_host_work.specs.Kills.{holders_of_all}
+use Rattle.sl_host_work.specs.Stops.{stopped_of, stopping}
 use Rattle.sl_host_work.specs.declared.recoveries.Stopped.{Stopped}
 use Rattle.sl_trace.specs.declared.command.Command.{Command}
 use Rattle.sl_trace.specs.declared.effects.Grant.{Grant}
-use Rattle.sl_host.specs.Choosing.{chosen_among, is_chosen}
-use Rattle.sl_host.specs.declared.passing.Chosen.TheVariants.{OfLockspace}
-use Rattle.sl_host.specs.declared.passing.Chosen.{Chosen}
+use Rattle.sl_host.specs.ChosenJobs.{chosen_among, is_chosen}
+use Rattle.sl_host.specs.declared.passes.Chosen.TheVariants.{OfLockspace}
+use Rattle.sl_host.specs.declared.passes.Chosen.{Chosen}
 use Rattle.sl_host.specs.Host.{Becomes, HostView}
 use Rattle.sl_words.proofs.CaseLaws.{none_some, some_value}
 use Rattle.std.proofs.Common.{ap, arith, length-append, refl, sym, ◌∙◌}

@@ -1,11 +1,11 @@
 -- A joining has its place, and the member that was made for it.
 use Rattle.sl_due.specs.DueCommands.{unless_refused}
 use Rattle.sl_due.specs.declared.decision.Decision.TheVariants.{Joins}
-use Rattle.sl_host_law.specs.Decisions.Deciding.{decision_of, joined_refused, member_named}
+use Rattle.sl_host_law.specs.Decisions.CommandDecisions.{decision_of, joined_refused, member_named}
 use Rattle.sl_host_lines.proofs.HeardKnown.{born_heard}
 use Rattle.sl_host_lines.specs.Seats.{IsSeat}
-use Rattle.sl_host_state.specs.Hears.{heard_line}
-use Rattle.sl_host_state.specs.Kept.{HostState, Made}
+use Rattle.sl_host_state.specs.HeardInputs.{heard_line}
+use Rattle.sl_host_state.specs.KeptState.{HostState, Made}
 use Rattle.sl_member.specs.Members.{MemberKept, blank_member}
 use Rattle.sl_trace.specs.Sessions.{joining_session}
 use Rattle.sl_trace.specs.Limits.{most_lockspaces}
@@ -16,7 +16,7 @@ use Rattle.sl_trace.specs.declared.reply.Limited.TheVariants.{Lockspaces}
 use Rattle.sl_trace.specs.declared.reply.Reply.TheVariants.{Limit as LimitReached}
 use Rattle.sl_trace.specs.declared.reply.Reply.{Reply}
 use Rattle.sl_host.specs.Host.{Becomes, HostView, SameRun}
-use Rattle.sl_host.specs.Joining.{run_in}
+use Rattle.sl_host.specs.MemberRun.{run_in}
 use Rattle.sl_words.specs.Words.{choose}
 use Rattle.std.proofs.Common.{ap, arith, refl, subst, sym, ◌∙◌}
 use Rattle.std.proofs.lemmas.Bool.Decides.{nat_tests}

@@ -1,4 +1,7 @@
 pub mod LineFacts
-pub mod Ending
-pub mod Leaving
+pub mod HoldingEnds
+pub mod LeavingsBegin
 pub mod Seats
+pub mod CommandRefusals
+pub mod ListMemory
+pub mod ToldSessions

@@ -2,17 +2,17 @@
 use Rattle.sl_area.specs.Layouts.{layout_of}
 use Rattle.sl_due.specs.declared.decision.Decision.TheVariants.{ConvertsTo, GetsValue, GivesUp, Joins, Leaves, ReadsArea, Replies, Requests, SetsValue, Shares, TakesOver}
 use Rattle.sl_due.specs.declared.decision.Decision.{Decision}
-use Rattle.sl_host_law.specs.Decisions.Deciding.{decision_of}
+use Rattle.sl_host_law.specs.Decisions.CommandDecisions.{decision_of}
 use Rattle.sl_host_law.specs.Questions.Members.{exclusive_at}
 use Rattle.sl_host_law.specs.Steps.Leases.{kept_blocks, lease_at}
-use Rattle.sl_host_state.specs.Kept.{HostKept, MemberState, state_of}
-use Rattle.sl_host_work.specs.Asking.{IsOwned}
-use Rattle.sl_host_work.specs.Placed.{IsArea, IsPlaced}
-use Rattle.sl_lease.specs.Asked.{TopStands}
+use Rattle.sl_host_state.specs.KeptState.{HostKept, MemberState, state_of}
+use Rattle.sl_host_work.specs.LeaseQuestions.{IsOwned}
+use Rattle.sl_host_work.specs.SectorPlaces.{IsArea, IsPlaced}
+use Rattle.sl_lease.specs.LeaseQuestions.{TopStands}
 use Rattle.sl_lease.specs.Bounds.{IsInstance}
 use Rattle.sl_lease.specs.Side.{is_named}
 use Rattle.sl_trace.specs.Leases.{spot_of}
-use Rattle.sl_member.specs.Together.{member_with}
+use Rattle.sl_member.specs.HostMembers.{member_with}
 use Rattle.sl_trace.specs.Commands.{IsCommand}
 use Rattle.sl_trace.specs.Traces.{spot_of_grant}
 use Rattle.sl_trace.specs.declared.command.Command.TheVariants.{AddLockspace, RemLockspace}
@@ -20,7 +20,7 @@ use Rattle.sl_trace.specs.declared.command.Command.{Command}
 use Rattle.sl_trace.specs.declared.command.LockspaceArg.{LockspaceArg}
 use Rattle.sl_trace.specs.declared.effects.Grant.{Grant}
 use Rattle.sl_trace.specs.declared.effects.Spot.{Spot}
-use Rattle.sl_host.specs.Asking.{state_in}
+use Rattle.sl_host.specs.BookQuestions.{state_in}
 use Rattle.sl_host.specs.Host.{ReadAs}
 use Rattle.sl_words.specs.Bounds.{moments}
 use Rattle.std.specs.Prelude.{IfSome, IsTrue, List, None, Some, true, ℕ, ◌+◌, ◌<◌, ◌^◌, ◌≡◌}

@@ -5,7 +5,7 @@ use Rattle.sl_trace.specs.declared.command.Command.TheVariants.{AddLockspace}
 use Rattle.sl_trace.specs.declared.command.Command.{Command}
 use Rattle.sl_trace.specs.declared.command.LockspaceArg.{LockspaceArg}
 use Rattle.sl_host.specs.Host.{HostView}
-use Rattle.sl_host.specs.Joining.{run_in}
+use Rattle.sl_host.specs.MemberRun.{run_in}
 use Rattle.std.specs.Prelude.{None, Option, Some, ℕ, ◌≡◌, ◌≤◌}
 
 -- It is of the next session to be born, for this job, without a call, and has memory for as many leases as calls may be made.

@@ -3,26 +3,26 @@
 //! A holding that is given up ends at once. While others are left under its lease the job is answered; the last one's end is work of the lease.
 
 ghost use Rattle.sl_due.specs.declared.decision.Decision.TheVariants.{ConvertsTo, GivesUp};
-ghost use Rattle.sl_host_law.specs.Decisions.Deciding.{held_on};
+ghost use Rattle.sl_host_law.specs.Decisions.CommandDecisions.{held_on};
 ghost use Rattle.sl_host_law.specs.Steps.Leases.{converting_next};
-ghost use Rattle.sl_host_law.specs.Steps.Lines.{deciding};
+ghost use Rattle.sl_host_law.specs.Steps.LineSteps.{deciding};
 ghost use Rattle.sl_host_law.specs.Steps.Passes.{at_member};
-ghost use Rattle.sl_host_lines.specs.Ending.{freed_next, freed_of, giving, gone_on, turning, turning_of};
+ghost use Rattle.sl_host_lines.specs.HoldingEnds.{freed_next, freed_of, giving, gone_on, turning, turning_of};
 ghost use Rattle.sl_host_lines.specs.LineFacts.{IsTimely, MayConvert, MayConvertAt, MayRelease, MayReleaseAt};
-ghost use Rattle.sl_host_work.specs.Asking.{IsTurned, MayTurn};
-ghost use Rattle.sl_host_work.specs.Next.{IsFit, writes_own_block};
-ghost use Rattle.sl_host_work.specs.Placed.{IsArea, IsPlaced};
+ghost use Rattle.sl_host_work.specs.LeaseQuestions.{IsTurned, MayTurn};
+ghost use Rattle.sl_host_work.specs.NextDecisions.{IsFit, writes_own_block};
+ghost use Rattle.sl_host_work.specs.SectorPlaces.{IsArea, IsPlaced};
 ghost use Rattle.sl_trace.specs.Leases.{spot_of};
-ghost use Rattle.sl_member.specs.Together.{member_with};
+ghost use Rattle.sl_member.specs.HostMembers.{member_with};
 ghost use Rattle.sl_trace.specs.Traces.{spot_of_grant};
-ghost use Rattle.sl_host.specs.Asking.{state_in};
+ghost use Rattle.sl_host.specs.BookQuestions.{state_in};
 ghost use Rattle.sl_host.specs.Host.{Becomes, SameRun, Spends};
 ghost use Rattle.sl_words.specs.Bounds.{moments};
 ghost use Rattle.sl_words.specs.Words.{is_empty};
 ghost use Rattle.std.specs.Prelude.{IfSome, is_some, true, ◌+◌, ◌<◌, ◌≡◌, ◌≤◌};
 
+use crate::line_answers::begin;
 use crate::line_grants::end_of;
-use crate::lines::begin;
 use sl_host::Host;
 use sl_host_work::{carry_lease, converting_next, releasing_next};
 use sl_member::Member;

@@ -1,13 +1,13 @@
 //! Lines that grant at once: a shared holding beside another, and an orphan that is taken over.
 
 ghost use Rattle.sl_due.specs.declared.decision.Decision.TheVariants.{Shares, TakesOver};
-ghost use Rattle.sl_host_law.specs.Steps.Lines.{deciding};
+ghost use Rattle.sl_host_law.specs.Steps.LineSteps.{deciding};
 ghost use Rattle.sl_host_lines.specs.LineFacts.{IsTimely};
 ghost use Rattle.sl_trace.specs.Traces.{end_of};
 ghost use Rattle.sl_host.specs.Host.{Becomes, SameRun, Spends};
 ghost use Rattle.std.specs.Prelude.{◌+◌, ◌≡◌, ◌≤◌};
 
-use crate::lines::begin;
+use crate::line_answers::begin;
 use sl_host::Host;
 use sl_host_work::grant_for;
 use sl_trace::{Command, End, Grant, Mode, Session};

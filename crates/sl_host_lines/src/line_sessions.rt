@@ -3,13 +3,13 @@
 ghost use Rattle.sl_area.specs.Layouts.{layout_of};
 ghost use Rattle.sl_area.specs.Places.{delta_offset};
 ghost use Rattle.sl_due.specs.declared.decision.Decision.TheVariants.{Joins, Leaves};
-ghost use Rattle.sl_host_law.specs.Steps.Lines.{deciding};
+ghost use Rattle.sl_host_law.specs.Steps.LineSteps.{deciding};
 ghost use Rattle.sl_host_law.specs.Steps.Passes.{at_member};
-ghost use Rattle.sl_host_lines.specs.Leaving.{leaving_cost, leaving_for};
+ghost use Rattle.sl_host_lines.specs.LeavingsBegin.{leaving_cost, leaving_for};
 ghost use Rattle.sl_host_lines.specs.LineFacts.{IsTimely};
 ghost use Rattle.sl_host_lines.specs.Seats.{HasSeat, IsSeat};
-ghost use Rattle.sl_host_work.specs.Stopping.{stopped_of};
-ghost use Rattle.sl_member.specs.Together.{member_with};
+ghost use Rattle.sl_host_work.specs.Stops.{stopped_of};
+ghost use Rattle.sl_member.specs.HostMembers.{member_with};
 ghost use Rattle.sl_trace.specs.Commands.{IsLockspaceArg};
 ghost use Rattle.sl_trace.specs.Limits.{most_lockspaces};
 ghost use Rattle.sl_trace.specs.declared.command.Command.TheVariants.{AddLockspace};
@@ -17,7 +17,7 @@ ghost use Rattle.sl_host.specs.Host.{Becomes, SameRun, Spends};
 ghost use Rattle.sl_host.specs.Notes.{NotesState};
 ghost use Rattle.std.specs.Prelude.{None, length, option_map, ℕ, ◌+◌, ◌<◌, ◌≡◌, ◌≤◌};
 
-use crate::lines::begin;
+use crate::line_answers::begin;
 use sl_host::{Host, Notes};
 use sl_host_work::{Stopped, stop};
 use sl_member::Member;

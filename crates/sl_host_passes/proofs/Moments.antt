@@ -1,13 +1,13 @@
 -- The least of many moments, one after another.
-use Rattle.sl_host_passes.specs.Calm.{found_moments, least_by, next_moment}
-use Rattle.sl_host_state.specs.Hears.{quiet_to}
-use Rattle.sl_host_state.specs.Kept.{HostState}
-use Rattle.sl_host_state.specs.Stands.{IsQuiet, job_moments, member_moments, moments_of}
-use Rattle.sl_host_state.specs.declared.kept.JobState.{JobState}
-use Rattle.sl_host_work.proofs.Passing.{drop_all, drop_next}
-use Rattle.sl_member.specs.Together.{AreApart}
-use Rattle.sl_plain.proofs.Lists.{contains_cases, contains_none, got_inside}
-use Rattle.sl_plain.proofs.Numbers.{trans_le}
+use Rattle.sl_host_passes.specs.NextMoment.{found_moments, least_by, next_moment}
+use Rattle.sl_host_state.specs.HeardInputs.{quiet_to}
+use Rattle.sl_host_state.specs.KeptState.{HostState}
+use Rattle.sl_host_state.specs.HostStands.{IsQuiet, job_moments, member_moments, moments_of}
+use Rattle.sl_host_state.specs.declared.kept_parts.JobState.{JobState}
+use Rattle.sl_host_work.proofs.ListPasses.{drop_all, drop_next}
+use Rattle.sl_member.specs.HostMembers.{AreApart}
+use Rattle.sl_words.proofs.Lists.{contains_cases, contains_none, got_inside}
+use Rattle.sl_words.proofs.Numbers.{trans_le}
 use Rattle.std.proofs.Common.{ap, arith, inl, inr, refl, subst, sym, ◌∙◌}
 use Rattle.std.proofs.lemmas.List.Sums.{fold-append}
 use Rattle.std.specs.List.{AllByRecursion}

@@ -1,20 +1,20 @@
 -- Exits and starts: what ends of holdings, and which jobs stay.
-use Rattle.sl_host_law.specs.Parts.Exits.{ending, exiting, leaving, refusing_of}
-use Rattle.sl_host_law.specs.Parts.Signals.{over}
-use Rattle.sl_host_law.specs.Parts.Spawns.{child_in, spawning}
+use Rattle.sl_host_law.specs.StepParts.Exits.{ending, exiting, leaving, refusing_of}
+use Rattle.sl_host_law.specs.StepParts.Signals.{over}
+use Rattle.sl_host_law.specs.StepParts.Spawns.{child_in, spawning}
 use Rattle.sl_host_law.specs.Steps.Inputs.{starting}
-use Rattle.sl_host_passes.proofs.Lessening.{kept_few}
-use Rattle.sl_host_state.specs.Hears.{heard_start}
-use Rattle.sl_host_state.specs.Kept.{HostState}
-use Rattle.sl_host_state.specs.Makes.{with_end, with_grant}
-use Rattle.sl_host_state.specs.declared.kept.JobState.{JobState}
-use Rattle.sl_host_work.specs.Ending.{held_by}
+use Rattle.sl_host_passes.proofs.LessIsLeft.{kept_few}
+use Rattle.sl_host_state.specs.HeardInputs.{heard_start}
+use Rattle.sl_host_state.specs.KeptState.{HostState}
+use Rattle.sl_host_state.specs.MadeEffects.{with_end, with_grant}
+use Rattle.sl_host_state.specs.declared.kept_parts.JobState.{JobState}
+use Rattle.sl_host_work.specs.ProcessHoldings.{held_by}
 use Rattle.sl_tables.specs.Children.{child_of}
 use Rattle.sl_tables.specs.declared.children.ChildState.{ChildState}
 use Rattle.sl_trace.specs.Traces.{Child, end_of, leaves_orphan, no_process, orphan_of, orphans_left}
 use Rattle.sl_trace.specs.declared.effects.Grant.{Grant}
-use Rattle.sl_host.specs.Choosing.{chosen_among, is_chosen}
-use Rattle.sl_host.specs.declared.passing.Chosen.{Chosen}
+use Rattle.sl_host.specs.ChosenJobs.{chosen_among, is_chosen}
+use Rattle.sl_host.specs.declared.passes.Chosen.{Chosen}
 use Rattle.std.proofs.Common.{ap, arith, refl, sym, ◌∙◌}
 use Rattle.std.proofs.lemmas.List.{length-map}
 use Rattle.std.specs.Prelude.{Bool, List, None, Option, Some, [], cond, false, filter, find, length, map, option_map, ℕ, ◌*◌, ◌+◌, ◌==◌, ◌∷◌, ◌≡◌, ◌≤◌}

@@ -1,21 +1,21 @@
 -- Below the reading kept a host does nothing before its input.
 use Rattle.sl_host_law.proofs.Calls.Beginnings.QuietBegun.{moments_have, quietly}
-use Rattle.sl_host_law.proofs.Plain.Quiet.{job_quiet, member_quiet}
-use Rattle.sl_host_law.specs.Answers.Refusing.{refusing, timing_out}
-use Rattle.sl_host_law.specs.Parts.Recoveries.{killing, recovering_in}
-use Rattle.sl_host_law.specs.Parts.Refusals.{signalling_and_refusing}
-use Rattle.sl_host_law.specs.Parts.Signals.{over, signalling}
+use Rattle.sl_host_law.proofs.SharedFacts.QuietMoments.{job_quiet, member_quiet}
+use Rattle.sl_host_law.specs.Answers.RefusalsFollow.{refusing, timing_out}
+use Rattle.sl_host_law.specs.StepParts.Recoveries.{killing, recovering_in}
+use Rattle.sl_host_law.specs.StepParts.Refusals.{signalling_and_refusing}
+use Rattle.sl_host_law.specs.StepParts.Signals.{over, signalling}
 use Rattle.sl_host_law.specs.Questions.Jobs.{is_overdue_in}
 use Rattle.sl_host_law.specs.Steps.Passes.{at_job, at_member, for_jobs, for_members, job_with, member_numbered}
-use Rattle.sl_host_law.specs.Steps.Stepping.{before_taking}
-use Rattle.sl_host_passes.specs.Knowing.{BegunBefore}
-use Rattle.sl_host_state.specs.Asks.{begins_in, is_kill_due_in}
-use Rattle.sl_host_state.specs.Hears.{begun, counted}
-use Rattle.sl_host_state.specs.Kept.{HostState, MemberState}
-use Rattle.sl_host_state.specs.Stands.{IsQuiet, job_moments, kill_moment, recovery_moment}
-use Rattle.sl_host_state.specs.declared.kept.JobState.{JobState}
-use Rattle.sl_host_state.specs.declared.kept.WaitingCall.{WaitingCall}
-use Rattle.sl_plain.proofs.Lists.{contains_first, contains_more, find_inside}
+use Rattle.sl_host_law.specs.Steps.StepFunction.{before_taking}
+use Rattle.sl_host_passes.specs.PassPremises.{BegunBefore}
+use Rattle.sl_host_state.specs.StepQuestions.{begins_in, is_kill_due_in}
+use Rattle.sl_host_state.specs.HeardInputs.{begun, counted}
+use Rattle.sl_host_state.specs.KeptState.{HostState, MemberState}
+use Rattle.sl_host_state.specs.HostStands.{IsQuiet, job_moments, kill_moment, recovery_moment}
+use Rattle.sl_host_state.specs.declared.kept_parts.JobState.{JobState}
+use Rattle.sl_host_state.specs.declared.kept_parts.WaitingCall.{WaitingCall}
+use Rattle.sl_words.proofs.Lists.{contains_first, contains_more, find_inside}
 use Rattle.sl_trace.specs.declared.session.Begun.{Begun}
 use Rattle.sl_trace.specs.declared.effects.Signal.TheVariants.{Kill}
 use Rattle.sl_trace.specs.declared.reply.Reply.TheVariants.{IoTimeout}

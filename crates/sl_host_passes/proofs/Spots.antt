@@ -1,8 +1,8 @@
 -- Areas are noted one after another, and members' leases are counted by their numbers.
-use Rattle.sl_host_passes.specs.Fewer.{leases_among, leases_at, leases_in}
-use Rattle.sl_host_state.specs.Kept.{LeaseState, MemberState}
-use Rattle.sl_member.specs.Together.{AreApart, member_with}
-use Rattle.sl_host.proofs.PassingStands.{front_all, front_more}
+use Rattle.sl_host_passes.specs.PassesLessen.{leases_among, leases_at, leases_in}
+use Rattle.sl_host_state.specs.KeptState.{LeaseState, MemberState}
+use Rattle.sl_member.specs.HostMembers.{AreApart, member_with}
+use Rattle.sl_host.proofs.PassNotes.{front_all, front_more}
 use Rattle.sl_trace.specs.declared.effects.Spot.{Spot}
 use Rattle.std.proofs.Common.{ap, arith, refl, sym, ◌∙◌}
 use Rattle.std.proofs.lemmas.List.Sums.{sum_by-cons}

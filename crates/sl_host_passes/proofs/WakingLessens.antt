@@ -1,27 +1,27 @@
 -- Joinings that go on, and renewals, take members and jobs away and add none; so what is known of members, leases and holdings stays.
 use Rattle.sl_area.specs.Layouts.{Sizes}
-use Rattle.sl_host_law.specs.Answers.Carrying.{carrying, connecting, own_sector, reading_own, registering, surveying, writing_own}
-use Rattle.sl_host_law.specs.Answers.Refusing.{refusing}
-use Rattle.sl_host_law.specs.Answers.Wakings.{joining_by_time}
-use Rattle.sl_host_law.specs.Parts.Ends.{removing, renewing_in}
-use Rattle.sl_host_law.specs.Parts.Wakes.{bits_in, delta_in, next_by_newest}
+use Rattle.sl_host_law.specs.Answers.CarriedDecisions.{carrying, connecting, own_sector, reading_own, registering, surveying, writing_own}
+use Rattle.sl_host_law.specs.Answers.RefusalsFollow.{refusing}
+use Rattle.sl_host_law.specs.Answers.WakingsFollow.{joining_by_time}
+use Rattle.sl_host_law.specs.StepParts.Ends.{removing, renewing_in}
+use Rattle.sl_host_law.specs.StepParts.Wakes.{bits_in, delta_in, next_by_newest}
 use Rattle.sl_host_law.specs.Questions.Jobs.{running_in}
 use Rattle.sl_host_law.specs.Steps.Leases.{kept_blocks, lease_at}
-use Rattle.sl_host_passes.proofs.Lessening.{Lessens, by_call, by_move, by_reply, lease_comes, lease_stays, lessened, lessens_not, lessens_on, lessens_some, lessens_where, member_comes}
+use Rattle.sl_host_passes.proofs.LessIsLeft.{Lessens, by_call, by_move, by_reply, lease_comes, lease_stays, lessened, lessens_not, lessens_on, lessens_some, lessens_where, member_comes}
 use Rattle.sl_host_passes.proofs.PartsLessen.{by_refusing, by_removing}
-use Rattle.sl_host_passes.proofs.Runs.{same_config, same_reading}
-use Rattle.sl_host_passes.specs.Knowing.{AreKnown, WakeKnown}
-use Rattle.sl_host_state.specs.Kept.{HostState, LeaseState, MemberState}
-use Rattle.sl_host_state.specs.Makes.{with_call, with_move, with_reply}
-use Rattle.sl_host_state.specs.Stands.{top_mbal}
-use Rattle.sl_host_state.specs.declared.kept.TopNumber.{TopNumber}
-use Rattle.sl_host_work.specs.Asking.{IsOwned}
-use Rattle.sl_host_work.specs.Placed.{IsArea, IsPlaced}
-use Rattle.sl_host_work.specs.Waking.{ArePlaced}
-use Rattle.sl_lease.specs.Asked.{TopStands}
+use Rattle.sl_host_passes.proofs.RunsStay.{same_config, same_reading}
+use Rattle.sl_host_passes.specs.PassPremises.{AreKnown, WakeKnown}
+use Rattle.sl_host_state.specs.KeptState.{HostState, LeaseState, MemberState}
+use Rattle.sl_host_state.specs.MadeEffects.{with_call, with_move, with_reply}
+use Rattle.sl_host_state.specs.HostStands.{top_mbal}
+use Rattle.sl_host_state.specs.declared.kept_parts.TopNumber.{TopNumber}
+use Rattle.sl_host_work.specs.LeaseQuestions.{IsOwned}
+use Rattle.sl_host_work.specs.SectorPlaces.{IsArea, IsPlaced}
+use Rattle.sl_host_work.specs.TimedWork.{ArePlaced}
+use Rattle.sl_lease.specs.LeaseQuestions.{TopStands}
 use Rattle.sl_lease.specs.Bounds.{IsInstance}
 use Rattle.sl_area.specs.Layouts.{IsGeometry}
-use Rattle.sl_plain.proofs.Lists.{find_inside}
+use Rattle.sl_words.proofs.Lists.{find_inside}
 use Rattle.sl_sector.specs.declared.sector.DeltaRec.{DeltaRec}
 use Rattle.sl_sector.specs.declared.sector.DeltaState.TheVariants.{Live}
 use Rattle.sl_sector.specs.declared.sector.Rec.TheVariants.{DeltaIs}
@@ -38,7 +38,7 @@ use Rattle.sl_trace.specs.declared.effects.Move.TheVariants.{Register, Renew}
 use Rattle.sl_trace.specs.declared.effects.Op.TheVariants.{ReadSectors, WriteRecord}
 use Rattle.sl_trace.specs.declared.effects.Purpose.TheVariants.{Joining, Leaving, Renewal, Survey}
 use Rattle.sl_trace.specs.declared.reply.Reply.TheVariants.{Generation}
-use Rattle.sl_host.specs.Asking.{state_in}
+use Rattle.sl_host.specs.BookQuestions.{state_in}
 use Rattle.sl_host.specs.Host.{Becomes, HostView, SameRun}
 use Rattle.sl_words.specs.Bounds.{moments}
 use Rattle.sl_words.specs.Words.{is_empty}

@@ -1,4 +1,4 @@
-pub mod Fewer
-pub mod Knowing
-pub mod Calm
-pub mod Finishing
+pub mod PassesLessen
+pub mod PassPremises
+pub mod NextMoment
+pub mod SessionFinish

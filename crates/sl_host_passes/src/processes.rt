@@ -1,14 +1,14 @@
 //! Processes: one exits, or the start of a child is answered.
 
-ghost use Rattle.sl_host_law.specs.Parts.Exits.{exiting};
-ghost use Rattle.sl_host_law.specs.Parts.Spawns.{replying_if, spawning, started_in, terming};
+ghost use Rattle.sl_host_law.specs.StepParts.Exits.{exiting};
+ghost use Rattle.sl_host_law.specs.StepParts.Spawns.{replying_if, spawning, started_in, terming};
 ghost use Rattle.sl_host_law.specs.Steps.Inputs.{starting};
-ghost use Rattle.sl_host_state.specs.Hears.{heard_exit};
-ghost use Rattle.sl_host_work.specs.Ending.{HoldsOnce};
+ghost use Rattle.sl_host_state.specs.HeardInputs.{heard_exit};
+ghost use Rattle.sl_host_work.specs.ProcessHoldings.{HoldsOnce};
 ghost use Rattle.sl_trace.specs.Sessions.{is_join_done};
 ghost use Rattle.sl_tables.specs.Children.{child_of};
 ghost use Rattle.sl_trace.specs.Traces.{no_process};
-ghost use Rattle.sl_host.specs.Asking.{state_in};
+ghost use Rattle.sl_host.specs.BookQuestions.{state_in};
 ghost use Rattle.sl_host.specs.Host.{Becomes, SameRun, Spends};
 ghost use Rattle.sl_host.specs.Notes.{NotesState};
 ghost use Rattle.std.specs.Prelude.{false, length, ◌*◌, ◌+◌, ◌==◌, ◌≡◌, ◌≤◌};

@@ -1,7 +1,7 @@
-pub mod Seeing
+pub mod LooksStay
 pub mod NewHost
-pub mod Passing
-pub mod Others
-pub mod Resting
-pub mod Asking
+pub mod PartsAreTaken
+pub mod EffectsAreTaken
+pub mod StepsAreOver
+pub mod StepQuestions
 pub mod Pairs

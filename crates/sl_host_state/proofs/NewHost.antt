@@ -1,16 +1,16 @@
 -- A new host stands for no step: each question to the empty trace has the answer kept.
-use Rattle.sl_host_state.specs.Kept.{Config, MemberState}
-use Rattle.sl_host_state.specs.New.{IsOfProgram, given_sessions, new_host, new_joining, new_member, sizes_in}
-use Rattle.sl_host_state.specs.Stands.{AskedStands, HostStands, JoinStands, Keeps, MemberStands, WatchKeeps, config_of}
+use Rattle.sl_host_state.specs.KeptState.{Config, MemberState}
+use Rattle.sl_host_state.specs.NewHost.{IsOfProgram, given_sessions, new_host, new_joining, new_member, sizes_in}
+use Rattle.sl_host_state.specs.HostStands.{AskedStands, HostStands, JoinStands, Keeps, MemberStands, WatchKeeps, config_of}
 use Rattle.sl_trace.specs.Sessions.{given_session, is_present}
 use Rattle.sl_trace.specs.declared.session.Session.{Session}
 use Rattle.sl_trace.specs.Connections.{given_connection}
 use Rattle.sl_trace.specs.Traces.{Setting}
 use Rattle.sl_trace.specs.declared.input.Given.{Given}
 use Rattle.sl_time.specs.Times.{TimingNumbers, fail}
-use Rattle.sl_watch.proofs.TellingLaws.{watches_are_told}
+use Rattle.sl_watch.proofs.ToldLaws.{watches_are_told}
 use Rattle.sl_watch.specs.Summaries.{nothing_seen}
-use Rattle.sl_watch.specs.Telling.{blank_watch}
+use Rattle.sl_watch.specs.ToldLooks.{blank_watch}
 use Rattle.sl_words.proofs.CaseLaws.{none_some, some_value}
 use Rattle.sl_words.specs.Words.{some_is}
 use Rattle.std.proofs.lemmas.List.{length-replicate}

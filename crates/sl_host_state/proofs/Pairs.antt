@@ -2,10 +2,10 @@
 -- first read is what is kept of it, and the answer to the newest call, or one more call, keeps this so.
 use Rattle.sl_area.specs.Layouts.{Layout}
 use Rattle.sl_area.specs.Places.{blocks_of, blocks_part, leader_read, needs_again, pair_read, pairs_kept}
-use Rattle.sl_host_state.specs.Hears.{blocks_heard, blocks_shown, is_area_step, is_last_phase, is_phase_step, kept_heard, leader_shown, pair_hearing, read_heard, turn_heard}
-use Rattle.sl_host_state.specs.Kept.{PairState}
-use Rattle.sl_host_state.specs.Makes.{pair_calling}
-use Rattle.sl_host_state.specs.Stands.{IsFirstKept, IsSecondKept, first_read, is_again_newest, turn_kept}
+use Rattle.sl_host_state.specs.HeardInputs.{blocks_heard, blocks_shown, is_area_step, is_last_phase, is_phase_step, kept_heard, leader_shown, pair_hearing, read_heard, turn_heard}
+use Rattle.sl_host_state.specs.KeptState.{PairState}
+use Rattle.sl_host_state.specs.MadeEffects.{pair_calling}
+use Rattle.sl_host_state.specs.HostStands.{IsFirstKept, IsSecondKept, first_read, is_again_newest, turn_kept}
 use Rattle.sl_sector.specs.declared.sector.Leader.{Leader}
 use Rattle.sl_sector.specs.declared.sector.PairBlock.{PairBlock}
 use Rattle.sl_sector.specs.declared.sector.Rec.{Rec}

@@ -1,8 +1,8 @@
 -- What a signal, an end and a grant do to what a host keeps: none of them touches a call, a session or a job.
 use Rattle.sl_due.specs.Steps.{add_end, add_grant, add_signal}
-use Rattle.sl_host_state.specs.Kept.{HostState}
-use Rattle.sl_host_state.specs.Makes.{with_end, with_grant, with_signal}
-use Rattle.sl_host_state.specs.Stands.{Takes}
+use Rattle.sl_host_state.specs.KeptState.{HostState}
+use Rattle.sl_host_state.specs.MadeEffects.{with_end, with_grant, with_signal}
+use Rattle.sl_host_state.specs.HostStands.{Takes}
 use Rattle.sl_trace.specs.declared.effects.End.{End}
 use Rattle.sl_trace.specs.declared.effects.Grant.{Grant}
 use Rattle.sl_trace.specs.declared.effects.Signal.{Signal}

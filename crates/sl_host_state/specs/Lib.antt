@@ -1,9 +1,9 @@
-pub mod Kept
-pub mod Stands
-pub mod New
-pub mod Makes
-pub mod Hears
+pub mod KeptState
+pub mod HostStands
+pub mod NewHost
+pub mod MadeEffects
+pub mod HeardInputs
 pub mod Passes
 pub mod Effects
-pub mod Resting
-pub mod Asks
+pub mod StepsAreOver
+pub mod StepQuestions

@@ -2,8 +2,8 @@
 -- began, whatever its parts do to what is kept.
 use Rattle.sl_due.specs.DueWake.{for_sessions}
 use Rattle.sl_due.specs.Steps.{Step, for_each, when}
-use Rattle.sl_host_state.specs.Kept.{HostState}
-use Rattle.sl_host_state.specs.Stands.{Takes}
+use Rattle.sl_host_state.specs.KeptState.{HostState}
+use Rattle.sl_host_state.specs.HostStands.{Takes}
 use Rattle.sl_trace.specs.declared.session.Session.{Session}
 use Rattle.sl_trace.specs.Traces.{Job}
 use Rattle.sl_trace.specs.declared.effects.Grant.{Grant}

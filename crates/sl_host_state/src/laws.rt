@@ -1,10 +1,10 @@
 //! What a new host stands for, and how parts of a step are put together.
 
-ghost use Rattle.sl_host_state.specs.Asks.{QuestionsAreAnswered};
+ghost use Rattle.sl_host_state.specs.StepQuestions.{QuestionsAreAnswered};
 ghost use Rattle.sl_host_state.specs.Effects.{EffectsAreTaken};
-ghost use Rattle.sl_host_state.specs.New.{NewHostStands};
+ghost use Rattle.sl_host_state.specs.NewHost.{NewHostStands};
 ghost use Rattle.sl_host_state.specs.Passes.{PartsAreTaken};
-ghost use Rattle.sl_host_state.specs.Resting.{NewLeaseStands, StepsAreOver};
+ghost use Rattle.sl_host_state.specs.StepsAreOver.{NewLeaseStands, StepsAreOver};
 
 /// A new host stands for no step, whatever sessions it is given.
 pub fn new_host_stands()

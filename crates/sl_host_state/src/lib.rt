@@ -2,7 +2,7 @@
 //! meet. A law says of a change of the kept state that it follows a function of `sl_due`; a method says that it makes that change.
 #![tactic(auto)]
 
-pub mod kept;
+pub mod kept_parts;
 pub mod laws;
 
-pub use kept::{JobState, JoinCall, LeaseCall, OpenCall, TopNumber, ValuePair, WaitingCall};
+pub use kept_parts::{JobState, JoinCall, LeaseCall, OpenCall, TopNumber, ValuePair, WaitingCall};

@@ -1,19 +1,19 @@
 -- Nothing that is due before an input makes a call, or answers one: the open calls stay, and what the host is made of.
-use Rattle.sl_host_law.specs.Answers.Refusing.{refusing, timing_out}
-use Rattle.sl_host_law.specs.Parts.Ends.{removing}
-use Rattle.sl_host_law.specs.Parts.Recoveries.{killing, recovering_in}
-use Rattle.sl_host_law.specs.Parts.Refusals.{jobs_but, numbers_of, signalling_and_refusing}
-use Rattle.sl_host_law.specs.Parts.Signals.{over, sending, signalling, telling}
+use Rattle.sl_host_law.specs.Answers.RefusalsFollow.{refusing, timing_out}
+use Rattle.sl_host_law.specs.StepParts.Ends.{removing}
+use Rattle.sl_host_law.specs.StepParts.Recoveries.{killing, recovering_in}
+use Rattle.sl_host_law.specs.StepParts.Refusals.{jobs_but, numbers_of, signalling_and_refusing}
+use Rattle.sl_host_law.specs.StepParts.Signals.{over, sending, signalling, telling}
 use Rattle.sl_host_law.specs.Questions.Jobs.{is_overdue_in, joining_in}
 use Rattle.sl_host_law.specs.Questions.Members.{holders_in}
 use Rattle.sl_host_law.specs.Steps.Passes.{at_job, at_member, for_jobs, for_members, job_with, member_numbered}
-use Rattle.sl_host_law.specs.Steps.Stepping.{before_taking}
-use Rattle.sl_host_state.specs.Asks.{begins_in, is_kill_due_in, stopper_in}
-use Rattle.sl_host_state.specs.Hears.{begun}
-use Rattle.sl_host_state.specs.Kept.{HostState, MemberState}
-use Rattle.sl_host_state.specs.Makes.{has_write_open, with_move, with_reply, with_signal, with_start}
-use Rattle.sl_host_state.specs.declared.kept.JobState.{JobState}
-use Rattle.sl_host_state.specs.declared.kept.WaitingCall.{WaitingCall}
+use Rattle.sl_host_law.specs.Steps.StepFunction.{before_taking}
+use Rattle.sl_host_state.specs.StepQuestions.{begins_in, is_kill_due_in, stopper_in}
+use Rattle.sl_host_state.specs.HeardInputs.{begun}
+use Rattle.sl_host_state.specs.KeptState.{HostState, MemberState}
+use Rattle.sl_host_state.specs.MadeEffects.{has_write_open, with_move, with_reply, with_signal, with_start}
+use Rattle.sl_host_state.specs.declared.kept_parts.JobState.{JobState}
+use Rattle.sl_host_state.specs.declared.kept_parts.WaitingCall.{WaitingCall}
 use Rattle.sl_trace.specs.Traces.{first_child}
 use Rattle.sl_trace.specs.declared.effects.Move.TheVariants.{Unregister}
 use Rattle.sl_trace.specs.declared.effects.Signal.TheVariants.{Kill, Term}

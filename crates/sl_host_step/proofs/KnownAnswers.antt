@@ -2,25 +2,25 @@
 use Rattle.sl_area.specs.Layouts.{Layout, layout_of}
 use Rattle.sl_due.specs.Steps.{with_input}
 use Rattle.sl_host_answers.specs.Facts.{LeaseKnown, LeaseRead as ReadOfLease, ReadKnown, RequestKnown, SurveyKnown, WorkKnown}
-use Rattle.sl_host_law.proofs.Plain.PlainLists.{all_from}
-use Rattle.sl_host_law.specs.Parts.Expected.{IsAnswerOf}
+use Rattle.sl_host_law.proofs.SharedFacts.PlainLists.{all_from}
+use Rattle.sl_host_law.specs.StepParts.ExpectedIsOpen.{IsAnswerOf}
 use Rattle.sl_host_law.specs.Questions.Answers.{spot_in}
 use Rattle.sl_host_law.specs.Replies.Answers.{FitsCall, IsOpen}
 use Rattle.sl_host_law.specs.Steps.Leases.{blocks_at, kept_blocks, lease_at}
-use Rattle.sl_host_state.specs.Hears.{heard_answer}
-use Rattle.sl_host_state.specs.Kept.{HostKept, HostState, LeaseState, MemberState, state_of}
-use Rattle.sl_host_state.specs.Stands.{is_kept_of}
-use Rattle.sl_host_state.specs.declared.kept.JobState.{JobState}
-use Rattle.sl_host_state.specs.declared.kept.OpenCall.{OpenCall}
-use Rattle.sl_host_step.proofs.Comes.{IsAtInput}
+use Rattle.sl_host_state.specs.HeardInputs.{heard_answer}
+use Rattle.sl_host_state.specs.KeptState.{HostKept, HostState, LeaseState, MemberState, state_of}
+use Rattle.sl_host_state.specs.HostStands.{is_kept_of}
+use Rattle.sl_host_state.specs.declared.kept_parts.JobState.{JobState}
+use Rattle.sl_host_state.specs.declared.kept_parts.OpenCall.{OpenCall}
+use Rattle.sl_host_step.proofs.StepsMayCome.{IsAtInput}
 use Rattle.sl_host_work.proofs.ReadsGive.{blocks_given, blocks_kept}
-use Rattle.sl_host_work.specs.Asking.{MayAsk, ReadStands}
-use Rattle.sl_host_work.specs.Placed.{IsPlaced}
-use Rattle.sl_lease.specs.Asked.{TopStands}
+use Rattle.sl_host_work.specs.LeaseQuestions.{MayAsk, ReadStands}
+use Rattle.sl_host_work.specs.SectorPlaces.{IsPlaced}
+use Rattle.sl_lease.specs.LeaseQuestions.{TopStands}
 use Rattle.sl_lease.specs.Bounds.{IsInstance}
 use Rattle.sl_lease.specs.Steps.{is_read_step}
-use Rattle.sl_member.specs.Together.{member_with}
-use Rattle.sl_plain.proofs.Lists.{find_inside}
+use Rattle.sl_member.specs.HostMembers.{member_with}
+use Rattle.sl_words.proofs.Lists.{find_inside}
 use Rattle.sl_sector.specs.declared.sector.Block.{Block}
 use Rattle.sl_step_law.proofs.AnswersAreAwaited.{answers_are_awaited}
 use Rattle.sl_step_law.proofs.AnswersAreKnown.{answers_are_known}
@@ -29,8 +29,8 @@ use Rattle.sl_step_law.proofs.LeaseAnswersAreKnown.{lease_answers_are_known}
 use Rattle.sl_step_law.proofs.MembersAreKnown.{members_are_known}
 use Rattle.sl_step_law.proofs.MomentsAreKnown.{moments_are_known}
 use Rattle.sl_step_law.proofs.PlacesAreKnown.{places_are_known}
-use Rattle.sl_step_law.specs.Answering.{LeaseHeard}
-use Rattle.sl_step_law.specs.Awaiting.{IsMembersCall}
+use Rattle.sl_step_law.specs.LeaseAnswers.{LeaseHeard}
+use Rattle.sl_step_law.specs.AnswersAwaited.{IsMembersCall}
 use Rattle.sl_step_law.specs.Moments.{IsMoment}
 use Rattle.sl_trace.specs.LeaseWork.{asked_again}
 use Rattle.sl_trace.specs.declared.effects.LeaseRead.{LeaseRead}
@@ -40,8 +40,8 @@ use Rattle.sl_trace.specs.declared.effects.Work.{Work}
 use Rattle.sl_trace.specs.declared.input.Answer.TheVariants.{Read, Written}
 use Rattle.sl_trace.specs.declared.input.Answer.{Answer}
 use Rattle.sl_trace.specs.declared.input.Input.TheVariants.{Answer as Told, Wake}
-use Rattle.sl_host.specs.Asking.{state_in}
-use Rattle.sl_host.specs.Hearing.{AreWaiting, MayHear, MemberAwaits}
+use Rattle.sl_host.specs.BookQuestions.{state_in}
+use Rattle.sl_host.specs.HeardAnswers.{AreWaiting, MayHear, MemberAwaits}
 use Rattle.sl_words.proofs.CaseLaws.{some_value}
 use Rattle.sl_words.specs.Bounds.{moments}
 use Rattle.sl_words.specs.Words.{some_is}

@@ -1,24 +1,24 @@
 -- A joining is over only by the write of its first renewal, and by then it has claimed a generation.
 use Rattle.sl_area.specs.Layouts.{Layout, layout_of, record_in}
 use Rattle.sl_area.specs.Places.{is_base}
-use Rattle.sl_delta.specs.Decides.{after_join, claim_next, is_over_since, verified}
-use Rattle.sl_delta.specs.Own.{OwnState, lease_of}
+use Rattle.sl_delta.specs.DeltaDecisions.{after_join, claim_next, is_over_since, verified}
+use Rattle.sl_delta.specs.OwnSector.{OwnState, lease_of}
 use Rattle.sl_host_answers.specs.Facts.{JoinKnown}
-use Rattle.sl_host_answers.specs.Own.{join_answer}
-use Rattle.sl_host_law.proofs.Plain.PlainLists.{all_from}
+use Rattle.sl_host_answers.specs.JoiningAnswers.{join_answer}
+use Rattle.sl_host_law.proofs.SharedFacts.PlainLists.{all_from}
 use Rattle.sl_host_law.specs.Replies.Answers.{IsOpen}
 use Rattle.sl_host_law.specs.Steps.Answers.{own_of}
-use Rattle.sl_host_state.specs.Hears.{heard_answer, hearing, is_over_with, member_hearing}
-use Rattle.sl_host_state.specs.Kept.{HostKept, HostState, MemberState, state_of}
-use Rattle.sl_host_state.specs.declared.kept.OpenCall.{OpenCall}
-use Rattle.sl_host_step.proofs.Comes.{IsAtInput}
-use Rattle.sl_host_work.specs.Placed.{IsPlaced}
-use Rattle.sl_member.specs.Together.{member_with}
-use Rattle.sl_plain.proofs.Lists.{find_inside, in_map, kept_inside}
+use Rattle.sl_host_state.specs.HeardInputs.{heard_answer, hearing, is_over_with, member_hearing}
+use Rattle.sl_host_state.specs.KeptState.{HostKept, HostState, MemberState, state_of}
+use Rattle.sl_host_state.specs.declared.kept_parts.OpenCall.{OpenCall}
+use Rattle.sl_host_step.proofs.StepsMayCome.{IsAtInput}
+use Rattle.sl_host_work.specs.SectorPlaces.{IsPlaced}
+use Rattle.sl_member.specs.HostMembers.{member_with}
+use Rattle.sl_words.proofs.Lists.{find_inside, in_map, kept_inside}
 use Rattle.sl_sector.specs.Spelling.{delta_in}
 use Rattle.sl_sector.specs.declared.sector.DeltaRec.{DeltaRec}
 use Rattle.sl_trace.specs.Deltas.{next_after_first}
-use Rattle.sl_trace.specs.Watching.{is_free_state}
+use Rattle.sl_trace.specs.Sightings.{is_free_state}
 use Rattle.sl_trace.specs.declared.delta.DeltaNext.TheVariants.{Join, Nothing, RefuseJoin, RegisterAndRead}
 use Rattle.sl_trace.specs.declared.delta.DeltaNext.{DeltaNext}
 use Rattle.sl_trace.specs.declared.session.Session.{Session}
@@ -32,7 +32,7 @@ use Rattle.sl_trace.specs.declared.input.Answer.{Answer}
 use Rattle.sl_trace.specs.declared.input.Input.TheVariants.{Answer as Told, Wake}
 use Rattle.sl_trace.specs.declared.reply.Reply.TheVariants.{TornDelta, WrongDelta}
 use Rattle.sl_trace.specs.declared.reply.Reply.{Reply}
-use Rattle.sl_host.specs.Asking.{state_in}
+use Rattle.sl_host.specs.BookQuestions.{state_in}
 use Rattle.sl_words.proofs.WordLaws.{some_is_true}
 use Rattle.sl_words.specs.Bounds.{is_number, moments}
 use Rattle.sl_words.specs.Words.{some_is}

@@ -3,18 +3,18 @@ use Rattle.sl_area.specs.Layouts.{layout_of}
 use Rattle.sl_due.specs.declared.decision.Decision.TheVariants.{ConvertsTo, GetsValue, GivesUp, Joins, Leaves, ReadsArea, Replies, Requests, SetsValue, Shares, TakesOver}
 use Rattle.sl_due.specs.declared.decision.Decision.{Decision}
 use Rattle.sl_host_lines.specs.LineFacts.{DecisionKnown, IsTimely, LeaseReady as LeaseMayWork, LineKnown}
-use Rattle.sl_host_state.specs.Kept.{HostKept, HostState, MemberState, state_of}
-use Rattle.sl_host_step.proofs.Comes.{IsAtInput}
-use Rattle.sl_host_work.specs.Placed.{IsPlaced}
+use Rattle.sl_host_state.specs.KeptState.{HostKept, HostState, MemberState, state_of}
+use Rattle.sl_host_step.proofs.StepsMayCome.{IsAtInput}
+use Rattle.sl_host_work.specs.SectorPlaces.{IsPlaced}
 use Rattle.sl_trace.specs.Leases.{spot_of}
-use Rattle.sl_member.specs.Together.{member_with}
-use Rattle.sl_plain.proofs.Lists.{find_inside}
+use Rattle.sl_member.specs.HostMembers.{member_with}
+use Rattle.sl_words.proofs.Lists.{find_inside}
 use Rattle.sl_step_law.proofs.DecisionsAreKnown.{decisions_are_known}
 use Rattle.sl_step_law.proofs.HostsAreKnown.{hosts_are_known}
 use Rattle.sl_step_law.proofs.MembersAreKnown.{members_are_known}
 use Rattle.sl_step_law.proofs.MomentsAreKnown.{moments_are_known}
 use Rattle.sl_step_law.proofs.PlacesAreKnown.{places_are_known}
-use Rattle.sl_step_law.specs.Knowing.{DecisionIs, LeaseReady}
+use Rattle.sl_step_law.specs.KnownHosts.{DecisionIs, LeaseReady}
 use Rattle.sl_step_law.specs.Moments.{IsMoment}
 use Rattle.sl_trace.specs.Commands.{command_in, forms}
 use Rattle.sl_trace.specs.Traces.{spot_of_grant}

@@ -1,16 +1,16 @@
 -- What the passes of a step ask of what is kept, at the moment at which each begins.
-use Rattle.sl_host_state.specs.Kept.{HostKept, MemberState, state_of}
-use Rattle.sl_host_step.proofs.Comes.{IsSomeMoment}
-use Rattle.sl_host_passes.specs.Knowing.{BeginKnown, FinishKnown, JobsApart, WakeKnown}
-use Rattle.sl_host_step.proofs.Expected.{from_first}
+use Rattle.sl_host_state.specs.KeptState.{HostKept, MemberState, state_of}
+use Rattle.sl_host_step.proofs.StepsMayCome.{IsSomeMoment}
+use Rattle.sl_host_passes.specs.PassPremises.{BeginKnown, FinishKnown, JobsApart, WakeKnown}
+use Rattle.sl_host_step.proofs.ExpectedInputs.{from_first}
 use Rattle.sl_host_law.proofs.Replies.PlainNumbers.{same_number}
 use Rattle.sl_host_step.specs.Moments.{AtInput, StepComes}
-use Rattle.sl_plain.proofs.Lists.{contains_map, find_inside}
+use Rattle.sl_words.proofs.Lists.{contains_map, find_inside}
 use Rattle.sl_trace.specs.Traces.{Child, children, first_child, no_process}
 use Rattle.sl_words.proofs.CaseLaws.{false_is_true, is_false}
 use Rattle.sl_words.specs.Words.{some_is}
-use Rattle.sl_host_work.specs.Ending.{HoldsOnce}
-use Rattle.sl_host_work.specs.Placed.{IsPlaced}
+use Rattle.sl_host_work.specs.ProcessHoldings.{HoldsOnce}
+use Rattle.sl_host_work.specs.SectorPlaces.{IsPlaced}
 use Rattle.sl_step_law.proofs.HoldersLeased.{holdings_are_known}
 use Rattle.sl_step_law.proofs.HostsAreKnown.{hosts_are_known}
 use Rattle.sl_step_law.proofs.LeasesAreKnown.{leases_are_known}

@@ -1,17 +1,17 @@
 -- What the whole of an answer asks is known: what the host is asked that is to hear it.
-use Rattle.sl_host_answers.specs.Answering.{HeardKnown, IsHeard, LeaseHeard, MayAnswer, is_joining_purpose}
-use Rattle.sl_host_law.proofs.Plain.PlainLists.{at_some}
+use Rattle.sl_host_answers.specs.WholeAnswers.{HeardKnown, IsHeard, LeaseHeard, MayAnswer, is_joining_purpose}
+use Rattle.sl_host_law.proofs.SharedFacts.PlainLists.{at_some}
 use Rattle.sl_host_law.proofs.Steps.InputsFollow.{joined_stays}
 use Rattle.sl_host_law.specs.Replies.Answers.{IsOpen}
-use Rattle.sl_host_law.specs.Steps.Taking.{IsCallOf}
-use Rattle.sl_host_state.specs.Kept.{HostKept, MemberState, state_of}
-use Rattle.sl_host_state.specs.declared.kept.OpenCall.{OpenCall}
-use Rattle.sl_host_step.proofs.Comes.{IsAtInput}
+use Rattle.sl_host_law.specs.Steps.InputsFollow.{IsCallOf}
+use Rattle.sl_host_state.specs.KeptState.{HostKept, MemberState, state_of}
+use Rattle.sl_host_state.specs.declared.kept_parts.OpenCall.{OpenCall}
+use Rattle.sl_host_step.proofs.StepsMayCome.{IsAtInput}
 use Rattle.sl_host_step.proofs.KnownAnswers.{asked_in_time, in_time, instance, may_hear, placed, read_known, request_known, survey_known, work_known}
 use Rattle.sl_host_step.proofs.KnownJoinings.{join_known}
-use Rattle.sl_host_work.specs.Waking.{ArePlaced}
-use Rattle.sl_member.specs.Together.{member_with}
-use Rattle.sl_plain.proofs.Lists.{find_inside}
+use Rattle.sl_host_work.specs.TimedWork.{ArePlaced}
+use Rattle.sl_member.specs.HostMembers.{member_with}
+use Rattle.sl_words.proofs.Lists.{find_inside}
 use Rattle.sl_step_law.proofs.AnswersAreKnown.{answers_are_known}
 use Rattle.sl_trace.specs.declared.effects.LeaseStep.{LeaseStep}
 use Rattle.sl_trace.specs.declared.effects.Purpose.TheVariants.{Joining, Lease, Leaving, Renewal, RequestRead, RequestWrite, SeeRequest, Survey, ValueRead, ValueWrite}
@@ -20,7 +20,7 @@ use Rattle.sl_trace.specs.declared.effects.Work.{Work}
 use Rattle.sl_trace.specs.declared.input.Answer.TheVariants.{Failed, Read, Written}
 use Rattle.sl_trace.specs.declared.input.Answer.{Answer}
 use Rattle.sl_trace.specs.declared.input.Input.TheVariants.{Answer as Told}
-use Rattle.sl_host.specs.Asking.{state_in}
+use Rattle.sl_host.specs.BookQuestions.{state_in}
 use Rattle.sl_words.proofs.CaseLaws.{true_is_false}
 use Rattle.std.proofs.Common.{refl, subst, sym}
 use Rattle.std.proofs.lemmas.Bool.{eqb-true}

@@ -1,15 +1,15 @@
 -- A step that was taken leaves a host that serves, with effects as a world asks.
-use Rattle.sl_daemon.specs.Daemons.{IsNumbered, IsSoundCall, MayCome, entry_of}
+use Rattle.sl_world_state.specs.Daemons.{IsNumbered, IsSoundCall, MayCome, entry_of}
 use Rattle.sl_due.specs.Due.{due}
-use Rattle.sl_host_law.specs.Steps.Sound.{IsSound}
-use Rattle.sl_host_law.specs.Steps.Stepping.{stepped}
-use Rattle.sl_host_law.specs.Steps.Whole.{entry_at}
-use Rattle.sl_host_state.specs.Hears.{quiet_to}
-use Rattle.sl_host_state.specs.Kept.{HostKept, HostState, Made, state_of}
-use Rattle.sl_host_state.specs.Stands.{HostStands, IsQuiet, Keeps}
-use Rattle.sl_host_step.proofs.Comes.{comes_plainly}
+use Rattle.sl_host_law.specs.Steps.SoundHosts.{IsSound}
+use Rattle.sl_host_law.specs.Steps.StepFunction.{stepped}
+use Rattle.sl_host_law.specs.Steps.StepsFollow.{entry_at}
+use Rattle.sl_host_state.specs.HeardInputs.{quiet_to}
+use Rattle.sl_host_state.specs.KeptState.{HostKept, HostState, Made, state_of}
+use Rattle.sl_host_state.specs.HostStands.{HostStands, IsQuiet, Keeps}
+use Rattle.sl_host_step.proofs.StepsMayCome.{comes_plainly}
 use Rattle.sl_host_step.specs.Moments.{IsOver, StepComes}
-use Rattle.sl_host_step.specs.Serving.{Keeping}
+use Rattle.sl_host_step.specs.HostServes.{Keeping}
 use Rattle.sl_step_law.proofs.EffectsAreSound.{effects_are_sound}
 use Rattle.sl_step_law.proofs.LastValues.{steps_are_taken_plainly}
 use Rattle.sl_step_law.specs.LastValues.{IsByteInput}

@@ -1,8 +1,8 @@
-pub mod Serving
-pub mod Expecting
+pub mod HostServes
+pub mod ExpectedInputs
 pub mod Rooms
-pub mod Reaching
+pub mod InputReach
 pub mod Moments
-pub mod Seating
-pub mod Telling
-pub mod Resting
+pub mod JoiningSeats
+pub mod AwaitedCalls
+pub mod SpareRoom

@@ -1,20 +1,20 @@
 -- Moments of a step: as it begins, at its input, and once that was taken and a wake looked at.
-use Rattle.sl_daemon.specs.Daemons.{MayCome}
+use Rattle.sl_world_state.specs.Daemons.{MayCome}
 use Rattle.sl_due.specs.DueWake.{is_wake}
 use Rattle.sl_host_law.specs.Steps.Inputs.{taking}
-use Rattle.sl_host_law.specs.Steps.Stepping.{before_taking, effects_of, stepped, stepping}
-use Rattle.sl_host_law.specs.Steps.Wakes.{waking}
-use Rattle.sl_host_state.specs.Hears.{begun, quiet_to}
-use Rattle.sl_host_state.specs.Kept.{HostKept, HostState, state_of}
-use Rattle.sl_host_state.specs.Stands.{IsQuiet}
+use Rattle.sl_host_law.specs.Steps.StepFunction.{before_taking, effects_of, stepped, stepping}
+use Rattle.sl_host_law.specs.Steps.WakePasses.{waking}
+use Rattle.sl_host_state.specs.HeardInputs.{begun, quiet_to}
+use Rattle.sl_host_state.specs.KeptState.{HostKept, HostState, state_of}
+use Rattle.sl_host_state.specs.HostStands.{IsQuiet}
 use Rattle.sl_host_step.specs.Rooms.{calls_for, left_for}
-use Rattle.sl_host_step.specs.Serving.{IsIdle, Keeping, ReadsWhole}
+use Rattle.sl_host_step.specs.HostServes.{IsIdle, Keeping, ReadsWhole}
 use Rattle.sl_step_law.specs.LastValues.{IsByteInput}
 use Rattle.sl_trace.specs.Traces.{Setting, Trace}
 use Rattle.sl_trace.specs.declared.command.Command.{Command}
 use Rattle.sl_trace.specs.declared.effects.Effects.{Effects}
 use Rattle.sl_trace.specs.declared.input.Input.{Input}
-use Rattle.sl_host.specs.Asking.{state_in}
+use Rattle.sl_host.specs.BookQuestions.{state_in}
 use Rattle.sl_host.specs.Host.{HostView}
 use Rattle.sl_host.specs.Books.{AreFew}
 use Rattle.std.specs.Prelude.{List, Result, cond, true, ℕ, ◌≡◌}

@@ -1,12 +1,12 @@
 -- How many effects and calls a step makes at most, by what is kept as it begins, and how much of that it has room for, by its reach.
 use Rattle.sl_area.specs.Layouts.{Sizes}
-use Rattle.sl_daemon.specs.declared.daemon.Most.{Most}
-use Rattle.sl_host_passes.specs.Fewer.{leases_in}
+use Rattle.sl_world_state.specs.declared.daemon.Most.{Most}
+use Rattle.sl_host_passes.specs.PassesLessen.{leases_in}
 use Rattle.sl_host_step.specs.declared.rooms.Counts.{Counts}
 use Rattle.sl_host_step.specs.declared.rooms.Reach.TheVariants.{All, Few}
 use Rattle.sl_host_step.specs.declared.rooms.Reach.{Reach}
-use Rattle.sl_host_state.specs.Kept.{HostKept}
-use Rattle.sl_host.specs.Asking.{most_counted}
+use Rattle.sl_host_state.specs.KeptState.{HostKept}
+use Rattle.sl_host.specs.BookQuestions.{most_counted}
 use Rattle.sl_host.specs.Host.{HostView}
 use Rattle.std.specs.Prelude.{Bool, cond, length, min, nat_le, true, ℕ, ◌*◌, ◌+◌, ◌<◌, ◌^◌, ◌||◌, ◌≡◌, ◌≤◌}
 

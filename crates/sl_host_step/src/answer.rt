@@ -4,20 +4,20 @@
 //!
 //! The answer to a read of all ids may begin a recovery, so it reaches all that is held; any other reaches few things.
 
-ghost use Rattle.sl_daemon.specs.Daemons.{read_of};
-ghost use Rattle.sl_host_answers.specs.Answering.{FitsHeard, answer_of};
+ghost use Rattle.sl_world_state.specs.Daemons.{read_of};
+ghost use Rattle.sl_host_answers.specs.WholeAnswers.{FitsHeard, answer_of};
 ghost use Rattle.sl_host_law.specs.Replies.Answers.{IsOpen};
-ghost use Rattle.sl_host_state.specs.Kept.{HostKept};
-ghost use Rattle.sl_host_state.specs.declared.kept.OpenCall.{OpenCall as OpenCallOf};
+ghost use Rattle.sl_host_state.specs.KeptState.{HostKept};
+ghost use Rattle.sl_host_state.specs.declared.kept_parts.OpenCall.{OpenCall as OpenCallOf};
 ghost use Rattle.sl_host_step.specs.Moments.{AtEnd, AtInput, HasStepped, StepComes};
-ghost use Rattle.sl_host_step.specs.Reaching.{reach_at};
+ghost use Rattle.sl_host_step.specs.InputReach.{reach_at};
 ghost use Rattle.sl_host_step.specs.Rooms.{EndsWith, HasLeft, ScratchState, Suffices};
-ghost use Rattle.sl_host_step.specs.Resting.{Rests, takes_more};
-ghost use Rattle.sl_host_step.specs.Telling.{joins_at};
+ghost use Rattle.sl_host_step.specs.SpareRoom.{Rests, takes_more};
+ghost use Rattle.sl_host_step.specs.AwaitedCalls.{joins_at};
 ghost use Rattle.sl_sector.specs.Spelling.{IsSectorSize};
 ghost use Rattle.sl_trace.specs.declared.input.Answer.TheVariants.{Failed as FailedOf, Read as ReadOf, Written as WrittenOf};
 ghost use Rattle.sl_trace.specs.declared.input.Input.TheVariants.{Answer as Told};
-ghost use Rattle.sl_host.specs.Asking.{state_in};
+ghost use Rattle.sl_host.specs.BookQuestions.{state_in};
 ghost use Rattle.sl_host.specs.Host.{HostView};
 ghost use Rattle.std.specs.Arc.{arc_value};
 ghost use Rattle.std.specs.Prelude.{IfOk, IsOk, OnErr, OnOk, false, length, true, ℕ, ◌==◌, ◌≡◌, ◌≤◌};
@@ -27,7 +27,7 @@ use crate::step::{conclude, start};
 use sl_host::Host;
 use sl_host_answers::{Heard, answer};
 use sl_lease::{SectorBytes, Sectors};
-use sl_sectors::{Image, Images};
+use sl_sector::{Image, Images};
 use sl_text::Bytes;
 use sl_trace::{Answer, Effects, Purpose};
 use std::alloc::{AllocError, Global};
@@ -60,7 +60,7 @@ fn reach_at(host: &Host, number: u64) -> Reach
 }
 
 /// The host is told, and does what that makes due.
-#[tactic(auto, using(crate::proofs::Telling::can_answer, crate::proofs::KnownTellings::few_effects, crate::proofs::KnownTellings::few_calls, crate::proofs::Coming::answer_ends))]
+#[tactic(auto, using(crate::proofs::AnswerPremises::can_answer, crate::proofs::AnswerSectors::few_effects, crate::proofs::AnswerSectors::few_calls, crate::proofs::MomentsFollow::answer_ends))]
 fn take_answer<S: Sectors>(host: &mut Host, scratch: &mut Scratch, number: u64, heard: Heard<'_, S>)
     requires at { (now : ℕ) × (first : HostKept) × AtInput now (Told number (answer_of S.bytes heard)) first host.old.kept }
     requires fits { (c : OpenCallOf) → IsOpen (state_in host.old.kept) number c → FitsHeard S.bytes S.is_cut host.old.kept.config.sizes c heard }
@@ -84,7 +84,7 @@ fn take_answer<S: Sectors>(host: &mut Host, scratch: &mut Scratch, number: u64, 
 }
 
 /// A step at an answer that is at hand so.
-#[tactic(auto, using(crate::proofs::KnownTellings::fits_still))]
+#[tactic(auto, using(crate::proofs::AnswerSectors::fits_still))]
 fn step_heard<S: Sectors>(
     alloc: Global,
     host: &mut Host,
@@ -111,7 +111,7 @@ fn step_heard<S: Sectors>(
 }
 
 /// A step at the answer ok of a read, whose bytes are these.
-#[tactic(auto, using(crate::proofs::KnownTellings::joining_sized))]
+#[tactic(auto, using(crate::proofs::AnswerSectors::joining_sized))]
 fn step_bytes(
     alloc: Global,
     host: &mut Host,
@@ -230,7 +230,7 @@ fn step_copied(
 }
 
 /// A step at the answer ok of a read, with its sectors as the world has them.
-#[tactic(auto, using(crate::proofs::KnownTellings::joining_long, crate::proofs::KnownTellings::sector_fits))]
+#[tactic(auto, using(crate::proofs::AnswerSectors::joining_long, crate::proofs::AnswerSectors::sector_fits))]
 pub(crate) fn step_images(
     alloc: Global,
     host: &mut Host,

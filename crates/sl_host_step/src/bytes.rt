@@ -4,7 +4,7 @@ ghost use Rattle.sl_step_law.specs.LastValues.{IsByteInput};
 ghost use Rattle.std.specs.List.{list_all};
 ghost use Rattle.std.specs.Prelude.{IsTrue, nat_lt};
 
-use sl_sectors::Images;
+use sl_sector::Images;
 use sl_trace::{Answer, Input};
 
 /// Bytes are below 256.

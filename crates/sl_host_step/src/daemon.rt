@@ -1,10 +1,10 @@
 //! A host is a daemon of a world.
 
-ghost use Rattle.sl_daemon.specs.Daemons.{IsNumbered, IsStep, MayCome, begun_with, entry_of, read_of};
-ghost use Rattle.sl_host_step.specs.Resting.{spare_of, takes_more};
+ghost use Rattle.sl_world_state.specs.Daemons.{IsNumbered, IsStep, MayCome, begun_with, entry_of, read_of};
+ghost use Rattle.sl_host_step.specs.SpareRoom.{spare_of, takes_more};
 ghost use Rattle.sl_host_step.specs.Rooms.{most_of};
-ghost use Rattle.sl_host_step.specs.Serving.{IsIdle, Serves, whole_commands};
-ghost use Rattle.sl_host_step.specs.Telling.{joins_at};
+ghost use Rattle.sl_host_step.specs.HostServes.{IsIdle, Serves, whole_commands};
+ghost use Rattle.sl_host_step.specs.AwaitedCalls.{joins_at};
 ghost use Rattle.sl_trace.specs.Traces.{Setting, Trace};
 ghost use Rattle.sl_run.specs.Lawful.{IsSetting};
 ghost use Rattle.sl_run.specs.Events.{is_for_locks};
@@ -12,16 +12,16 @@ ghost use Rattle.sl_run.specs.Headers.{IsHeader};
 ghost use Rattle.std.specs.Prelude.{IfOk, IsOk, Ok, OnErr, OnOk, false, length, max, [], ◌∷◌, ◌≡◌, ◌≤◌};
 
 use crate::bytes::{are_byte_sectors, is_byte_input};
-use crate::expecting::is_expected;
+use crate::expected_inputs::is_expected;
+use crate::input_steps::{step_at, step_read};
 use crate::rooms::{Scratch, calls_for, left_for, stand_by};
-use crate::whole::{step_at, step_read};
 use sl_command::parse_command;
-use sl_daemon::{Daemon, Most, Site};
 use sl_host::{Config, Host};
 use sl_host_work::process_named;
 use sl_run::Header;
-use sl_sectors::Images;
+use sl_sector::Images;
 use sl_trace::{Command, Effects, Input};
+use sl_world_state::{Daemon, Most, Site};
 use std::alloc::{AllocError, Global};
 use std::marker::Model;
 
@@ -39,7 +39,7 @@ fn acts_for_locks(command: &Command) -> bool
 }
 
 /// The host of a header at a site, before any step. An `Err` is want of memory.
-#[tactic(auto, using(crate::proofs::Begins::may_be_given, crate::proofs::Begins::begins_serving))]
+#[tactic(auto, using(crate::proofs::HostDaemons::may_be_given, crate::proofs::HostDaemons::begins_serving))]
 fn host_at(alloc: Global, header: &Header, site: &Site) -> Result<Host, AllocError>
     requires { IsHeader header.now × IsSetting (begun_with whole_commands header.now site.now) }
     ensures serves { IfOk result (λ h. Serves h (begun_with whole_commands header.now site.now) []) }
@@ -66,7 +66,7 @@ pub struct HostDaemon {
 
 impl Model for HostDaemon {
     ghost use Rattle.sl_host.specs.Host.{HostView};
-    ghost use Rattle.sl_host_step.specs.Resting.{Rests};
+    ghost use Rattle.sl_host_step.specs.SpareRoom.{Rests};
     ghost use Rattle.std.specs.Prelude.{◌≡◌};
 
     ghost Value = { HostView };
@@ -89,7 +89,7 @@ impl HostDaemon {
 
     /// Sees that there is room for one step more, so that a wake, an exit or the answer of a renewal can't want memory. It changes nothing that a
     /// later step does. An `Err` is want of memory, or of numbers of calls, jobs, children or steps, and changes nothing.
-    #[tactic(auto, using(crate::proofs::Resting::stands_by, crate::proofs::Resting::serves_still, crate::proofs::Resting::nothing_made))]
+    #[tactic(auto, using(crate::proofs::SpareRoom::stands_by, crate::proofs::SpareRoom::serves_still, crate::proofs::SpareRoom::nothing_made))]
     pub fn reserve(&mut self) -> Result<(), AllocError>
         requires { (st : Setting) × (es : Trace) × Serves self.old st es }
         ensures ok { OnOk result (spare_of self.new ≡ 1) }
@@ -115,7 +115,7 @@ impl Daemon for HostDaemon {
         }
     }
 
-    #[tactic(auto, using(crate::proofs::Resting::rests_without))]
+    #[tactic(auto, using(crate::proofs::SpareRoom::rests_without))]
     fn begin(alloc: Global, header: &Header, site: Site) -> Result<HostDaemon, AllocError> {
         let host = host_at(alloc, header, &site)?;
         let scratch = Scratch::new(alloc, &header.geometry)?;
@@ -126,7 +126,7 @@ impl Daemon for HostDaemon {
         })
     }
 
-    #[tactic(auto, using(crate::proofs::Begins::expected_of))]
+    #[tactic(auto, using(crate::proofs::HostDaemons::expected_of))]
     fn expects(&self, input: &Input) -> bool {
         is_expected(&self.host, input)
     }
@@ -144,7 +144,7 @@ impl Daemon for HostDaemon {
         }
     }
 
-    #[tactic(auto, using(crate::proofs::Begins::comes_so, crate::proofs::Begins::steps_so, crate::proofs::Begins::is_step_so, crate::proofs::Begins::sizes_so, crate::proofs::Resting::is_standing, crate::proofs::Resting::rests_on, crate::proofs::Resting::spent))]
+    #[tactic(auto, using(crate::proofs::HostDaemons::comes_so, crate::proofs::HostDaemons::steps_so, crate::proofs::HostDaemons::is_step_so, crate::proofs::HostDaemons::sizes_so, crate::proofs::SpareRoom::is_standing, crate::proofs::SpareRoom::rests_on, crate::proofs::SpareRoom::spent))]
     fn step(&mut self, now: u64, input: Input) -> Result<Effects, AllocError>
         requires { (st : Setting) × (es : Trace) × Serves self.old st es × MayCome st es now input }
         ensures stays { (st : Setting) → (es : Trace) → Serves self.old st es → MayCome st es now input
@@ -159,7 +159,7 @@ impl Daemon for HostDaemon {
         step_at(self.alloc, &mut self.host, &mut self.scratch, now, input)
     }
 
-    #[tactic(auto, using(crate::proofs::Begins::comes_so, crate::proofs::Begins::steps_so, crate::proofs::Begins::is_step_so, crate::proofs::Begins::sizes_so, crate::proofs::Resting::is_standing, crate::proofs::Resting::rests_on, crate::proofs::Resting::spent))]
+    #[tactic(auto, using(crate::proofs::HostDaemons::comes_so, crate::proofs::HostDaemons::steps_so, crate::proofs::HostDaemons::is_step_so, crate::proofs::HostDaemons::sizes_so, crate::proofs::SpareRoom::is_standing, crate::proofs::SpareRoom::rests_on, crate::proofs::SpareRoom::spent))]
     fn read(&mut self, now: u64, call: u64, sectors: &Images) -> Result<Effects, AllocError>
         requires { (st : Setting) × (es : Trace) × Serves self.old st es × MayCome st es now (read_of call sectors.now) }
         ensures stays { (st : Setting) → (es : Trace) → Serves self.old st es → MayCome st es now (read_of call sectors.now)

@@ -4,11 +4,11 @@
 mod answer;
 mod bytes;
 mod daemon;
-mod expecting;
+mod expected_inputs;
+mod input_steps;
 pub mod laws;
 mod line;
 mod rooms;
 mod step;
-mod whole;
 
 pub use daemon::HostDaemon;

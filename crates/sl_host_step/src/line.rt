@@ -2,15 +2,15 @@
 //! lockspace it reaches few things, however much the host holds.
 
 ghost use Rattle.sl_area.specs.Layouts.{layout_of};
-ghost use Rattle.sl_deciding.specs.Lists.{FitsLists};
+ghost use Rattle.sl_host_lines.specs.ListMemory.{FitsLists};
 ghost use Rattle.sl_host_lines.specs.Seats.{HasSeat};
-ghost use Rattle.sl_host_state.specs.Kept.{HostKept};
+ghost use Rattle.sl_host_state.specs.KeptState.{HostKept};
 ghost use Rattle.sl_host_step.specs.Moments.{AtEnd, AtInput, HasStepped, StepComes};
-ghost use Rattle.sl_host_step.specs.Reaching.{reach_of};
+ghost use Rattle.sl_host_step.specs.InputReach.{reach_of};
 ghost use Rattle.sl_host_step.specs.Rooms.{EndsWith, HasLeft, ScratchState, Suffices};
 ghost use Rattle.sl_host_step.specs.declared.rooms.Reach.TheVariants.{Few};
-ghost use Rattle.sl_host_step.specs.Seating.{HasPlace, MayBeSeated};
-ghost use Rattle.sl_host_step.specs.Resting.{Rests};
+ghost use Rattle.sl_host_step.specs.JoiningSeats.{HasPlace, MayBeSeated};
+ghost use Rattle.sl_host_step.specs.SpareRoom.{Rests};
 ghost use Rattle.sl_trace.specs.Commands.{command_in, forms};
 ghost use Rattle.sl_trace.specs.declared.input.Input.TheVariants.{Line as LineOf};
 ghost use Rattle.sl_host.specs.Host.{HostView};
@@ -19,15 +19,14 @@ ghost use Rattle.std.specs.Prelude.{Err, IfOk, List, Ok, OnErr, OnOk, false, ℕ
 use crate::rooms::{Reach, Scratch, calls_for};
 use crate::step::{conclude, start};
 use sl_command::parse_command;
-use sl_deciding::Lists;
 use sl_host::Host;
-use sl_host_lines::{misread, take_line};
+use sl_host_lines::{Lists, misread, take_line};
 use sl_member::Member;
 use sl_trace::{Command, Effects};
 use std::alloc::{AllocError, Global};
 
 /// A line that says no command is taken.
-#[tactic(auto, using(crate::proofs::Coming::line_ends))]
+#[tactic(auto, using(crate::proofs::MomentsFollow::line_ends))]
 fn take_misread(host: &mut Host, column: u64)
     requires at { (now : ℕ) × (text : List ℕ) × (first : HostKept) × AtInput now (LineOf text) first host.old.kept }
     requires left { (first : HostView) × HasLeft Few first host.old }
@@ -49,7 +48,7 @@ fn reach_of(command: &Command) -> Reach
 }
 
 /// A command that was read is taken.
-#[tactic(auto, using(crate::proofs::Coming::line_ends, crate::proofs::Lining::line_known_at))]
+#[tactic(auto, using(crate::proofs::MomentsFollow::line_ends, crate::proofs::LinePremises::line_known_at))]
 fn take_command(
     host: &mut Host,
     scratch: &mut Scratch,
@@ -110,7 +109,7 @@ fn step_misread(
 }
 
 /// A step at a command.
-#[tactic(auto, using(crate::proofs::Lining::may_be_seated, crate::proofs::Lining::seated))]
+#[tactic(auto, using(crate::proofs::LinePremises::may_be_seated, crate::proofs::LinePremises::seated))]
 fn step_command(
     alloc: Global,
     host: &mut Host,
@@ -136,7 +135,7 @@ fn step_command(
 }
 
 /// A step at a line.
-#[tactic(auto, using(crate::proofs::Lining::read_command, crate::proofs::Lining::read_column))]
+#[tactic(auto, using(crate::proofs::LinePremises::read_command, crate::proofs::LinePremises::read_column))]
 pub(crate) fn step_line(
     alloc: Global,
     host: &mut Host,

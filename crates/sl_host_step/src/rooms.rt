@@ -7,11 +7,11 @@
 //! The room of one step more can be taken ahead, whatever its input. It then stands by, so that a recovery still kills whom it must where no memory
 //! is left.
 
-ghost use Rattle.sl_host_step.specs.Resting.{Rests};
+ghost use Rattle.sl_host_step.specs.SpareRoom.{Rests};
 ghost use Rattle.sl_host_step.specs.Rooms.{HasRoom, ScratchState, Suffices, are_many, calls_for, calls_within, counts_of, counts_within, effects_within, left_for, reach_when, room_end};
-ghost use Rattle.sl_host_step.specs.Serving.{IsIdle};
+ghost use Rattle.sl_host_step.specs.HostServes.{IsIdle};
 ghost use Rattle.sl_trace.specs.Traces.{no_effects};
-ghost use Rattle.sl_host.specs.Asking.{leases_in};
+ghost use Rattle.sl_host.specs.BookQuestions.{leases_in};
 ghost use Rattle.std.specs.Prelude.{IfOk, IsOk, OnErr, OnOk, false, length, min, true, ◌<◌, ◌≡◌, ◌≤◌};
 
 use sl_area::Geometry;
@@ -224,7 +224,7 @@ fn take_room(
 }
 
 /// The room of a step with this reach: what stands by, or memory that is taken now. An `Err` is as above, and never comes where room stands by.
-#[tactic(auto, using(crate::proofs::Resting::rests_without, crate::proofs::RoomsStand::room_of_all))]
+#[tactic(auto, using(crate::proofs::SpareRoom::rests_without, crate::proofs::RoomsStand::room_of_all))]
 pub(crate) fn room(
     alloc: Global,
     host: &mut Host,
@@ -248,7 +248,7 @@ pub(crate) fn room(
 }
 
 /// Sees that the room of one step stands by, whatever its input. An `Err` is as above.
-#[tactic(auto, using(crate::proofs::Resting::rests_with, crate::proofs::Resting::rests_without))]
+#[tactic(auto, using(crate::proofs::SpareRoom::rests_with, crate::proofs::SpareRoom::rests_without))]
 pub(crate) fn stand_by(
     alloc: Global,
     host: &mut Host,

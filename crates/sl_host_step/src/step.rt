@@ -6,14 +6,14 @@
 //! specs/Moments.antt; what each part asks of its host is known there, by the laws of a host's step.
 
 ghost use Rattle.sl_area.specs.Layouts.{layout_of};
-ghost use Rattle.sl_host_passes.specs.Fewer.{IsNoMore};
-ghost use Rattle.sl_host_state.specs.Kept.{HostKept};
+ghost use Rattle.sl_host_passes.specs.PassesLessen.{IsNoMore};
+ghost use Rattle.sl_host_state.specs.KeptState.{HostKept};
 ghost use Rattle.sl_host_step.specs.Moments.{AllDone, AtEnd, AtInput, HasStepped, IsCalmed, IsOver, StepComes};
 ghost use Rattle.sl_host_step.specs.Rooms.{EndsWith, HasLeft, HasRoom, IsFarEnough, ScratchState, Suffices};
 ghost use Rattle.sl_host_step.specs.declared.rooms.Reach.TheVariants.{All, Few};
 ghost use Rattle.sl_host_step.specs.declared.rooms.Reach.{Reach as ReachOf};
-ghost use Rattle.sl_host_step.specs.Resting.{Rests};
-ghost use Rattle.sl_host_step.specs.Serving.{IsIdle};
+ghost use Rattle.sl_host_step.specs.SpareRoom.{Rests};
+ghost use Rattle.sl_host_step.specs.HostServes.{IsIdle};
 ghost use Rattle.sl_trace.specs.Traces.{no_effects};
 ghost use Rattle.sl_trace.specs.declared.input.Input.TheVariants.{Exit as ExitOf, Number as NumberOf, Spawned as SpawnedOf, Wake as WakeOf};
 ghost use Rattle.sl_trace.specs.declared.input.Input.{Input as InputOf};
@@ -28,7 +28,7 @@ use sl_trace::Effects;
 use std::alloc::{AllocError, Global};
 
 /// The step comes to its input.
-#[tactic(auto, using(crate::proofs::KnownPasses::begin_known, crate::proofs::Coming::begins))]
+#[tactic(auto, using(crate::proofs::KnownPasses::begin_known, crate::proofs::MomentsFollow::begins))]
 fn begin(host: &mut Host, scratch: &mut Scratch, now: u64)
     requires comes { (i : InputOf) × StepComes now i host.old.kept }
     requires room { (r : ReachOf) × (first : HostView) × HasRoom r first host.old × IsFarEnough now host.old.kept r }
@@ -45,7 +45,7 @@ fn begin(host: &mut Host, scratch: &mut Scratch, now: u64)
 }
 
 /// A wake: what is due by time to each session.
-#[tactic(auto, using(crate::proofs::KnownPasses::wake_known, crate::proofs::Comes::moment_at_input, crate::proofs::Coming::wake_ends))]
+#[tactic(auto, using(crate::proofs::KnownPasses::wake_known, crate::proofs::StepsMayCome::moment_at_input, crate::proofs::MomentsFollow::wake_ends))]
 fn take_wake(host: &mut Host, scratch: &mut Scratch)
     requires at { (now : ℕ) × (first : HostKept) × AtInput now WakeOf first host.old.kept }
     requires left { (first : HostView) × HasLeft All first host.old }
@@ -61,7 +61,7 @@ fn take_wake(host: &mut Host, scratch: &mut Scratch)
 }
 
 /// A process has exited.
-#[tactic(auto, using(crate::proofs::KnownPasses::holds_once, crate::proofs::Comes::moment_at_input, crate::proofs::Coming::exit_ends))]
+#[tactic(auto, using(crate::proofs::KnownPasses::holds_once, crate::proofs::StepsMayCome::moment_at_input, crate::proofs::MomentsFollow::exit_ends))]
 fn take_exit(host: &mut Host, scratch: &mut Scratch, process: u32)
     requires at { (now : ℕ) × (first : HostKept) × AtInput now (ExitOf process) first host.old.kept }
     requires left { (first : HostView) × HasLeft All first host.old }
@@ -76,7 +76,7 @@ fn take_exit(host: &mut Host, scratch: &mut Scratch, process: u32)
 }
 
 /// The start of a child is answered.
-#[tactic(auto, using(crate::proofs::KnownPasses::holds_once, crate::proofs::KnownPasses::starts_some, crate::proofs::Comes::moment_at_input, crate::proofs::Coming::start_ends))]
+#[tactic(auto, using(crate::proofs::KnownPasses::holds_once, crate::proofs::KnownPasses::starts_some, crate::proofs::StepsMayCome::moment_at_input, crate::proofs::MomentsFollow::start_ends))]
 fn take_start(host: &mut Host, scratch: &mut Scratch, process: u32, ok: bool)
     requires at { (now : ℕ) × (first : HostKept) × AtInput now (SpawnedOf process ok) first host.old.kept }
     requires left { (first : HostView) × HasLeft All first host.old }
@@ -91,7 +91,7 @@ fn take_start(host: &mut Host, scratch: &mut Scratch, process: u32, ok: bool)
 }
 
 /// A line takes a number alone.
-#[tactic(auto, using(crate::proofs::Coming::number_ends))]
+#[tactic(auto, using(crate::proofs::MomentsFollow::number_ends))]
 fn take_number(host: &mut Host)
     requires at { (now : ℕ) × (text : List ℕ) × (first : HostKept) × AtInput now (NumberOf text) first host.old.kept }
     requires left { (first : HostView) × HasLeft Few first host.old }
@@ -102,7 +102,7 @@ fn take_number(host: &mut Host)
 }
 
 /// What comes last of each session.
-#[tactic(auto, using(crate::proofs::KnownPasses::finish_known, crate::proofs::Comes::moment_at_end, crate::proofs::Coming::finish_ends))]
+#[tactic(auto, using(crate::proofs::KnownPasses::finish_known, crate::proofs::StepsMayCome::moment_at_end, crate::proofs::MomentsFollow::finish_ends))]
 fn end(host: &mut Host, scratch: &mut Scratch)
     requires at { (now : ℕ) × (i : InputOf) × (first : HostKept) × AtEnd now i first host.old.kept }
     requires left { (first : HostView) × EndsWith first host.old }
@@ -117,7 +117,7 @@ fn end(host: &mut Host, scratch: &mut Scratch)
 }
 
 /// Where something was due by time, it is worked out anew how long nothing is.
-#[tactic(auto, using(crate::proofs::KnownPasses::jobs_apart, crate::proofs::Comes::moment_when_done, crate::proofs::Coming::stays_calm, crate::proofs::Coming::grows_calm))]
+#[tactic(auto, using(crate::proofs::KnownPasses::jobs_apart, crate::proofs::StepsMayCome::moment_when_done, crate::proofs::MomentsFollow::stays_calm, crate::proofs::MomentsFollow::grows_calm))]
 fn grow_calm(host: &mut Host, scratch: &mut Scratch, is_loud: bool)
     requires done { (now : ℕ) × (i : InputOf) × (first : HostKept) × AllDone now i first host.old.kept }
     ensures calm { IsCalmed host.old.kept host.new.kept }
@@ -131,7 +131,7 @@ fn grow_calm(host: &mut Host, scratch: &mut Scratch, is_loud: bool)
 }
 
 /// The effects are taken out.
-#[tactic(auto, using(crate::proofs::Coming::rests))]
+#[tactic(auto, using(crate::proofs::MomentsFollow::rests))]
 fn rest(host: &mut Host, none: Buffers) -> Effects
     requires done { (now : ℕ) × (i : InputOf) × (first : HostKept) × (k : HostKept) × AllDone now i first k × IsCalmed k host.old.kept }
     requires none { none ≡ record { made = no_effects; left = 0; calls = 0; most = 0; most_calls = 0 } }

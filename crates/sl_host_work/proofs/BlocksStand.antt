@@ -1,13 +1,13 @@
 -- What a session's lease writes is, by the kind of areas, what its member does.
 use Rattle.sl_area.specs.Layouts.{Layout, layout_of}
 use Rattle.sl_area.specs.Places.{block_place, block_record, leader_record}
-use Rattle.sl_host.specs.Asking.{state_in}
+use Rattle.sl_host.specs.BookQuestions.{state_in}
 use Rattle.sl_host.specs.Host.{Becomes, HostView}
-use Rattle.sl_host_law.specs.Answers.Leasing.{block_at, record_at, turn_next, writing_block}
+use Rattle.sl_host_law.specs.Answers.LeaseDecisions.{block_at, record_at, turn_next, writing_block}
 use Rattle.sl_host_law.specs.Steps.Leases.{lease_at}
-use Rattle.sl_host_state.specs.Kept.{HostKept, MemberState, state_of}
-use Rattle.sl_host_state.specs.Makes.{with_call}
-use Rattle.sl_host_work.specs.declared.leasing.OwnBlock.{OwnBlock}
+use Rattle.sl_host_state.specs.KeptState.{HostKept, MemberState, state_of}
+use Rattle.sl_host_state.specs.MadeEffects.{with_call}
+use Rattle.sl_host_work.specs.declared.lease_work.OwnBlock.{OwnBlock}
 use Rattle.sl_sector.specs.declared.sector.Block.{Block}
 use Rattle.sl_sector.specs.declared.sector.Leader.{Leader}
 use Rattle.sl_sector.specs.declared.sector.Rec.TheVariants.{BlockIs, LeaderIs, PairIs, PairLeaderIs}

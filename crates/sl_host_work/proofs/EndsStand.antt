@@ -1,12 +1,12 @@
 -- Connections are removed where they stand, and holdings end one after another.
-use Rattle.sl_host_law.specs.Parts.Ends.{removing}
-use Rattle.sl_host_law.specs.Parts.Exits.{ending}
-use Rattle.sl_host_law.specs.Parts.Signals.{over}
-use Rattle.sl_host_state.specs.Kept.{HostState, state_of}
-use Rattle.sl_host_state.specs.Makes.{with_end, with_move}
-use Rattle.sl_host_work.specs.Ending.{HoldsOnce, held_by}
-use Rattle.sl_plain.proofs.Lists.{find_inside}
-use Rattle.sl_plain.proofs.Numbers.{number_itself}
+use Rattle.sl_host_law.specs.StepParts.Ends.{removing}
+use Rattle.sl_host_law.specs.StepParts.Exits.{ending}
+use Rattle.sl_host_law.specs.StepParts.Signals.{over}
+use Rattle.sl_host_state.specs.KeptState.{HostState, state_of}
+use Rattle.sl_host_state.specs.MadeEffects.{with_end, with_move}
+use Rattle.sl_host_work.specs.ProcessHoldings.{HoldsOnce, held_by}
+use Rattle.sl_words.proofs.Lists.{find_inside}
+use Rattle.sl_words.proofs.Numbers.{number_itself}
 use Rattle.sl_tables.specs.Holdings.{fits, sought_of}
 use Rattle.sl_trace.specs.Traces.{end_of, same_place}
 use Rattle.sl_trace.specs.declared.command.Command.{Command}

@@ -1,5 +1,5 @@
 -- What is found of a session's holdings on an area.
-use Rattle.sl_host_work.specs.Leasing.{held_with, otherwise_under}
+use Rattle.sl_host_work.specs.LeaseWork.{held_with, otherwise_under}
 use Rattle.sl_lease.specs.declared.evidence.Held.{Held}
 use Rattle.sl_trace.specs.declared.session.Session.{Session}
 use Rattle.sl_tables.specs.Holdings.{fits, is_holder, is_in_mode}
@@ -11,7 +11,7 @@ use Rattle.sl_trace.specs.declared.effects.Mode.TheVariants.{Exclusive, Shared}
 use Rattle.sl_trace.specs.declared.effects.Mode.{Mode}
 use Rattle.sl_trace.specs.declared.effects.Spot.{Spot}
 use Rattle.sl_host.proofs.QuestionsStand.{find_found}
-use Rattle.sl_host.specs.Asking.{held_under, sought_on}
+use Rattle.sl_host.specs.BookQuestions.{held_under, sought_on}
 use Rattle.sl_words.specs.Words.{same_truth}
 use Rattle.std.proofs.Common.{ap, refl, ◌∙◌}
 use Rattle.std.specs.Option.{option_map_or}

@@ -1,8 +1,8 @@
 -- Members have no more holders than there are holdings.
-use Rattle.sl_host_state.specs.Kept.{MemberState}
-use Rattle.sl_host_work.specs.Killing.{count_under, holders_of_all}
+use Rattle.sl_host_state.specs.KeptState.{MemberState}
+use Rattle.sl_host_work.specs.Kills.{count_under, holders_of_all}
 use Rattle.sl_host_work.specs.Rooms.{HoldersAreFew}
-use Rattle.sl_member.specs.Together.{AreApart}
+use Rattle.sl_member.specs.HostMembers.{AreApart}
 use Rattle.sl_trace.specs.Traces.{is_orphan}
 use Rattle.sl_trace.specs.declared.effects.Grant.{Grant}
 use Rattle.sl_words.specs.Orders.{add_new, once_each, put_in, rising}

@@ -1,27 +1,27 @@
 -- A lease decides by what its host keeps.
 use Rattle.sl_area.specs.Layouts.{Layout, Sizes, layout_of}
-use Rattle.sl_host.specs.Asking.{state_in}
-use Rattle.sl_host.specs.declared.telling.Told.TheVariants.{Again, Gave}
-use Rattle.sl_host.specs.declared.telling.Told.{Told}
+use Rattle.sl_host.specs.BookQuestions.{state_in}
+use Rattle.sl_host.specs.declared.told_answers.Told.TheVariants.{Again, Gave}
+use Rattle.sl_host.specs.declared.told_answers.Told.{Told}
 use Rattle.sl_host_law.specs.Questions.Answers.{place_in}
 use Rattle.sl_host_law.specs.Questions.Members.{exclusive_at, over_in}
 use Rattle.sl_host_law.specs.Steps.Leases.{answered_next, blocks_at, converting_next, kept_blocks, known_by, lease_at, releasing_next, settling_next}
-use Rattle.sl_host_state.specs.Kept.{HostKept, HostState, LeaseState, MemberState}
-use Rattle.sl_host_state.specs.Stands.{first_read, turn_kept}
-use Rattle.sl_host_state.specs.declared.kept.OpenCall.{OpenCall}
+use Rattle.sl_host_state.specs.KeptState.{HostKept, HostState, LeaseState, MemberState}
+use Rattle.sl_host_state.specs.HostStands.{first_read, turn_kept}
+use Rattle.sl_host_state.specs.declared.kept_parts.OpenCall.{OpenCall}
 use Rattle.sl_host_work.proofs.NextLaws.{converts_named, fits_within, leases_are_of_held, read_named, releases_named, settles_named, written_named}
 use Rattle.sl_host_work.proofs.ReadsGive.{asked_is, blocks_given, given_told, leader_of_area, leader_told, once_told}
-use Rattle.sl_host_work.specs.Asking.{IsNamedFor, IsShown, MayAsk, MayTurn, ReadStands, asked_next}
-use Rattle.sl_host_work.specs.Leasing.{held_with}
-use Rattle.sl_host_work.specs.Next.{IsFit, IsOfHeld, writes_own_block}
-use Rattle.sl_lease.specs.Asked.{TopStands, read_asked, read_given}
+use Rattle.sl_host_work.specs.LeaseQuestions.{IsNamedFor, IsShown, MayAsk, MayTurn, ReadStands, asked_next}
+use Rattle.sl_host_work.specs.LeaseWork.{held_with}
+use Rattle.sl_host_work.specs.NextDecisions.{IsFit, IsOfHeld, writes_own_block}
+use Rattle.sl_lease.specs.LeaseQuestions.{TopStands, read_asked, read_given}
 use Rattle.sl_lease.specs.Bounds.{IsInstance}
 use Rattle.sl_lease.specs.Side.{is_named, known_with, place_of}
 use Rattle.sl_lease.specs.Steps.{IsFitNext, is_first_step}
 use Rattle.sl_lease.specs.declared.evidence.Held.{Held}
 use Rattle.sl_lease.specs.declared.side.Side.{Side}
 use Rattle.sl_member.specs.Members.{MemberKept, owner_in, seen_in, side_in}
-use Rattle.sl_member.specs.Seen.{SeenBy, over_by}
+use Rattle.sl_member.specs.SeenSessions.{SeenBy, over_by}
 use Rattle.sl_sector.specs.Records.{Fits}
 use Rattle.sl_sector.specs.declared.sector.Block.{Block}
 use Rattle.sl_sector.specs.declared.sector.Leader.{Leader}

@@ -10,7 +10,7 @@ pub mod WakingStands
 pub mod NumbersRise
 pub mod SignalsStand
 pub mod EndsStand
-pub mod Passing
+pub mod ListPasses
 pub mod KillsStand
 pub mod OrphansStand
 pub mod HoldersFew

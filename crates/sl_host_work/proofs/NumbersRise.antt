@@ -1,9 +1,9 @@
 -- Numbers in rising order: the least above one comes next.
-use Rattle.sl_acts.proofs.Additions.{contains_last}
-use Rattle.sl_host_law.proofs.Plain.PlainLists.{in_back, in_front}
-use Rattle.sl_host_law.proofs.Plain.PlainOrders.{inside_ordered, ordered_inside, put_inside}
-use Rattle.sl_plain.proofs.Lists.{any_found, any_of, contains_cases, contains_first, contains_more, contains_none}
-use Rattle.sl_plain.proofs.Numbers.{number_itself}
+use Rattle.sl_due_facts.proofs.Acts.AddedAtEnd.{contains_last}
+use Rattle.sl_host_law.proofs.SharedFacts.PlainLists.{in_back, in_front}
+use Rattle.sl_host_law.proofs.SharedFacts.PlainOrders.{inside_ordered, ordered_inside, put_inside}
+use Rattle.sl_words.proofs.Lists.{any_found, any_of, contains_cases, contains_first, contains_more, contains_none}
+use Rattle.sl_words.proofs.Numbers.{number_itself}
 use Rattle.sl_words.proofs.CaseLaws.{none_some, some_value}
 use Rattle.sl_words.specs.Orders.{add_new, once_each, put_in, rising}
 use Rattle.sl_words.specs.Words.{least}

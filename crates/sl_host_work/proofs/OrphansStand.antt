@@ -1,12 +1,12 @@
 -- What holdings leave that end: the machine's orphans.
 use Rattle.sl_host_work.proofs.EndsStand.{ends_last, ends_next, its_own, other}
-use Rattle.sl_host_work.specs.Ending.{HoldsOnce, held_by, leaves_at, with_orphan}
-use Rattle.sl_plain.proofs.Lists.{filter_both}
+use Rattle.sl_host_work.specs.ProcessHoldings.{HoldsOnce, held_by, leaves_at, with_orphan}
+use Rattle.sl_words.proofs.Lists.{filter_both}
 use Rattle.sl_tables.specs.Holdings.{fits, sought_of}
 use Rattle.sl_trace.specs.Traces.{has_orphan_of, is_orphan, leaves_orphan, no_process, orphan_of, orphans_left, same_place}
 use Rattle.sl_trace.specs.declared.effects.Grant.{Grant}
-use Rattle.sl_host.proofs.Finding.{found_is_any}
-use Rattle.sl_host.specs.Passing.{orphan_on}
+use Rattle.sl_host.proofs.FoundInList.{found_is_any}
+use Rattle.sl_host.specs.NextHolder.{orphan_on}
 use Rattle.sl_host.specs.Notes.{NotesState}
 use Rattle.std.proofs.Common.{ap, append_assoc, append-nil, arith, length-append, refl, sym, ◌∙◌}
 use Rattle.std.proofs.lemmas.Bool.{eqb-true}

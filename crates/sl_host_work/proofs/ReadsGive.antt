@@ -2,14 +2,14 @@
 -- more, what is kept.
 use Rattle.sl_area.specs.Layouts.{Layout, Sizes, layout_of}
 use Rattle.sl_area.specs.Places.{BlocksRead, blocks_of, leader_read, needs_again, read_once}
-use Rattle.sl_host.specs.declared.telling.Told.TheVariants.{Again, Gave}
-use Rattle.sl_host.specs.declared.telling.Told.{Told}
+use Rattle.sl_host.specs.declared.told_answers.Told.TheVariants.{Again, Gave}
+use Rattle.sl_host.specs.declared.told_answers.Told.{Told}
 use Rattle.sl_host_law.specs.Steps.Leases.{blocks_at, kept_blocks, lease_at}
-use Rattle.sl_host_state.specs.Hears.{read_heard}
-use Rattle.sl_host_state.specs.Kept.{LeaseState, MemberState, PairState}
-use Rattle.sl_host_state.specs.Stands.{first_read}
-use Rattle.sl_host_work.specs.Asking.{IsShown, blocks_told}
-use Rattle.sl_lease.specs.Asked.{area_asked, heard_with, leader_given, read_asked, read_given}
+use Rattle.sl_host_state.specs.HeardInputs.{read_heard}
+use Rattle.sl_host_state.specs.KeptState.{LeaseState, MemberState, PairState}
+use Rattle.sl_host_state.specs.HostStands.{first_read}
+use Rattle.sl_host_work.specs.LeaseQuestions.{IsShown, blocks_told}
+use Rattle.sl_lease.specs.LeaseQuestions.{area_asked, heard_with, leader_given, read_asked, read_given}
 use Rattle.sl_lease.specs.Laws.{first_by}
 use Rattle.sl_lease.specs.Steps.{is_read_step}
 use Rattle.sl_sector.specs.declared.sector.Block.{Block}

@@ -1,20 +1,20 @@
 -- Recoveries that begin, jobs that are refused, calls that are overdue: as the state functions say.
-use Rattle.sl_host_law.specs.Answers.Refusing.{refusing, timing_out}
-use Rattle.sl_host_law.specs.Parts.Ends.{removing}
-use Rattle.sl_host_law.specs.Parts.Recoveries.{recovering_in}
-use Rattle.sl_host_law.specs.Parts.Refusals.{replying_to, signalling_and_refusing}
-use Rattle.sl_host_law.specs.Parts.Signals.{signalling}
+use Rattle.sl_host_law.specs.Answers.RefusalsFollow.{refusing, timing_out}
+use Rattle.sl_host_law.specs.StepParts.Ends.{removing}
+use Rattle.sl_host_law.specs.StepParts.Recoveries.{recovering_in}
+use Rattle.sl_host_law.specs.StepParts.Refusals.{replying_to, signalling_and_refusing}
+use Rattle.sl_host_law.specs.StepParts.Signals.{signalling}
 use Rattle.sl_host_law.specs.Questions.Jobs.{is_overdue_in, joining_in}
 use Rattle.sl_host_law.specs.Steps.Passes.{at_job, at_member, job_with, member_numbered}
-use Rattle.sl_host_state.specs.Asks.{begins_in}
-use Rattle.sl_host_state.specs.Kept.{HostKept, HostState, MemberState}
-use Rattle.sl_host_state.specs.Makes.{has_write_open, with_reply}
-use Rattle.sl_host_state.specs.declared.kept.JobState.{JobState}
-use Rattle.sl_host_state.specs.declared.kept.WaitingCall.{WaitingCall}
-use Rattle.sl_host_work.specs.Stopping.{overdue_of, parted_with, recovering_of, refusing_by, stopped_of, stopping, stopping_cost}
+use Rattle.sl_host_state.specs.StepQuestions.{begins_in}
+use Rattle.sl_host_state.specs.KeptState.{HostKept, HostState, MemberState}
+use Rattle.sl_host_state.specs.MadeEffects.{has_write_open, with_reply}
+use Rattle.sl_host_state.specs.declared.kept_parts.JobState.{JobState}
+use Rattle.sl_host_state.specs.declared.kept_parts.WaitingCall.{WaitingCall}
+use Rattle.sl_host_work.specs.Stops.{overdue_of, parted_with, recovering_of, refusing_by, stopped_of, stopping, stopping_cost}
 use Rattle.sl_host_work.specs.declared.recoveries.Stopped.{Stopped}
 use Rattle.sl_trace.specs.Jobs.{lockspace_named}
-use Rattle.sl_plain.proofs.Lists.{filter_both, find_inside}
+use Rattle.sl_words.proofs.Lists.{filter_both, find_inside}
 use Rattle.sl_trace.specs.declared.effects.Signal.TheVariants.{Term}
 use Rattle.sl_trace.specs.declared.reply.Reply.TheVariants.{IoTimeout, Recovering}
 use Rattle.sl_trace.specs.declared.reply.Reply.{Reply}

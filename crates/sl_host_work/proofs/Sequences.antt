@@ -1,8 +1,8 @@
 -- One change of a host after another.
-use Rattle.sl_host_law.specs.Answers.Carrying.{for_job_of}
-use Rattle.sl_host_law.specs.Answers.Leasing.{converting}
-use Rattle.sl_host_state.specs.Kept.{HostState}
-use Rattle.sl_host_work.specs.Leasing.{converting_under, otherwise_under}
+use Rattle.sl_host_law.specs.Answers.CarriedDecisions.{for_job_of}
+use Rattle.sl_host_law.specs.Answers.LeaseDecisions.{converting}
+use Rattle.sl_host_state.specs.KeptState.{HostState}
+use Rattle.sl_host_work.specs.LeaseWork.{converting_under, otherwise_under}
 use Rattle.sl_trace.specs.Jobs.{process_named}
 use Rattle.sl_trace.specs.declared.session.Session.{Session}
 use Rattle.sl_trace.specs.declared.command.Command.{Command}

@@ -1,19 +1,19 @@
 -- Signals go to the holders in rising order.
-use Rattle.sl_host_law.specs.Parts.Signals.{over, sending, telling}
-use Rattle.sl_host_state.specs.Asks.{stopper_in}
-use Rattle.sl_host_state.specs.Kept.{HostState, state_of}
-use Rattle.sl_host_state.specs.Makes.{with_signal, with_start}
+use Rattle.sl_host_law.specs.StepParts.Signals.{over, sending, telling}
+use Rattle.sl_host_state.specs.StepQuestions.{stopper_in}
+use Rattle.sl_host_state.specs.KeptState.{HostState, state_of}
+use Rattle.sl_host_state.specs.MadeEffects.{with_signal, with_start}
 use Rattle.sl_host_work.proofs.NumbersRise.{IsLeast, from_rising, kept_all, least_none, least_some, next_above, none_above, rising_rises, rising_there, those_above}
 use Rattle.sl_host_work.specs.Holders.{SameButSignals, holders_under}
-use Rattle.sl_plain.proofs.Lists.{contains_map, contains_none, in_map, kept, kept_inside}
+use Rattle.sl_words.proofs.Lists.{contains_map, contains_none, in_map, kept, kept_inside}
 use Rattle.sl_tables.specs.Holdings.{fits, least_holder}
 use Rattle.sl_trace.specs.Traces.{first_child, is_orphan}
 use Rattle.sl_trace.specs.declared.effects.Grant.{Grant}
 use Rattle.sl_trace.specs.declared.effects.Signal.TheVariants.{Kill, Term}
 use Rattle.sl_trace.specs.declared.effects.Signal.{Signal}
-use Rattle.sl_host.specs.Asking.{alone}
+use Rattle.sl_host.specs.BookQuestions.{alone}
 use Rattle.sl_host.specs.Host.{Becomes, HostView}
-use Rattle.sl_host.specs.Passing.{above}
+use Rattle.sl_host.specs.NextHolder.{above}
 use Rattle.sl_host.specs.Views.{books_of}
 use Rattle.std.proofs.Common.{ap, arith, refl, subst, sym, ◌∙◌}
 use Rattle.sl_trace.specs.declared.command.Command.{Command}

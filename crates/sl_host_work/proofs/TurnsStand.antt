@@ -1,9 +1,9 @@
 -- What a member's lease decided can be written by the member that is found by its session's number.
-use Rattle.sl_host_state.specs.Kept.{HostKept, MemberState}
-use Rattle.sl_host_work.specs.Asking.{IsTurned, MayTurn}
-use Rattle.sl_host_work.specs.Next.{writes_own_block}
-use Rattle.sl_member.specs.Together.{member_with}
-use Rattle.sl_plain.proofs.Lists.{find_inside}
+use Rattle.sl_host_state.specs.KeptState.{HostKept, MemberState}
+use Rattle.sl_host_work.specs.LeaseQuestions.{IsTurned, MayTurn}
+use Rattle.sl_host_work.specs.NextDecisions.{writes_own_block}
+use Rattle.sl_member.specs.HostMembers.{member_with}
+use Rattle.sl_words.proofs.Lists.{find_inside}
 use Rattle.sl_trace.specs.declared.effects.Spot.{Spot}
 use Rattle.sl_trace.specs.declared.lease.LeaseNext.{LeaseNext}
 use Rattle.sl_trace.specs.declared.session.Session.{Session}

@@ -1,25 +1,25 @@
 -- What is found to be due is what is done.
-use Rattle.sl_host_law.specs.Parts.Ends.{renewing_in}
-use Rattle.sl_delta.specs.Decides.{on_wake, time_next}
-use Rattle.sl_host_law.specs.Answers.Carrying.{carrying}
-use Rattle.sl_host_law.specs.Answers.Leasing.{carrying_lease}
-use Rattle.sl_host_law.specs.Answers.Wakings.{joining_by_time}
-use Rattle.sl_host_law.specs.Decisions.Deciding.{is_open_on, pending_refused}
-use Rattle.sl_host_law.specs.Parts.Wakes.{bits_in, delta_in, is_free_at, next_by_newest}
+use Rattle.sl_host_law.specs.StepParts.Ends.{renewing_in}
+use Rattle.sl_delta.specs.DeltaDecisions.{on_wake, time_next}
+use Rattle.sl_host_law.specs.Answers.CarriedDecisions.{carrying}
+use Rattle.sl_host_law.specs.Answers.LeaseDecisions.{carrying_lease}
+use Rattle.sl_host_law.specs.Answers.WakingsFollow.{joining_by_time}
+use Rattle.sl_host_law.specs.Decisions.CommandDecisions.{is_open_on, pending_refused}
+use Rattle.sl_host_law.specs.StepParts.Wakes.{bits_in, delta_in, is_free_at, next_by_newest}
 use Rattle.sl_host_law.specs.Questions.Jobs.{running_in}
 use Rattle.sl_host_law.specs.Steps.Leases.{settling_next}
-use Rattle.sl_host_law.specs.Steps.Wakes.{settling_here}
-use Rattle.sl_host_state.specs.declared.kept.JoinCall.{JoinCall}
-use Rattle.sl_host_state.specs.declared.kept.OpenCall.{OpenCall}
+use Rattle.sl_host_law.specs.Steps.WakePasses.{settling_here}
+use Rattle.sl_host_state.specs.declared.kept_parts.JoinCall.{JoinCall}
+use Rattle.sl_host_state.specs.declared.kept_parts.OpenCall.{OpenCall}
 use Rattle.sl_trace.specs.declared.lease.LeaseNext.{LeaseNext}
 use Rattle.sl_host_law.specs.Steps.Passes.{at_member, member_numbered}
 use Rattle.sl_area.specs.Layouts.{layout_of}
-use Rattle.sl_host_state.specs.Kept.{HostKept, HostState, MemberState}
-use Rattle.sl_member.specs.Asked.{bits_within}
+use Rattle.sl_host_state.specs.KeptState.{HostKept, HostState, MemberState}
+use Rattle.sl_member.specs.AskedRequests.{bits_within}
 use Rattle.sl_member.specs.Members.{MemberKept, RunOf, delta_lease, own_of}
-use Rattle.sl_host.specs.Asking.{state_in}
+use Rattle.sl_host.specs.BookQuestions.{state_in}
 use Rattle.sl_host_work.proofs.TurnsStand.{by_number}
-use Rattle.sl_host_work.specs.Waking.{joining_of, joining_on, renewal_of, renewal_written, renewing_by, settling_of, written_in}
+use Rattle.sl_host_work.specs.TimedWork.{joining_of, joining_on, renewal_of, renewal_written, renewing_by, settling_of, written_in}
 use Rattle.sl_sector.specs.declared.sector.DeltaRec.{DeltaRec}
 use Rattle.sl_sector.specs.declared.sector.DeltaState.TheVariants.{Live}
 use Rattle.sl_trace.specs.Deltas.{DeltaLease, delta_record, is_renewal_due, next_by_time, next_renewal}

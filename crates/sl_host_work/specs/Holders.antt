@@ -1,6 +1,6 @@
 -- Who holds under a session.
-use Rattle.sl_host_law.specs.Parts.Signals.{over, sending}
-use Rattle.sl_host_state.specs.Kept.{HostState}
+use Rattle.sl_host_law.specs.StepParts.Signals.{over, sending}
+use Rattle.sl_host_state.specs.KeptState.{HostState}
 use Rattle.sl_trace.specs.Traces.{is_orphan}
 use Rattle.sl_trace.specs.declared.effects.Grant.{Grant}
 use Rattle.sl_trace.specs.declared.effects.Signal.{Signal}

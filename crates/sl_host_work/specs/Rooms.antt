@@ -1,7 +1,7 @@
 -- How many effects a pass makes at most, by what is kept.
-use Rattle.sl_host_state.specs.Kept.{MemberState}
-use Rattle.sl_host_work.specs.Killing.{holders_of_all}
-use Rattle.sl_member.specs.Together.{AreApart}
+use Rattle.sl_host_state.specs.KeptState.{MemberState}
+use Rattle.sl_host_work.specs.Kills.{holders_of_all}
+use Rattle.sl_member.specs.HostMembers.{AreApart}
 use Rattle.sl_trace.specs.declared.effects.Grant.{Grant}
 use Rattle.std.specs.Prelude.{List, length, map, ◌≤◌}
 

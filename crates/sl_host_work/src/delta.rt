@@ -4,28 +4,28 @@
 
 ghost use Rattle.sl_area.specs.Layouts.{layout_of};
 ghost use Rattle.sl_area.specs.Places.{delta_offset};
-ghost use Rattle.sl_delta.specs.Decides.{IsFitNext};
-ghost use Rattle.sl_delta.specs.Own.{IsOwnRecord};
-ghost use Rattle.sl_host_law.specs.Answers.Carrying.{carrying, connecting, for_job_of, reading_own, registering, surveying, writing_own};
-ghost use Rattle.sl_host_law.specs.Answers.Refusing.{refusing};
-ghost use Rattle.sl_host_law.specs.Parts.Ends.{removing};
+ghost use Rattle.sl_delta.specs.DeltaDecisions.{IsFitNext};
+ghost use Rattle.sl_delta.specs.OwnSector.{IsOwnRecord};
+ghost use Rattle.sl_host_law.specs.Answers.CarriedDecisions.{carrying, connecting, for_job_of, reading_own, registering, surveying, writing_own};
+ghost use Rattle.sl_host_law.specs.Answers.RefusalsFollow.{refusing};
+ghost use Rattle.sl_host_law.specs.StepParts.Ends.{removing};
 ghost use Rattle.sl_host_law.specs.Questions.Jobs.{running_in};
-ghost use Rattle.sl_host_state.specs.Makes.{with_reply};
-ghost use Rattle.sl_host_work.specs.Next.{IsPlain};
-ghost use Rattle.sl_host_work.specs.Placed.{IsPlaced};
+ghost use Rattle.sl_host_state.specs.MadeEffects.{with_reply};
+ghost use Rattle.sl_host_work.specs.NextDecisions.{IsPlain};
+ghost use Rattle.sl_host_work.specs.SectorPlaces.{IsPlaced};
 ghost use Rattle.sl_trace.specs.Sessions.{is_join_done};
 ghost use Rattle.sl_time.specs.Times.{fail};
 ghost use Rattle.sl_trace.specs.declared.effects.JoinStep.TheVariants.{ClaimWrite, FirstRenewal};
 ghost use Rattle.sl_trace.specs.declared.effects.Purpose.TheVariants.{Joining};
 ghost use Rattle.sl_trace.specs.declared.reply.Reply.TheVariants.{Generation};
 ghost use Rattle.sl_trace.specs.declared.delta.DeltaNext.TheVariants.{Join};
-ghost use Rattle.sl_host.specs.Replying.{HasClaims};
+ghost use Rattle.sl_host.specs.ReplyJoinings.{HasClaims};
 ghost use Rattle.sl_host.specs.Host.{Becomes, SameRun, Spends};
 ghost use Rattle.sl_words.specs.Bounds.{moments};
 ghost use Rattle.std.specs.Prelude.{Some, cond, false, ℕ, ◌+◌, ◌-◌, ◌<◌, ◌≡◌, ◌≤◌};
 
 use crate::ends::remove_connection;
-use crate::refusing::refuse;
+use crate::refusals::refuse;
 use sl_host::Host;
 use sl_sector::{DeltaRec, Rec};
 use sl_trace::{DeltaNext, JoinStep, Move, Op, Purpose, Reply, Session};

@@ -1,10 +1,10 @@
 //! Ends: connections that are removed, what comes last of a session, processes that exit or are not started.
 
-ghost use Rattle.sl_host_law.specs.Parts.Ends.{removing};
-ghost use Rattle.sl_host_law.specs.Parts.Exits.{ending, leaving};
-ghost use Rattle.sl_host_law.specs.Parts.Signals.{over};
-ghost use Rattle.sl_host_state.specs.Makes.{with_grant};
-ghost use Rattle.sl_host_work.specs.Ending.{HoldsOnce, held_by, leaves_at, with_orphan};
+ghost use Rattle.sl_host_law.specs.StepParts.Ends.{removing};
+ghost use Rattle.sl_host_law.specs.StepParts.Exits.{ending, leaving};
+ghost use Rattle.sl_host_law.specs.StepParts.Signals.{over};
+ghost use Rattle.sl_host_state.specs.MadeEffects.{with_grant};
+ghost use Rattle.sl_host_work.specs.ProcessHoldings.{HoldsOnce, held_by, leaves_at, with_orphan};
 ghost use Rattle.sl_trace.specs.Traces.{end_of, no_process, orphan_of, orphans_left};
 ghost use Rattle.sl_host.specs.Host.{Becomes, SameRun, Spends};
 ghost use Rattle.sl_host.specs.Notes.{NotesState};

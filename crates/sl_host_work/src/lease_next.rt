@@ -3,24 +3,24 @@
 //! The lease decides by what it keeps, what is held under it, and whom its session counts as over.
 
 ghost use Rattle.sl_host_law.specs.Steps.Leases.{answered_next, converting_next, kept_blocks, lease_at, releasing_next, settling_next};
-ghost use Rattle.sl_host_state.specs.Kept.{HostState, MemberState};
-ghost use Rattle.sl_host_state.specs.declared.kept.OpenCall.{OpenCall};
-ghost use Rattle.sl_host_work.specs.Asking.{IsNamedFor, IsShown, MayAsk, MayTurn, asked_next, blocks_told};
-ghost use Rattle.sl_host.specs.declared.telling.Told.TheVariants.{Gave};
+ghost use Rattle.sl_host_state.specs.KeptState.{HostState, MemberState};
+ghost use Rattle.sl_host_state.specs.declared.kept_parts.OpenCall.{OpenCall};
+ghost use Rattle.sl_host_work.specs.LeaseQuestions.{IsNamedFor, IsShown, MayAsk, MayTurn, asked_next, blocks_told};
+ghost use Rattle.sl_host.specs.declared.told_answers.Told.TheVariants.{Gave};
 ghost use Rattle.sl_sector.specs.declared.sector.Leader.{Leader as LeaderOf};
-ghost use Rattle.sl_host_work.specs.Leasing.{held_with};
-ghost use Rattle.sl_host_work.specs.Next.{IsFit, writes_own_block};
+ghost use Rattle.sl_host_work.specs.LeaseWork.{held_with};
+ghost use Rattle.sl_host_work.specs.NextDecisions.{IsFit, writes_own_block};
 ghost use Rattle.sl_lease.specs.Bounds.{IsInstance};
 ghost use Rattle.sl_lease.specs.Side.{is_named};
 ghost use Rattle.sl_lease.specs.Steps.{IsFitNext};
-ghost use Rattle.sl_host_state.specs.Makes.{new_lease};
+ghost use Rattle.sl_host_state.specs.MadeEffects.{new_lease};
 ghost use Rattle.sl_sector.specs.Records.{IsBlock, IsLeader};
 ghost use Rattle.sl_tables.specs.Holdings.{fits};
 ghost use Rattle.sl_tables.specs.declared.holdings.Holder.TheVariants.{Anyone};
 ghost use Rattle.sl_trace.specs.declared.effects.LeaseStep.{LeaseStep};
 ghost use Rattle.sl_trace.specs.declared.effects.Spot.{Spot};
 ghost use Rattle.sl_trace.specs.declared.input.Answer.TheVariants.{Failed, Read, Written};
-ghost use Rattle.sl_host.specs.Asking.{sought_on, state_in};
+ghost use Rattle.sl_host.specs.BookQuestions.{sought_on, state_in};
 ghost use Rattle.std.specs.Prelude.{All, IfSome, IsTrue, List, Option, Some, false, find, length, option_map, true, ℕ, ◌<◌, ◌^◌, ◌≡◌};
 
 use sl_host::{Host, Told};

@@ -1,30 +1,30 @@
 //! What a host does with what was decided, as code: each function here is one of the functions of `sl_host_law` on a host's state, over its effects.
 //!
-//! `delta` carries what the holder of an id's sector is to do. `lease_next` is what a lease does next, `leasing` carries it, with the grants of
-//! `granting`. `wakings` has what is due to a session by time. `signals`, `refusing`, `recoveries` and `ends` have recoveries, kills, refused joinings and
+//! `delta` carries what the holder of an id's sector is to do. `lease_next` is what a lease does next, `lease_work` carries it, with the grants of
+//! `grants`. `wakings` has what is due to a session by time. `signals`, `refusals`, `recoveries` and `ends` have recoveries, kills, refused joinings and
 //! the ends of holdings.
 #![tactic(auto)]
 
 mod delta;
 mod ends;
-mod granting;
+mod grants;
 pub mod laws;
 mod lease_next;
-mod leasing;
+mod lease_work;
 mod recoveries;
-mod refusing;
+mod refusals;
 mod signals;
 mod wakings;
 
 pub use delta::carry;
 pub use ends::{end_holdings, leave_holdings, remove_connection};
-pub use granting::{grant_for, process_named};
+pub use grants::{grant_for, process_named};
 pub use lease_next::{
     converting_next, next_after_failure, next_after_read, next_after_write, releasing_next,
     settling_next,
 };
-pub use leasing::carry_lease;
+pub use lease_work::carry_lease;
 pub use recoveries::{Stopped, kill_all, overdue};
-pub use refusing::{Refusal, recover, refuse, refuse_chosen, refuse_of_process, stop, time_out};
+pub use refusals::{Refusal, recover, refuse, refuse_chosen, refuse_of_process, stop, time_out};
 pub use signals::{send, signal_holders, tell};
 pub use wakings::{join_by_time, renew, settle};

@@ -1,13 +1,13 @@
 //! Recoveries, calls that are overdue, and kills, which are due to whoever holds then.
 
-ghost use Rattle.sl_host_law.specs.Parts.Recoveries.{killing};
-ghost use Rattle.sl_host_law.specs.Parts.Signals.{over};
+ghost use Rattle.sl_host_law.specs.StepParts.Recoveries.{killing};
+ghost use Rattle.sl_host_law.specs.StepParts.Signals.{over};
 ghost use Rattle.sl_host_law.specs.Questions.Jobs.{is_overdue_in};
-ghost use Rattle.sl_host_state.specs.Asks.{begins_in, is_kill_due_in};
+ghost use Rattle.sl_host_state.specs.StepQuestions.{begins_in, is_kill_due_in};
 ghost use Rattle.sl_host_work.specs.Holders.{SameButSignals};
-ghost use Rattle.sl_host_work.specs.Killing.{holders_at, holders_of_all, is_killed, killed_of, killing_at, unread};
-ghost use Rattle.sl_host_work.specs.Stopping.{overdue_of, recovering_of};
-ghost use Rattle.sl_member.specs.Together.{member_with};
+ghost use Rattle.sl_host_work.specs.Kills.{holders_at, holders_of_all, is_killed, killed_of, killing_at, unread};
+ghost use Rattle.sl_host_work.specs.Stops.{overdue_of, recovering_of};
+ghost use Rattle.sl_member.specs.HostMembers.{member_with};
 ghost use Rattle.sl_host.specs.Host.{Becomes, SameRun, Spends};
 ghost use Rattle.std.specs.Prelude.{Some, find, length, nat_le, slice_get, ◌+◌, ◌<◌, ◌==◌, ◌≡◌, ◌≤◌};
 

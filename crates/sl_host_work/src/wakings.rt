@@ -1,26 +1,26 @@
 //! What is due to a session by time.
 
-ghost use Rattle.sl_delta.specs.Own.{IsOwnRecord};
-ghost use Rattle.sl_host_law.specs.Parts.Ends.{renewing_in};
+ghost use Rattle.sl_delta.specs.OwnSector.{IsOwnRecord};
+ghost use Rattle.sl_host_law.specs.StepParts.Ends.{renewing_in};
 ghost use Rattle.sl_host_law.specs.Steps.Passes.{at_member, member_numbered};
-ghost use Rattle.sl_host_law.specs.Answers.Wakings.{joining_by_time};
-ghost use Rattle.sl_host_law.specs.Parts.Wakes.{is_free_at};
-ghost use Rattle.sl_host_law.specs.Steps.Wakes.{settling_here};
-ghost use Rattle.sl_host_state.specs.Kept.{MemberState};
-ghost use Rattle.sl_host_work.specs.Asking.{IsTurned, MayTurn};
-ghost use Rattle.sl_host_work.specs.Next.{IsFit, IsPlain, writes_own_block};
-ghost use Rattle.sl_host_work.specs.Placed.{IsArea, IsPlaced};
-ghost use Rattle.sl_member.specs.Together.{member_with};
-ghost use Rattle.sl_host_work.specs.Waking.{ArePlaced, MaySettle, joining_of, renewal_of, renewal_written, settling_of, written_in};
-ghost use Rattle.sl_host.specs.Asking.{state_in};
+ghost use Rattle.sl_host_law.specs.Answers.WakingsFollow.{joining_by_time};
+ghost use Rattle.sl_host_law.specs.StepParts.Wakes.{is_free_at};
+ghost use Rattle.sl_host_law.specs.Steps.WakePasses.{settling_here};
+ghost use Rattle.sl_host_state.specs.KeptState.{MemberState};
+ghost use Rattle.sl_host_work.specs.LeaseQuestions.{IsTurned, MayTurn};
+ghost use Rattle.sl_host_work.specs.NextDecisions.{IsFit, IsPlain, writes_own_block};
+ghost use Rattle.sl_host_work.specs.SectorPlaces.{IsArea, IsPlaced};
+ghost use Rattle.sl_member.specs.HostMembers.{member_with};
+ghost use Rattle.sl_host_work.specs.TimedWork.{ArePlaced, MaySettle, joining_of, renewal_of, renewal_written, settling_of, written_in};
+ghost use Rattle.sl_host.specs.BookQuestions.{state_in};
 ghost use Rattle.sl_host.specs.Host.{Becomes, SameRun, Spends};
 ghost use Rattle.sl_words.specs.Bounds.{moments};
-ghost use Rattle.sl_delta.specs.Decides.{IsFitNext};
+ghost use Rattle.sl_delta.specs.DeltaDecisions.{IsFitNext};
 ghost use Rattle.std.specs.Prelude.{IfSome, Some, true, ◌<◌, ◌≡◌, ◌≤◌};
 
 use crate::delta::{carry, write_own};
 use crate::lease_next::settling_next;
-use crate::leasing::carry_lease;
+use crate::lease_work::carry_lease;
 use sl_host::Host;
 use sl_member::Member;
 use sl_sector::DeltaRec;

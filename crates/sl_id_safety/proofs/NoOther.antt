@@ -3,27 +3,27 @@
 use Rattle.sl_area.specs.Layouts.{layout_with}
 use Rattle.sl_area.specs.Places.{delta_of, delta_offset, sector_of}
 use Rattle.sl_run_law.proofs.Course.Daemons.{OnDaemons, every_has, first_daemons}
-use Rattle.sl_run_law.proofs.Course.Keeping.{header_machine}
-use Rattle.sl_run_law.proofs.Course.Mirrored.{machines_mirror}
-use Rattle.sl_run_law.proofs.Front.Going.{fronts_are_lawful, run_keeps}
-use Rattle.sl_id_safety.proofs.Acting.{same_offset, stands_in}
-use Rattle.sl_id_safety.proofs.Before.{StoodBefore, found_with, stood_before}
-use Rattle.sl_id_safety.proofs.Claimed.{claim_below}
-use Rattle.sl_id_safety.proofs.Evident.{id_range, place_seen}
-use Rattle.sl_id_safety.proofs.Freed.{freed_answered}
-use Rattle.sl_id_safety.proofs.Fronting.{step_next}
-use Rattle.sl_id_safety.proofs.Owning.{own_above}
-use Rattle.sl_id_safety.proofs.Seeing.{IsSeen, seen_look}
-use Rattle.sl_id_safety.proofs.Showing.{StoodAt, stood_at}
-use Rattle.sl_id_safety.proofs.Silence.{freed_by, goes_on, not_reset, over_cases}
-use Rattle.sl_id_safety.proofs.Standing.{joined_stand}
+use Rattle.sl_run_law.proofs.Course.MachinesKeep.{header_machine}
+use Rattle.sl_run_law.proofs.Course.MachinesMirror.{machines_mirror}
+use Rattle.sl_run_law.proofs.Front.RunsFromFronts.{fronts_are_lawful, run_keeps}
+use Rattle.sl_id_safety.proofs.IdInterface.{same_offset, stands_in}
+use Rattle.sl_id_safety.proofs.StoodBefore.{StoodBefore, found_with, stood_before}
+use Rattle.sl_id_safety.proofs.SamplesAboveClaims.{claim_below}
+use Rattle.sl_id_safety.proofs.EvidenceIsTrue.{id_range, place_seen}
+use Rattle.sl_id_safety.proofs.FreeIsLast.{freed_answered}
+use Rattle.sl_id_safety.proofs.FrontsOfSteps.{step_next}
+use Rattle.sl_id_safety.proofs.SectorsStand.{own_above}
+use Rattle.sl_id_safety.proofs.SeenRecords.{IsSeen, seen_look}
+use Rattle.sl_id_safety.proofs.ShownStoodThere.{StoodAt, stood_at}
+use Rattle.sl_id_safety.proofs.OverIsQuiet.{freed_by, goes_on, not_reset, over_cases}
+use Rattle.sl_id_safety.proofs.JoinedStand.{joined_stand}
 use Rattle.sl_id_safety.specs.Interface.{JoinedReadNoOther}
-use Rattle.sl_id_safety.specs.Standing.{sector_offset}
-use Rattle.sl_id_safety.proofs.State.Bridge.{IsKnown, is_there, known}
-use Rattle.sl_id_safety.proofs.State.Proven.{grounds}
+use Rattle.sl_id_safety.specs.JoinedStand.{sector_offset}
+use Rattle.sl_id_safety.proofs.State.TraceBridge.{IsKnown, is_there, known}
+use Rattle.sl_id_safety.proofs.State.SessionFacts.{grounds}
 use Rattle.sl_id_safety.specs.State.IdStates.{content_of, id_state, name_of, session_at}
-use Rattle.sl_id_safety.specs.State.Promises.{IsIdPlace}
-use Rattle.sl_id_safety.specs.Reached.Reaching.{IdsAreReached, IdsGoOn}
+use Rattle.sl_id_safety.specs.State.StateLaws.{IsIdPlace}
+use Rattle.sl_id_safety.specs.Reached.IdsAreReached.{IdsAreReached, IdsGoOn}
 use Rattle.sl_ids.proofs.DerivedLaws.{watchdogs}
 use Rattle.sl_ids.proofs.InterfaceLaws.{run_grows}
 use Rattle.sl_ids.proofs.WholeRuns.{reached_kept}
@@ -31,20 +31,20 @@ use Rattle.sl_ids.specs.Guards.{terms_of}
 use Rattle.sl_ids.specs.State.{Session as IdSession}
 use Rattle.sl_ids.specs.Terms.{Terms}
 use Rattle.sl_run.specs.Lawful.{Orderly}
-use Rattle.sl_run_law.proofs.Moment.Following.{kept_past}
+use Rattle.sl_run_law.proofs.Moment.MomentsFollowSteps.{kept_past}
 use Rattle.sl_run_law.proofs.Moment.Stamps.{answer_is_stamp}
-use Rattle.sl_run_law.specs.Moment.Moments.{Of_stamp}
-use Rattle.sl_plain.proofs.Lists.{contains_map, find_inside, kept}
-use Rattle.sl_plain.proofs.Options.{some_of}
+use Rattle.sl_run_law.specs.Moment.MomentsFollowSteps.{Of_stamp}
+use Rattle.sl_words.proofs.Lists.{contains_map, find_inside, kept}
+use Rattle.sl_words.proofs.Options.{some_of}
 use Rattle.sl_run.specs.Runs.{Happening}
 use Rattle.sl_run.specs.Safety.{Found, HasJoined, IsSession, LawfulRun, ReadsNoOther, SessionId, free_landed, has_write_in_flight, is_over, setting_in, trace_of, was_reset, world_at}
 use Rattle.sl_run.specs.Worlds.{Daemon, Machine, Program, World, daemons_on, machine_at}
 use Rattle.sl_run.specs.declared.header.Header.{Header}
-use Rattle.sl_run_law.proofs.Sample.Proven.{samples_are_landings}
+use Rattle.sl_run_law.proofs.Sample.SampleLaws.{samples_are_landings}
 use Rattle.sl_run_law.specs.Sample.Samples.{sector_place}
 use Rattle.sl_sector.specs.declared.sector.DeltaRec.{DeltaRec}
-use Rattle.sl_trace_law.proofs.Sessions.Making.{old_stays, same_answered}
-use Rattle.sl_trace_law.proofs.Sessions.Staying.{joined_more}
+use Rattle.sl_run_law.proofs.Sessions.CallsAreMade.{old_stays, same_answered}
+use Rattle.sl_run_law.proofs.Sessions.MarksStay.{joined_more}
 use Rattle.sl_trace.specs.Sessions.{calls_of, ended_after, free_write, generation_of, is_call_of, is_free_purpose, is_joined, is_survey_purpose, joined_after, refused_after, removed_after, shows_other, shows_other_in, survey_in}
 use Rattle.sl_trace.specs.declared.session.Session.{Session}
 use Rattle.sl_trace.specs.declared.sighting.Sighting.{Sighting}
@@ -57,7 +57,7 @@ use Rattle.sl_trace.specs.declared.input.Answer.TheVariants.{Read}
 use Rattle.sl_trace.specs.declared.input.Answer.{Answer}
 use Rattle.sl_trace.specs.declared.input.Input.TheVariants.{Answer as Told}
 use Rattle.sl_trace.specs.declared.input.Input.{Input}
-use Rattle.sl_run_law.proofs.Watchdog.Numbering.{answered_call}
+use Rattle.sl_run_law.proofs.Watchdog.TraceNumbers.{answered_call}
 use Rattle.sl_words.proofs.CaseLaws.{is_false, no_value, none_some, one_value, some_value, true_is_false}
 use Rattle.sl_words.proofs.WordLaws.{and_true}
 use Rattle.sl_words.specs.Words.{choose, some_is}

@@ -1,2 +1,2 @@
-pub mod Following
-pub mod Proven
+pub mod EventsGoOn
+pub mod IdsAreReached

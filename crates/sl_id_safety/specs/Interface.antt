@@ -5,7 +5,7 @@ use Rattle.sl_run.specs.Safety.{DeltaInvariant, EvidenceIsTrue, Found, Generatio
 use Rattle.sl_run.specs.Worlds.{Course, Program, Stamp, World, is_write_course}
 use Rattle.sl_run.specs.declared.header.Header.{Header}
 use Rattle.sl_trace.specs.Sessions.{calls_of, is_free_purpose}
-use Rattle.sl_trace.specs.Watching.{counts_over, current_run, is_silent, sightings}
+use Rattle.sl_trace.specs.Sightings.{counts_over, current_run, is_silent, sightings}
 use Rattle.sl_trace.specs.declared.sighting.Run.{Run}
 use Rattle.sl_trace.specs.declared.sighting.Sighting.{Sighting}
 use Rattle.std.specs.Prelude.{Contains, IsTrue, List, Some, false, true, ℕ, ◌++◌, ◌<◌, ◌≡◌}

@@ -1,4 +1,4 @@
-pub mod Standing
+pub mod JoinedStand
 pub mod Interface
 pub mod State
 pub mod Steps

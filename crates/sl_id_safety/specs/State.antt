@@ -1,3 +1,3 @@
 pub mod IdStates
 pub mod Facts
-pub mod Promises
+pub mod StateLaws

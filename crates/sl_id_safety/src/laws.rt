@@ -5,7 +5,7 @@ pub mod state;
 pub mod steps;
 
 ghost use Rattle.sl_id_safety.specs.Interface.{EvidenceMeansOver, EvidencesAreTrue, GenerationsNameOne, IdsAreSafe, JoinedReadNoOther, JoinedStays, JoinersFindOver, JoinersRise, LockspacesAreAreas, OneActsForEachId, OverAreSettled, OverAreSilent, OverStays, SectorsAreAlone, SectorsStand};
-ghost use Rattle.sl_id_safety.specs.Standing.{JoinedStand, SameIdsStandTogether, StandingTogetherIsSameId};
+ghost use Rattle.sl_id_safety.specs.JoinedStand.{JoinedStand, SameIdsStandTogether, StandingTogetherIsSameId};
 
 /// A joined session stands with its id as the world has it.
 pub fn joined_stand()

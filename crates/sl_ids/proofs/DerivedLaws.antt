@@ -1,7 +1,7 @@
 -- The bounds and the timed premises, by clocks and watchdogs; how runs are put together; landings as a list.
-use Rattle.sl_clocks.proofs.ClockLaws.{clocks_drift, join_max_short}
-use Rattle.sl_clocks.proofs.WatchdogLaws.{acting, silence, verify, watch}
-use Rattle.sl_clocks.specs.Points.{Point}
+use Rattle.sl_ids.proofs.Clocks.ClockLaws.{clocks_drift, join_max_short}
+use Rattle.sl_ids.proofs.Clocks.WatchdogLaws.{acting, silence, verify, watch}
+use Rattle.sl_ids.specs.Clocks.Points.{Point}
 use Rattle.sl_ids.proofs.WholeRuns.{bounded_to}
 use Rattle.sl_ids.specs.Guards.{WaitsSuffice, WatchdogsBound}
 use Rattle.sl_ids.specs.Listed.{ListsLand, no_landing}

@@ -7,3 +7,5 @@ pub mod WholeRuns
 pub mod InterfaceLaws
 pub mod DerivedLaws
 pub mod ExampleRuns
+pub mod ShorterWaits
+pub mod Clocks

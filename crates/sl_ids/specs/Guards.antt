@@ -1,6 +1,6 @@
 -- The terms of an id by the times of a delta lease, and its bounds and the timed premises of its steps by clocks and watchdogs.
-use Rattle.sl_clocks.specs.Points.{Point, Precedes, reading}
-use Rattle.sl_clocks.specs.Watchdog.{MayAct}
+use Rattle.sl_ids.specs.Clocks.Points.{Point, Precedes, reading}
+use Rattle.sl_ids.specs.Clocks.Watchdog.{MayAct}
 use Rattle.sl_ids.specs.Runs.{IsBounded}
 use Rattle.sl_ids.specs.State.{Content, SessionId, State, moment, shown}
 use Rattle.sl_ids.specs.Steps.{IsWatched}

@@ -8,3 +8,4 @@ pub mod InvariantLaws
 pub mod Guards
 pub mod Listed
 pub mod Examples
+pub mod Clocks

@@ -1,6 +1,6 @@
 pub mod Faults
 pub mod Planned
-pub mod Taken
+pub mod TakenBytes
 pub mod Memory
-pub mod Reading
+pub mod ReadSources
 pub mod Adapters

@@ -5,7 +5,7 @@
 ghost use Rattle.std.specs.Io.KnownBytes.{WriteAppends};
 ghost use Rattle.std.specs.Prelude.{IfOk, IsErr, IsTrue, Some, [], length, ◌≡◌, ◌↔◌};
 ghost use Rattle.sl_io.specs.Memory.{after_write, write_fails, write_len};
-ghost use Rattle.sl_io.specs.Taken.{TakesSome};
+ghost use Rattle.sl_io.specs.TakenBytes.{TakesSome};
 ghost use Rattle.sl_words.specs.Causes.{HasCause};
 
 use crate::faults::Failed;

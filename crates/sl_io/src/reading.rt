@@ -1,7 +1,7 @@
 //! Reading a source to its end.
 ghost use Rattle.std.specs.Io.KnownBytes.{Consumes, IsAtEnd};
 ghost use Rattle.std.specs.Prelude.{IfOk, IsTrue, List, OnErr, false, length, vec_capacity, vec_len, ℕ, ◌++◌, ◌+◌, ◌≡◌, ◌≤◌};
-ghost use Rattle.sl_io.specs.Reading.{IsReading};
+ghost use Rattle.sl_io.specs.ReadSources.{IsReading};
 ghost use Rattle.sl_words.specs.Causes.{HasCause, Rose};
 
 use crate::faults::Failed;

@@ -1,7 +1,7 @@
 //! What a program writes its output to.
 ghost use Rattle.std.specs.Prelude.{List, None, Option, ℕ};
 ghost use Rattle.std.specs.Io.KnownBytes.{WriteAppends};
-ghost use Rattle.sl_io.specs.Taken.{TakesSome};
+ghost use Rattle.sl_io.specs.TakenBytes.{TakesSome};
 ghost use Rattle.sl_words.specs.Causes.{HasCause};
 
 use crate::faults::Failed;

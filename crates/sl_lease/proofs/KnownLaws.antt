@@ -2,9 +2,9 @@
 use Rattle.sl_area.specs.Layouts.{Layout}
 use Rattle.sl_area.specs.Places.{blocks_of, leader_read, needs_again}
 use Rattle.sl_host_state.proofs.Pairs.{first_is_kept}
-use Rattle.sl_host_state.specs.Kept.{LeaseState}
-use Rattle.sl_host_state.specs.Stands.{LeaseStands}
-use Rattle.sl_lease.specs.Asked.{IsLastRead, TopStands, area_asked, leader_given, read_asked, read_given}
+use Rattle.sl_host_state.specs.KeptState.{LeaseState}
+use Rattle.sl_host_state.specs.HostStands.{LeaseStands}
+use Rattle.sl_lease.specs.LeaseQuestions.{IsLastRead, TopStands, area_asked, leader_given, read_asked, read_given}
 use Rattle.sl_lease.specs.Side.{known_with, layout_in, place_of}
 use Rattle.sl_lease.specs.declared.evidence.Held.{Held}
 use Rattle.sl_lease.specs.declared.side.Side.{Side}

@@ -1,8 +1,8 @@
 -- Ballots that begin.
-use Rattle.sl_host_state.specs.Kept.{LeaseState}
-use Rattle.sl_host_state.specs.Stands.{top_mbal}
-use Rattle.sl_host_state.specs.declared.kept.TopNumber.{TopNumber}
-use Rattle.sl_lease.specs.Asked.{TopStands, begin_above, block_showing, gen_with}
+use Rattle.sl_host_state.specs.KeptState.{LeaseState}
+use Rattle.sl_host_state.specs.HostStands.{top_mbal}
+use Rattle.sl_host_state.specs.declared.kept_parts.TopNumber.{TopNumber}
+use Rattle.sl_lease.specs.LeaseQuestions.{TopStands, begin_above, block_showing, gen_with}
 use Rattle.sl_lease.specs.Side.{known_with, place_of}
 use Rattle.sl_lease.specs.declared.evidence.Held.{Held}
 use Rattle.sl_lease.specs.declared.side.Side.{Side}

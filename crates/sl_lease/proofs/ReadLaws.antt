@@ -1,8 +1,8 @@
 -- What a read gives, host by host, and what a second read gives with the first.
 use Rattle.sl_area.specs.Layouts.{Sizes, layout_of}
 use Rattle.sl_area.specs.Places.{BlocksRead, area_sectors, block_sectors, blocks_in, later_pair, leader_made, leader_of, pair_back, pair_kept, pair_merged, pair_read, pairs_of}
-use Rattle.sl_host_state.specs.Hears.{blocks_heard, is_area_step, is_block_step, turn_heard}
-use Rattle.sl_lease.specs.Asked.{heard_with, leader_given}
+use Rattle.sl_host_state.specs.HeardInputs.{blocks_heard, is_area_step, is_block_step, turn_heard}
+use Rattle.sl_lease.specs.LeaseQuestions.{heard_with, leader_given}
 use Rattle.sl_lease.specs.Changes.{shows_blocks}
 use Rattle.sl_lease.specs.Reads.{HasGiven, HasPlaces, HasRead, ReadRoom, behind, blocks_of_pairs, blocks_to, host_block, is_asked_again, is_torn_to, kept_to, leader_with, merged_with, pair_places, pairs_to, sectors_read}
 use Rattle.sl_sector.specs.declared.sector.Block.{Block}

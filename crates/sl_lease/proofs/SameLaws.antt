@@ -1,13 +1,13 @@
 -- What is kept of a lease is what a host keeps of it.
 use Rattle.sl_area.specs.Layouts.{Layout}
 use Rattle.sl_area.specs.Places.{BlocksRead, blocks_of, leader_read, needs_again, pairs_kept, read_once}
-use Rattle.sl_host_state.specs.Hears.{blocks_heard, blocks_shown, concludes_at, is_area_step, is_block_step, is_free_step, is_last_phase, kept_heard, leader_shown, lease_hearing, pair_hearing, read_heard, settles_at, stop_shown, top_hearing, turn_heard, verified_at, won_at, won_hearing}
-use Rattle.sl_host_state.specs.Kept.{LeaseState, PairState}
-use Rattle.sl_host_state.specs.Makes.{lease_calling}
-use Rattle.sl_host_state.specs.declared.kept.LeaseCall.{LeaseCall}
-use Rattle.sl_host_state.specs.declared.kept.OpenCall.{OpenCall}
-use Rattle.sl_host_state.specs.declared.kept.TopNumber.{TopNumber}
-use Rattle.sl_lease.specs.Asked.{heard_with, leader_given, read_given}
+use Rattle.sl_host_state.specs.HeardInputs.{blocks_heard, blocks_shown, concludes_at, is_area_step, is_block_step, is_free_step, is_last_phase, kept_heard, leader_shown, lease_hearing, pair_hearing, read_heard, settles_at, stop_shown, top_hearing, turn_heard, verified_at, won_at, won_hearing}
+use Rattle.sl_host_state.specs.KeptState.{LeaseState, PairState}
+use Rattle.sl_host_state.specs.MadeEffects.{lease_calling}
+use Rattle.sl_host_state.specs.declared.kept_parts.LeaseCall.{LeaseCall}
+use Rattle.sl_host_state.specs.declared.kept_parts.OpenCall.{OpenCall}
+use Rattle.sl_host_state.specs.declared.kept_parts.TopNumber.{TopNumber}
+use Rattle.sl_lease.specs.LeaseQuestions.{heard_with, leader_given, read_given}
 use Rattle.sl_lease.specs.Changes.{after_block, after_failure, after_kept, after_leader, after_reading, name_found, read_told, turn_in, turn_told, write_told}
 use Rattle.sl_lease.specs.Laws.{HostsKeepTheSame, IsGiven, IsReadCall, at_step, first_by, open_at_step}
 use Rattle.sl_lease.specs.Side.{layout_in}

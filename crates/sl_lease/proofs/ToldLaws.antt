@@ -1,7 +1,7 @@
 -- What a read changes, part by part.
-use Rattle.sl_host_state.specs.Hears.{concludes_at, won_at, won_hearing}
-use Rattle.sl_host_state.specs.Kept.{LeaseState}
-use Rattle.sl_host_state.specs.declared.kept.TopNumber.{TopNumber}
+use Rattle.sl_host_state.specs.HeardInputs.{concludes_at, won_at, won_hearing}
+use Rattle.sl_host_state.specs.KeptState.{LeaseState}
+use Rattle.sl_host_state.specs.declared.kept_parts.TopNumber.{TopNumber}
 use Rattle.sl_lease.specs.Changes.{name_told, read_told, settles_read, stop_told, top_told}
 use Rattle.sl_lease.specs.declared.side.Side.{Side}
 use Rattle.sl_trace.specs.declared.lease.Stop.{Stop}

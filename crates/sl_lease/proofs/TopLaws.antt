@@ -1,7 +1,7 @@
 -- The greatest of numbers, as it is found one by one.
 use Rattle.sl_area.specs.Places.{greatest_lver}
-use Rattle.sl_host_state.specs.Stands.{top_mbal}
-use Rattle.sl_lease.specs.Asked.{tops_found}
+use Rattle.sl_host_state.specs.HostStands.{top_mbal}
+use Rattle.sl_lease.specs.LeaseQuestions.{tops_found}
 use Rattle.sl_lease.specs.Changes.{mbals_found}
 use Rattle.sl_lease.specs.Reads.{lvers_found}
 use Rattle.sl_trace.specs.Leases.{top_lver}

@@ -1,11 +1,11 @@
 -- How what is kept of a lease changes by a call and by its answer.
-use Rattle.sl_host_state.specs.Hears.{concludes_at, won_at, won_hearing}
-use Rattle.sl_host_state.specs.Kept.{LeaseState, PairState}
-use Rattle.sl_host_state.specs.Makes.{pair_calling}
-use Rattle.sl_host_state.specs.Stands.{top_mbal}
-use Rattle.sl_host_state.specs.declared.kept.LeaseCall.{LeaseCall}
-use Rattle.sl_host_state.specs.declared.kept.TopNumber.{TopNumber}
-use Rattle.sl_host_state.specs.declared.kept.ValuePair.{ValuePair}
+use Rattle.sl_host_state.specs.HeardInputs.{concludes_at, won_at, won_hearing}
+use Rattle.sl_host_state.specs.KeptState.{LeaseState, PairState}
+use Rattle.sl_host_state.specs.MadeEffects.{pair_calling}
+use Rattle.sl_host_state.specs.HostStands.{top_mbal}
+use Rattle.sl_host_state.specs.declared.kept_parts.LeaseCall.{LeaseCall}
+use Rattle.sl_host_state.specs.declared.kept_parts.TopNumber.{TopNumber}
+use Rattle.sl_host_state.specs.declared.kept_parts.ValuePair.{ValuePair}
 use Rattle.sl_lease.specs.Side.{layout_in}
 use Rattle.sl_lease.specs.declared.side.Side.{Side}
 use Rattle.sl_trace.specs.Ballots.{stop_of}

@@ -1,11 +1,11 @@
 -- What is kept of a lease is what a host keeps of it.
 use Rattle.sl_area.specs.Layouts.{Layout}
-use Rattle.sl_host_state.specs.Hears.{kept_heard, lease_hearing, turn_heard}
-use Rattle.sl_host_state.specs.Kept.{LeaseState, PairState}
-use Rattle.sl_host_state.specs.Makes.{lease_calling}
-use Rattle.sl_host_state.specs.declared.kept.LeaseCall.{LeaseCall}
-use Rattle.sl_host_state.specs.declared.kept.OpenCall.{OpenCall}
-use Rattle.sl_lease.specs.Asked.{leader_given, read_given}
+use Rattle.sl_host_state.specs.HeardInputs.{kept_heard, lease_hearing, turn_heard}
+use Rattle.sl_host_state.specs.KeptState.{LeaseState, PairState}
+use Rattle.sl_host_state.specs.MadeEffects.{lease_calling}
+use Rattle.sl_host_state.specs.declared.kept_parts.LeaseCall.{LeaseCall}
+use Rattle.sl_host_state.specs.declared.kept_parts.OpenCall.{OpenCall}
+use Rattle.sl_lease.specs.LeaseQuestions.{leader_given, read_given}
 use Rattle.sl_lease.specs.Changes.{after_block, after_failure, after_kept, after_leader, after_reading, read_told, turn_told, write_told}
 use Rattle.sl_lease.specs.Side.{layout_in}
 use Rattle.sl_lease.specs.declared.side.Side.{Side}

@@ -2,6 +2,6 @@ pub mod Bounds
 pub mod Steps
 pub mod Side
 pub mod Changes
-pub mod Asked
+pub mod LeaseQuestions
 pub mod Laws
 pub mod Reads

@@ -1,7 +1,7 @@
 -- What a host's read of blocks gives, and the places that it has for it.
 use Rattle.sl_area.specs.Layouts.{Sizes, layout_of}
 use Rattle.sl_area.specs.Places.{BlocksRead, area_sectors, block_sectors, blocks_in, blocks_of, later_pair, leader_made, leader_of, pair_back, pair_kept, pair_read, pairs_of, read_at}
-use Rattle.sl_host_state.specs.Hears.{is_area_step}
+use Rattle.sl_host_state.specs.HeardInputs.{is_area_step}
 use Rattle.sl_sector.specs.Spelling.{block_in}
 use Rattle.sl_sector.specs.declared.sector.Block.{Block}
 use Rattle.sl_sector.specs.declared.sector.Leader.{Leader}

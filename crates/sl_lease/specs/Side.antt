@@ -1,7 +1,7 @@
 -- For whom a lease is kept, and what is known of it beside what it keeps.
 use Rattle.sl_area.specs.Layouts.{Layout, layout_of}
-use Rattle.sl_host_state.specs.Kept.{LeaseState}
-use Rattle.sl_host_state.specs.Stands.{first_read, turn_kept}
+use Rattle.sl_host_state.specs.KeptState.{LeaseState}
+use Rattle.sl_host_state.specs.HostStands.{first_read, turn_kept}
 use Rattle.sl_lease.specs.declared.evidence.Held.{Held}
 use Rattle.sl_lease.specs.declared.side.Side.{Side}
 use Rattle.sl_trace.specs.LeaseWork.{LeasePlace}

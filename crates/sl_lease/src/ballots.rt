@@ -4,7 +4,7 @@
 //! exclusive acquire looks for others' shared modes. It has to do so in phase 1, after its own number stands on the disk and before its
 //! value does: whoever gains the shared mode later must pass a ballot of its own, and meets this one. A shared acquire doesn't look, since
 //! shared leases stand beside each other.
-ghost use Rattle.sl_lease.specs.Asked.{TopStands, held_by_other, is_shared_beside, leader_named, phase2_with};
+ghost use Rattle.sl_lease.specs.LeaseQuestions.{TopStands, held_by_other, is_shared_beside, leader_named, phase2_with};
 ghost use Rattle.sl_lease.specs.Bounds.{IsBegun, IsGranted, IsInstance, IsRead, IsSession};
 ghost use Rattle.sl_lease.specs.Side.{is_named, known_with, place_of};
 ghost use Rattle.sl_lease.specs.Steps.{IsFitNext, is_leader_step};

@@ -1,7 +1,7 @@
 //! How each part of what is kept of a lease changes, by a call and by its answer.
 ghost use Rattle.sl_area.specs.Layouts.{layout_of};
-ghost use Rattle.sl_host_state.specs.Hears.{concludes_at, is_last_phase, is_phase_step, won_at, won_hearing};
-ghost use Rattle.sl_host_state.specs.Stands.{top_mbal};
+ghost use Rattle.sl_host_state.specs.HeardInputs.{concludes_at, is_last_phase, is_phase_step, won_at, won_hearing};
+ghost use Rattle.sl_host_state.specs.HostStands.{top_mbal};
 ghost use Rattle.sl_lease.specs.Bounds.{IsBegun, IsInstance};
 ghost use Rattle.sl_lease.specs.Changes.{ballot_over, is_phase2_write, is_settled_by, mbals_found, name_found, name_told, settles_read, shows_blocks, stop_told, top_told};
 ghost use Rattle.sl_trace.specs.Ballots.{is_ahead};

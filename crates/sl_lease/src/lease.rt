@@ -16,9 +16,9 @@
 //! - turn, first, again: with pairs, the turn of the own pair that was shown last, by a read's answer or by a write that was done: the next
 //!   block has the next one. What the answer of a first read gave, while the second may be made or asks for it. Whether the newest call is
 //!   a second one.
-ghost use Rattle.sl_host_state.specs.Kept.{LeaseState};
-ghost use Rattle.sl_host_state.specs.Makes.{new_lease, pair_calling};
-ghost use Rattle.sl_host_state.specs.Stands.{turn_kept};
+ghost use Rattle.sl_host_state.specs.KeptState.{LeaseState};
+ghost use Rattle.sl_host_state.specs.MadeEffects.{new_lease, pair_calling};
+ghost use Rattle.sl_host_state.specs.HostStands.{turn_kept};
 ghost use Rattle.sl_lease.specs.Bounds.{IsBegun};
 ghost use Rattle.sl_lease.specs.Changes.{after_block, after_leader, after_reading, after_value};
 ghost use Rattle.sl_sector.specs.Records.{Fits};
@@ -52,7 +52,7 @@ pub struct Lease {
 }
 
 impl Model for Lease {
-    ghost use Rattle.sl_host_state.specs.Kept.{LeaseState};
+    ghost use Rattle.sl_host_state.specs.KeptState.{LeaseState};
     ghost use Rattle.sl_lease.specs.Bounds.{IsWithinBounds};
     ghost use Rattle.sl_sector.specs.Records.{Fits};
     ghost use Rattle.std.specs.Prelude.{IfSome, unwrap_or, [], ◌≤◌};

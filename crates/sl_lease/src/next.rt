@@ -6,9 +6,9 @@
 //!
 //! A conversion to shared writes its mode while the leader stands, and frees the leader once it is done; one to exclusive goes the way of an
 //! acquire while its mode stands, and clears the mode once it is done. So what is held covers the process at each moment of either.
-ghost use Rattle.sl_host_state.specs.Kept.{LeaseState};
-ghost use Rattle.sl_host_state.specs.Stands.{LeaseStands};
-ghost use Rattle.sl_lease.specs.Asked.{IsLastRead, TopStands, again_asked, exclusive_with, free_with, mode_with, phase1_ended, phase2_ended, read_asked, shared_with};
+ghost use Rattle.sl_host_state.specs.KeptState.{LeaseState};
+ghost use Rattle.sl_host_state.specs.HostStands.{LeaseStands};
+ghost use Rattle.sl_lease.specs.LeaseQuestions.{IsLastRead, TopStands, again_asked, exclusive_with, free_with, mode_with, phase1_ended, phase2_ended, read_asked, shared_with};
 ghost use Rattle.sl_lease.specs.Bounds.{IsBegun, IsInstance, IsRead, IsSession};
 ghost use Rattle.sl_lease.specs.Side.{is_named, known_with, layout_in, place_of};
 ghost use Rattle.sl_lease.specs.Steps.{IsFitNext, is_first_step, makes_call};

@@ -6,7 +6,7 @@
 //! owed, and one free is owed at a time. A settling looks at the area before it frees: by then another host may have begun a later
 //! instance, whose leader it must not write over.
 ghost use Rattle.sl_ballot.specs.Limits.{limited_block};
-ghost use Rattle.sl_lease.specs.Asked.{TopStands, begin_above, block_showing, gen_with, owed_with};
+ghost use Rattle.sl_lease.specs.LeaseQuestions.{TopStands, begin_above, block_showing, gen_with, owed_with};
 ghost use Rattle.sl_lease.specs.Bounds.{IsBegun, IsInstance, IsSession};
 ghost use Rattle.sl_lease.specs.Side.{known_with, place_of};
 ghost use Rattle.sl_lease.specs.Steps.{IsFitNext};

@@ -7,8 +7,8 @@
 
 ghost use Rattle.sl_area.specs.Layouts.{IsGeometry, Layout, Sizes, layout_of, program_digest};
 ghost use Rattle.sl_area.specs.Places.{leader_of, leader_spelled, pair_back, pair_front, pairs_kept, read_at};
-ghost use Rattle.sl_host_state.specs.Hears.{is_area_step, turn_heard};
-ghost use Rattle.sl_lease.specs.Asked.{leader_given, read_given};
+ghost use Rattle.sl_host_state.specs.HeardInputs.{is_area_step, turn_heard};
+ghost use Rattle.sl_lease.specs.LeaseQuestions.{leader_given, read_given};
 ghost use Rattle.sl_lease.specs.Changes.{shows_blocks};
 ghost use Rattle.sl_lease.specs.Reads.{CanRead, HasGiven, HasPlaces, HasRead, behind, blocks_of_pairs, blocks_to, host_block, is_asked_again, is_torn_to, kept_to, leader_with, merged_with, pairs_to, sectors_read};
 ghost use Rattle.sl_sector.specs.Records.{Fits, IsBlock, IsLeader, IsPair, IsRecord};
@@ -22,9 +22,9 @@ use crate::changes::{read_of_step, shows_blocks};
 use crate::pairs::{Pairs, later_pair, leader_made, merge, put_blocks, turn_of};
 use sl_area::Geometry;
 use sl_sector::{
-    Bad, Block, Leader, PairBlock, Rec, block_in, decode, leader_in, pair_in, pair_leader_in,
+    Bad, Block, Images, Leader, PairBlock, Rec, block_in, decode, leader_in, pair_in,
+    pair_leader_in,
 };
-use sl_sectors::Images;
 use sl_trace::{LeaseRead, LeaseStep};
 use std::alloc::{AllocError, Global};
 use std::marker::Model;

@@ -1,4 +1,4 @@
 pub mod TurnLaws
-pub mod GoingLaws
+pub mod TurnStages
 pub mod RecordLaws
 pub mod ServedLaws

@@ -1,5 +1,5 @@
 -- A call that was made on a disk of a list.
-use Rattle.sl_live.specs.Served.{IsMade, IsServed, place_of}
+use Rattle.sl_live.specs.ServedCalls.{IsMade, IsServed, place_of}
 use Rattle.sl_live.specs.declared.disks.Disk.{Disk}
 use Rattle.sl_area.proofs.SizeLaws.{has_room}
 use Rattle.sl_area.specs.Layouts.{IsGeometry, Sizes}

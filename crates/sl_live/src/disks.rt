@@ -3,7 +3,7 @@
 //! A call is answered failed, with nothing done, where its path is that of no disk. All that a daemon calls for lies at whole sectors, and
 //! what it writes is a record; a call that does not has no bytes, and is answered likewise.
 
-ghost use Rattle.sl_live.specs.Served.{CanMake, IsLeft, IsMade, IsOp, IsServed, disk_at, place_of};
+ghost use Rattle.sl_live.specs.ServedCalls.{CanMake, IsLeft, IsMade, IsOp, IsServed, disk_at, place_of};
 ghost use Rattle.sl_sector.specs.Records.{IsRecord};
 ghost use Rattle.sl_sector.specs.Spelling.{IsSectorSize};
 ghost use Rattle.sl_trace.specs.Traces.{Setting, is_answer_for};

@@ -1,1 +1,4 @@
 pub mod StepLaws
+pub mod LineLaws
+pub mod AnswerLaws
+pub mod LiveLaws

@@ -1,5 +1,5 @@
 -- A step of the locks by what they take of an entry is that by the entry.
-use Rattle.sl_live_locks.specs.Alongs.{AlongState, asked_along, heard_in, lock_of}
+use Rattle.sl_live_locks.specs.LocksAlong.{AlongState, asked_along, heard_in, lock_of}
 use Rattle.sl_locks.specs.Steps.{heard_by, lock_input}
 use Rattle.sl_run.specs.Locks.{Locks, ended_locks, locks_after, numbered_locks, replied_locks}
 use Rattle.sl_trace.specs.declared.effects.Effects.{Effects}

@@ -1,1 +1,3 @@
-pub mod Alongs
+pub mod LocksAlong
+pub mod AuditedHistory
+pub mod LiveTexts

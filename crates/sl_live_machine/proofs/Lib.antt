@@ -1,2 +1,2 @@
-pub mod ShapeLaws
+pub mod SeatLaws
 pub mod RunLaws

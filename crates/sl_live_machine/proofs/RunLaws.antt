@@ -1,11 +1,11 @@
 -- A machine's run, from what its threads and its cell say.
 use Rattle.sl_cell.specs.Audits.{Agrees}
-use Rattle.sl_cell.specs.Cases.{IsCaseOfSome, Stops}
+use Rattle.sl_cell.specs.DifferenceCases.{IsCaseOfSome, Stops}
 use Rattle.sl_cell.specs.Seats.{SeatState}
 use Rattle.sl_cell.specs.declared.audit.CloseError.TheVariants.{Differ as Differs, NoMemory}
 use Rattle.sl_cell.specs.declared.audit.CloseError.{CloseError}
 use Rattle.sl_live.specs.Turns.{IsChildThread, IsDeviceThread, IsLineThread, IsTicker, IsWorker}
-use Rattle.sl_live_machine.specs.Shapes.{AreSeats, IsCaseOfRun, IsRun}
+use Rattle.sl_live_machine.specs.ThreadSeats.{AreSeats, IsCaseOfRun, IsRun}
 use Rattle.sl_trace.specs.Traces.{IsTrace, Setting}
 use Rattle.sl_trace.specs.declared.effects.Entry.{Entry}
 use Rattle.std.proofs.Common.{refl}

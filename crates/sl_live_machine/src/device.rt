@@ -14,7 +14,7 @@ use std::sync::Wait;
 use std::time;
 
 /// Tests once. An `Err` is want of memory.
-#[tactic(auto, using(crate::proofs::ShapeLaws::ok_tests))]
+#[tactic(auto, using(crate::proofs::SeatLaws::ok_tests))]
 fn test<D: Teller, J: Station, R: Wait, C: Clock, P: Spawner, V: Device>(
     rt: &R,
     room: &Room<D, J, P>,
@@ -29,7 +29,7 @@ fn test<D: Teller, J: Station, R: Wait, C: Clock, P: Spawner, V: Device>(
 }
 
 /// Tests again and again until the machine ends. An `Err` is want of memory.
-#[tactic(auto, using(crate::proofs::ShapeLaws::no_turns))]
+#[tactic(auto, using(crate::proofs::SeatLaws::no_turns))]
 pub(crate) fn keep_alive<
     D: Teller,
     J: Station,

@@ -11,8 +11,8 @@ mod device;
 mod lines;
 mod machine;
 mod post;
-mod roll;
 mod room;
+mod thread_roll;
 mod threads;
 mod ticker;
 mod turn;
@@ -20,5 +20,5 @@ mod worker;
 
 pub use machine::{Parts, Ran, run_machine};
 pub use post::{Post, fail_all};
-pub use roll::Roll;
+pub use thread_roll::Roll;
 pub use threads::{Clocks, Stand};

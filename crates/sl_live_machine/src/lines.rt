@@ -47,7 +47,7 @@ fn turn(
 }
 
 /// Gives a line, in a turn that has begun. An `Err` is want of memory.
-#[tactic(auto, using(crate::proofs::ShapeLaws::lines_on))]
+#[tactic(auto, using(crate::proofs::SeatLaws::lines_on))]
 fn give_line<D: Teller, J: Station, R: Wait, C: Clock, P: Spawner>(
     rt: &R,
     room: &Room<D, J, P>,
@@ -164,7 +164,7 @@ fn serve<D: Teller, J: Station, R: Wait, C: Clock, P: Spawner>(
 }
 
 /// Gives the lines until no more come, or the machine ends. An `Err` is want of memory.
-#[tactic(auto, using(crate::proofs::ShapeLaws::no_turns))]
+#[tactic(auto, using(crate::proofs::SeatLaws::no_turns))]
 pub(crate) fn give_lines<D: Teller, J: Station, R: Wait, C: Clock, P: Spawner>(
     rt: &R,
     room: &Room<D, J, P>,

@@ -1,8 +1,8 @@
 //! A machine's run: its cell is made, its threads run beside each other, and the cell is closed with their seats.
 
-ghost use Rattle.sl_cell.specs.Cases.{Stops};
-ghost use Rattle.sl_daemon.specs.Daemons.{Stood, begun_with};
-ghost use Rattle.sl_live_machine.specs.Shapes.{AreSeats, IsCaseOfRun, IsRun};
+ghost use Rattle.sl_cell.specs.DifferenceCases.{Stops};
+ghost use Rattle.sl_world_state.specs.Daemons.{Stood, begun_with};
+ghost use Rattle.sl_live_machine.specs.ThreadSeats.{AreSeats, IsCaseOfRun, IsRun};
 ghost use Rattle.sl_run.specs.Headers.{IsHeader};
 ghost use Rattle.sl_run.specs.Lawful.{IsSetting};
 ghost use Rattle.std.specs.Prelude.{IfErr, IfOk, reverse, ◌≡◌};
@@ -11,7 +11,6 @@ use crate::room::{Pace, Room};
 use crate::threads::{Clocks, Stand, Threaded, run_threads};
 use sl_area::Area;
 use sl_cell::{CloseError, HostCell, Seat, Station, Teller};
-use sl_daemon::Site;
 use sl_live::{Children, Disk};
 use sl_locks::LvmLocks;
 use sl_outside::{Device, Gate, Spawner};
@@ -19,6 +18,7 @@ use sl_run::Header;
 use sl_text::Seq;
 use sl_time::Clock;
 use sl_trace::Entry;
+use sl_world_state::Site;
 use std::alloc::{AllocError, Global};
 use std::sync::{Mutex, Wait};
 use std::thread::Threads;

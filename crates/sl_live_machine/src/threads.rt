@@ -3,7 +3,7 @@
 //! None begins before all threads of the run are there. One that ends for want of memory ends all of them, on every machine.
 
 ghost use Rattle.sl_live.specs.Turns.{IsChildThread, IsDeviceThread, IsLineThread, IsTicker, IsWorker};
-ghost use Rattle.sl_live_machine.specs.Shapes.{AreSeats};
+ghost use Rattle.sl_live_machine.specs.ThreadSeats.{AreSeats};
 ghost use Rattle.std.specs.Prelude.{IfOk, Ok, ◌≡◌};
 ghost use denote.Param.Send.{IsSend, IsSync};
 
@@ -11,8 +11,8 @@ use crate::children::tell_exits;
 use crate::device::keep_alive;
 use crate::lines::give_lines;
 use crate::post::{Post, fail_all};
-use crate::roll::Roll;
 use crate::room::Room;
+use crate::thread_roll::Roll;
 use crate::ticker::tick;
 use crate::worker::work;
 use sl_area::Area;
@@ -350,6 +350,45 @@ pub(crate) struct Threaded<A: Area> {
     pub resource: Vec<Disk<A>>,
 }
 
+/// What the threads have left, by what each has ended with.
+fn gather_threads<A: Area>(
+    alloc: Global,
+    delta: Worked<A>,
+    resource: Worked<A>,
+    rest: (Ending, Ending, Ending, Ending),
+) -> Threaded<A>
+    requires delta { IfOk delta.seat (λ s. IsWorker s.calls) }
+    requires resource { IfOk resource.seat (λ s. IsWorker s.calls) }
+    requires ticks { IfOk rest.0 (λ s. IsTicker s.calls) }
+    requires lines { IfOk rest.1 (λ s. IsLineThread s.calls) }
+    requires exits { IfOk rest.2 (λ s. IsChildThread s.calls) }
+    requires tests { IfOk rest.3 (λ s. IsDeviceThread s.calls) }
+    ensures { IfOk result.seats (λ v. AreSeats v.items) }
+{
+    let Worked {
+        seat: delta,
+        disks: delta_disks,
+    } = delta;
+    let Worked {
+        seat: resource,
+        disks: resource_disks,
+    } = resource;
+    let (ticks, lines, exits, tests) = rest;
+    let ended = Ended {
+        ticks,
+        delta,
+        resource,
+        exits,
+        tests,
+        lines,
+    };
+    Threaded {
+        seats: gather(alloc, ended),
+        delta: delta_disks,
+        resource: resource_disks,
+    }
+}
+
 /// Runs the threads of a machine until all have ended.
 pub(crate) fn run_threads<
     D: Teller + Send,
@@ -390,7 +429,7 @@ pub(crate) fn run_threads<
         clock: resource_clock,
         disks: resource,
     };
-    let ((delta, resource), (ticks, lines, exits, tests)) = join(
+    let ((delta, resource), rest) = join(
         rt,
         ||
             requires teller { IsSend D.row }
@@ -404,25 +443,5 @@ pub(crate) fn run_threads<
         { workers(rt, room, stand, gate, delta, resource) },
         || others(rt, room, stand, ticks, lines, exits, tests, device),
     );
-    let Worked {
-        seat: delta,
-        disks: delta_disks,
-    } = delta;
-    let Worked {
-        seat: resource,
-        disks: resource_disks,
-    } = resource;
-    let ended = Ended {
-        ticks,
-        delta,
-        resource,
-        exits,
-        tests,
-        lines,
-    };
-    Threaded {
-        seats: gather(room.alloc, ended),
-        delta: delta_disks,
-        resource: resource_disks,
-    }
+    gather_threads(room.alloc, delta, resource, rest)
 }

@@ -16,7 +16,7 @@ use std::sync::Wait;
 use std::time;
 
 /// Wakes the daemon once. An `Err` is want of memory.
-#[tactic(auto, using(crate::proofs::ShapeLaws::wakes_on))]
+#[tactic(auto, using(crate::proofs::SeatLaws::wakes_on))]
 fn wake<D: Teller, J: Station, R: Wait, C: Clock, P: Spawner>(
     rt: &R,
     room: &Room<D, J, P>,
@@ -32,7 +32,7 @@ fn wake<D: Teller, J: Station, R: Wait, C: Clock, P: Spawner>(
 }
 
 /// Wakes the daemon again and again until the machine ends. An `Err` is want of memory.
-#[tactic(auto, using(crate::proofs::ShapeLaws::no_turns))]
+#[tactic(auto, using(crate::proofs::SeatLaws::no_turns))]
 pub(crate) fn tick<D: Teller, J: Station, R: Wait + time::Clock, C: Clock, P: Spawner>(
     rt: &R,
     room: &Room<D, J, P>,

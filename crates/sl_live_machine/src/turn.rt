@@ -1,6 +1,6 @@
 //! A turn that gives an input.
 
-ghost use Rattle.sl_live_machine.specs.Shapes.{GaveTurn};
+ghost use Rattle.sl_live_machine.specs.ThreadSeats.{GaveTurn};
 ghost use Rattle.std.specs.Prelude.{OnOk};
 
 use crate::room::Room;
@@ -13,7 +13,7 @@ use std::alloc::AllocError;
 use std::sync::Wait;
 
 /// Gives an input with all that follows of it. An `Err` is want of memory.
-#[tactic(auto, using(crate::proofs::ShapeLaws::ok_gave))]
+#[tactic(auto, using(crate::proofs::SeatLaws::ok_gave))]
 pub(crate) fn give<D: Teller, J: Station, R: Wait, C: Clock, P: Spawner>(
     rt: &R,
     room: &Room<D, J, P>,

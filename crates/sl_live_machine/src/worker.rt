@@ -1,7 +1,7 @@
 //! A worker: it takes the calls of its part one after another, makes each, and gives its answer.
 
 ghost use Rattle.sl_live.specs.Turns.{IsWorker};
-ghost use Rattle.sl_live_machine.specs.Shapes.{GaveTurn};
+ghost use Rattle.sl_live_machine.specs.ThreadSeats.{GaveTurn};
 ghost use Rattle.sl_trace.specs.declared.input.Answer.{Answer};
 ghost use Rattle.sl_trace.specs.declared.input.Input.TheVariants.{Answer as Told};
 ghost use Rattle.std.specs.Prelude.{IfOk, OnOk};
@@ -92,7 +92,7 @@ fn turn<D: Teller, J: Station, R: Wait, C: Clock, P: Spawner, A: Area, G: Gate>(
 }
 
 /// Makes calls until the machine ends. An `Err` is want of memory.
-#[tactic(auto, using(crate::proofs::ShapeLaws::no_turns))]
+#[tactic(auto, using(crate::proofs::SeatLaws::no_turns))]
 pub(crate) fn work<D: Teller, J: Station, R: Wait, C: Clock, P: Spawner, A: Area, G: Gate>(
     rt: &R,
     room: &Room<D, J, P>,

@@ -1,2 +1,4 @@
-pub mod Beginning
-pub mod Owing
+pub mod MachineBeginnings
+pub mod LivePlayOwed
+pub mod ListLengths
+pub mod ShortReplies

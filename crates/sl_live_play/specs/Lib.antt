@@ -1,2 +1,2 @@
-pub mod Differing
-pub mod Living
+pub mod DifferenceLines
+pub mod LiveOwed

@@ -1,31 +1,29 @@
 //! The play of a live script.
 
-ghost use Rattle.sl_daemon.specs.Daemons.{begun_with};
-ghost use Rattle.sl_kept.specs.Sane.{ReadsCommands};
-ghost use Rattle.sl_live_ground.specs.Grounds.{IsGroundOf};
-ghost use Rattle.sl_live_lines.specs.Scopes.{scope_of};
-ghost use Rattle.sl_live_locks.specs.Alongs.{begun_along};
-ghost use Rattle.sl_live_play.specs.Living.{Owes, PutsEnded, PutsNoGround, PutsStop};
+ghost use Rattle.sl_world_state.specs.Daemons.{begun_with};
+ghost use Rattle.sl_world_state.specs.SaneWorlds.{ReadsCommands};
+ghost use Rattle.sl_live_run.specs.Grounds.{IsGroundOf};
+ghost use Rattle.sl_reader.specs.Scopes.{scope_of};
+ghost use Rattle.sl_live_locks.specs.LocksAlong.{begun_along};
+ghost use Rattle.sl_live_play.specs.LiveOwed.{Owes, PutsEnded, PutsNoGround, PutsStop};
 ghost use Rattle.sl_run.specs.Headers.{IsHeader};
 ghost use Rattle.sl_run.specs.Lawful.{IsSetting};
 ghost use Rattle.sl_run.specs.Worlds.{first_numbers};
 ghost use Rattle.sl_run.specs.declared.header.Header.{Header as HeaderOf};
-ghost use Rattle.sl_schedule_reader.specs.HeaderBegins.{HeaderBegins};
-ghost use Rattle.sl_schedule_reader.specs.LineReads.{EndStands};
+ghost use Rattle.sl_reader.specs.HeaderBegins.{HeaderBegins};
+ghost use Rattle.sl_reader.specs.LineReads.{EndStands};
 ghost use Rattle.sl_report.specs.Headline.{HeadersAreGood};
 ghost use Rattle.sl_report.specs.Languages.{whole_language};
 ghost use Rattle.std.specs.Prelude.{All, IfErr, IfOk, List, Option, map, ℕ, ◌≡◌};
 
-use crate::putting::{put_area_fault, put_differ, put_histories, put_refusal};
+use crate::final_lines::{put_area_fault, put_differ, put_histories, put_refusal};
 use sl_cell::Teller;
 use sl_io::{Sink, Source};
-use sl_live_ground::{Ground, NoGround, give_back, prepare};
-use sl_live_reader::{Origin, ScriptEnd, ScriptLines};
-use sl_live_report::Ending;
-use sl_live_run::{Disks, LiveRun, LiveStop, run_machines};
+use sl_live_locks::Ending;
+use sl_live_run::{Disks, Ground, LiveRun, LiveStop, NoGround, give_back, prepare, run_machines};
 use sl_outside::LiveDevices;
+use sl_reader::{LineReader, Origin, ReadError, ScriptEnd, ScriptLines, read_header};
 use sl_run::Header;
-use sl_schedule_reader::{LineReader, ReadError, read_header};
 use sl_text::Seq;
 use sl_trace::Entry;
 use std::alloc::Global;

@@ -1,18 +1,18 @@
 -- A machine's outcome beside what the script gave it, and all of them, one machine more at a time.
 use Rattle.sl_cell.specs.declared.audit.CloseError.TheVariants.{Differ as Differs, NoMemory as NoMemoryClose}
 use Rattle.sl_cell.specs.declared.audit.CloseError.{CloseError}
-use Rattle.sl_live_audit.specs.Audited.{AreLines, IsAnswered, IsUnanswered, LineDiffers}
-use Rattle.sl_live_audit.specs.declared.unanswered.Unanswered.TheVariants.{Call as CallLeft, Start as StartLeft}
-use Rattle.sl_live_audit.specs.declared.unanswered.Unanswered.{Unanswered}
-use Rattle.sl_live_locks.specs.Alongs.{AlongState, begun_along}
-use Rattle.sl_live_locks.specs.declared.line.GivenLine.{GivenLine}
+use Rattle.sl_live_locks.specs.AuditedHistory.{AreLines, IsAnswered, IsUnanswered, LineDiffers}
+use Rattle.sl_live_locks.specs.declared.unanswered.Unanswered.TheVariants.{Call as CallLeft, Start as StartLeft}
+use Rattle.sl_live_locks.specs.declared.unanswered.Unanswered.{Unanswered}
+use Rattle.sl_live_locks.specs.LocksAlong.{AlongState, begun_along}
+use Rattle.sl_live_locks.specs.declared.given_lines.GivenLine.{GivenLine}
 use Rattle.sl_live_run.specs.Runs.{AreSettled, HistoryDiffers, IsStopOf, StopsSome, begun_at, first_at, left_case, lines_at, stop_of}
 use Rattle.sl_live_run.specs.declared.compare.LiveDiffer.TheVariants.{Line}
 use Rattle.sl_live_run.specs.declared.compare.LiveDiffer.{LiveDiffer}
 use Rattle.sl_live_run.specs.declared.compare.LiveStop.{LiveStop}
 use Rattle.sl_run.specs.declared.header.Header.{Header}
-use Rattle.sl_plain.proofs.Lists.{got_before}
-use Rattle.sl_plain.proofs.Places.{Came, PlacedBehind, Stood, last_there, placed_behind}
+use Rattle.sl_words.proofs.Lists.{got_before}
+use Rattle.sl_words.proofs.Places.{Came, PlacedBehind, Stood, last_there, placed_behind}
 use Rattle.sl_trace.specs.declared.effects.Entry.{Entry}
 use Rattle.sl_words.proofs.CaseLaws.{none_some}
 use Rattle.std.proofs.Common.{List, ap, arith, length, refl, subst, sym, ◌++◌, ◌+◌, ◌∙◌, ◌∷◌, ◌≡◌, [], ℕ}

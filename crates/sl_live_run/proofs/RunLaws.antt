@@ -1,21 +1,21 @@
 -- A whole run, from what its machines, its script and the comparison say.
-use Rattle.sl_cell.specs.Cases.{Stops}
+use Rattle.sl_cell.specs.DifferenceCases.{Stops}
 use Rattle.sl_cell.specs.declared.audit.CloseError.{CloseError}
-use Rattle.sl_daemon.specs.Daemons.{begun_with}
-use Rattle.sl_daemon.specs.declared.daemon.Site.{Site}
-use Rattle.sl_live_lines.specs.declared.line.LiveLine.{LiveLine}
-use Rattle.sl_live_audit.specs.Audited.{AreLines}
-use Rattle.sl_live_locks.specs.Alongs.{AlongState, begun_along}
-use Rattle.sl_live_locks.specs.declared.line.GivenLine.{GivenLine}
-use Rattle.sl_live_machine.specs.Shapes.{IsCaseOfRun}
+use Rattle.sl_world_state.specs.Daemons.{begun_with}
+use Rattle.sl_world_state.specs.declared.daemon.Site.{Site}
+use Rattle.sl_reader.specs.declared.live_lines.LiveLine.{LiveLine}
+use Rattle.sl_live_locks.specs.AuditedHistory.{AreLines}
+use Rattle.sl_live_locks.specs.LocksAlong.{AlongState, begun_along}
+use Rattle.sl_live_locks.specs.declared.given_lines.GivenLine.{GivenLine}
+use Rattle.sl_live_machine.specs.ThreadSeats.{IsCaseOfRun}
 use Rattle.sl_live_run.specs.Runs.{AreLiveHistories, AreSettled, AreGiven, CameTo, CanRun, HasRun, HasTold, IsCaseIn, IsLiveCase, IsLiveStop, Runs, StopsSome, outcome_of, begun_at, begun_on, first_at, lines_at, lines_for, site_of}
 use Rattle.sl_live_run.specs.declared.compare.LiveDiffer.TheVariants.{Cell, Left, Line, Untold}
 use Rattle.sl_live_run.specs.declared.compare.LiveDiffer.{LiveDiffer}
 use Rattle.sl_live_run.specs.declared.compare.LiveStop.TheVariants.{Differ, NoMemory}
 use Rattle.sl_live_run.specs.declared.compare.LiveStop.{LiveStop}
-use Rattle.sl_live_run.specs.declared.machine.Machine.{Machine}
-use Rattle.sl_live_run.specs.declared.machine.Work.{Work}
-use Rattle.sl_plain.proofs.Lists.{got_index, there_is}
+use Rattle.sl_live_run.specs.declared.machine_runs.Machine.{Machine}
+use Rattle.sl_live_run.specs.declared.machine_runs.Work.{Work}
+use Rattle.sl_words.proofs.Lists.{got_index, there_is}
 use Rattle.sl_run.specs.Headers.{IsHeader}
 use Rattle.sl_run.specs.Lawful.{IsSetting}
 use Rattle.sl_run.specs.declared.header.Header.{Header}

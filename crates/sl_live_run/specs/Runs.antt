@@ -1,23 +1,23 @@
 -- What a live run leaves: histories that daemons stood for, whose lines are the script's; or a case that holds of a machine.
-use Rattle.sl_cell.specs.Cases.{Stops}
+use Rattle.sl_cell.specs.DifferenceCases.{Stops}
 use Rattle.sl_cell.specs.declared.audit.CloseError.TheVariants.{Differ as Differs, NoMemory as NoMemoryClose}
 use Rattle.sl_cell.specs.declared.audit.CloseError.{CloseError}
-use Rattle.sl_daemon.specs.Daemons.{Stood, begun_with}
-use Rattle.sl_daemon.specs.declared.daemon.Site.{Site}
-use Rattle.sl_live_audit.specs.Audited.{AreLines, IsAnswered, IsUnanswered, LineDiffers}
-use Rattle.sl_live_audit.specs.declared.unanswered.Unanswered.TheVariants.{Call as CallLeft, Start as StartLeft}
-use Rattle.sl_live_audit.specs.declared.unanswered.Unanswered.{Unanswered}
-use Rattle.sl_live_lines.specs.declared.line.LiveLine.TheVariants.{Command as CommandLine, Exits, Locks as LocksLine, Post}
-use Rattle.sl_live_lines.specs.declared.line.LiveLine.{LiveLine}
-use Rattle.sl_live_locks.specs.Alongs.{AlongState, begun_along}
-use Rattle.sl_live_locks.specs.declared.line.GivenLine.TheVariants.{ForHost, ForLocks}
-use Rattle.sl_live_locks.specs.declared.line.GivenLine.{GivenLine}
-use Rattle.sl_live_machine.specs.Shapes.{IsCaseOfRun, IsRun}
+use Rattle.sl_world_state.specs.Daemons.{Stood, begun_with}
+use Rattle.sl_world_state.specs.declared.daemon.Site.{Site}
+use Rattle.sl_live_locks.specs.AuditedHistory.{AreLines, IsAnswered, IsUnanswered, LineDiffers}
+use Rattle.sl_live_locks.specs.declared.unanswered.Unanswered.TheVariants.{Call as CallLeft, Start as StartLeft}
+use Rattle.sl_live_locks.specs.declared.unanswered.Unanswered.{Unanswered}
+use Rattle.sl_reader.specs.declared.live_lines.LiveLine.TheVariants.{Command as CommandLine, Exits, Locks as LocksLine, Post}
+use Rattle.sl_reader.specs.declared.live_lines.LiveLine.{LiveLine}
+use Rattle.sl_live_locks.specs.LocksAlong.{AlongState, begun_along}
+use Rattle.sl_live_locks.specs.declared.given_lines.GivenLine.TheVariants.{ForHost, ForLocks}
+use Rattle.sl_live_locks.specs.declared.given_lines.GivenLine.{GivenLine}
+use Rattle.sl_live_machine.specs.ThreadSeats.{IsCaseOfRun, IsRun}
 use Rattle.sl_live_run.specs.declared.compare.LiveDiffer.TheVariants.{Cell, Left, Line, Untold}
 use Rattle.sl_live_run.specs.declared.compare.LiveDiffer.{LiveDiffer}
 use Rattle.sl_live_run.specs.declared.compare.LiveStop.TheVariants.{Differ, NoMemory}
 use Rattle.sl_live_run.specs.declared.compare.LiveStop.{LiveStop}
-use Rattle.sl_live_run.specs.declared.machine.Machine.{Machine}
+use Rattle.sl_live_run.specs.declared.machine_runs.Machine.{Machine}
 use Rattle.sl_run.specs.Headers.{IsHeader}
 use Rattle.sl_run.specs.Lawful.{IsSetting}
 use Rattle.sl_run.specs.declared.header.Header.{Header}

@@ -1,4 +1,13 @@
-//! The machines of a live run beside each other, and the script beside them; and what is left of it once all threads have ended.
+//! The machines of a live run beside each other, and the script beside them: what it begins with, and what is left of it once all threads
+//! have ended.
+//!
+//! A script's header tells the world at its moment 0, as a schedule's does. Two things of it are made and not told: a machine's first reading
+//! is one of its clock, and a machine without a session has a name that was drawn for it. So what a run begins with is a header too, the
+//! given one with the clocks' readings in place of its `clock` lines (`Ground`), and each machine's daemon begins as one of that header's world
+//! does: `laws` says that its site is good to begin with. Disks are made first (`disks`), then the clocks are read (`clocks`). Then each
+//! machine is given its parts (`machine_sites`), its areas among them; the areas of machine 1 are the ones through which the sectors of moment 0
+//! are written (`initial`), so that they stand before any thread runs. An area that was handed out goes back to the devices if the run can't
+//! begin: that is how a fault of it is counted.
 //!
 //! Each machine is a closed unit: it makes its cell, runs its threads over it and closes it, and no other thread sees the cell. So each run of a
 //! machine picks the setting that its cell is of, and its history is one of that setting. The script reaches a machine through its post. A
@@ -7,11 +16,19 @@
 //! which nothing is unanswered; or a case in which that fails, for some machine; or want of memory.
 #![tactic(auto)]
 
+mod clocks;
 mod compare;
-mod given;
-mod machine;
+mod disks;
+mod ground;
+mod initial;
+pub mod laws;
+mod machine_runs;
+mod machine_sites;
 mod run;
 mod script;
+mod script_lines;
 
 pub use compare::{LiveDiffer, LiveStop};
+pub use disks::give_back;
+pub use ground::{Ground, NoGround, Prepared, prepare};
 pub use run::{Disks, LiveRun, run_machines};

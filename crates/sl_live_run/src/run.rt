@@ -1,26 +1,26 @@
 //! A whole run: what the ground hands out, run and compared.
 
-ghost use Rattle.sl_daemon.specs.Daemons.{begun_with};
-ghost use Rattle.sl_daemon.specs.declared.daemon.Site.{Site as SiteOf};
+ghost use Rattle.sl_world_state.specs.Daemons.{begun_with};
+ghost use Rattle.sl_world_state.specs.declared.daemon.Site.{Site as SiteOf};
 ghost use Rattle.sl_live_run.specs.Runs.{AreLiveHistories, AreSettled, AreGiven, CameTo, CanRun, HasTold, IsLiveStop, Runs, StopsSome, begun_at, site_of};
 ghost use Rattle.sl_live_run.specs.declared.compare.LiveStop.TheVariants.{NoMemory as NoMemoryStop};
-ghost use Rattle.sl_live_run.specs.declared.machine.Machine.{Machine as MachineOf};
+ghost use Rattle.sl_live_run.specs.declared.machine_runs.Machine.{Machine as MachineOf};
 ghost use Rattle.sl_run.specs.Headers.{IsHeader};
 ghost use Rattle.sl_run.specs.Lawful.{IsSetting};
 ghost use Rattle.std.specs.Fork.{AcceptsEach, ChangesEach};
 ghost use Rattle.std.specs.Prelude.{All, Err, IfErr, IfOk, IsOk, List, Some, [], length, map, slice_index_or, ◌<◌, ◌≡◌, ◌⊎◌, ℕ};
 
 use crate::compare::{LiveStop, Outcome, settle_all};
-use crate::given::Given;
-use crate::machine::Machine;
+use crate::machine_runs::Machine;
 use crate::script::{has_failed, tell};
+use crate::script_lines::Given;
+use crate::{Ground, Prepared};
 use sl_area::Area;
 use sl_cell::Teller;
 use sl_live::Disk;
-use sl_live_ground::{Ground, Prepared};
-use sl_live_lines::{LiveLines, NoLine};
 use sl_live_machine::{Post, Ran, Roll};
 use sl_outside::{Device, Gate, LiveDevices, Spawner};
+use sl_reader::{LiveLines, NoLine};
 use sl_run::Header;
 use sl_text::Seq;
 use sl_time::Clock;

@@ -1,13 +1,13 @@
 //! The script's thread: it reads the lines one after another and gives each to its machine's post.
 
-ghost use Rattle.sl_live_lines.specs.declared.line.LiveLine.{LiveLine as LineOf};
+ghost use Rattle.sl_reader.specs.declared.live_lines.LiveLine.{LiveLine as LineOf};
 ghost use Rattle.sl_live_run.specs.Runs.{AreGiven, HasTold};
 ghost use Rattle.std.specs.Prelude.{List, OnOk, [], ◌++◌, ◌≡◌, ℕ};
 
-use crate::given::Given;
-use sl_live_lines::{LiveLine, LiveLines, NoLine};
+use crate::script_lines::Given;
 use sl_live_locks::GivenLine;
 use sl_live_machine::{Post, Roll, fail_all};
+use sl_reader::{LiveLine, LiveLines, NoLine};
 use std::alloc::{AllocError, Global};
 use std::sync::Wait;
 use std::time::Clock;

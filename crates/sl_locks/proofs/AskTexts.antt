@@ -50,10 +50,6 @@ three old a b new x y z first second then = two old b new (x ++ y) z (two old a 
 pub front_then : (g i rest : List ℕ) → (g ++ 58 ∷ (i ++ 58 ∷ [])) ++ rest ≡ g ++ 58 ∷ (i ++ 58 ∷ rest)
 front_then g i rest = append_assoc g (58 ∷ (i ++ 58 ∷ [])) rest ∙ ap (λ t. g ++ 58 ∷ t) (append_assoc i (58 ∷ []) rest)
 
--- A lock's word, as it is written.
-pub lock_written : (g i path back : List ℕ) → (codes "lvm_" ++ (g ++ 58 ∷ (i ++ 58 ∷ []))) ++ (path ++ 58 ∷ back) ≡ codes "lvm_" ++ (g ++ 58 ∷ (i ++ 58 ∷ (path ++ 58 ∷ back)))
-lock_written g i path back = ap (λ t. codes "lvm_" ++ t) (front_then g i (path ++ 58 ∷ back))
-
 -- The mark of the shared mode behind a word of four parts.
 marked : (a b c d mark : List ℕ) → a ++ 58 ∷ (b ++ 58 ∷ (c ++ 58 ∷ (d ++ mark))) ≡ (a ++ 58 ∷ (b ++ 58 ∷ (c ++ 58 ∷ d))) ++ mark
 marked a b c d mark =

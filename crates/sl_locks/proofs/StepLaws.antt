@@ -25,16 +25,6 @@ numbers_are n (LockNumber text) t = refl
 numbers_are n (LockExit p) t = refl
 numbers_are n Nothing t = refl
 
-ask_room : (n : ℕ) (t : LvmLocks) (due : Option Ask) → t.due ≡ due → has_room (ask_numbered n t) ≡ has_room t
-ask_room n t None is = rw is refl
-ask_room n t (Some a) is = rw is refl
-
-pub room_stays : (n : ℕ) (i : LockInput) (t : LvmLocks) → has_room (given_number n i t) ≡ has_room t
-room_stays n LockLine t = ask_room n t t.due refl
-room_stays n (LockNumber text) t = refl
-room_stays n (LockExit p) t = refl
-room_stays n Nothing t = refl
-
 -- ---- the reply to the ask
 
 nothing_asked : (rs : List JobReply) → find (is_asked None) rs ≡ None

@@ -1,13 +1,13 @@
 -- What changes of calls leave: the order of numbers, which are in flight, and the order of cuts.
-use Rattle.sl_kept.specs.Changes.{cut_flight, disowned, stays_open}
-use Rattle.sl_kept.specs.Kept.{FlightState}
-use Rattle.sl_kept.specs.Refusing.{lands}
+use Rattle.sl_world_state.specs.Changes.{cut_flight, disowned, stays_open}
+use Rattle.sl_world_state.specs.KeptWorld.{FlightState}
+use Rattle.sl_world_state.specs.Refusals.{lands}
 use Rattle.sl_machine.proofs.FlightLaws.{Falls, fallen, falling, falls_at}
 use Rattle.sl_machine.proofs.FlightOrder.{all_at, all_removed, all_set, order_kept, order_pushed, order_removed, order_set}
 use Rattle.sl_machine.specs.Flights.{AreFlights, StandsAt, closed_at, ended_flight, falls, flight_numbered, flights_with, flights_without, grown_flight, in_order, is_uncut, late_cut}
 use Rattle.sl_machine.specs.declared.flight.Outcome.TheVariants.{Dropped, Landed, Torn}
 use Rattle.sl_machine.specs.declared.flight.Outcome.{Outcome}
-use Rattle.sl_plain.proofs.Lists.{set_here}
+use Rattle.sl_words.proofs.Lists.{set_here}
 use Rattle.sl_words.proofs.CaseLaws.{false_is_true, none_some, some_value}
 use Rattle.sl_words.proofs.WordLaws.{and_true}
 use Rattle.std.proofs.Common.{ap, ap₂, arith, refl, subst, sym, ◌∙◌}

@@ -1,7 +1,7 @@
 -- Calls in flight, found by their numbers.
-use Rattle.sl_kept.specs.Kept.{FlightState}
+use Rattle.sl_world_state.specs.KeptWorld.{FlightState}
 use Rattle.sl_machine.specs.Flights.{StandsAt, falls, flight_numbered}
-use Rattle.sl_plain.proofs.Numbers.{trans_lt}
+use Rattle.sl_words.proofs.Numbers.{trans_lt}
 use Rattle.sl_words.proofs.CaseLaws.{none_some, some_value}
 use Rattle.sl_words.proofs.WordLaws.{and_true}
 use Rattle.std.proofs.Common.{ap, arith, get_or, refl, subst, sym, ◌∙◌}

@@ -1,6 +1,6 @@
 -- The order of calls: which are ended, and when they were cut. It stays as calls change and go, and the oldest call tells of all.
-use Rattle.sl_kept.specs.Changes.{disowned}
-use Rattle.sl_kept.specs.Kept.{FlightState}
+use Rattle.sl_world_state.specs.Changes.{disowned}
+use Rattle.sl_world_state.specs.KeptWorld.{FlightState}
 use Rattle.sl_machine.proofs.FlightLaws.{Falls, falls_at}
 use Rattle.sl_machine.specs.Flights.{ended_number, in_order, is_older, late_cut, late_of, no_later, numbered, oldest}
 use Rattle.sl_words.proofs.CaseLaws.{false_is_true, none_some, some_value}

@@ -1,21 +1,14 @@
 -- New calls, numbered on.
-use Rattle.sl_kept.specs.Steps.{new_flight}
+use Rattle.sl_world_state.specs.Steps.{new_flight}
 use Rattle.sl_machine.specs.Flights.{late_cut}
-use Rattle.sl_plain.proofs.Lists.{tail_is}
-use Rattle.sl_plain.proofs.Numbers.{one_further, plus_zero}
+use Rattle.sl_words.proofs.Lists.{tail_is}
+use Rattle.sl_words.proofs.Numbers.{one_further, plus_zero}
 use Rattle.sl_run.specs.declared.header.Header.{Header}
 use Rattle.sl_trace.specs.declared.effects.Call.{Call}
 use Rattle.sl_words.proofs.CaseLaws.{some_value}
 use Rattle.std.proofs.Common.{ap, arith, get_or, refl, ◌∙◌}
 use Rattle.std.specs.List.{range_with_len}
 use Rattle.std.specs.Prelude.{Bool, List, None, Option, false, filter, length, map, slice_get, suc, true, zero, [], ℕ, ◌+◌, ◌<◌, ◌∷◌, ◌≡◌}
-
-uncut_by : (b : Bool) → elim b as (λ x. Option ℕ) [ false ↦ None | true ↦ None ] ≡ None
-uncut_by true = refl
-uncut_by false = refl
-
-pub new_uncut : (h : Header) (c : Call) → late_cut (new_flight h c) ≡ None
-new_uncut h c = uncut_by _
 
 pub all_kept : {A : Type 0} (xs : List A) → filter (λ x. true) xs ≡ xs
 all_kept [] = refl

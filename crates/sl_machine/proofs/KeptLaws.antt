@@ -1,13 +1,13 @@
 -- Machines by their numbers, and what is kept once one has changed.
-use Rattle.sl_kept.specs.Kept.{MachineState, change_machine_in}
-use Rattle.sl_machine.specs.Keeping.{place_in}
+use Rattle.sl_world_state.specs.KeptWorld.{MachineState, change_machine_in}
+use Rattle.sl_machine.specs.KeptParts.{place_in}
 use Rattle.sl_run.specs.declared.header.Header.{Header}
 use Rattle.sl_words.proofs.CaseLaws.{none_some, some_value}
 use Rattle.std.proofs.Common.{ap, arith, get_or, refl, subst, sym, ◌∙◌}
 use Rattle.std.proofs.lemmas.Bool.Decides.{nat_tests}
 use Rattle.std.proofs.lemmas.List.{map-set}
 use Rattle.std.proofs.Math.Seq.{map-set_same}
-use Rattle.sl_plain.proofs.Lists.{set_here, there_is}
+use Rattle.sl_words.proofs.Lists.{set_here, there_is}
 use Rattle.std.proofs.lemmas.Option.{slice_get-map, slice_get_past, slice_get_read}
 use Rattle.std.specs.List.{slice_set}
 use Rattle.std.specs.Prelude.{Bool, List, None, Some, false, if◌then◌else◌, length, map, nat_lt, option_map, slice_get, suc, true, [], ℕ, ◌-◌, ◌<◌, ◌==◌, ◌∷◌, ◌≡◌, ◌≤◌}

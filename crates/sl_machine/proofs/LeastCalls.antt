@@ -1,5 +1,5 @@
 -- The least number of a call of an ended daemon, by the calls that have one.
-use Rattle.sl_kept.specs.Kept.{FlightState}
+use Rattle.sl_world_state.specs.KeptWorld.{FlightState}
 use Rattle.sl_machine.specs.Flights.{ended_number}
 use Rattle.sl_words.specs.Words.{least}
 use Rattle.std.proofs.Common.{Bool, List, [], ap, false, map, refl, true, ◌≡◌, ◌∷◌}

@@ -1,10 +1,10 @@
 -- What a machine takes of an input is all that its step asks of it.
-use Rattle.sl_kept.specs.Kept.{MachineState}
-use Rattle.sl_machine.specs.Hearing.{LocksHearTheirPart}
-use Rattle.sl_machine.specs.Stepping.{StepsHearTheirPart}
+use Rattle.sl_world_state.specs.KeptWorld.{MachineState}
+use Rattle.sl_machine.specs.HeardInputs.{LocksHearTheirPart}
+use Rattle.sl_machine.specs.StepsHearParts.{StepsHearTheirPart}
 use Rattle.sl_run.specs.Locks.{Locks, Told as LineTold, locks_after}
 use Rattle.sl_run.specs.declared.header.Header.{Header}
-use Rattle.sl_kept.specs.Steps.{stepped_machine}
+use Rattle.sl_world_state.specs.Steps.{stepped_machine}
 use Rattle.sl_trace.specs.declared.effects.Effects.{Effects}
 use Rattle.sl_trace.specs.declared.input.Input.TheVariants.{Answer as Told, Exit, Line, Number, Spawned, Wake}
 use Rattle.sl_trace.specs.declared.input.Input.{Input}

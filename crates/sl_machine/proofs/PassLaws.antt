@@ -1,6 +1,6 @@
 -- Time that passes, and the bounds on it.
-use Rattle.sl_kept.specs.Kept.{FlightState, KeptState}
-use Rattle.sl_kept.specs.Refusing.{drifts_off, is_overdue, lands, starves, pass_tests_in, reads_past}
+use Rattle.sl_world_state.specs.KeptWorld.{FlightState, KeptState}
+use Rattle.sl_world_state.specs.Refusals.{drifts_off, is_overdue, lands, starves, pass_tests_in, reads_past}
 use Rattle.sl_run.specs.Worlds.{first_that}
 use Rattle.sl_run.specs.declared.event.Refusal.TheVariants.{LimitMoment, PremiseDrift, PremiseLanding, PremiseWatchdog}
 use Rattle.sl_run.specs.declared.event.Refusal.{Refusal}

@@ -1,6 +1,6 @@
 -- What an event asks, test by test.
-use Rattle.sl_kept.specs.Kept.{KeptState, Place, sector_of_call}
-use Rattle.sl_machine.specs.Calling.{LeavesTorn, LeavesWhole}
+use Rattle.sl_world_state.specs.KeptWorld.{KeptState, Place, sector_of_call}
+use Rattle.sl_machine.specs.CallWrites.{LeavesTorn, LeavesWhole}
 use Rattle.sl_words.proofs.CaseLaws.{none_some, some_value}
 use Rattle.std.proofs.Common.{ap₂, refl, sym, ◌∙◌}
 use Rattle.std.specs.Prelude.{List, None, Option, Some, drop, is_none, is_some, length, not, take, [], ℕ, ◌++◌, ◌+◌, ◌≡◌}

@@ -1,7 +1,7 @@
 -- Calls in flight as they are kept: the newest first, each with a lesser number than the one before it.
-use Rattle.sl_kept.specs.Changes.{cut_flight, disowned, dropped_flight, landed_flight, stays_open, torn_flight}
-use Rattle.sl_kept.specs.Kept.{FlightState}
-use Rattle.sl_kept.specs.Refusing.{lands}
+use Rattle.sl_world_state.specs.Changes.{cut_flight, disowned, dropped_flight, landed_flight, stays_open, torn_flight}
+use Rattle.sl_world_state.specs.KeptWorld.{FlightState}
+use Rattle.sl_world_state.specs.Refusals.{lands}
 use Rattle.sl_machine.specs.declared.flight.Outcome.TheVariants.{Dropped, Landed, Torn}
 use Rattle.sl_machine.specs.declared.flight.Outcome.{Outcome}
 use Rattle.sl_words.specs.Words.{least, some_is}

@@ -1,9 +1,9 @@
 pub mod OneFlight
 pub mod Flights
-pub mod Hearing
+pub mod HeardInputs
 pub mod Machines
-pub mod Testing
-pub mod Keeping
-pub mod Passing
-pub mod Calling
-pub mod Stepping
+pub mod EventTests
+pub mod KeptParts
+pub mod ClocksGoOn
+pub mod CallWrites
+pub mod StepsHearParts

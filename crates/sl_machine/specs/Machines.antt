@@ -1,8 +1,8 @@
 -- Machines as they are kept.
-use Rattle.sl_kept.specs.Kept.{MachineState}
-use Rattle.sl_daemon.specs.Daemons.{IsSoundOp}
-use Rattle.sl_kept.specs.Steps.{new_flight}
-use Rattle.sl_machine.specs.declared.heard.Heard.{Heard}
+use Rattle.sl_world_state.specs.KeptWorld.{MachineState}
+use Rattle.sl_world_state.specs.Daemons.{IsSoundOp}
+use Rattle.sl_world_state.specs.Steps.{new_flight}
+use Rattle.sl_machine.specs.declared.heard_inputs.Heard.{Heard}
 use Rattle.sl_run.specs.declared.header.Header.{Header}
 use Rattle.sl_trace.specs.Connections.{after_move}
 use Rattle.sl_trace.specs.Traces.{held_after}
@@ -11,7 +11,7 @@ use Rattle.sl_trace.specs.declared.effects.Effects.{Effects}
 use Rattle.sl_trace.specs.declared.input.Input.{Input}
 use Rattle.sl_words.specs.Words.{some_is}
 use Rattle.std.specs.List.{range_with_len}
-use Rattle.sl_daemon.specs.declared.daemon.Most.{Most}
+use Rattle.sl_world_state.specs.declared.daemon.Most.{Most}
 use Rattle.sl_machine.specs.declared.machine.Machine.{Machine}
 use Rattle.sl_locks.specs.Replies.{told_as}
 use Rattle.sl_locks.specs.declared.step.StepTold.{StepTold}

@@ -3,21 +3,21 @@
 //! What an event needs of memory is taken before it changes anything. (Sectors of another size than the world's are none of it. No call
 //! has such; where one had, it would be answered as want of memory.)
 
-ghost use Rattle.sl_kept.specs.Changes.{change_flight, landed_in, write_at};
-ghost use Rattle.sl_kept.specs.Kept.{change_machine_in, flight_of_machine, sector_of_call};
-ghost use Rattle.sl_machine.specs.Calling.{LeavesWhole};
+ghost use Rattle.sl_world_state.specs.Changes.{change_flight, landed_in, write_at};
+ghost use Rattle.sl_world_state.specs.KeptWorld.{change_machine_in, flight_of_machine, sector_of_call};
+ghost use Rattle.sl_machine.specs.CallWrites.{LeavesWhole};
 ghost use Rattle.sl_machine.specs.Flights.{ended_flight};
-ghost use Rattle.sl_machine.specs.Keeping.{kept_state};
+ghost use Rattle.sl_machine.specs.KeptParts.{kept_state};
 ghost use Rattle.std.specs.Arc.{arc_value};
 ghost use Rattle.std.specs.List.{range_with_len};
 ghost use Rattle.std.specs.Prelude.{IfOk, IfSome, None, OnErr, OnOk, Some, [], flat_map, option_map, unwrap_or, ◌++◌, ◌+◌, is_none, length, true, ◌≡◌};
 ghost use Rattle.std.specs.Option.{option_copied};
 
 use crate::flight::{Flight, Outcome};
-use crate::kept::Kept;
+use crate::kept_world::Kept;
 use crate::locks::LockTable;
 use sl_disks::{Disks, Place};
-use sl_sectors::Image;
+use sl_sector::Image;
 use std::alloc::{AllocError, Global};
 use std::sync::Arc;
 
@@ -115,7 +115,7 @@ impl<L: LockTable> Kept<L> {
     }
 
     /// Bytes of a sector.
-    #[tactic(auto, unfolding(crate::specs::Keeping::kept_state))]
+    #[tactic(auto, unfolding(crate::specs::KeptParts::kept_state))]
     pub fn sector(&self) -> u32
         ensures { result ≡ (kept_state L.locks self.now).header.geometry.sector }
     {
@@ -136,7 +136,7 @@ impl<L: LockTable> Kept<L> {
     }
 
     /// A sector is written, if there is one there. It takes no memory.
-    #[tactic(auto, unfolding(crate::specs::Keeping::kept_state))]
+    #[tactic(auto, unfolding(crate::specs::KeptParts::kept_state))]
     pub fn write(&mut self, place: Option<Place>, image: Arc<Image>)
         requires { length (arc_value image) ≡ self.old.disks.header.geometry.sector }
         ensures { kept_state L.locks self.new ≡ write_at place (arc_value image) (kept_state L.locks self.old) }

@@ -2,12 +2,12 @@
 
 ghost use Rattle.sha2.specs.Sha256.{sha256};
 ghost use Rattle.sl_area.specs.Layouts.{layout_of, sector_with};
-ghost use Rattle.sl_daemon.specs.Daemons.{IsSoundOp};
-ghost use Rattle.sl_kept.specs.Changes.{cut_flight, disowned, stays_open};
-ghost use Rattle.sl_kept.specs.Kept.{FlightState};
-ghost use Rattle.sl_kept.specs.Refusing.{lands, left_in};
-ghost use Rattle.sl_kept.specs.Showing.{write_in};
-ghost use Rattle.sl_kept.specs.Steps.{new_flight};
+ghost use Rattle.sl_world_state.specs.Daemons.{IsSoundOp};
+ghost use Rattle.sl_world_state.specs.Changes.{cut_flight, disowned, stays_open};
+ghost use Rattle.sl_world_state.specs.KeptWorld.{FlightState};
+ghost use Rattle.sl_world_state.specs.Refusals.{lands, left_in};
+ghost use Rattle.sl_world_state.specs.ShownWorlds.{write_in};
+ghost use Rattle.sl_world_state.specs.Steps.{new_flight};
 ghost use Rattle.sl_machine.specs.Flights.{ended_flight, grown_flight, late_cut};
 ghost use Rattle.sl_run.specs.Headers.{IsHeader};
 ghost use Rattle.sl_sector.specs.Records.{IsRecord};
@@ -18,8 +18,7 @@ ghost use Rattle.std.specs.List.{list_all};
 
 use sl_disks::{Place, place_of, sectors_of};
 use sl_run::Header;
-use sl_sector::Rec;
-use sl_sectors::{Image, Images};
+use sl_sector::{Image, Images, Rec};
 use sl_trace::{Call, Op};
 use std::alloc::{AllocError, Global};
 use std::marker::Model;
@@ -55,7 +54,7 @@ pub struct Flight {
 
 impl Model for Flight {
     ghost use Rattle.sha2.specs.Sha256.{sha256};
-    ghost use Rattle.sl_kept.specs.Kept.{FlightState};
+    ghost use Rattle.sl_world_state.specs.KeptWorld.{FlightState};
     ghost use Rattle.sl_machine.specs.OneFlight.{IsFlight};
     ghost use Rattle.sl_sector.specs.Spelling.{spelling};
     ghost use Rattle.std.specs.Arc.{arc_value};

@@ -7,13 +7,13 @@
 //! and a world's time never falls, so a call that is older was cut no later, and the oldest one tells. The type takes any moment for a
 //! reset, though: whether the calls are in order is looked at when they are cut, and where they are not, all are asked.
 
-ghost use Rattle.sl_kept.specs.Changes.{cut_flight, disowned, stays_open};
-ghost use Rattle.sl_kept.specs.Refusing.{lands, left_in};
-ghost use Rattle.sl_kept.specs.Kept.{FlightState};
+ghost use Rattle.sl_world_state.specs.Changes.{cut_flight, disowned, stays_open};
+ghost use Rattle.sl_world_state.specs.Refusals.{lands, left_in};
+ghost use Rattle.sl_world_state.specs.KeptWorld.{FlightState};
 ghost use Rattle.sl_machine.specs.Flights.{AreFlights, StandsAt, closed_at, ended_flight, ended_number, flight_numbered, flights_cut, flights_disowned, flights_with, flights_without, grown_flight, in_order, is_older, late_cut, late_of, least_with, no_later, numbered, oldest};
 ghost use Rattle.std.specs.Arc.{arc_value};
-ghost use Rattle.sl_daemon.specs.Daemons.{IsSoundOp};
-ghost use Rattle.sl_kept.specs.Steps.{new_flight};
+ghost use Rattle.sl_world_state.specs.Daemons.{IsSoundOp};
+ghost use Rattle.sl_world_state.specs.Steps.{new_flight};
 ghost use Rattle.sl_run.specs.Headers.{IsHeader};
 ghost use Rattle.sl_trace.specs.declared.effects.Call.{Call as CallOf};
 ghost use Rattle.sl_words.specs.Words.{least, some_is};
@@ -24,7 +24,7 @@ ghost use Rattle.std.specs.VecDeque.{deque_capacity, deque_len};
 
 use crate::flight::{Flight, Outcome};
 use sl_run::Header;
-use sl_sectors::Image;
+use sl_sector::Image;
 use sl_trace::Call;
 use std::alloc::{AllocError, Global};
 use std::collections::VecDeque;

@@ -1,8 +1,8 @@
 //! What is refused by what is kept, whatever the commands; and that a machine takes of an input all that its step asks of it.
 
-ghost use Rattle.sl_machine.specs.Hearing.{LocksHearTheirPart};
-ghost use Rattle.sl_machine.specs.Stepping.{StepsHearTheirPart};
-ghost use Rattle.sl_machine.specs.Testing.{RefusalsAreThose};
+ghost use Rattle.sl_machine.specs.HeardInputs.{LocksHearTheirPart};
+ghost use Rattle.sl_machine.specs.StepsHearParts.{StepsHearTheirPart};
+ghost use Rattle.sl_machine.specs.EventTests.{RefusalsAreThose};
 
 /// The refusal of an event is that of what is kept.
 pub fn refusals_are_those()

@@ -12,40 +12,40 @@
 //!
 //! `Kept` keeps of the world's past only what its next event asks for: of a machine its clock, last keepalive, connections, holdings, children
 //! whose start has no answer, lvmlockd's locks, and the calls in flight; of the disks what stands there; the names that were given. Its value is the
-//! record of `sl_kept`, so each clause here is an equation between two such records, and no world occurs in any. Room is taken before the
+//! record of `sl_world_state`, so each clause here is an equation between two such records, and no world occurs in any. Room is taken before the
 //! daemon steps, since a step that was made can't be taken back: what comes behind it can't fail. Calls are found by number, disks by place,
 //! names by hash.
 #![tactic(auto)]
 
-mod asking;
 mod calls;
 mod children;
 mod connections;
-mod first;
+mod event_refusals;
+mod first_world;
 mod flight;
 mod flights;
-mod heard;
-mod held;
-mod kept;
+mod heard_inputs;
+mod kept_world;
 pub mod laws;
 mod locks;
 mod machine;
+mod machine_effects;
+mod machine_holdings;
+mod machine_tests;
 mod names;
-mod own;
-mod passing;
-mod questions;
 mod reads;
-mod refusing;
+mod report_questions;
 mod room;
 mod tears;
+mod time_passes;
 
-pub use asking::machine_of;
 pub use calls::Landing;
 pub use connections::Connection;
+pub use event_refusals::machine_of;
 pub use flight::{Flight, Outcome};
 pub use flights::Flights;
-pub use heard::{Heard, hear, hear_read};
-pub use kept::Kept;
+pub use heard_inputs::{Heard, hear, hear_read};
+pub use kept_world::Kept;
 pub use locks::{LockTable, lock_input_of};
 pub use machine::Machine;
-pub use own::no_effects;
+pub use machine_effects::no_effects;

@@ -3,7 +3,7 @@
 ghost use Rattle.sl_locks.specs.Replies.{told_as};
 ghost use Rattle.sl_locks.specs.Steps.{lock_input};
 ghost use Rattle.sl_locks.specs.Tables.{has_room, locks_of};
-ghost use Rattle.sl_machine.specs.Hearing.{heard_by_locks};
+ghost use Rattle.sl_machine.specs.HeardInputs.{heard_by_locks};
 ghost use Rattle.sl_run.specs.Locks.{Locks, fresh_locks, locks_after, told_effects};
 ghost use Rattle.std.specs.Prelude.{Bool, IfOk, OnOk, is_some, true, ◌≡◌};
 

@@ -1,11 +1,11 @@
 //! A machine.
 
-ghost use Rattle.sl_daemon.specs.Daemons.{IsSoundOp};
-ghost use Rattle.sl_daemon.specs.declared.daemon.Most.{Most as MostOf};
-ghost use Rattle.sl_kept.specs.Changes.{change_flight, crashed_machine, reset_machine, restarted_machine, started_machine, tested_machine};
-ghost use Rattle.sl_kept.specs.Steps.{owned_machine};
-ghost use Rattle.sl_kept.specs.Kept.{FlightState, flight_in};
-ghost use Rattle.sl_kept.specs.Refusing.{left_in};
+ghost use Rattle.sl_world_state.specs.Daemons.{IsSoundOp};
+ghost use Rattle.sl_world_state.specs.declared.daemon.Most.{Most as MostOf};
+ghost use Rattle.sl_world_state.specs.Changes.{change_flight, crashed_machine, reset_machine, restarted_machine, started_machine, tested_machine};
+ghost use Rattle.sl_world_state.specs.Steps.{owned_machine};
+ghost use Rattle.sl_world_state.specs.KeptWorld.{FlightState, flight_in};
+ghost use Rattle.sl_world_state.specs.Refusals.{left_in};
 ghost use Rattle.sl_machine.specs.Flights.{ended_flight, grown_flight};
 ghost use Rattle.sl_locks.specs.Replies.{told_as};
 ghost use Rattle.sl_locks.specs.Steps.{lock_input};
@@ -21,14 +21,14 @@ use crate::children::{add_starts, hear_start};
 use crate::connections::{Connection, make_moves, test_holds};
 use crate::flight::Outcome;
 use crate::flights::Flights;
-use crate::heard::Heard;
-use crate::held::take_effects;
+use crate::heard_inputs::Heard;
 use crate::locks::LockTable;
-use sl_daemon::Most;
+use crate::machine_holdings::take_effects;
 use sl_locks::{LockInput, StepTold};
 use sl_run::Header;
-use sl_sectors::Image;
+use sl_sector::Image;
 use sl_trace::{Effects, Grant};
+use sl_world_state::Most;
 use std::alloc::{AllocError, Global};
 use std::sync::Arc;
 

@@ -1,12 +1,12 @@
 //! Reads: what they sample, and what they are answered.
 
-ghost use Rattle.sl_kept.specs.Changes.{change_flight, sampled_flight, stays_open};
-ghost use Rattle.sl_kept.specs.Inputs.{rest_in};
-ghost use Rattle.sl_kept.specs.Kept.{FlightState, MachineState, change_machine_in, flight_of_machine, machine_in};
-ghost use Rattle.sl_kept.specs.Refusing.{left_in};
-ghost use Rattle.sl_machine.specs.Calling.{at_first, samples_of};
+ghost use Rattle.sl_world_state.specs.Changes.{change_flight, sampled_flight, stays_open};
+ghost use Rattle.sl_world_state.specs.Inputs.{rest_in};
+ghost use Rattle.sl_world_state.specs.KeptWorld.{FlightState, MachineState, change_machine_in, flight_of_machine, machine_in};
+ghost use Rattle.sl_world_state.specs.Refusals.{left_in};
+ghost use Rattle.sl_machine.specs.CallWrites.{at_first, samples_of};
 ghost use Rattle.sl_machine.specs.Flights.{grown_flight};
-ghost use Rattle.sl_machine.specs.Keeping.{kept_state};
+ghost use Rattle.sl_machine.specs.KeptParts.{kept_state};
 ghost use Rattle.std.specs.Arc.{arc_value};
 ghost use Rattle.std.specs.List.{list_all};
 ghost use Rattle.std.specs.Option.{option_copied};
@@ -14,10 +14,10 @@ ghost use Rattle.std.specs.Prelude.{IfOk, OnErr, OnOk, Some, flat_map, true, ◌
 
 use crate::calls::gather;
 use crate::flight::Flight;
-use crate::kept::{Kept, place_of};
+use crate::kept_world::{Kept, place_of};
 use crate::locks::LockTable;
 use sl_disks::Place;
-use sl_sectors::{Image, Images};
+use sl_sector::{Image, Images};
 use std::alloc::AllocError;
 use std::sync::Arc;
 

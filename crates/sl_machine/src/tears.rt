@@ -1,16 +1,16 @@
 //! Writes that take effect in part.
 
-ghost use Rattle.sl_kept.specs.Kept.{flight_of_machine, sector_of_call};
-ghost use Rattle.sl_machine.specs.Calling.{LeavesTorn};
-ghost use Rattle.sl_machine.specs.Keeping.{kept_state};
+ghost use Rattle.sl_world_state.specs.KeptWorld.{flight_of_machine, sector_of_call};
+ghost use Rattle.sl_machine.specs.CallWrites.{LeavesTorn};
+ghost use Rattle.sl_machine.specs.KeptParts.{kept_state};
 ghost use Rattle.std.specs.Arc.{arc_value};
 ghost use Rattle.std.specs.Prelude.{IfOk, IfSome, None, drop, is_none, true, length, option_map, take, unwrap_or, [], ◌++◌, ◌+◌, ◌≡◌};
 
 use crate::calls::{Landing, sector_at};
-use crate::kept::Kept;
+use crate::kept_world::Kept;
 use crate::locks::LockTable;
 use sl_disks::Disks;
-use sl_sectors::Image;
+use sl_sector::Image;
 use sl_text::Bytes;
 use std::alloc::{AllocError, Global};
 use std::sync::Arc;

@@ -1,10 +1,10 @@
 -- A call of one of the members: what is kept then.
 use Rattle.sl_area.specs.Layouts.{layout_of}
-use Rattle.sl_host_state.specs.Kept.{MemberState}
-use Rattle.sl_member.proofs.Numbered.{at_changed, at_found, has_number, is_at, member_at, members_as, none_at, none_changed, none_found, run_kept, set_members, state_kept, states}
+use Rattle.sl_host_state.specs.KeptState.{MemberState}
+use Rattle.sl_member.proofs.MembersByNumber.{at_changed, at_found, has_number, is_at, member_at, members_as, none_at, none_changed, none_found, run_kept, set_members, state_kept, states}
 use Rattle.sl_member.specs.Leases.{begins_lease}
 use Rattle.sl_member.specs.Members.{MemberKept, RunOf, kept_called, member_called}
-use Rattle.sl_member.specs.Together.{AreMembers, MembersState, begins_among, changed_member, member_with, number_of}
+use Rattle.sl_member.specs.HostMembers.{AreMembers, MembersState, begins_among, changed_member, member_with, number_of}
 use Rattle.sl_trace.specs.Traces.{Submitted}
 use Rattle.sl_words.proofs.CaseLaws.{some_value}
 use Rattle.sl_words.specs.Words.{some_is}

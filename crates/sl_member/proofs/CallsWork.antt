@@ -1,15 +1,15 @@
 -- What a call makes of the leases of its session, as code comes to it.
 use Rattle.sl_area.specs.Layouts.{Layout}
-use Rattle.sl_host_state.specs.Kept.{LeaseState}
+use Rattle.sl_host_state.specs.KeptState.{LeaseState}
 use Rattle.sl_area.specs.Places.{in_area}
-use Rattle.sl_host_state.specs.Makes.{is_lease_on, lease_calling, leases_working, new_lease, value_calling}
-use Rattle.sl_host_state.specs.Stands.{pair_of}
-use Rattle.sl_host_state.specs.declared.kept.ValuePair.{ValuePair}
+use Rattle.sl_host_state.specs.MadeEffects.{is_lease_on, lease_calling, leases_working, new_lease, value_calling}
+use Rattle.sl_host_state.specs.HostStands.{pair_of}
+use Rattle.sl_host_state.specs.declared.kept_parts.ValuePair.{ValuePair}
 use Rattle.sl_lease.proofs.SameLaws.{hosts_keep_the_same}
 use Rattle.sl_lease.specs.Changes.{after_reading, after_value}
 use Rattle.sl_lease.specs.Laws.{at_step}
 use Rattle.sl_trace.specs.Leases.{is_on, is_spot_before, lease_step, spot_of_call, value_written}
-use Rattle.sl_member.proofs.Places.{called_stays, none_changed}
+use Rattle.sl_member.proofs.LeasesByPlace.{called_stays, none_changed}
 use Rattle.sl_member.proofs.SpotOrder.{same_itself}
 use Rattle.sl_member.specs.Leases.{AreByPlace, LeasesState, changed_at, lease_called, leases_after, value_set, with_lease}
 use Rattle.sl_sector.specs.declared.sector.Rec.TheVariants.{BlockIs, DeltaIs, LeaderIs, PairIs, PairLeaderIs, RequestIs, ValueIs}

@@ -1,12 +1,12 @@
 -- What code makes of a member is what a host's state functions make of it.
 use Rattle.sl_area.specs.Layouts.{Layout, layout_of}
-use Rattle.sl_host_state.specs.Hears.{asked_hearing, counted, is_heeded_by, joining_hearing, kept_heard, lease_hearing, lease_told, member_begun, member_hearing, member_leaving, renewing_hearing, turn_heard, watch_hearing}
-use Rattle.sl_host_state.specs.Kept.{HostState, LeaseState, MemberState}
-use Rattle.sl_host_state.specs.Makes.{is_lease_on}
-use Rattle.sl_host_state.specs.declared.kept.LeaseCall.{LeaseCall}
-use Rattle.sl_host_state.specs.declared.kept.OpenCall.{OpenCall}
+use Rattle.sl_host_state.specs.HeardInputs.{asked_hearing, counted, is_heeded_by, joining_hearing, kept_heard, lease_hearing, lease_told, member_begun, member_hearing, member_leaving, renewing_hearing, turn_heard, watch_hearing}
+use Rattle.sl_host_state.specs.KeptState.{HostState, LeaseState, MemberState}
+use Rattle.sl_host_state.specs.MadeEffects.{is_lease_on}
+use Rattle.sl_host_state.specs.declared.kept_parts.LeaseCall.{LeaseCall}
+use Rattle.sl_host_state.specs.declared.kept_parts.OpenCall.{OpenCall}
 use Rattle.sl_lease.proofs.SameLaws.{hosts_keep_the_same as leases_keep_the_same}
-use Rattle.sl_lease.specs.Asked.{leader_given, read_given}
+use Rattle.sl_lease.specs.LeaseQuestions.{leader_given, read_given}
 use Rattle.sl_lease.specs.Changes.{after_failure, after_write, read_told, turn_told, write_told}
 use Rattle.sl_lease.specs.Laws.{IsGiven, IsReadCall, first_by, open_at_step}
 use Rattle.sl_lease.specs.declared.side.Side.{Side}
@@ -14,7 +14,7 @@ use Rattle.sl_trace.specs.Leases.{lease_step}
 use Rattle.sl_member.specs.Laws.{HostsKeepTheSame, IsAwaited, IsAwaitedAt, IsWaitingFor, area_of_call, heard_by_parts, leases_told, waits_for}
 use Rattle.sl_member.specs.Leases.{changed_at, kept_shown, read_shown}
 use Rattle.sl_member.specs.Members.{RunOf, leaving_begun, own_told, recovery_begun}
-use Rattle.sl_member.specs.Together.{begun_by, begun_in, late_by, side_with}
+use Rattle.sl_member.specs.HostMembers.{begun_by, begun_in, late_by, side_with}
 use Rattle.sl_sector.specs.declared.sector.PairBlock.{PairBlock}
 use Rattle.sl_trace.specs.declared.delta.DeltaKnown.{DeltaKnown}
 use Rattle.sl_trace.specs.declared.effects.LeaseStep.{LeaseStep}

@@ -1,10 +1,10 @@
 pub mod SpotOrder
-pub mod Places
+pub mod LeasesByPlace
 pub mod Ranges
 pub mod MemberParts
 pub mod CallsWork
-pub mod Numbered
-pub mod Gathered
+pub mod MembersByNumber
+pub mod MembersTogether
 pub mod CalledMembers
 pub mod HostsHear
 pub mod PartsHear

@@ -1,6 +1,6 @@
 -- The parts of a member stay those of its run and session.
 use Rattle.sl_area.specs.Layouts.{Sizes, layout_of}
-use Rattle.sl_delta.specs.Own.{OwnState, after_answer, lease_of}
+use Rattle.sl_delta.specs.OwnSector.{OwnState, after_answer, lease_of}
 use Rattle.sl_member.specs.Members.{IsMember}
 use Rattle.sl_trace.specs.Deltas.{DeltaLease}
 use Rattle.sl_trace.specs.declared.session.Session.{Session}

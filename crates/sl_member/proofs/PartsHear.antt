@@ -1,7 +1,7 @@
 -- An answer of each kind, as code tells it to the parts of a member.
-use Rattle.sl_host_state.specs.Hears.{asked_hearing, beginning, renewed_of, renewing_hearing, shows_other_by, watch_hearing}
-use Rattle.sl_host_state.specs.Kept.{HostState, MemberState}
-use Rattle.sl_host_state.specs.declared.kept.OpenCall.{OpenCall}
+use Rattle.sl_host_state.specs.HeardInputs.{asked_hearing, beginning, renewed_of, renewing_hearing, shows_other_by, watch_hearing}
+use Rattle.sl_host_state.specs.KeptState.{HostState, MemberState}
+use Rattle.sl_host_state.specs.declared.kept_parts.OpenCall.{OpenCall}
 use Rattle.sl_member.specs.Laws.{PartsHear, heard_by_parts, leases_told, open_for}
 use Rattle.sl_member.specs.Members.{IsKnown, own_told}
 use Rattle.sl_trace.specs.declared.delta.DeltaKnown.{DeltaKnown}

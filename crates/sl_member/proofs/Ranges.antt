@@ -2,7 +2,7 @@
 use Rattle.sl_sector.specs.Bitmaps.{bitmap_of, no_bits, set_bit}
 use Rattle.sl_sector.specs.declared.sector.Bad.{Bad}
 use Rattle.sl_sector.specs.declared.sector.Rec.{Rec}
-use Rattle.sl_watch.specs.Telling.{told_at, told_of}
+use Rattle.sl_watch.specs.ToldLooks.{told_at, told_of}
 use Rattle.sl_watch.specs.Watches.{Watched}
 use Rattle.std.proofs.Common.{ap, arith, refl, suc, sym, zero, ◌∙◌}
 use Rattle.std.proofs.lemmas.List.Elements.{filter-append}

@@ -1,19 +1,19 @@
 -- What code makes of a member is what a host's state functions make of it.
 use Rattle.sl_area.specs.Layouts.{Layout, layout_of}
-use Rattle.sl_host_state.specs.Hears.{kept_heard, asked_hearing, counted, is_heeded_by, lease_told, member_begun, member_hearing, member_leaving, renewed_of, renewing_hearing, still_busy, watch_hearing, turn_heard}
-use Rattle.sl_host_state.specs.Kept.{HostState, LeaseState, MemberState}
-use Rattle.sl_host_state.specs.Makes.{is_lease_on, member_calling}
-use Rattle.sl_host_state.specs.declared.kept.LeaseCall.{LeaseCall}
-use Rattle.sl_host_state.specs.declared.kept.OpenCall.{OpenCall}
+use Rattle.sl_host_state.specs.HeardInputs.{kept_heard, asked_hearing, counted, is_heeded_by, lease_told, member_begun, member_hearing, member_leaving, renewed_of, renewing_hearing, still_busy, watch_hearing, turn_heard}
+use Rattle.sl_host_state.specs.KeptState.{HostState, LeaseState, MemberState}
+use Rattle.sl_host_state.specs.MadeEffects.{is_lease_on, member_calling}
+use Rattle.sl_host_state.specs.declared.kept_parts.LeaseCall.{LeaseCall}
+use Rattle.sl_host_state.specs.declared.kept_parts.OpenCall.{OpenCall}
 use Rattle.sl_lease.specs.Laws.{IsGiven, IsReadCall, first_by}
 use Rattle.sl_sector.specs.declared.sector.PairBlock.{PairBlock}
-use Rattle.sl_lease.specs.Asked.{leader_given, read_given}
+use Rattle.sl_lease.specs.LeaseQuestions.{leader_given, read_given}
 use Rattle.sl_lease.specs.Changes.{after_failure, after_write}
 use Rattle.sl_trace.specs.Leases.{lease_step}
 use Rattle.sl_member.specs.Leases.{changed_at, kept_shown, read_shown}
 use Rattle.sl_member.specs.Members.{IsKnown, RunOf, lease_changed, leaving_begun, member_called, own_told, renewing_told}
-use Rattle.sl_member.specs.Seen.{shows_other_by}
-use Rattle.sl_member.specs.Together.{begun_by, changed_member, side_with}
+use Rattle.sl_member.specs.SeenSessions.{shows_other_by}
+use Rattle.sl_member.specs.HostMembers.{begun_by, changed_member, side_with}
 use Rattle.sl_trace.specs.Sessions.{is_delta_purpose}
 use Rattle.sl_trace.specs.declared.delta.DeltaKnown.{DeltaKnown}
 use Rattle.sl_trace.specs.Traces.{Submitted}
@@ -23,7 +23,7 @@ use Rattle.sl_trace.specs.declared.effects.LeaseStep.{LeaseStep}
 use Rattle.sl_trace.specs.declared.effects.Purpose.TheVariants.{Joining, Lease, Leaving, Renewal, RequestRead, RequestWrite, SeeRequest, Survey, ValueRead, ValueWrite}
 use Rattle.sl_trace.specs.declared.effects.Purpose.{Purpose}
 use Rattle.sl_trace.specs.declared.effects.Work.{Work}
-use Rattle.sl_watch.specs.Telling.{told_all}
+use Rattle.sl_watch.specs.ToldLooks.{told_all}
 use Rattle.sl_trace.specs.declared.effects.Spot.{Spot}
 use Rattle.sl_trace.specs.declared.input.Answer.TheVariants.{Failed, Read, Written}
 use Rattle.sl_trace.specs.declared.input.Answer.{Answer}

@@ -1,9 +1,9 @@
 -- The leases of a session, by place, and what a change of one of them makes of the list.
-use Rattle.sl_host_state.specs.Kept.{LeaseState}
+use Rattle.sl_host_state.specs.KeptState.{LeaseState}
 use Rattle.sl_area.specs.Layouts.{Layout}
 use Rattle.sl_area.specs.Places.{in_area}
-use Rattle.sl_host_state.specs.Makes.{is_lease_on, leases_calling, new_lease}
-use Rattle.sl_host_state.specs.declared.kept.ValuePair.{ValuePair}
+use Rattle.sl_host_state.specs.MadeEffects.{is_lease_on, leases_calling, new_lease}
+use Rattle.sl_host_state.specs.declared.kept_parts.ValuePair.{ValuePair}
 use Rattle.sl_lease.specs.Bounds.{IsBegun}
 use Rattle.sl_lease.specs.Changes.{after_block, after_kept, after_leader, after_read, after_reading, after_value, turn_told}
 use Rattle.sl_lease.specs.declared.side.Side.{Side}

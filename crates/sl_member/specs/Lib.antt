@@ -1,6 +1,6 @@
-pub mod Asked
+pub mod AskedRequests
 pub mod Laws
 pub mod Leases
 pub mod Members
-pub mod Seen
-pub mod Together
+pub mod SeenSessions
+pub mod HostMembers

@@ -1,15 +1,15 @@
 -- A member as code keeps it, and what each call and answer makes of it.
 use Rattle.sl_area.specs.Layouts.{Sizes, layout_of}
-use Rattle.sl_delta.specs.Own.{OwnState, joining_told}
-use Rattle.sl_host_state.specs.Hears.{with_renewing}
-use Rattle.sl_host_state.specs.Kept.{LeaseState, MemberState}
-use Rattle.sl_host_state.specs.Makes.{joining_calling, known_calling, leases_calling}
-use Rattle.sl_host_state.specs.New.{new_member}
+use Rattle.sl_delta.specs.OwnSector.{OwnState, joining_told}
+use Rattle.sl_host_state.specs.HeardInputs.{with_renewing}
+use Rattle.sl_host_state.specs.KeptState.{LeaseState, MemberState}
+use Rattle.sl_host_state.specs.MadeEffects.{joining_calling, known_calling, leases_calling}
+use Rattle.sl_host_state.specs.NewHost.{new_member}
 use Rattle.sl_lease.specs.declared.side.Side.{Side}
 use Rattle.sl_member.specs.Leases.{IsKeepable, begins_lease, changed_at}
-use Rattle.sl_member.specs.Seen.{SeenBy}
+use Rattle.sl_member.specs.SeenSessions.{SeenBy}
 use Rattle.sl_area.specs.Layouts.{Layout}
-use Rattle.sl_delta.specs.Own.{IsOwnRecord}
+use Rattle.sl_delta.specs.OwnSector.{IsOwnRecord}
 use Rattle.sl_sector.specs.declared.sector.Owner.{Owner}
 use Rattle.sl_trace.specs.Deltas.{DeltaLease}
 use Rattle.sl_trace.specs.Sessions.{delta_written, is_delta_purpose}

@@ -2,7 +2,7 @@
 
 ghost use Rattle.sl_area.specs.Layouts.{layout_of};
 ghost use Rattle.sl_area.specs.Places.{in_area};
-ghost use Rattle.sl_host_state.specs.Stands.{pair_of};
+ghost use Rattle.sl_host_state.specs.HostStands.{pair_of};
 ghost use Rattle.sl_trace.specs.Leases.{lease_step, spot_of_call, value_of_record};
 ghost use Rattle.sl_trace.specs.Sessions.{delta_of_record};
 ghost use Rattle.sl_trace.specs.Traces.{new_call, record_of};

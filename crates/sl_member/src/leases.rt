@@ -5,7 +5,7 @@
 //! costs of one. A lease is large and never moves but when one comes in before it; what a call or an answer changes of it is changed in place.
 //! One comes in with its first call, into memory that was taken before, and none ever goes.
 
-ghost use Rattle.sl_host_state.specs.Makes.{is_lease_on};
+ghost use Rattle.sl_host_state.specs.MadeEffects.{is_lease_on};
 ghost use Rattle.sl_lease.specs.Changes.{after_failure, after_write};
 ghost use Rattle.sl_sector.specs.Records.{Fits};
 ghost use Rattle.sl_trace.specs.Leases.{is_spot_before};

@@ -17,17 +17,18 @@
 //! delta sectors one is unanswered at a time, and that a call is awaited by the lease on its area and by no other (`IsAwaited`).
 #![tactic(auto)]
 
-mod asked;
+mod asked_requests;
 mod calls;
 pub mod laws;
 mod leases;
+mod lookups;
 mod member;
 mod members;
-mod seen;
+mod seen_hosts;
 mod surveys;
 
-pub use asked::Asked;
+pub use asked_requests::Asked;
 pub use leases::Leases;
 pub use member::Member;
 pub use members::{Members, is_session_arg};
-pub use seen::{Seen, evidence_of, tell_all};
+pub use seen_hosts::{Seen, evidence_of, tell_all};

@@ -11,17 +11,17 @@
 //! known and what its own sector does next. What is known of a lease is asked of the lease (`lease`), with `side` and `seen`.
 
 ghost use Rattle.sl_area.specs.Layouts.{layout_of};
-ghost use Rattle.sl_delta.specs.Decides.{IsFitNext, after_join, on_wake};
-ghost use Rattle.sl_delta.specs.Own.{answer_in, without_calls};
-ghost use Rattle.sl_host_state.specs.Hears.{asked_at};
-ghost use Rattle.sl_host_state.specs.Makes.{is_lease_on};
+ghost use Rattle.sl_delta.specs.DeltaDecisions.{IsFitNext, after_join, on_wake};
+ghost use Rattle.sl_delta.specs.OwnSector.{answer_in, without_calls};
+ghost use Rattle.sl_host_state.specs.HeardInputs.{asked_at};
+ghost use Rattle.sl_host_state.specs.MadeEffects.{is_lease_on};
 ghost use Rattle.sl_lease.specs.Bounds.{IsSession};
 ghost use Rattle.sl_lease.specs.Changes.{after_failure, after_write};
-ghost use Rattle.sl_member.specs.Asked.{bits_within};
+ghost use Rattle.sl_member.specs.AskedRequests.{bits_within};
 ghost use Rattle.sl_member.specs.Leases.{begins_lease, first_among, kept_shown, read_shown};
 ghost use Rattle.sl_member.specs.Members.{IsKnown, IsOwnCall, RunOf, blank_member, delta_lease, kept_called, leaving_begun, lease_changed, own_of, own_told, owner_in, recovery_begun, renewal_counted, renewing_after, renewing_told, seen_in, side_in};
-ghost use Rattle.sl_member.specs.Seen.{is_asked_by, shows_other_by};
-ghost use Rattle.sl_member.specs.Together.{late_by};
+ghost use Rattle.sl_member.specs.SeenSessions.{is_asked_by, shows_other_by};
+ghost use Rattle.sl_member.specs.HostMembers.{late_by};
 ghost use Rattle.sl_sector.specs.Records.{Fits};
 ghost use Rattle.sl_trace.specs.Deltas.{next_free, next_renewal};
 ghost use Rattle.sl_trace.specs.Sessions.{given_number, is_join_call};
@@ -31,15 +31,15 @@ ghost use Rattle.sl_trace.specs.declared.effects.JoinStep.TheVariants.{FirstRead
 ghost use Rattle.sl_trace.specs.declared.effects.Purpose.TheVariants.{Joining};
 ghost use Rattle.sl_trace.specs.declared.input.Answer.{Answer};
 ghost use Rattle.sl_watch.specs.Summaries.{bare, state_by};
-ghost use Rattle.sl_watch.specs.Telling.{told_all};
+ghost use Rattle.sl_watch.specs.ToldLooks.{told_all};
 ghost use Rattle.sl_watch.specs.Watches.{kept_at};
 ghost use Rattle.sl_words.specs.Bounds.{moments};
 ghost use Rattle.std.specs.Prelude.{IfOk, IfSome, IsTrue, None, OnErr, OnOk, Some, bytes_eq, false, find, is_none, is_some, length, max, nat_le, not, option_map, slice_get, true, ℕ, ◌&&◌, ◌*◌, ◌+◌, ◌<◌, ◌==◌, ◌^◌, ◌≡◌, ◌≤◌};
 
-use crate::asked::Asked;
+use crate::asked_requests::Asked;
 use crate::calls::delta_of;
 use crate::leases::Leases;
-use crate::seen::{Seen, tell_all};
+use crate::seen_hosts::{Seen, tell_all};
 use crate::surveys::{is_asked, shows_other};
 use sl_area::Geometry;
 use sl_delta::{OwnSector, SectorAnswer};
@@ -75,7 +75,7 @@ pub struct Member {
 }
 
 impl Model for Member {
-    ghost use Rattle.sl_delta.specs.Own.{known_with};
+    ghost use Rattle.sl_delta.specs.OwnSector.{known_with};
     ghost use Rattle.sl_member.specs.Members.{IsMember, MemberKept};
     ghost use Rattle.std.specs.Prelude.{is_some};
 

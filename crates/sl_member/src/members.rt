@@ -1,29 +1,31 @@
 //! The members of a host together, by lockspace name.
 //!
-//! There are few, so one is looked for from the first on. Each is of the host's run, no two have one number, and each has memory for so
-//! many more leases (`room`); there is memory for so many members in all (`most`). Only `reserve` asks for memory.
+//! Each is of the host's run, no two have one number, and each has memory for so many more leases (`room`); there is memory for so many
+//! members in all (`most`). Only `reserve` asks for memory.
 
 ghost use Rattle.sl_area.specs.Layouts.{layout_of};
-ghost use Rattle.sl_delta.specs.Own.{answer_in};
-ghost use Rattle.sl_host_state.specs.Hears.{asked_at};
-ghost use Rattle.sl_host_state.specs.Kept.{MemberState};
-ghost use Rattle.sl_host_state.specs.Makes.{with_member};
+ghost use Rattle.sl_delta.specs.OwnSector.{answer_in};
+ghost use Rattle.sl_host_state.specs.HeardInputs.{asked_at};
+ghost use Rattle.sl_host_state.specs.KeptState.{MemberState};
+ghost use Rattle.sl_host_state.specs.MadeEffects.{with_member};
 ghost use Rattle.sl_lease.specs.Changes.{after_failure, after_write};
 ghost use Rattle.sl_member.specs.Leases.{first_among, kept_shown, read_shown};
 ghost use Rattle.sl_sector.specs.Records.{Fits};
 ghost use Rattle.sl_member.specs.Members.{IsOwnCall, leaving_begun, lease_changed, member_called, own_told, recovery_begun, renewal_counted, renewing_told};
-ghost use Rattle.sl_member.specs.Together.{AreApart, AreRoomier, begins_among, begins_leaving, begun_by, begun_kept, changed_member, is_joining_by, late_by, left_by, left_kept, member_with, side_with, told_survey};
+ghost use Rattle.sl_member.specs.HostMembers.{AreApart, AreRoomier, begins_among, begins_leaving, begun_by, begun_kept, changed_member, is_joining_by, late_by, left_by, left_kept, member_with, side_with, told_survey};
 ghost use Rattle.sl_trace.specs.Sessions.{is_join_call, is_session_arg};
 ghost use Rattle.sl_trace.specs.Traces.{new_call};
 ghost use Rattle.sl_trace.specs.declared.effects.JoinStep.TheVariants.{FirstRead};
 ghost use Rattle.sl_trace.specs.declared.effects.Purpose.TheVariants.{Joining};
 ghost use Rattle.sl_trace.specs.declared.input.Answer.{Answer};
 ghost use Rattle.sl_words.specs.Bounds.{moments};
-ghost use Rattle.sl_words.specs.Orders.{is_text_before};
 ghost use Rattle.sl_words.specs.Words.{some_is};
 ghost use Rattle.std.specs.List.{AllWithin, list_any};
-ghost use Rattle.std.specs.Prelude.{IfSome, IsTrue, None, OnErr, OnOk, Some, bytes_eq, cond, false, filter, find, length, map, max, min, not, option_and_then, option_map, position, slice_get, true, unwrap_or, vec_capacity, vec_len, [], ℕ, ◌&&◌, ◌*◌, ◌-◌, ◌<◌, ◌==◌, ◌^◌, ◌≡◌, ◌≤◌};
+ghost use Rattle.std.specs.Prelude.{IfSome, IsTrue, None, OnErr, OnOk, Some, bytes_eq, cond, false, filter, find, length, map, max, min, not, option_and_then, option_map, slice_get, true, vec_capacity, vec_len, [], ℕ, ◌&&◌, ◌*◌, ◌-◌, ◌<◌, ◌==◌, ◌^◌, ◌≡◌, ◌≤◌};
 
+use crate::lookups::{
+    find_for, find_joining, find_named, gap_of, has_number, is_joined_as, place_of,
+};
 use crate::member::Member;
 use sl_area::Geometry;
 use sl_delta::SectorAnswer;
@@ -47,7 +49,7 @@ pub struct Members {
 }
 
 impl Model for Members {
-    ghost use Rattle.sl_member.specs.Together.{AreMembers, MembersState};
+    ghost use Rattle.sl_member.specs.HostMembers.{AreMembers, MembersState};
     ghost use Rattle.std.specs.Prelude.{map, vec_capacity, vec_len, ◌≤◌};
 
     ghost Value = { MembersState };
@@ -63,98 +65,12 @@ impl Model for Members {
         × (m.most ≤ vec_capacity m.items) };
 }
 
-/// Whether a member has this number.
-fn has_number(member: &Member, number: u64) -> bool
-    ensures { result ≡ (number == member.now.state.who.number) }
-{
-    number == member.who().number
-}
-
-/// The place of the member of this number.
-fn place_of(items: &[Member], number: u64) -> Option<usize>
-    ensures exact { result ≡ position (λ m. number == m.state.who.number) items.now }
-    ensures within { IfSome result (λ k. k < length items.now) }
-{
-    items.iter().position(|member| has_number(member, number))
-}
-
 /// The room that is left once a lease has begun, or not.
 fn left(room: usize, begins: bool) -> usize
     requires { begins ≡ true → 0 < room }
     ensures { result ≡ cond begins (room - 1) room }
 {
     if begins { room - 1 } else { room }
-}
-
-/// Whether a member's lockspace comes behind this one.
-fn is_behind(member: &Member, lockspace: &Name) -> bool
-    ensures { result ≡ is_text_before lockspace.now member.now.state.who.lockspace }
-{
-    lockspace.is_before(&member.who().lockspace)
-}
-
-/// The place for a member of this lockspace: before the first that comes behind.
-fn gap_of(items: &[Member], lockspace: &Name) -> usize
-    ensures exact { result ≡ unwrap_or (position (λ m. is_text_before lockspace.now m.state.who.lockspace) items.now) (length items.now) }
-    ensures within { result ≤ length items.now }
-{
-    match place_behind(items, lockspace) {
-        Some(place) => place,
-        None => items.len(),
-    }
-}
-
-/// The place of the first member whose lockspace comes behind this one.
-fn place_behind(items: &[Member], lockspace: &Name) -> Option<usize>
-    ensures exact { result ≡ position (λ m. is_text_before lockspace.now m.state.who.lockspace) items.now }
-    ensures within { IfSome result (λ k. k < length items.now) }
-{
-    items.iter().position(|member| is_behind(member, lockspace))
-}
-
-/// The first member of this lockspace.
-fn find_named<'a>(items: &'a [Member], lockspace: &Name) -> Option<&'a Member>
-    ensures { option_map (λ m. m.now) result ≡ find (λ m. bytes_eq m.state.who.lockspace lockspace.now) items.entry.now }
-{
-    items.iter().find(|member| member.is_named(lockspace))
-}
-
-/// The first member that is for this job.
-fn find_for<'a>(items: &'a [Member], job: u64) -> Option<&'a Member>
-    ensures { option_map (λ m. m.now) result ≡ find (λ m. some_is (λ j. j == job) m.state.who.job) items.entry.now }
-{
-    items.iter().find(|member| is_for(member, job))
-}
-
-/// Whether a member is for this job.
-fn is_for(member: &Member, job: u64) -> bool
-    ensures { result ≡ some_is (λ j. j == job) member.now.state.who.job }
-{
-    match member.who().job {
-        Some(number) => number == job,
-        None => false,
-    }
-}
-
-/// Whether a member is joining, by this job.
-fn is_joining_by(member: &Member, job: u64) -> bool
-    ensures { result ≡ is_joining_by job member.now.state }
-{
-    !member.is_joined() && !member.is_refused() && is_for(member, job)
-}
-
-/// The first member that is joining by this job.
-fn find_joining<'a>(items: &'a [Member], job: u64) -> Option<&'a Member>
-    ensures { option_map (λ m. m.now) result ≡ find (λ m. is_joining_by job m.state) items.entry.now }
-{
-    items.iter().find(|member| is_joining_by(member, job))
-}
-
-/// Whether a member is joined and of this lockspace.
-fn is_joined_as(member: &Member, lockspace: &Name) -> bool
-    ensures { result ≡ (member.now.state.joined && bytes_eq member.now.state.who.lockspace lockspace.now) }
-{
-    member.is_joined() && member.is_named(lockspace)
 }
 
 /// Sees that each has memory for so many more leases.
@@ -169,7 +85,7 @@ fn reserve_rooms(items: &mut [Member], room: usize) -> Result<(), AllocError>
 }
 
 /// The same where there is memory for fewer.
-#[tactic(auto, using(crate::proofs::Gathered::roomier_itself))]
+#[tactic(auto, using(crate::proofs::MembersTogether::roomier_itself))]
 fn reserve_more(items: &mut [Member], has: usize, room: usize) -> Result<(), AllocError>
     ensures kept { AreRoomier items.old items.new }
     ensures ok { OnOk result (has < room → AllWithin (λ m. room ≤ m.room) items.new 0 (length items.new)) }

@@ -2,7 +2,7 @@
 
 ghost use Rattle.sl_area.specs.Layouts.{layout_of};
 ghost use Rattle.sl_area.specs.Places.{delta_of};
-ghost use Rattle.sl_member.specs.Seen.{asks_by, is_asked_by, shows_other_by};
+ghost use Rattle.sl_member.specs.SeenSessions.{asks_by, is_asked_by, shows_other_by};
 ghost use Rattle.sl_words.specs.Words.{some_is};
 ghost use Rattle.std.specs.Prelude.{IsTrue, bytes_eq, length, ◌*◌, ◌≡◌, ◌≤◌};
 

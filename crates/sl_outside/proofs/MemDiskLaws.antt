@@ -71,34 +71,7 @@ nothing_put path ds content e =
 
 -- ---- handed out
 
-keeps_told : (told content : Option (List ℕ)) → content ≡ told → Keeps told content
-keeps_told None content e = tt
-keeps_told (Some c) content e = subst (λ x. Keeps (Some c) x) (sym e) refl
-
 others_stay : (path : List ℕ) (told : Option (List ℕ)) (before now : Disks) (content : Option (List ℕ)) → TakesBack (option_map (λ c. path) told) before now content
     → KeepsAllBut path before now
 others_stay path None before now content back = λ other apart. back other
 others_stay path (Some c) before now content back = back.1
-
--- The disk at the path is out, and this one stands in its place.
-pub handed_out : (path : List ℕ) (before now : Disks) (left content : List ℕ) → Some content ≡ before path → TakesBack (told_at before path) before now (Some left)
-    → HandsOut path before now (told_at now path) (Some content)
-handed_out path before now left content is back =
-    let there : told_at before path ≡ Some path = ap (λ x. option_map (λ c. path) x) (sym is) in
-    let put : TakesBack (Some path) before now (Some left) = subst (λ l. TakesBack l before now (Some left)) there back in
-    record {
-      content_is = keeps_told (before path) (Some content) is;
-      lent_is = ap (λ x. option_map (λ c. path) x) put.0 ∙ sym there;
-      others = put.1;
-    }
-
--- There is none, and nothing is.
-pub none_out : (path : List ℕ) (before now : Disks) (left content : Option (List ℕ)) → None ≡ before path → TakesBack (told_at before path) before now left
-    → HandsOut path before now None content
-none_out path before now left content is back =
-    let nowhere : told_at before path ≡ None = ap (λ x. option_map (λ c. path) x) (sym is) in
-    record {
-      content_is = subst (λ x. Keeps x content) is tt;
-      lent_is = sym nowhere;
-      others = others_stay path (before path) before now left back;
-    }

@@ -4,7 +4,7 @@
 //! says: that it runs, ends and is signalled is tested.
 ghost use Rattle.std.specs.Prelude.{IfSome, length, [], ◌<◌, ◌≡◌};
 
-use crate::running::{Running, start};
+use crate::running_child::{Running, start};
 use crate::spawner::Spawner;
 use sl_io::{Failed, FaultCount};
 use sl_trace::Signal;

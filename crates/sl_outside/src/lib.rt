@@ -17,7 +17,7 @@ mod mem_spawner;
 mod paths;
 mod planned_spawner;
 mod real_clock;
-mod running;
+mod running_child;
 mod shared_area;
 mod shared_devices;
 mod spawner;

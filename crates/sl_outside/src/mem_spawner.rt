@@ -13,9 +13,9 @@ use crate::act::Act;
 use crate::mem_children::{MemChild, MemChildren};
 use crate::spawner::Spawner;
 use sl_io::{Failed, PlannedFaults};
-use sl_room::Room;
 use sl_text::FilePath;
 use sl_trace::Signal;
+use sl_words::Room;
 use std::alloc::{AllocError, Global};
 use std::marker::Model;
 

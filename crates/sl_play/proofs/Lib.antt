@@ -1,5 +1,9 @@
-pub mod Finishing
-pub mod Happening
-pub mod Owing
-mod Playing
+pub mod EndsFinish
+pub mod EventsHappen
+pub mod PlayIsOwed
+mod LinesAndAsks
 mod Texts
+pub mod ReplaysAreOwed
+pub mod LinesPlayed
+pub mod ReportsShift
+pub mod Headers

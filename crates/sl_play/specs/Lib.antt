@@ -1,4 +1,6 @@
-pub mod Finishing
-pub mod Owing
-pub mod Playing
-pub mod Telling
+pub mod RunEndings
+pub mod PlayIsOwed
+pub mod Plays
+pub mod ToldSteps
+pub mod Replays
+pub mod Headers

@@ -1,9 +1,12 @@
 //! A report is proved from its end.
 
-ghost use Rattle.sl_play.specs.Finishing.{AsksLeadBack, EndsFinish, EventsLeadBack, LeadingIsChained};
-ghost use Rattle.sl_play.specs.Owing.{EachStood, PlayIsOwed};
+pub mod headers;
+pub mod replays;
 
-use sl_daemon::Daemon;
+ghost use Rattle.sl_play.specs.RunEndings.{AsksLeadBack, EndsFinish, EventsLeadBack, LeadingIsChained};
+ghost use Rattle.sl_play.specs.PlayIsOwed.{EachStood, PlayIsOwed};
+
+use sl_world_state::Daemon;
 
 /// What is left behind a line's event is left before it.
 pub fn events_lead_back<D: Daemon>()

@@ -1,6 +1,6 @@
 //! A schedule's line played: its event, and the asks behind it.
 
-ghost use Rattle.sl_play.specs.Playing.{GoesOn, HaveAsked, IsAsking, IsPlaying, PlaysOn, AsksLeft, TakesLines, state_of};
+ghost use Rattle.sl_play.specs.Plays.{GoesOn, HaveAsked, IsAsking, IsPlaying, PlaysOn, AsksLeft, TakesLines, state_of};
 ghost use Rattle.sl_report.specs.Languages.{whole_language};
 ghost use Rattle.sl_report.specs.Schedules as schedules;
 ghost use Rattle.sl_run.specs.Worlds as worlds;
@@ -8,12 +8,12 @@ ghost use Rattle.sl_schedule.specs.Lines.{line_seen};
 ghost use Rattle.std.specs.Option.{option_to_list};
 ghost use Rattle.std.specs.Prelude.{IfOk, Ok, OnOk, [], ℕ, ◌∷◌, ◌≡◌};
 
-use crate::counting::PlayError;
 use crate::play::Play;
-use sl_daemon::Daemon;
+use crate::step_counts::PlayError;
 use sl_machine::LockTable;
 use sl_run::{Event, Refusal};
 use sl_schedule::{Line, event_line};
+use sl_world_state::Daemon;
 
 /// How many asks follow an event at most: an acquire is asked up to nine times, and the value is read behind it.
 const MOST_ASKS: u32 = 10;

@@ -4,17 +4,17 @@
 //! followed at once, at the same reading, by the asks of lvmlockd's locks that are due then, one after another; so between two lines no ask is
 //! due. After an `Err` a play is at its end: its world stands, but what was counted and written may lack the last event.
 
-ghost use Rattle.sl_world.specs.Counting.{IsCalm};
+ghost use Rattle.sl_world.specs.ConflictCounts.{IsCalm};
 
-use crate::counting::{PlayError, counted, granted, no_counts};
-use crate::events::{after_error, is_ask, machine_of};
-use crate::telling::push_event;
-use sl_daemon::Daemon;
+use crate::events::{after_error, is_ask};
+use crate::step_counts::{PlayError, counted, granted, no_counts};
+use crate::step_lines::push_event;
 use sl_locks::StepTold;
-use sl_machine::LockTable;
+use sl_machine::{LockTable, machine_of};
 use sl_run::{Event, Header, Refusal};
 use sl_schedule::Counts;
 use sl_world::World;
+use sl_world_state::Daemon;
 use std::alloc::{AllocError, Global};
 
 /// A world, with the daemons that run in it, and what is counted.
@@ -28,20 +28,20 @@ pub struct Play<D: Daemon, L: LockTable> {
 }
 
 impl<D: Daemon, L: LockTable> Play<D, L> {
-    ghost use Rattle.sl_kept.specs.Sane.{ReadsCommands, WorldStands};
-    ghost use Rattle.sl_kept.specs.Refusing.{refusal_in};
-    ghost use Rattle.sl_machine.specs.Keeping.{kept_state};
-    ghost use Rattle.sl_machine.specs.Testing.{is_tear};
-    ghost use Rattle.sl_play.specs.Playing.{Answers, Begins, PassesCounts, StandsFor, StaysAs, state_of, test_told};
-    ghost use Rattle.sl_play.specs.Telling.{AreCounted, counts_with, tests_told, told_view};
-    ghost use Rattle.sl_play.specs.declared.counting.PlayError.TheVariants.{NoMemory, TooMany};
+    ghost use Rattle.sl_world_state.specs.SaneWorlds.{ReadsCommands, WorldStands};
+    ghost use Rattle.sl_world_state.specs.Refusals.{refusal_in};
+    ghost use Rattle.sl_machine.specs.KeptParts.{kept_state};
+    ghost use Rattle.sl_machine.specs.EventTests.{is_tear};
+    ghost use Rattle.sl_play.specs.Plays.{Answers, Begins, PassesCounts, StandsFor, StaysAs, state_of, test_told};
+    ghost use Rattle.sl_play.specs.ToldSteps.{AreCounted, counts_with, tests_told, told_view};
+    ghost use Rattle.sl_play.specs.declared.step_counts.PlayError.TheVariants.{NoMemory, TooMany};
     ghost use Rattle.sl_report.specs.Reports as reports;
     ghost use Rattle.sl_run.specs.Events as events;
     ghost use Rattle.sl_run.specs.Headers.{IsHeader};
     ghost use Rattle.sl_run.specs.Worlds as worlds;
     ghost use Rattle.sl_run.specs.declared.event.Refusal.{Refusal as RefusalOf};
     ghost use Rattle.sl_text.specs.Forms.{as_bytes};
-    ghost use Rattle.sl_world.specs.Counting.{conflicts_left};
+    ghost use Rattle.sl_world.specs.ConflictCounts.{conflicts_left};
     ghost use Rattle.std.specs.Prelude.{Err, IfOk, Ok, OnErr, OnOk, Some, is_none, length, true, ◌++◌, ◌≡◌, ◌⊎◌};
 
     /// A play of a header's world at moment 0, with nothing counted. An `Err` is want of memory.
@@ -84,7 +84,7 @@ impl<D: Daemon, L: LockTable> Play<D, L> {
         ensures { result ≡ test_told (state_of L.locks self.now).kept event.now }
     {
         match event {
-            Event::Test { machine: _ } => Some(self.world.test_holds(event)),
+            Event::Test { .. } => Some(self.world.test_holds(event)),
             _ => None,
         }
     }

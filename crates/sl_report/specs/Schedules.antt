@@ -1,6 +1,6 @@
 -- A source as a schedule: its header, its events up to the first line that is refused, and that refusal.
 use Rattle.sl_report.specs.Languages.{Language}
-use Rattle.sl_report.specs.ReadingLines.{event_in, header_line_in, header_refusal}
+use Rattle.sl_report.specs.ReadLines.{event_in, header_line_in, header_refusal}
 use Rattle.sl_report.specs.Replay.{effects_of}
 use Rattle.sl_report.specs.Reports.{Counts, count_event, end_line, event_lines, no_counts, run_counts, run_lines}
 use Rattle.sl_report.specs.ScheduleLines.{BeginLine, HeaderLine, header_of, refusal_line}

@@ -1,7 +1,7 @@
 -- The cause of each reply: what stands in the trace where it is given.
 use Rattle.sl_area.specs.Layouts.{Layout, record_in, sector_with}
 use Rattle.sl_area.specs.Places.{area_blocks, leader_of, read_at}
-use Rattle.sl_run.specs.Saying.{IsAnsweredAt}
+use Rattle.sl_run.specs.LawForms.{IsAnsweredAt}
 use Rattle.sl_trace.specs.Ballots.{in_instance, next_mbal, stop_of, value_of}
 use Rattle.sl_trace.specs.Counts.{busy_process, holds_already, is_killpath_limit, limit_met, may_act, next_value_seq, other_holder, pending_call}
 use Rattle.sl_trace.specs.Jobs.{is_asking_lease, is_job_of_process, is_program, job_of_start, lockspace_named, process_named, resource_named, wants_shared}
@@ -21,7 +21,7 @@ use Rattle.sl_sector.specs.declared.sector.Request.{Request as RequestRec}
 use Rattle.sl_sector.specs.declared.sector.ValueRec.{ValueRec}
 use Rattle.sl_trace.specs.Deltas.{claim_of, delta_of_session, first_bytes, id_lost, version_in}
 use Rattle.sl_trace.specs.Sessions.{calls_of, generation_of, holdings_of, is_active, is_join_call, is_joined, is_session_arg, join_call, last_renewal, last_seq, present_sessions, session_named, session_of_job}
-use Rattle.sl_trace.specs.Watching.{counts_over, sessions_seen, states_seen}
+use Rattle.sl_trace.specs.Sightings.{counts_over, sessions_seen, states_seen}
 use Rattle.sl_trace.specs.declared.session.Session.{Session}
 use Rattle.sl_time.specs.Times.{join_max}
 use Rattle.sl_trace.specs.Limits.{most_lockspaces}

@@ -1,7 +1,7 @@
 -- When and where a session may write on a resource's area, and read its blocks.
 use Rattle.sl_area.specs.Layouts.{Layout}
 use Rattle.sl_area.specs.Places.{area_sectors, block_offset, block_sectors, leader_of, leader_offset, needs_again, pair_offset, request_offset, value_offset}
-use Rattle.sl_run.specs.Saying.{EachCall}
+use Rattle.sl_run.specs.LawForms.{EachCall}
 use Rattle.sl_trace.specs.Leases.{blocks_bytes, is_again, is_block_read, is_leader_of, is_on, kind_of_step, leaders_given, lease_calls, lease_step, same_kind, spot_of_call}
 use Rattle.sl_sector.specs.declared.sector.Leader.{Leader}
 use Rattle.sl_sector.specs.Spelling.{is_first_turn}

@@ -1,12 +1,12 @@
 -- How a session may write its block on a resource: the ballots of one disk.
-use Rattle.sl_run.specs.Saying.{EachCall}
+use Rattle.sl_run.specs.LawForms.{EachCall}
 use Rattle.sl_trace.specs.Ballots.{ballot_blocks, moded_block, owner_of, phase1_block, phase2_block, same_owner, stop_of}
 use Rattle.sl_trace.specs.Leases.{Phase1_read, Phase1_write, Phase2_read, Phase2_write, base_turn, block_written, blocks_given, ended_ballots, freed, is_again, is_area_read, is_at, is_free_write, is_leader_of, last_blocks, leader_given, lease_calls, lease_step, own_block, spot_of_call, turn_written}
 use Rattle.sl_sector.specs.declared.sector.Block.{Block}
 use Rattle.sl_sector.specs.declared.sector.Leader.{Leader}
 use Rattle.sl_sector.specs.declared.sector.Owner.{Owner}
 use Rattle.sl_trace.specs.Sessions.{me}
-use Rattle.sl_trace.specs.Watching.{counted_over}
+use Rattle.sl_trace.specs.Sightings.{counted_over}
 use Rattle.sl_trace.specs.declared.session.Session.{Session}
 use Rattle.sl_trace.specs.Traces.{Answered, Setting, Submitted, Trace}
 use Rattle.sl_trace.specs.declared.effects.Entry.{Entry}

@@ -1,5 +1,5 @@
 -- Whose a call is, and what it may write at all.
-use Rattle.sl_run.specs.Saying.{EachCall}
+use Rattle.sl_run.specs.LawForms.{EachCall}
 use Rattle.sl_sector.specs.Records.{IsRecord}
 use Rattle.sl_sector.specs.declared.sector.Rec.{Rec}
 use Rattle.sl_trace.specs.Sessions.{session_numbered, stage_of}

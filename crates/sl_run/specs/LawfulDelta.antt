@@ -1,7 +1,7 @@
 -- How a session may read and write its id's sector: watch, decide, claim, wait, verify, renew, free.
 use Rattle.sl_area.specs.Layouts.{record_in, sector_with}
 use Rattle.sl_area.specs.Places.{is_base}
-use Rattle.sl_run.specs.Saying.{EachCall, EachSession, newest_moves, older}
+use Rattle.sl_run.specs.LawForms.{EachCall, EachSession, newest_moves, older}
 use Rattle.sl_sector.specs.Bitmaps.{no_bits}
 use Rattle.sl_sector.specs.Spelling.{delta_in}
 use Rattle.sl_sector.specs.declared.sector.DeltaRec.{DeltaRec}

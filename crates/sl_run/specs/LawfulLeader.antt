@@ -1,6 +1,6 @@
 -- How a session may write the leader of a resource.
 use Rattle.sl_run.specs.LawfulArea.{HasVerified, is_area_work}
-use Rattle.sl_run.specs.Saying.{EachCall}
+use Rattle.sl_run.specs.LawForms.{EachCall}
 use Rattle.sl_trace.specs.Ballots.{owner_of, same_owner}
 use Rattle.sl_trace.specs.Leases.{Leader_freed, Leader_taken, ended_ballots, freed, holdings_on, is_at, is_on, leader_written, lease_calls, spot_of_call}
 use Rattle.sl_sector.specs.declared.sector.Leader.{Leader}

@@ -1,11 +1,11 @@
 -- What a grant in either mode has behind it, and which mode a block shows. All of it is said of one resource.
 use Rattle.sl_run.specs.LawfulBlock.{FirstAfter, ReadAfter}
 use Rattle.sl_run.specs.LawfulLeader.{HasWon}
-use Rattle.sl_run.specs.Saying.{EachCall, IsAnsweredAt}
+use Rattle.sl_run.specs.LawForms.{EachCall, IsAnsweredAt}
 use Rattle.sl_trace.specs.Leases.{Mode_set, Phase1_write, block_of_host, block_written, blocks_given, ended_ballot, exclusive_on, has_shared_on, holdings_on, is_again, is_at, is_block_read, is_free_write, lease_calls, spot_of_call}
 use Rattle.sl_sector.specs.declared.sector.Block.{Block}
 use Rattle.sl_trace.specs.Sessions.{generation_of, me, session_numbered}
-use Rattle.sl_trace.specs.Watching.{counted_over}
+use Rattle.sl_trace.specs.Sightings.{counted_over}
 use Rattle.sl_trace.specs.declared.session.Session.{Session}
 use Rattle.sl_trace.specs.Traces.{Answered, Setting, Submitted, Trace, is_shared, spot_of_grant}
 use Rattle.sl_trace.specs.declared.effects.Entry.{Entry}

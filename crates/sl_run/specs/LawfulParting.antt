@@ -1,5 +1,5 @@
 -- What a session in recovery or leaving may still write, and how a joined session may end.
-use Rattle.sl_run.specs.Saying.{EachCall, EachSession, IsAnsweredAt}
+use Rattle.sl_run.specs.LawForms.{EachCall, EachSession, IsAnsweredAt}
 use Rattle.sl_trace.specs.Sessions.{calls_of, free_write, has_open_write, holdings_of, is_joined, is_leaving, is_recovering, recovery_of}
 use Rattle.sl_trace.specs.declared.session.Session.{Session}
 use Rattle.sl_trace.specs.Traces.{Setting, Submitted, Trace, is_write}

@@ -1,6 +1,6 @@
 -- What recovery and leaving do to a session's holders and jobs, and that they end it.
 use Rattle.sl_run.specs.LawfulParting.{MayPart}
-use Rattle.sl_run.specs.Saying.{EachSession}
+use Rattle.sl_run.specs.LawForms.{EachSession}
 use Rattle.sl_trace.specs.Jobs.{jobs_of_session}
 use Rattle.sl_trace.specs.Sessions.{holders_of, is_joined, leaving_job, leaving_of, recovery_of}
 use Rattle.sl_trace.specs.declared.session.Begun.{Begun}

@@ -3,7 +3,7 @@ use Rattle.sl_area.specs.Layouts.{record_in}
 use Rattle.sl_area.specs.Places.{value_offset}
 use Rattle.sl_run.specs.LawfulArea.{is_area_work}
 use Rattle.sl_run.specs.LawfulLeader.{open_writes_on}
-use Rattle.sl_run.specs.Saying.{EachCall, IsAnsweredAt}
+use Rattle.sl_run.specs.LawForms.{EachCall, IsAnsweredAt}
 use Rattle.sl_trace.specs.Counts.{next_value_seq}
 use Rattle.sl_trace.specs.Leases.{exclusive_on, holdings_on, is_on, spot_of_call, value_written}
 use Rattle.sl_sector.specs.Spelling.{value_in}

@@ -1,5 +1,5 @@
 -- How a session's connection to the watchdog daemon covers what it may do.
-use Rattle.sl_run.specs.Saying.{EachSession}
+use Rattle.sl_run.specs.LawForms.{EachSession}
 use Rattle.sl_trace.specs.Sessions.{has_open_write, holdings_of, is_covered_stage, is_present, joined_after, last_renewal, refused_after, stage_of}
 use Rattle.sl_trace.specs.declared.session.Session.{Session}
 use Rattle.sl_time.specs.Times.{fail}

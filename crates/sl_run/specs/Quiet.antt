@@ -15,7 +15,7 @@ use Rattle.sl_sector.specs.declared.sector.Leader.{Leader}
 use Rattle.sl_sector.specs.declared.sector.PairBlock.{PairBlock}
 use Rattle.sl_sector.specs.declared.sector.Request.{Request}
 use Rattle.sl_trace.specs.Sessions.{is_active, session_named, session_numbered}
-use Rattle.sl_trace.specs.Watching.{counts_over}
+use Rattle.sl_trace.specs.Sightings.{counts_over}
 use Rattle.sl_trace.specs.declared.session.Session.{Session}
 use Rattle.sl_trace.specs.Traces.{Answered, Submitted, Trace, entry_at, is_of_job, is_ok_answer, is_shared, is_write, next_job, no_effects, reply_to, same_place, submitted, waiting_call}
 use Rattle.sl_trace.specs.declared.command.Command.TheVariants.{Acquire}

@@ -15,7 +15,7 @@ use Rattle.sl_sector.specs.declared.sector.Owner.{Owner}
 use Rattle.sl_sector.specs.declared.sector.PairBlock.{PairBlock}
 use Rattle.sl_trace.specs.Deltas.{own_offset}
 use Rattle.sl_trace.specs.Sessions.{calls_of, ended_after, free_write, generation_of, is_join_call, is_joined, joined_after, me, session_numbered, shows_other}
-use Rattle.sl_trace.specs.Watching.{counts_over}
+use Rattle.sl_trace.specs.Sightings.{counts_over}
 use Rattle.sl_trace.specs.declared.session.Session.{Session}
 use Rattle.sl_trace.specs.Connections.{connection_named}
 use Rattle.sl_trace.specs.Traces.{Setting, Trace, is_shared, same_place}

@@ -1,11 +1,11 @@
 -- The machines at moment 0.
 use Rattle.sl_area.specs.Layouts.{Layout, layout_with}
-use Rattle.sl_plain.proofs.Options.{not_some}
+use Rattle.sl_words.proofs.Options.{not_some}
 use Rattle.sl_run.specs.Worlds.{Machine, Program, machine_at, machine_of_header, world_with}
 use Rattle.sl_run.specs.declared.header.Header.{Header}
-use Rattle.sl_run_law.proofs.Walking.{index}
+use Rattle.sl_run_law.proofs.MachineWalk.{index}
 use Rattle.sl_run_law.specs.Beginnings.{IsNew}
-use Rattle.sl_run_law.specs.Clocks.{IsCounted}
+use Rattle.sl_run_law.specs.ClocksDrift.{IsCounted}
 use Rattle.sl_words.proofs.CaseLaws.{none_some, some_value, true_is_false}
 use Rattle.std.proofs.Common.{ap, refl, subst}
 use Rattle.std.specs.List.{range_with_len}

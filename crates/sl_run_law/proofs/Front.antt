@@ -1,2 +1,2 @@
-pub mod Having
-pub mod Going
+pub mod JoinedLists
+pub mod RunsFromFronts

@@ -1,12 +1,12 @@
-pub mod Going
-pub mod Walking
-pub mod Coursing
-pub mod Tracking
+pub mod WorldsGoOn
+pub mod MachineWalk
+pub mod CourseLists
+pub mod CoursesGoOn
 pub mod Guards
-pub mod Hosting
-pub mod Clocks
-pub mod Fates
-pub mod Answered
+pub mod DaemonsGoOn
+pub mod ClocksDrift
+pub mod FatesStay
+pub mod AnswersStay
 pub mod Beginnings
 pub mod Front
 pub mod Course
@@ -15,3 +15,5 @@ pub mod Watchdog
 pub mod Landing
 pub mod Sample
 pub mod Place
+pub mod Sessions
+pub mod Leases

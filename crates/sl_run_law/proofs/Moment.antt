@@ -1,9 +1,9 @@
-pub mod Keeping
-pub mod Adding
-pub mod Landing
-pub mod Beginning
-pub mod Following
-pub mod Waiting
+pub mod GrowingLists
+pub mod AddedNow
+pub mod LandsNow
+pub mod FirstStamps
+pub mod MomentsFollowSteps
+pub mod MachineWaits
 pub mod Stamps
-pub mod Ordering
-pub mod Later
+pub mod MachinesInOrder
+pub mod LaterThanFront

@@ -1,7 +1,7 @@
-pub mod Finding
-pub mod Numbering
-pub mod Reading
-pub mod Rights
+pub mod FoundInLists
+pub mod SessionNumbers
+pub mod TracesOnMachines
+pub mod ReadsInPlace
 pub mod Sizes
 pub mod Areas
 pub mod Beginnings
@@ -9,8 +9,8 @@ pub mod Daemons
 pub mod Looks
 pub mod Seats
 pub mod Blocks
-pub mod Made
-pub mod Leased
-pub mod Homing
-pub mod Proven
+pub mod MadeLeaders
+pub mod VerifiedAreas
+pub mod LandingsAtHome
+pub mod PlaceLaws
 pub mod Checks

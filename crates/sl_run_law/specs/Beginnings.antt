@@ -1,8 +1,8 @@
 -- The header's world is one that these laws speak of.
 use Rattle.sl_run.specs.Worlds.{Machine, Program, machine_at, world_with}
 use Rattle.sl_run.specs.declared.header.Header.{Header}
-use Rattle.sl_run_law.specs.Clocks.{IsCounted}
-use Rattle.sl_run_law.specs.Daemons.{IsSettled}
+use Rattle.sl_run_law.specs.ClocksDrift.{IsCounted}
+use Rattle.sl_run_law.specs.DaemonsGoOn.{IsSettled}
 use Rattle.std.specs.Prelude.{Some, [], ℕ, ◌≡◌}
 
 -- A machine that has made no call yet.

@@ -1,3 +1,3 @@
-pub mod Stamping
+pub mod CallStamps
 pub mod Mirrors
-pub mod Promises
+pub mod CourseLaws

@@ -1,10 +1,10 @@
-pub mod Going
+pub mod WorldsGoOn
 pub mod Machines
-pub mod Courses
-pub mod Daemons
-pub mod Clocks
-pub mod Fates
-pub mod Answered
+pub mod CoursesGoOn
+pub mod DaemonsGoOn
+pub mod ClocksDrift
+pub mod FatesStay
+pub mod AnswersStay
 pub mod Beginnings
 pub mod Front
 pub mod Course
@@ -13,3 +13,5 @@ pub mod Watchdog
 pub mod Landing
 pub mod Sample
 pub mod Place
+pub mod Sessions
+pub mod Leases

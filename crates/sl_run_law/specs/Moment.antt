@@ -1,4 +1,4 @@
-pub mod Moments
+pub mod MomentsFollowSteps
 pub mod Waits
 pub mod Orders
-pub mod Fronts
+pub mod FrontMoments

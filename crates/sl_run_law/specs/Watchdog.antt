@@ -1,2 +1,2 @@
-pub mod Acting
-pub mod Promises
+pub mod ActingTimes
+pub mod WatchdogLaws

@@ -1,20 +1,24 @@
 //! What stays and what only grows in a world.
+//!
+//! What lawful traces keep: of sessions (`laws::sessions`) and of their leases (`laws::leases`).
 
 pub mod course;
 pub mod front;
 pub mod landing;
+pub mod leases;
 pub mod moment;
 pub mod place;
 pub mod sample;
+pub mod sessions;
 pub mod watchdog;
 
-ghost use Rattle.sl_run_law.specs.Answered.{AnswersStay, AnswersStayInRuns};
+ghost use Rattle.sl_run_law.specs.AnswersStay.{AnswersStay, AnswersStayInRuns};
 ghost use Rattle.sl_run_law.specs.Beginnings.{BeginsCounted, BeginsNew};
-ghost use Rattle.sl_run_law.specs.Clocks.{ClocksDrift, ClocksDriftInRuns};
-ghost use Rattle.sl_run_law.specs.Courses.{MachinesGoOn, MachinesGoOnInRuns};
-ghost use Rattle.sl_run_law.specs.Daemons.{DaemonsGoOn, DaemonsGoOnInRuns};
-ghost use Rattle.sl_run_law.specs.Fates.{FatesStay, FatesStayInRuns};
-ghost use Rattle.sl_run_law.specs.Going.{RunsGoOn, WorldsGoOn};
+ghost use Rattle.sl_run_law.specs.ClocksDrift.{ClocksDrift, ClocksDriftInRuns};
+ghost use Rattle.sl_run_law.specs.CoursesGoOn.{MachinesGoOn, MachinesGoOnInRuns};
+ghost use Rattle.sl_run_law.specs.DaemonsGoOn.{DaemonsGoOn, DaemonsGoOnInRuns};
+ghost use Rattle.sl_run_law.specs.FatesStay.{FatesStay, FatesStayInRuns};
+ghost use Rattle.sl_run_law.specs.WorldsGoOn.{RunsGoOn, WorldsGoOn};
 
 /// An event leaves the header, the layout and the number of machines; time goes on by what it takes, and landings stay.
 pub fn worlds_go_on()

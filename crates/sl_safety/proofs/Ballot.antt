@@ -20,8 +20,8 @@ pub mod Phase2Ones
 pub mod ReadsStand
 pub mod Phase2Is
 pub mod EndedFirst
-pub mod Ended
+pub mod BallotsEnd
 pub mod EndedAll
-pub mod Led
+pub mod LeadersFollowBallots
 pub mod EndedJoined
-pub mod KeptProven
+pub mod InstancesHaveReasons

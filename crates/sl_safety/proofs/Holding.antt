@@ -1,9 +1,9 @@
-pub mod Granted
-pub mod Freeless
-pub mod Standing
+pub mod HoldingsAreGranted
+pub mod StayingIsFreeless
+pub mod HoldersStand
 pub mod Places
-pub mod Unfreed
-pub mod Sharing
-pub mod Agreeing
+pub mod ExclusivesUnfreed
+pub mod SharedHoldingsBegin
+pub mod OneDaemonAgrees
 pub mod Holders
-pub mod Once
+pub mod HoldersHoldOnce

@@ -1,3 +1,3 @@
-pub mod Pairs
-pub mod Named
-pub mod Standing
+pub mod TornPairs
+pub mod TornBlocksNamed
+pub mod PairsStand

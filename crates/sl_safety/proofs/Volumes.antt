@@ -1,10 +1,10 @@
 -- Of two machines on which a logical volume is active both have it shared: the holdings of its lock are of one place, and don't conflict.
-use Rattle.sl_run_law.proofs.Front.Having.{in_flat}
+use Rattle.sl_run_law.proofs.Front.JoinedLists.{in_flat}
 use Rattle.sl_safety.proofs.Holding.Places.{is_place, place_is}
 use Rattle.sl_run.specs.LockNames.{group_path}
-use Rattle.sl_plain.proofs.Lists.{any_of, contains_first, contains_map, contains_more}
+use Rattle.sl_words.proofs.Lists.{any_of, contains_first, contains_map, contains_more}
 use Rattle.sl_run.specs.Conflicts.{Holding, IsExclusive, conflicts, world_holdings}
-use Rattle.sl_run.specs.Reach.{VolumesAreExclusive}
+use Rattle.sl_run.specs.HeldOverTime.{VolumesAreExclusive}
 use Rattle.sl_run.specs.Safety.{Safety, world_at}
 use Rattle.sl_run.specs.Worlds.{Machine, World, machine_at}
 use Rattle.sl_safety.specs.Volumes.{VolumesExclude}

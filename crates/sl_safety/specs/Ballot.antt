@@ -1,4 +1,4 @@
 pub mod Endings
 pub mod Reasons
-pub mod Leading
+pub mod LeadersFollowBallots
 pub mod Enders

@@ -1,7 +1,7 @@
 -- The history of each resource of a lawful run keeps all rules of the argument over ballots.
 use Rattle.sl_ballots.specs.Ballots.{IsLawful}
 use Rattle.sl_ballots.specs.Instances.{KeepsInstances}
-use Rattle.sl_history.specs.Sessions.Promises.{OfHistories}
+use Rattle.sl_safety.specs.Sessions.SessionLaws.{OfHistories}
 
 abbrev pub HistoriesAreLawful : Type 0
 HistoriesAreLawful = OfHistories IsLawful

@@ -1,7 +1,10 @@
 pub mod Histories
-pub mod Kept
+pub mod SafetyInvariants
 pub mod Volumes
 pub mod Holding
 pub mod Ballot
 pub mod Grant
 pub mod Value
+pub mod Resources
+pub mod Sessions
+pub mod Pairs

@@ -1,14 +1,20 @@
 //! What every lawful run keeps of resources.
+//!
+//! The history of a resource, read off a run of many machines: registers (`laws::resources`), whose they are (`laws::sessions`), and a host's
+//! pair of sectors (`laws::host_pairs`).
 
 pub mod ballot;
 pub mod grant;
 pub mod holding;
-pub mod pairs;
+pub mod host_pairs;
+pub mod resources;
+pub mod sessions;
+pub mod torn_pairs;
 pub mod value;
 
 ghost use Rattle.sl_run.specs.Safety.{Invariants, Safety};
 ghost use Rattle.sl_safety.specs.Histories.{HistoriesAreLawful, HistoriesKeepInstances};
-ghost use Rattle.sl_safety.specs.Kept.{BallotsAgree, OneWins, SharedModesStand};
+ghost use Rattle.sl_safety.specs.SafetyInvariants.{BallotsAgree, OneWins, SharedModesStand};
 ghost use Rattle.sl_safety.specs.Volumes.{VolumesExclude};
 
 /// The history of each resource keeps all rules of the argument over ballots.

@@ -1,6 +1,6 @@
 -- The events whose lines may have more words or fewer, read as their two forms say; and all forms by halves.
 use Rattle.sl_report.specs.Languages.{whole_language}
-use Rattle.sl_report.specs.ReadingLines.{command_event, event_in, given_text}
+use Rattle.sl_report.specs.ReadLines.{command_event, event_in, given_text}
 use Rattle.sl_report.specs.ScheduleLines.{checked_event, event_forms, is_positive_word}
 use Rattle.sl_run.specs.declared.event.Event.TheVariants.{Pass, Tear}
 use Rattle.sl_run.specs.declared.event.Event.{Event}
@@ -210,15 +210,3 @@ command_made machines sector line verb =
     ∙ ap result_ok (read_by-verbs fs [] (unread 32 line) (codes "command") verb (none_behind_command machines sector)) in
     ap command_event (sym (first_word (codes "command") (words_of line) verb)) ∙ or_none (command_event (words_of line))
     ∙ ap (λ o. option_or (command_event (words_of line)) (checked_event sector o)) (sym none)
-
--- Where it is another, there is no command.
-no_command : (ws : List (List ℕ)) → some_is (exactly (codes "command")) (first_of_list ws) ≡ false → command_event ws ≡ None
-no_command [] h = refl
-no_command (a ∷ []) h = refl
-no_command (a ∷ b ∷ []) h = refl
-no_command (a ∷ b ∷ c ∷ ws) h = ap (λ t. choose (t && is_positive_word b) (given_text (capped_short b) c ws)) h
-
-pub other_made : (machines sector : ℕ) (line : List ℕ) → next_passes (exactly (codes "command")) (unread 32 line) ≡ false
-    → checked_event sector (made_by (event_forms machines sector) (words_of line)) ≡ event_in whole_language machines sector line
-other_made machines sector line verb =
-    ap (λ o. option_or o (checked_event sector (made_by (event_forms machines sector) (words_of line)))) (sym (no_command (words_of line) verb))

@@ -1,7 +1,7 @@
 -- What is kept of a header's lines stands for them: their counts, their header, and one more line.
 use Rattle.sl_area.specs.Layouts.{Sizes, most_ids, roomy}
 use Rattle.sl_report.specs.Languages.{is_skipped, least_lines, most_lines, whole_language}
-use Rattle.sl_report.specs.ReadingLines.{header_line_in, header_refusal, is_in_order}
+use Rattle.sl_report.specs.ReadLines.{header_line_in, header_refusal, is_in_order}
 use Rattle.sl_report.specs.ScheduleLines.{AreaLine, BeginLine, ClockLine, DiskLine, GeometryLine, HeaderLine, HostsLine, IdsLine, LeaseLine, LvmLine, MemberLine, TimeLine, VersionLine, area_line, clock_line, count_of_rank, disk_line, geometry_line, header_of, header_tests, hosts_line, ids_line, lease_line, member_line, no_timing, rank, retries_line, timing_line, version_line}
 use Rattle.sl_report.specs.Schedules.{default_area, default_sector, header_line_refusal, is_begin, with_line}
 use Rattle.sl_run.specs.Worlds.{first_that, mebibyte}
@@ -444,20 +444,6 @@ given : {A : Type 0} (o : Option A) → nat_le 1 (length (option_to_list o)) ≡
 given None h = absurd cc
 given (Some a) h = refl
 
-holds_from_none : (t : Bool) (why : Refusal) → first_that ((not t, why) ∷ []) ≡ None → t ≡ true
-holds_from_none true why h = refl
-holds_from_none false why h = absurd cc
-
-place_of_begin : (r : HeaderSoFar) → refusal_now r BeginLine ≡ None → is_in_place r 11 ≡ true
-unfolding header_tests
-place_of_begin r none = holds_from_none (is_in_place r 11) Syntax none
-
-pub given_at_begin : (r : HeaderSoFar) (l : HeaderLine) → refusal_now r l ≡ None → is_begin l ≡ true → IsSome r.times × IsSome r.hosts
-given_at_begin r BeginLine none begin =
-    let place : is_in_place r 11 ≡ true = place_of_begin r none in
-    (given r.times (least_of r 11 place 1 (omega arith)), given r.hosts (least_of r 11 place 3 (omega arith)))
-given_at_begin r l none begin = absurd cc
-
 -- The answer to a line that was read is that of the definitions.
 answered : (r : HeaderSoFar) (ls : List HeaderLine) → Stands r ls → (read : Option HeaderLine)
     → answer_to r read ≡ elim (header_line_refusal whole_language ls read) [
@@ -547,9 +533,6 @@ told_by : (o : Option Sizes) (hosts : ℕ) (version : Option Bool) → IfSome o 
 told_by None hosts None same some = absurd cc
 told_by None hosts (Some paired) same some = refl
 told_by (Some z) hosts version same some = same
-
-pub pairs_told : (r : HeaderSoFar) → ArePossible r.version r.times r.hosts r.sizes → IsSome r.version → r.version ≡ Some (sizes_now r).paired
-pairs_told r p some = told_by r.sizes (unwrap_or r.hosts 0) r.version p.pairs some
 
 -- A line in its place, whose values a run may have.
 pub possible : (r : HeaderSoFar) (l : HeaderLine) → is_in_place r (rank l) ≡ true → IsWithin r l → IsPossible r l

@@ -1,6 +1,6 @@
 -- Reading a header, one line at a time.
 use Rattle.sl_report.specs.Languages.{is_skipped, whole_language}
-use Rattle.sl_report.specs.ReadingLines.{header_line_in}
+use Rattle.sl_report.specs.ReadLines.{header_line_in}
 use Rattle.sl_report.specs.ScheduleLines.{HeaderLine, header_of}
 use Rattle.sl_report.specs.Schedules.{HeaderReading, Header_read, Header_refused, NumberedLine, default_area, default_sector, header_line_refusal, is_begin, line_refusal, read_header, with_line}
 use Rattle.sl_run.specs.declared.event.Refusal.{Refusal}

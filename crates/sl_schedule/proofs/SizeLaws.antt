@@ -71,10 +71,6 @@ none_fits sector area hosts paired (x ∷ rows) h =
 abbrev sizes_with : ℕ → ℕ → ℕ → Bool → Sizes
 sizes_with sector area hosts paired = record { sector = sector; area = area; hosts = hosts; paired = paired }
 
-pub none_sized : (sector area hosts : ℕ) (paired : Bool) → None ≡ find (is_row sector area) geometries → None ≡ sizes_of sector area hosts paired
-none_sized sector area hosts paired none =
-    ap (λ t. choose t (sizes_with sector area hosts paired)) (sym (none_fits sector area hosts paired geometries (sym none)))
-
 chosen : (z : Sizes) (t : Bool) (r : Result Sizes BadGeometry) → (IsOk r ↔ (t ≡ true)) → IfOk r (λ g. g ≡ z) → result_ok r ≡ choose t z
 chosen z true (Ok g) ok is = ap (λ x. Some x) is
 chosen z true (Err e) ok is = let bad = ok.1 refl in absurd cc

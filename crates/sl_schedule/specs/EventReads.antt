@@ -1,5 +1,5 @@
 -- Events, read part by part: those whose line may have more words or fewer, and the two halves of the forms.
-use Rattle.sl_report.specs.ReadingLines.{given_text}
+use Rattle.sl_report.specs.ReadLines.{given_text}
 use Rattle.sl_report.specs.ScheduleLines.{event_forms}
 use Rattle.sl_run.specs.declared.event.Event.TheVariants.{GiveCommand, Pass, Tear}
 use Rattle.sl_run.specs.declared.event.Event.{Event}

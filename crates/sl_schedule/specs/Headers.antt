@@ -1,7 +1,7 @@
 -- A header, line by line: what is kept of the lines so far, which lists of lines that stands for, and what one more line does.
 use Rattle.sl_area.specs.Layouts.{Sizes, is_geometry}
 use Rattle.sl_report.specs.Languages.{is_skipped, least_lines, most_lines, whole_language}
-use Rattle.sl_report.specs.ReadingLines.{header_line_in}
+use Rattle.sl_report.specs.ReadLines.{header_line_in}
 use Rattle.sl_report.specs.ScheduleLines.{AreaLine, BeginLine, ClockLine, DiskLine, GeometryLine, HeaderLine, HostsLine, IdsLine, LeaseLine, LvmLine, MemberLine, TimeLine, VersionLine, area_line, clock_line, count_of_rank, disk_line, geometry_line, header_of, header_tests, hosts_line, ids_line, lease_line, member_line, no_timing, rank, retries_line, timing_line, version_line}
 use Rattle.sl_report.specs.Schedules.{default_area, default_sector, header_line_refusal, is_begin, with_line}
 use Rattle.sl_run.specs.Worlds.{first_that, mebibyte}

@@ -1,4 +1,4 @@
-pub mod Writing
+pub mod ReportCounts
 pub mod Lines
 pub mod Reads
 pub mod EventReads

@@ -5,7 +5,7 @@
 //! the daemon that answers a command which can't be read; where it begins with `lvm`, what stands behind that is a line for lvmlockd.
 
 ghost use Rattle.sl_report.specs.Languages.{whole_language};
-ghost use Rattle.sl_report.specs.ReadingLines.{command_event, event_in};
+ghost use Rattle.sl_report.specs.ReadLines.{command_event, event_in};
 ghost use Rattle.sl_report.specs.ScheduleLines as lines;
 ghost use Rattle.sl_schedule.specs.EventReads as forms;
 ghost use Rattle.sl_schedule.specs.Reads as reads;

@@ -1,41 +1,35 @@
 //! The header of a schedule, line by line.
 //!
 //! A header's lines stand in one order: the version, the times, the numbers of machines and of hosts, the sizes of areas, how often
-//! lvmlockd asks again, clocks, disks, lockspaces, resources, sessions, and `begin`. A reader keeps the kind of the last line and what the lines said, and stands for the list of lines so
-//! far (`Stands`): what it answers is what the definitions say of that list. Times and the number of hosts are kept only within their
-//! limits, so that at `begin`, and not before, they make the times and the sizes of a run; else a header could begin that no run has.
+//! lvmlockd asks again, clocks, disks, lockspaces, resources, sessions, and `begin`. A reader keeps the kind of the last line and what the
+//! lines said, and stands for the list of lines so far (`Stands`): what it answers is what the definitions say of that list. Times and the
+//! number of hosts are kept only within their limits, so that at `begin`, and not before, they make the times and the sizes of a run; else
+//! a header could begin that no run has.
 
 ghost use Rattle.sl_report.specs.Languages.{is_skipped, least_lines, most_lines};
 ghost use Rattle.sl_report.specs.ScheduleLines.{HeaderLine as Spelled, header_tests, is_taken_place, rank, ClockLine, DiskLine, AreaLine, GeometryLine, IdsLine, LeaseLine, MemberLine};
 ghost use Rattle.sl_report.specs.Schedules.{is_begin};
 ghost use Rattle.sl_run.specs.Worlds.{first_that};
-ghost use Rattle.sl_schedule.specs.HeaderReads.{header_seen, AreHosts, HasHosts};
+ghost use Rattle.sl_schedule.specs.HeaderReads.{header_seen, HasHosts};
 ghost use Rattle.sl_schedule.specs.Headers as headers;
-ghost use Rattle.sl_area.specs.Layouts.{roomy};
 ghost use Rattle.sl_time.specs.Times.{IsTiming};
 ghost use Rattle.std.specs.List.{list_all, list_any, range_with_len};
 ghost use Rattle.std.specs.Option.{option_to_list};
-ghost use Rattle.std.specs.Prelude.{bytes_eq, length, nat_le, not, unwrap_or, IfNone, IfOk, IfSome, IsSome, List, OnErr, OnOk, Some, [], ℕ, ◌*◌, ◌+◌, ◌<◌, ◌==◌, ◌&&◌, ◌||◌, ◌≡◌, ◌≤◌};
+ghost use Rattle.std.specs.Prelude.{bytes_eq, length, unwrap_or, IfNone, IfOk, IfSome, IsSome, List, OnErr, OnOk, Some, [], ◌<◌, ◌==◌, ◌&&◌, ◌||◌, ◌≡◌, ◌≤◌};
 
 use crate::header_line::{AreaSizes, HeaderLine, Times, header_line};
-use crate::header_tests::{
+use crate::header_refusals::{
     has_clock, has_disk, has_resource, is_excluded, is_known, is_name_taken, is_on_disk, is_taken,
     times_refusal,
 };
-use crate::sizes::{geometry_of, row_of, sizes_of};
+use crate::sizes::{AREA, area_of, roomy, row_of, sizes_of, sizes_or};
 use sl_area::Geometry;
 use sl_run::{Disk, FirstReading, Header, LockspaceLine, Refusal, ResourceLine, SessionLine};
-use sl_text::{FilePath, Name, Seq};
+use sl_text::{FilePath, Seq};
 use sl_time::Timing;
 use std::alloc::{AllocError, Global};
 use std::marker::Model;
 use std::mem;
-
-/// The bytes of a sector, where no line gives them.
-const SECTOR: u32 = 512;
-
-/// The bytes of an area, where no line gives them.
-const AREA: u64 = 1_048_576;
 
 /// The most hosts of a run.
 const MOST_HOSTS: u32 = 2000;
@@ -174,44 +168,6 @@ fn timing_of(times: &Times) -> Timing
         Ok(timing) => timing,
         Err(_) => unreachable!(),
     }
-}
-
-/// The sizes of a run with so many hosts, with pairs or without, where no line gives them.
-fn default_sizes(hosts: u32, paired: bool) -> Geometry
-    requires { AreHosts paired hosts }
-    ensures { result ≡ headers.default_sizes hosts paired }
-{
-    match geometry_of(SECTOR, AREA, hosts, paired) {
-        Ok(geometry) => geometry,
-        Err(_) => unreachable!(),
-    }
-}
-
-/// These sizes, or those of a run with so many hosts where no line gives them.
-fn sizes_or(sizes: Option<Geometry>, hosts: u32, paired: bool) -> Geometry
-    requires { AreHosts paired hosts }
-    ensures { result ≡ unwrap_or sizes (headers.default_sizes hosts paired) }
-{
-    match sizes {
-        Some(sizes) => sizes,
-        None => default_sizes(hosts, paired),
-    }
-}
-
-/// For how many hosts areas have room that have it for so many where a host's block has one sector.
-fn roomy(paired: bool, most: u32) -> u32
-    ensures exact { result ≡ roomy paired most }
-    ensures few { result ≤ most }
-{
-    if paired { most / 2 } else { most }
-}
-
-/// The bytes of an area.
-fn area_of(sizes: &Geometry) -> u64
-    ensures exact { result ≡ sizes.now.area }
-    ensures some { 0 < result }
-{
-    sizes.area()
 }
 
 impl HeaderReader {

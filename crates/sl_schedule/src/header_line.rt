@@ -1,7 +1,7 @@
 //! One line of a header, as it is spelled; whether it may stand where it does is not said here.
 
 ghost use Rattle.sl_report.specs.Languages.{whole_language};
-ghost use Rattle.sl_report.specs.ReadingLines.{header_line_in};
+ghost use Rattle.sl_report.specs.ReadLines.{header_line_in};
 ghost use Rattle.sl_report.specs.ScheduleLines as lines;
 ghost use Rattle.sl_schedule.specs.HeaderReads.{header_seen, result_seen, HasHosts};
 ghost use Rattle.sl_schedule.specs.Reads as reads;

@@ -13,16 +13,15 @@
 mod events;
 mod header;
 pub mod header_line;
-mod header_tests;
+mod header_refusals;
 mod lines;
 mod parts;
+mod report_lines;
 mod schedule;
 mod sizes;
-mod writing;
 
 pub use events::next_event;
 pub use header::{Added, HeaderReader, rank};
 pub use lines::{Line, Lines, line_refusal};
+pub use report_lines::{Counts, push_end_line, push_refusal_line, push_test_line};
 pub use schedule::{EventLine, event_line, next_event_line, read_header};
-pub use sizes::geometry_of;
-pub use writing::{Counts, push_end_line, push_refusal_line, push_test_line};

@@ -1,15 +1,22 @@
 //! The sizes of areas, as a header may give them.
 
-ghost use Rattle.sl_area.specs.Layouts.{IsGeometry, geometries};
+ghost use Rattle.sl_area.specs.Layouts.{geometries, roomy};
 ghost use Rattle.sl_run.specs.Worlds.{mebibyte};
+ghost use Rattle.sl_schedule.specs.HeaderReads.{AreHosts};
 ghost use Rattle.sl_schedule.specs.Headers as headers;
-ghost use Rattle.std.specs.Prelude.{IfOk, IsOk, find, ◌*◌, ◌==◌, ◌&&◌, ◌↔◌, ◌≡◌};
+ghost use Rattle.std.specs.Prelude.{find, unwrap_or, ◌*◌, ◌<◌, ◌==◌, ◌&&◌, ◌≡◌, ◌≤◌};
 
 use crate::header_line::AreaSizes;
-use sl_area::{BadGeometry, Geometry};
+use sl_area::Geometry;
 
 /// The bytes of a mebibyte.
 const MEBIBYTE: u64 = 1_048_576;
+
+/// The bytes of a sector, where no line gives them.
+const SECTOR: u32 = 512;
+
+/// The bytes of an area, where no line gives them.
+pub(crate) const AREA: u64 = MEBIBYTE;
 
 /// The row of a line's numbers.
 fn row_for(areas: &AreaSizes) -> Option<(u32, u64, u32)>
@@ -40,27 +47,48 @@ pub fn row_of(areas: &AreaSizes) -> Option<(u32, u64, u32)>
     row_for(areas)
 }
 
-/// Sizes of areas with pairs or without, if there are such.
-pub fn geometry_of(
-    sector: u32,
-    area: u64,
-    hosts: u32,
-    paired: bool,
-) -> Result<Geometry, BadGeometry>
-    ensures ok { IsOk result ↔ IsGeometry (record { sector = sector; area = area; hosts = hosts; paired = paired }) }
-    ensures value { IfOk result (λ g. g ≡ record { sector = sector; area = area; hosts = hosts; paired = paired }) }
-{
-    if paired {
-        Geometry::new2(sector, area, hosts)
-    } else {
-        Geometry::new(sector, area, hosts)
-    }
-}
-
 /// The sizes of a run with such areas and so many hosts, with pairs or without, if there are such.
 pub fn sizes_of(areas: &AreaSizes, hosts: u32, paired: bool) -> Option<Geometry>
     ensures { result ≡ headers.sizes_of areas.now.sector (areas.now.mebibytes * mebibyte) hosts paired }
 {
     let (sector, area, _) = row_of(areas)?;
-    geometry_of(sector, area, hosts, paired).ok()
+    Geometry::sized(sector, area, hosts, paired).ok()
+}
+
+/// The sizes of a run with so many hosts, with pairs or without, where no line gives them.
+fn default_sizes(hosts: u32, paired: bool) -> Geometry
+    requires { AreHosts paired hosts }
+    ensures { result ≡ headers.default_sizes hosts paired }
+{
+    match Geometry::sized(SECTOR, AREA, hosts, paired) {
+        Ok(geometry) => geometry,
+        Err(_) => unreachable!(),
+    }
+}
+
+/// These sizes, or those of a run with so many hosts where no line gives them.
+pub(crate) fn sizes_or(sizes: Option<Geometry>, hosts: u32, paired: bool) -> Geometry
+    requires { AreHosts paired hosts }
+    ensures { result ≡ unwrap_or sizes (headers.default_sizes hosts paired) }
+{
+    match sizes {
+        Some(sizes) => sizes,
+        None => default_sizes(hosts, paired),
+    }
+}
+
+/// For how many hosts areas have room that have it for so many where a host's block has one sector.
+pub(crate) fn roomy(paired: bool, most: u32) -> u32
+    ensures exact { result ≡ roomy paired most }
+    ensures few { result ≤ most }
+{
+    if paired { most / 2 } else { most }
+}
+
+/// The bytes of an area.
+pub(crate) fn area_of(sizes: &Geometry) -> u64
+    ensures exact { result ≡ sizes.now.area }
+    ensures some { 0 < result }
+{
+    sizes.area()
 }

@@ -1,2 +1,2 @@
-pub mod Numbered
-pub mod Following
+pub mod NumberedOn
+pub mod ScriptsFollow

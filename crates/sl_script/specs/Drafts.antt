@@ -1,5 +1,5 @@
 -- Effects that are being read.
-use Rattle.sl_script.specs.Made.{most_made}
+use Rattle.sl_script.specs.MadeSteps.{most_made}
 use Rattle.sl_script.specs.declared.draft.Draft.{Draft}
 use Rattle.std.specs.Prelude.{Bool, nat_le, ℕ, ◌&&◌}
 use Rattle.std.specs.Vec.{vec_len}

@@ -1,3 +1,3 @@
-pub mod Made
+pub mod MadeSteps
 pub mod Drafts
 pub mod ScriptStates

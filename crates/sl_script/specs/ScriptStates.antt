@@ -1,10 +1,10 @@
 -- What a scripted daemon keeps, and for which traces it stands. It keeps what a world asks: which calls and starts have no answer, and which
 -- numbers come next. What it does is told by its script, of which nothing is said.
-use Rattle.sl_daemon.specs.declared.daemon.Most.{Most}
-use Rattle.sl_script.specs.Made.{most_made}
-use Rattle.sl_script.specs.declared.heard.Heard.TheVariants.{Call as HeardCall, Other, Start as HeardStart}
-use Rattle.sl_script.specs.declared.heard.Heard.{Heard}
-use Rattle.sl_script.specs.declared.heard.SeenChild.{SeenChild}
+use Rattle.sl_world_state.specs.declared.daemon.Most.{Most}
+use Rattle.sl_script.specs.MadeSteps.{most_made}
+use Rattle.sl_script.specs.declared.answered_inputs.Heard.TheVariants.{Call as HeardCall, Other, Start as HeardStart}
+use Rattle.sl_script.specs.declared.answered_inputs.Heard.{Heard}
+use Rattle.sl_script.specs.declared.answered_inputs.SeenChild.{SeenChild}
 use Rattle.sl_trace.specs.Traces.{Child, Setting, Trace, children, first_child, next_call, outstanding}
 use Rattle.sl_trace.specs.declared.effects.Call.{Call}
 use Rattle.sl_trace.specs.declared.effects.Effects.{Effects}

@@ -1,8 +1,8 @@
 //! Calls that a step makes, numbered on as they come.
 
-ghost use Rattle.sl_daemon.specs.Daemons.{IsSoundCall, IsSoundOp};
+ghost use Rattle.sl_world_state.specs.Daemons.{IsSoundCall, IsSoundOp};
 ghost use Rattle.sl_run.specs.Events.{sectors_of};
-ghost use Rattle.sl_script.specs.Made.{AreCalls};
+ghost use Rattle.sl_script.specs.MadeSteps.{AreCalls};
 ghost use Rattle.std.specs.Prelude.{IfSome, [], ◌<◌, ◌^◌, ◌≡◌};
 
 use crate::draft::MOST;
@@ -21,7 +21,7 @@ pub struct NewCalls {
 }
 
 impl Model for NewCalls {
-    ghost use Rattle.sl_script.specs.Made.{AreCalls, CallsState};
+    ghost use Rattle.sl_script.specs.MadeSteps.{AreCalls, CallsState};
 
     ghost Value = { CallsState };
 
@@ -89,7 +89,7 @@ impl NewCalls {
     }
 
     /// One more, if it has sectors, whole ones, and there is place for it.
-    #[tactic(auto, using(crate::proofs::Numbered::calls_more))]
+    #[tactic(auto, using(crate::proofs::NumberedOn::calls_more))]
     pub fn put(&mut self, path: FilePath, offset: u64, op: Op) -> Result<(), AllocError>
         requires op { IsSoundOp op }
         requires numbers { self.old.next < 2 ^ 63 }

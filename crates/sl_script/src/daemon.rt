@@ -1,20 +1,20 @@
 //! The script as a daemon of a world.
 
-ghost use Rattle.sl_daemon.specs.Daemons.{IsNumbered, IsStep, MayCome, begun_with, entry_of, read_of, text_for_locks};
-ghost use Rattle.sl_header_law.specs.HeaderLaw.{whole_commands};
+ghost use Rattle.sl_world_state.specs.Daemons.{IsNumbered, IsStep, MayCome, begun_with, entry_of, read_of, text_for_locks};
+ghost use Rattle.sl_play.specs.Headers.HeaderLaw.{whole_commands};
 ghost use Rattle.sl_run.specs.Events.{is_for_locks};
 ghost use Rattle.sl_script.specs.ScriptStates.{Follows, are_open, is_due, most_of, starts_wait};
 ghost use Rattle.sl_trace.specs.Traces.{Setting, Trace, is_expected};
 ghost use Rattle.std.specs.Prelude.{IfOk, Ok, OnErr, [], find, option_copied, ◌<◌, ◌==◌, ◌^◌, ◌∷◌, ◌≡◌};
 
+use crate::answered_inputs::{Heard, SeenChild};
 use crate::draft::MOST;
-use crate::heard::{Heard, SeenChild};
 use crate::script::Script;
 use sl_command::parse_command;
-use sl_daemon::{Daemon, Most, Site};
 use sl_run::Header;
-use sl_sectors::Images;
+use sl_sector::Images;
 use sl_trace::{Answer, Call, Command, Effects, Input, Op};
+use sl_world_state::{Daemon, Most, Site};
 use std::alloc::{AllocError, Global};
 
 /// The process by which lvmlockd holds.
@@ -94,12 +94,12 @@ impl Daemon for Script {
         }
     }
 
-    #[tactic(auto, using(crate::proofs::Following::follows_first))]
+    #[tactic(auto, using(crate::proofs::ScriptsFollow::follows_first))]
     fn begin(alloc: Global, header: &Header, site: Site) -> Result<Script, AllocError> {
         Ok(Script::new(alloc, header.geometry.sector(), site.first.call))
     }
 
-    #[tactic(auto, using(crate::proofs::Following::expects_answer, crate::proofs::Following::expects_start))]
+    #[tactic(auto, using(crate::proofs::ScriptsFollow::expects_answer, crate::proofs::ScriptsFollow::expects_start))]
     fn expects(&self, input: &Input) -> bool {
         match input {
             Input::Answer { call, answer } => {
@@ -122,13 +122,13 @@ impl Daemon for Script {
         }
     }
 
-    #[tactic(auto, using(crate::proofs::Following::step_stays, crate::proofs::Following::step_is_sound))]
+    #[tactic(auto, using(crate::proofs::ScriptsFollow::step_stays, crate::proofs::ScriptsFollow::step_is_sound))]
     fn step(&mut self, now: u64, input: Input) -> Result<Effects, AllocError> {
         self.follow(&input)?;
         self.go_on(Heard::of(&input))
     }
 
-    #[tactic(auto, using(crate::proofs::Following::step_stays, crate::proofs::Following::step_is_sound))]
+    #[tactic(auto, using(crate::proofs::ScriptsFollow::step_stays, crate::proofs::ScriptsFollow::step_is_sound))]
     fn read(&mut self, now: u64, call: u64, sectors: &Images) -> Result<Effects, AllocError> {
         self.go_on(Heard::Call { number: call })
     }

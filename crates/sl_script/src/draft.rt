@@ -1,8 +1,8 @@
 //! The effects of a step, as they are read.
 
-ghost use Rattle.sl_daemon.specs.Daemons.{IsSoundOp};
+ghost use Rattle.sl_world_state.specs.Daemons.{IsSoundOp};
 ghost use Rattle.sl_script.specs.Drafts.{draft_of, is_few};
-ghost use Rattle.sl_script.specs.Made.{AreMade};
+ghost use Rattle.sl_script.specs.MadeSteps.{AreMade};
 ghost use Rattle.std.specs.Prelude.{IfOk, true, ◌<◌, ◌^◌, ◌≡◌};
 
 use crate::calls::NewCalls;

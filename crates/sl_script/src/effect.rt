@@ -1,6 +1,6 @@
 //! An effect of a step, word by word.
 
-ghost use Rattle.sl_daemon.specs.Daemons.{IsSoundOp};
+ghost use Rattle.sl_world_state.specs.Daemons.{IsSoundOp};
 ghost use Rattle.std.specs.Prelude.{IfOk};
 
 use crate::records::record;

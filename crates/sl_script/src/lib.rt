@@ -9,11 +9,11 @@
 //! is left out.
 #![tactic(auto)]
 
+mod answered_inputs;
 mod calls;
 mod daemon;
 mod draft;
 mod effect;
-mod heard;
 mod records;
 mod replies;
 mod script;

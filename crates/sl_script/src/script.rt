@@ -1,12 +1,12 @@
 //! A daemon and its script.
 
-ghost use Rattle.sl_script.specs.Made.{AreMade, most_made};
+ghost use Rattle.sl_script.specs.MadeSteps.{AreMade, most_made};
 ghost use Rattle.sl_script.specs.ScriptStates.{after_step, child_next, is_heard, new_seen, seen_after};
 ghost use Rattle.sl_trace.specs.declared.effects.Effects.{Effects as Made};
 ghost use Rattle.std.specs.Prelude.{IfOk, OnErr, filter, length, map, not, [], ◌++◌, ◌+◌, ◌<◌, ◌^◌, ◌≡◌, ◌≤◌};
 
+use crate::answered_inputs::{Heard, SeenChild};
 use crate::draft::effects_of;
-use crate::heard::{Heard, SeenChild};
 use sl_text::words::split_piece;
 use sl_trace::{Call, Effects, Input, Start};
 use std::alloc::{AllocError, Global};

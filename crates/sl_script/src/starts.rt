@@ -1,6 +1,6 @@
 //! Children that a step starts, numbered on as they come.
 
-ghost use Rattle.sl_script.specs.Made.{AreStarts};
+ghost use Rattle.sl_script.specs.MadeSteps.{AreStarts};
 ghost use Rattle.std.specs.Prelude.{[], ◌≡◌};
 
 use crate::draft::MOST;
@@ -20,7 +20,7 @@ pub struct NewStarts {
 }
 
 impl Model for NewStarts {
-    ghost use Rattle.sl_script.specs.Made.{AreStarts, StartsState};
+    ghost use Rattle.sl_script.specs.MadeSteps.{AreStarts, StartsState};
 
     ghost Value = { StartsState };
 
@@ -41,7 +41,7 @@ impl NewStarts {
     }
 
     /// One more, if there is a number and place for it.
-    #[tactic(auto, using(crate::proofs::Numbered::starts_more))]
+    #[tactic(auto, using(crate::proofs::NumberedOn::starts_more))]
     pub fn put(&mut self, program: FilePath) -> Result<(), AllocError>
         ensures { self.new.next ≡ self.old.next }
     {

@@ -1,4 +1,4 @@
-pub mod Comparing
+pub mod DerivedComparisons
 pub mod ByteLaws
 pub mod FieldLaws
 pub mod RuleLaws
@@ -13,3 +13,5 @@ pub mod WrittenBytes
 pub mod PublicLaws
 pub mod BitLaws
 pub mod TextLaws
+pub mod ImageLaws
+pub mod SectorRuns

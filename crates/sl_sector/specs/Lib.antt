@@ -4,3 +4,4 @@ pub mod Records
 pub mod Spelling
 pub mod Laws
 pub mod RecordTexts
+pub mod Images

@@ -1,4 +1,5 @@
-pub mod Holding
-pub mod Counting
+pub mod HeldAfterEvent
+pub mod GrantsUncounted
 pub mod Soundness
-pub mod Owing
+pub mod OwedGrows
+pub mod Reports

@@ -1,12 +1,12 @@
 -- A made run of daemons that do what is due is sound, field by field; and what is shown of lawful runs is true of it.
-use Rattle.sl_daemon.specs.Daemons.{Stood}
+use Rattle.sl_world_state.specs.Daemons.{Stood}
 use Rattle.sl_due.specs.Due.{IsHostTrace}
 use Rattle.sl_run.specs.Runs.{EachDaemon}
 use Rattle.sl_run.specs.Safety.{LawfulRun, SafeRun, world_at}
-use Rattle.sl_safety.proofs.Value.Proven.{values_are_last}
-use Rattle.sl_safety.proofs.Whole.{invariants_hold, lawful_runs_are_safe, volumes_exclude}
-use Rattle.sl_sound.proofs.Counting.{safe_runs_count_none}
-use Rattle.sl_sound.specs.Promises.{MadeRunsAreSound, SoundRunsAreServed}
+use Rattle.sl_safety.proofs.Value.ValueLaws.{values_are_last}
+use Rattle.sl_safety.proofs.RunsAreSafe.{invariants_hold, lawful_runs_are_safe, volumes_exclude}
+use Rattle.sl_sound.proofs.GrantsUncounted.{safe_runs_count_none}
+use Rattle.sl_sound.specs.SoundLaws.{MadeRunsAreSound, SoundRunsAreServed}
 use Rattle.sl_trace.specs.Traces.{Setting, Trace}
 use Rattle.std.proofs.Common.{sym}
 use Rattle.std.proofs.lemmas.List.{append-nil}

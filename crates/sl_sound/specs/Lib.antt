@@ -1,2 +1,3 @@
-pub mod Made
-pub mod Promises
+pub mod MadeRuns
+pub mod SoundLaws
+pub mod Reports

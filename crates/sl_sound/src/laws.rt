@@ -1,8 +1,10 @@
 //! What is promised of made runs.
 
-ghost use Rattle.sl_sound.specs.Promises.{MadeReplaysAreSound, MadeRunsAreSound, SafeRunsCountNone, SoundRunsAreServed};
+pub mod reports;
 
-use sl_daemon::Daemon;
+ghost use Rattle.sl_sound.specs.SoundLaws.{MadeReplaysAreSound, MadeRunsAreSound, SafeRunsCountNone, SoundRunsAreServed};
+
+use sl_world_state::Daemon;
 
 /// No conflict is counted in a run in which none stands after an event.
 pub fn safe_runs_count_none()

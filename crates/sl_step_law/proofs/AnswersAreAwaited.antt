@@ -2,28 +2,28 @@
 use Rattle.sl_due.specs.Steps.{Step, seen}
 use Rattle.sl_due_leases.proofs.Holdings.LeasePlaces.{area_is}
 use Rattle.sl_host_law.proofs.Answers.AnswersSetFree.{answers_set_free, of_trace}
-use Rattle.sl_host_law.proofs.Calls.Calls.SpotsMore.{AreOnce, found_once, on_its_area, on_own, one_spot, spot_itself, spot_there, spots_once}
-use Rattle.sl_host_law.proofs.Plain.PlainLists.{all_from, any_mapped, at_some, each_of}
+use Rattle.sl_host_law.proofs.Calls.MemberCalls.SpotsMore.{AreOnce, found_once, on_its_area, on_own, one_spot, spot_itself, spot_there, spots_once}
+use Rattle.sl_host_law.proofs.SharedFacts.PlainLists.{all_from, any_mapped, at_some, each_of}
 use Rattle.sl_host_law.proofs.Replies.OpenCallsAreKept.{open_delta_is}
 use Rattle.sl_host_law.proofs.Replies.PlainNumbers.{same_number}
 use Rattle.sl_host_law.specs.Replies.Answers.{IsOpen}
-use Rattle.sl_host_state.specs.Hears.{still_busy}
-use Rattle.sl_host_state.specs.Kept.{Config, HostState, LeaseState, MemberState}
-use Rattle.sl_host_state.specs.Makes.{is_lease_on}
+use Rattle.sl_host_state.specs.HeardInputs.{still_busy}
+use Rattle.sl_host_state.specs.KeptState.{Config, HostState, LeaseState, MemberState}
+use Rattle.sl_host_state.specs.MadeEffects.{is_lease_on}
 use Rattle.sl_host_state.proofs.Pairs.{again_is}
-use Rattle.sl_host_state.specs.Stands.{IsWaiting, LeaseStands, free_written, is_again_newest, kept_call, sectors_of}
+use Rattle.sl_host_state.specs.HostStands.{IsWaiting, LeaseStands, free_written, is_again_newest, kept_call, sectors_of}
 use Rattle.sl_lease.specs.Laws.{IsReadCall}
-use Rattle.sl_host_state.specs.declared.kept.LeaseCall.{LeaseCall}
-use Rattle.sl_host_state.specs.declared.kept.OpenCall.{OpenCall}
+use Rattle.sl_host_state.specs.declared.kept_parts.LeaseCall.{LeaseCall}
+use Rattle.sl_host_state.specs.declared.kept_parts.OpenCall.{OpenCall}
 use Rattle.sl_trace.specs.Leases.{block_written, is_lease_call, is_on, is_second, lease_calls, lease_step, spot_of_call, turn_written}
 use Rattle.sl_member.specs.Laws.{IsAwaited, area_of_call, waits_for}
-use Rattle.sl_plain.proofs.Lists.{any_found, contains_cases, contains_first, contains_map, contains_more, find_inside, kept as kept_in, kept_inside}
+use Rattle.sl_words.proofs.Lists.{any_found, contains_cases, contains_first, contains_map, contains_more, find_inside, kept as kept_in, kept_inside}
 use Rattle.sl_sector.specs.declared.sector.Block.{Block}
 use Rattle.sl_trace.specs.Sessions.{calls_of, is_call_of, is_delta_purpose, me}
 use Rattle.sl_trace.specs.declared.delta.DeltaKnown.{DeltaKnown}
 use Rattle.sl_step_law.proofs.CallsOfMembers.{IsMembers, members_call}
-use Rattle.sl_step_law.specs.Awaiting.{AnswersAreAwaited, IsLeasesCall, IsMembersCall}
-use Rattle.sl_step_law.specs.Ready.{IsReady}
+use Rattle.sl_step_law.specs.AnswersAwaited.{AnswersAreAwaited, IsLeasesCall, IsMembersCall}
+use Rattle.sl_step_law.specs.ReadyHosts.{IsReady}
 use Rattle.sl_trace.specs.Traces.{Submitted, call_numbered, same_spot, submitted}
 use Rattle.sl_trace.specs.declared.effects.Call.{Call}
 use Rattle.sl_trace.specs.declared.effects.LeaseStep.{LeaseStep}

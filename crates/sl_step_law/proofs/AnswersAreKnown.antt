@@ -4,17 +4,17 @@ use Rattle.sl_area.specs.Places.{read_at}
 use Rattle.sl_delta.proofs.StepLaws.{survey_is}
 use Rattle.sl_due.specs.Steps.{Step, seen}
 use Rattle.sl_host_law.proofs.Answers.AnswersSetFree.{of_trace}
-use Rattle.sl_host_law.proofs.Parts.ExpectedIsOpen.{expected_is_open}
-use Rattle.sl_host_law.proofs.Plain.SessionNumbers.{placed_by_number}
-use Rattle.sl_host_law.specs.Parts.Expected.{AreLooks, IsAnswerOf}
+use Rattle.sl_host_law.proofs.StepParts.ExpectedIsOpen.{expected_is_open}
+use Rattle.sl_host_law.proofs.SharedFacts.SessionNumbers.{placed_by_number}
+use Rattle.sl_host_law.specs.StepParts.ExpectedIsOpen.{AreLooks, IsAnswerOf}
 use Rattle.sl_host_law.specs.Replies.Answers.{AreIdSectors, FitsCall}
-use Rattle.sl_host_state.specs.Kept.{Config, HostState}
-use Rattle.sl_host_state.specs.New.{sizes_in}
-use Rattle.sl_host_state.specs.Stands.{sectors_of}
-use Rattle.sl_host_state.specs.declared.kept.OpenCall.{OpenCall}
+use Rattle.sl_host_state.specs.KeptState.{Config, HostState}
+use Rattle.sl_host_state.specs.NewHost.{sizes_in}
+use Rattle.sl_host_state.specs.HostStands.{sectors_of}
+use Rattle.sl_host_state.specs.declared.kept_parts.OpenCall.{OpenCall}
 use Rattle.sl_run.specs.LawfulDelta.{LawfulDeltaCall}
-use Rattle.sl_plain.proofs.Lists.{kept_inside}
-use Rattle.sl_plain.proofs.Options.{some_of}
+use Rattle.sl_words.proofs.Lists.{kept_inside}
+use Rattle.sl_words.proofs.Options.{some_of}
 use Rattle.sl_sector.proofs.ByteLaws.{bytes_from_test}
 use Rattle.sl_sector.proofs.SpellingLaws.{spelled}
 use Rattle.sl_sector.specs.Spelling.{IsSectorSize, decoded, magic}
@@ -26,15 +26,15 @@ use Rattle.sl_sector.specs.declared.sector.Rec.{Rec}
 use Rattle.sl_trace.specs.Sessions.{is_survey_purpose, session_numbered}
 use Rattle.sl_step_law.proofs.CallsOfMembers.{calls_are_theirs}
 use Rattle.sl_step_law.specs.Answers.{AnswersAreKnown, IsOfBytes}
-use Rattle.sl_step_law.specs.Ready.{IsReady}
+use Rattle.sl_step_law.specs.ReadyHosts.{IsReady}
 use Rattle.sl_trace.specs.Traces.{Submitted, submitted}
 use Rattle.sl_trace.specs.declared.effects.Purpose.TheVariants.{Survey}
 use Rattle.sl_trace.specs.declared.input.Answer.TheVariants.{Failed, Read, Written}
 use Rattle.sl_trace.specs.declared.input.Answer.{Answer}
-use Rattle.sl_trace_law.proofs.Sessions.Owning.{calls_were_lawful}
-use Rattle.sl_trace_law.specs.Sessions.Promises.{front_of, made_as}
+use Rattle.sl_run_law.proofs.Sessions.CallOwners.{calls_were_lawful}
+use Rattle.sl_run_law.specs.Sessions.SessionLaws.{front_of, made_as}
 use Rattle.sl_watch.proofs.SightingLaws.{bytes_are_read_true}
-use Rattle.sl_watch.specs.Telling.{AreTrue, delta_found}
+use Rattle.sl_watch.specs.ToldLooks.{AreTrue, delta_found}
 use Rattle.sl_words.proofs.CaseLaws.{some_value, true_is_false}
 use Rattle.sl_words.proofs.ListLaws.{list_all-drop, list_all-take}
 use Rattle.sl_words.specs.Words.{choose}

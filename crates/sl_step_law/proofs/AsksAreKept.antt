@@ -1,7 +1,7 @@
 -- What a call asks for which no law says it: each act keeps that it does what its purpose says.
-use Rattle.sl_acts.proofs.Additions.{contains_last}
-use Rattle.sl_acts.proofs.LoopsKeep.{for_each_keeps, when_keeps}
-use Rattle.sl_acts.specs.Acts.{Acts, next_of_conversion, next_of_release, next_of_settling}
+use Rattle.sl_due_facts.proofs.Acts.AddedAtEnd.{contains_last}
+use Rattle.sl_due_facts.proofs.Acts.LoopsKeep.{for_each_keeps, when_keeps}
+use Rattle.sl_due_facts.specs.Acts.Acts.{Acts, next_of_conversion, next_of_release, next_of_settling}
 use Rattle.sl_area.specs.Places.{delta_offset, request_offset}
 use Rattle.sl_due.specs.DueAnswers.{set_reply}
 use Rattle.sl_due.specs.DueCommands.{answer_line, carry_decision}
@@ -19,7 +19,7 @@ use Rattle.sl_trace.specs.Jobs.{job_of_start}
 use Rattle.sl_trace.specs.Leases.{spot_of, spot_of_call}
 use Rattle.sl_trace.specs.declared.lease.LeaseNext.{LeaseNext}
 use Rattle.sl_trace.specs.declared.lease.LeaseNext.TheVariants.{AnswerJob, BecomeExclusive, BecomeShared, GrantJob, Nothing as No_lease, ReadFor, WriteBlock, WriteLeader}
-use Rattle.sl_plain.proofs.Lists.{contains_none}
+use Rattle.sl_words.proofs.Lists.{contains_none}
 use Rattle.sl_sector.specs.Bitmaps.{no_bits}
 use Rattle.sl_sector.specs.declared.sector.DeltaState.TheVariants.{Free, Live}
 use Rattle.sl_trace.specs.Deltas.{DeltaLease, delta_known, delta_of_session, delta_record, is_renewal_due, next_after_free, next_after_renewal, next_free, next_in_joining, next_on_wake, next_renewal}
@@ -53,7 +53,7 @@ use Rattle.sl_trace.specs.declared.input.Input.TheVariants.{Answer as Told, Exit
 use Rattle.sl_trace.specs.declared.reply.Reply.TheVariants.{BadCommand as Misread, Done, IoFault, IoTimeout, SpawnFault}
 use Rattle.std.proofs.Common.{inl, inr, refl, subst}
 use Rattle.std.specs.Prelude.{Bool, Contains, List, None, [], false, is_some, true, ℕ, ◌+◌, ◌≡◌, ◌⊎◌}
-use Rattle.sl_step_law.specs.Asking.{AsksLone}
+use Rattle.sl_step_law.specs.SectorsAsked.{AsksLone}
 
 -- ---- calls
 

@@ -1,15 +1,15 @@
 -- What a lease writes is in an instance above 0, and who has written a block has verified the resource's name.
 use Rattle.sl_due_leases.proofs.Leases.NamesVerified.{has_verified}
 use Rattle.sl_due_facts.proofs.Sessions.JoinedNumbers.{spelled_of}
-use Rattle.sl_due_law.proofs.Whole.LeaderWrites.{named_well}
+use Rattle.sl_due_law.proofs.LawfulTraces.LeaderWrites.{named_well}
 use Rattle.sl_due_leases.proofs.Ways.NewestCall.{block_is, leader_is_no_block, read_writes_no_block, submitted_here, submitted_passed}
 use Rattle.sl_due_leases.proofs.Ways.WayNumbers.{Doing, Frees, Reads, Takes, Writes_ballot, Writes_mode, doing, is_verified}
 use Rattle.sl_due_facts.specs.Facts.WayFacts.{WayContext, Ways, way_context}
 use Rattle.sl_run.specs.Lawful.{IsSetting, Orderly}
 use Rattle.sl_lease.specs.Bounds.{IsInstance}
 use Rattle.sl_trace.specs.Leases.{block_of_record, block_submitted, block_written, is_lease_call, is_on, lease_calls, verified_name}
-use Rattle.sl_plain.proofs.Lists.{contains_cases, contains_none, kept_inside}
-use Rattle.sl_plain.proofs.Options.{some_of, then_value}
+use Rattle.sl_words.proofs.Lists.{contains_cases, contains_none, kept_inside}
+use Rattle.sl_words.proofs.Options.{some_of, then_value}
 use Rattle.sl_sector.specs.Records.{IsBlock, IsRecord}
 use Rattle.sl_sector.specs.declared.sector.Block.{Block}
 use Rattle.sl_sector.specs.declared.sector.Rec.{Rec}

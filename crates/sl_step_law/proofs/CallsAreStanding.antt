@@ -1,21 +1,21 @@
 -- Calls stand at their places, in each trace of steps that did what was due, and at an input.
-use Rattle.sl_acts.proofs.ActsTogether.{both, from_more}
-use Rattle.sl_acts.proofs.StepsKeep.{Fixed, begun_bare, due_is_of, fixed_first, step_keeps}
-use Rattle.sl_acts.proofs.TracesKeep.{due_is_seen}
-use Rattle.sl_acts.specs.Acts.{Acts}
+use Rattle.sl_due_facts.proofs.Acts.ActsTogether.{both, from_more}
+use Rattle.sl_due_facts.proofs.Acts.StepsKeep.{Fixed, begun_bare, due_is_of, fixed_first, step_keeps}
+use Rattle.sl_due_facts.proofs.Acts.TracesKeep.{due_is_seen}
+use Rattle.sl_due_facts.specs.Acts.Acts.{Acts}
 use Rattle.sl_due.specs.Due.{IsHostTrace, due_step}
 use Rattle.sl_due.specs.DueFirst.{begin_recoveries}
 use Rattle.sl_due.specs.Steps.{Step, begin_step, seen}
-use Rattle.sl_due_law.proofs.Whole.AllIsKept.{all_begins, all_is_kept}
-use Rattle.sl_due_law.proofs.Whole.TracesHold.{traces_hold}
-use Rattle.sl_due_law.specs.Whole.Kept.{Kept}
-use Rattle.sl_host_state.specs.Kept.{HostState}
+use Rattle.sl_due_law.proofs.LawfulTraces.AllIsKept.{all_begins, all_is_kept}
+use Rattle.sl_due_law.proofs.LawfulTraces.TracesHold.{traces_hold}
+use Rattle.sl_due_law.specs.LawfulTraces.CarriedFacts.{Kept}
+use Rattle.sl_host_state.specs.KeptState.{HostState}
 use Rattle.sl_run.specs.Lawful.{IsSetting}
-use Rattle.sl_plain.proofs.Lists.{contains_none}
+use Rattle.sl_words.proofs.Lists.{contains_none}
 use Rattle.sl_step_law.proofs.LeasesStandOn.{Known}
 use Rattle.sl_step_law.proofs.StandingIsKept.{standing_is_kept}
-use Rattle.sl_step_law.specs.Ready.{IsReady}
-use Rattle.sl_step_law.specs.Standing.{CallsAreStanding, CallsStand, EntryStands}
+use Rattle.sl_step_law.specs.ReadyHosts.{IsReady}
+use Rattle.sl_step_law.specs.CallsStand.{CallsAreStanding, CallsStand, EntryStands}
 use Rattle.sl_trace.specs.Traces.{EachEntry, FollowsTrace, Setting, Trace}
 use Rattle.sl_trace.specs.declared.effects.Effects.{Effects}
 use Rattle.sl_trace.specs.declared.effects.Entry.{Entry}

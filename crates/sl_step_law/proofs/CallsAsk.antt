@@ -1,25 +1,25 @@
 -- Each open call asks as many sectors as its purpose says: by the laws, and of those that no law speaks of by what each act keeps.
-use Rattle.sl_acts.proofs.StepsKeep.{begun_bare, step_keeps}
+use Rattle.sl_due_facts.proofs.Acts.StepsKeep.{begun_bare, step_keeps}
 use Rattle.sl_due.specs.Due.{IsHostTrace, due}
 use Rattle.sl_due.specs.DueFirst.{begin_recoveries}
 use Rattle.sl_due.specs.Steps.{begin_step, seen}
 use Rattle.sl_host_law.proofs.Answers.AnswersSetFree.{of_trace}
-use Rattle.sl_host_law.proofs.Plain.SessionNumbers.{placed_by_number}
-use Rattle.sl_host_state.specs.Kept.{Config}
-use Rattle.sl_host_state.specs.Stands.{sectors_of}
-use Rattle.sl_host_state.specs.declared.kept.OpenCall.{OpenCall}
+use Rattle.sl_host_law.proofs.SharedFacts.SessionNumbers.{placed_by_number}
+use Rattle.sl_host_state.specs.KeptState.{Config}
+use Rattle.sl_host_state.specs.HostStands.{sectors_of}
+use Rattle.sl_host_state.specs.declared.kept_parts.OpenCall.{OpenCall}
 use Rattle.sl_run.specs.LawfulArea.{IsRightRead, LawfulArea}
 use Rattle.sl_run.specs.LawfulCalls.{LawfulCalls}
 use Rattle.sl_run.specs.LawfulDelta.{LawfulDeltaCall}
 use Rattle.sl_run.specs.Lawful.{Orderly}
 use Rattle.sl_trace.specs.Leases.{spot_of_call}
-use Rattle.sl_plain.proofs.Lists.{got_inside, kept_inside}
-use Rattle.sl_plain.proofs.Options.{some_of}
+use Rattle.sl_words.proofs.Lists.{got_inside, kept_inside}
+use Rattle.sl_words.proofs.Options.{some_of}
 use Rattle.sl_sector.specs.declared.sector.DeltaRec.{DeltaRec}
 use Rattle.sl_trace.specs.Sessions.{delta_written, session_numbered}
 use Rattle.sl_trace.specs.declared.session.Session.{Session}
 use Rattle.sl_step_law.proofs.AsksAreKept.{AllAsk, asks_are_kept, bare_ask}
-use Rattle.sl_step_law.specs.Asking.{AsksLone, CallsAsk, sectors_asked}
+use Rattle.sl_step_law.specs.SectorsAsked.{AsksLone, CallsAsk, sectors_asked}
 use Rattle.sl_trace.specs.Traces.{EachEntry, Setting, Submitted, Trace, is_write, new_call, submitted}
 use Rattle.sl_trace.specs.declared.effects.Call.{Call}
 use Rattle.sl_trace.specs.declared.effects.Effects.{Effects}
@@ -31,9 +31,9 @@ use Rattle.sl_trace.specs.declared.effects.Op.TheVariants.{ReadSectors, WriteRec
 use Rattle.sl_trace.specs.declared.effects.Op.{Op}
 use Rattle.sl_trace.specs.declared.effects.Purpose.TheVariants.{Joining, Lease, Leaving, Renewal, RequestRead, RequestWrite, SeeRequest, Survey, ValueRead, ValueWrite}
 use Rattle.sl_trace.specs.declared.effects.Purpose.{Purpose}
-use Rattle.sl_trace_law.proofs.Sessions.Making.{calls_are_made}
-use Rattle.sl_trace_law.proofs.Sessions.Owning.{calls_were_lawful}
-use Rattle.sl_trace_law.specs.Sessions.Promises.{IsMade, front_of, made_as}
+use Rattle.sl_run_law.proofs.Sessions.CallsAreMade.{calls_are_made}
+use Rattle.sl_run_law.proofs.Sessions.CallOwners.{calls_were_lawful}
+use Rattle.sl_run_law.specs.Sessions.SessionLaws.{IsMade, front_of, made_as}
 use Rattle.sl_words.proofs.CaseLaws.{false_is_true, none_some}
 use Rattle.std.proofs.Common.{ap, refl, subst, sym, ◌∙◌}
 use Rattle.std.specs.Prelude.{Contains, IsSome, IsTrue, None, Some, is_none, length, [], ◌++◌, ◌∷◌, ◌≡◌}

@@ -3,30 +3,30 @@ use Rattle.sl_due.specs.Steps.{Step, seen}
 use Rattle.sl_due_facts.specs.Facts.JobFacts.{FitsCommand}
 use Rattle.sl_due_leases.proofs.Holdings.LeaseCallers.{in_turn_fits}
 use Rattle.sl_host_law.proofs.Answers.AnswersSetFree.{of_trace}
-use Rattle.sl_host_law.proofs.Plain.MembersAreSessions.{member_inside, members_are_sessions}
-use Rattle.sl_host_law.proofs.Plain.PlainLists.{at_some, found_some}
+use Rattle.sl_host_law.proofs.SharedFacts.MembersAreSessions.{member_inside, members_are_sessions}
+use Rattle.sl_host_law.proofs.SharedFacts.PlainLists.{at_some, found_some}
 use Rattle.sl_host_law.proofs.Replies.PlainNumbers.{same_number}
-use Rattle.sl_host_law.specs.Steps.Taking.{CallsAreTheirs, IsCallOf}
-use Rattle.sl_host_state.specs.Kept.{HostState, LeaseState, MemberState}
-use Rattle.sl_host_state.specs.Stands.{MemberStands, kept_call}
-use Rattle.sl_host_state.specs.declared.kept.OpenCall.{OpenCall}
+use Rattle.sl_host_law.specs.Steps.InputsFollow.{CallsAreTheirs, IsCallOf}
+use Rattle.sl_host_state.specs.KeptState.{HostState, LeaseState, MemberState}
+use Rattle.sl_host_state.specs.HostStands.{MemberStands, kept_call}
+use Rattle.sl_host_state.specs.declared.kept_parts.OpenCall.{OpenCall}
 use Rattle.sl_run.specs.Lawful.{Orderly}
 use Rattle.sl_trace.specs.Jobs.{command_numbered}
 use Rattle.sl_trace.specs.Leases.{is_lease_call, lease_step, spot_of_call, spots_in, with_spot}
-use Rattle.sl_plain.proofs.Lists.{contains_first, contains_more, kept as kept_in, kept_inside}
-use Rattle.sl_plain.proofs.Options.{some_of}
+use Rattle.sl_words.proofs.Lists.{contains_first, contains_more, kept as kept_in, kept_inside}
+use Rattle.sl_words.proofs.Options.{some_of}
 use Rattle.sl_area.specs.Layouts.{Layout}
 use Rattle.sl_trace.specs.Sessions.{calls_of, free_write, is_call_of, is_free_purpose, is_joined, is_present, joined_after, leaving_job, refused_after, removed_after, sessions}
 use Rattle.sl_trace.specs.declared.session.Begun.{Begun}
 use Rattle.sl_trace.specs.declared.session.Session.{Session}
-use Rattle.sl_step_law.specs.Ready.{IsReady}
+use Rattle.sl_step_law.specs.ReadyHosts.{IsReady}
 use Rattle.sl_trace.specs.Traces.{Job, Submitted, Trace, job_of, submitted}
 use Rattle.sl_trace.specs.declared.effects.JoinStep.{JoinStep}
 use Rattle.sl_trace.specs.declared.effects.Purpose.TheVariants.{Joining, Lease, Leaving, Renewal, RequestRead, RequestWrite, SeeRequest, Survey, ValueRead, ValueWrite}
 use Rattle.sl_trace.specs.declared.effects.Purpose.{Purpose}
 use Rattle.sl_trace.specs.declared.effects.Spot.{Spot}
-use Rattle.sl_trace_law.proofs.Sessions.Covering.{joinings_are_in_turn}
-use Rattle.sl_trace_law.specs.Sessions.Promises.{fits, fits_as}
+use Rattle.sl_run_law.proofs.Sessions.WritesAreCovered.{joinings_are_in_turn}
+use Rattle.sl_run_law.specs.Sessions.SessionLaws.{fits, fits_as}
 use Rattle.sl_words.proofs.CaseLaws.{none_some, not_both, true_is_false}
 use Rattle.sl_words.specs.Words.{is_empty}
 use Rattle.std.proofs.Common.{ap, refl, subst, sym, ◌∙◌}

@@ -1,13 +1,13 @@
 -- A step so far, with its calls where they stand: what each single effect keeps, and what a session does on its own sectors.
-use Rattle.sl_acts.proofs.Additions.{contains_last}
-use Rattle.sl_acts.specs.SoFar.{entry_of}
+use Rattle.sl_due_facts.proofs.Acts.AddedAtEnd.{contains_last}
+use Rattle.sl_due_facts.specs.Acts.TraceSoFar.{entry_of}
 use Rattle.sl_area.specs.Places.{is_base}
 use Rattle.sl_due.specs.Steps.{Step, add_call_of, seen}
 use Rattle.sl_due_facts.proofs.Jobs.EffectsAreAllowed.{Allows, DeltaAllowed}
 use Rattle.sl_due_facts.proofs.Jobs.NearlyPlainActs.{AnyMove, AnyStart, Anything}
-use Rattle.sl_due_law.specs.Whole.Kept.{Kept}
+use Rattle.sl_due_law.specs.LawfulTraces.CarriedFacts.{Kept}
 use Rattle.sl_trace.specs.Leases.{lease_step}
-use Rattle.sl_plain.proofs.Lists.{got_inside}
+use Rattle.sl_words.proofs.Lists.{got_inside}
 use Rattle.sl_trace.specs.Deltas.{own_offset}
 use Rattle.sl_trace.specs.Sessions.{sessions}
 use Rattle.sl_trace.specs.declared.delta.DeltaNext.{DeltaNext}
@@ -16,7 +16,7 @@ use Rattle.sl_trace.specs.declared.session.Session.{Session}
 use Rattle.sl_step_law.proofs.CallsAsk.{made_by}
 use Rattle.sl_step_law.proofs.OffsetsAreWhole.{base_at_sector, delta_whole}
 use Rattle.sl_step_law.proofs.PlacesAreKnown.{IsAt, session_at}
-use Rattle.sl_step_law.specs.Standing.{CallStands, CallsStand, EntryStands, WroteBlock, looks_before_owed}
+use Rattle.sl_step_law.specs.CallsStand.{CallStands, CallsStand, EntryStands, WroteBlock, looks_before_owed}
 use Rattle.sl_trace.specs.Traces.{EachEntry, Setting, Submitted, Trace, next_call, submitted}
 use Rattle.sl_trace.specs.declared.effects.Call.{Call}
 use Rattle.sl_trace.specs.declared.effects.LeaseStep.{LeaseStep}
@@ -24,7 +24,7 @@ use Rattle.sl_trace.specs.declared.effects.Op.{Op}
 use Rattle.sl_trace.specs.declared.effects.Purpose.{Purpose}
 use Rattle.sl_trace.specs.declared.effects.Purpose.TheVariants.{Lease}
 use Rattle.sl_trace.specs.declared.effects.Work.{Work}
-use Rattle.sl_trace_law.proofs.Sessions.Making.{calls_are_made}
+use Rattle.sl_run_law.proofs.Sessions.CallsAreMade.{calls_are_made}
 use Rattle.sl_words.proofs.CaseLaws.{true_is_false}
 use Rattle.std.proofs.Common.{inl, inr, refl, subst, sym, ◌∙◌}
 use Rattle.std.specs.Prelude.{Contains, IsTrue, List, false, is_some, true, ℕ, ◌%◌, ◌∷◌, ◌-◌, ◌≡◌, ◌⊎◌}

@@ -3,33 +3,33 @@ use Rattle.sl_area.specs.Places.{block_place, leader_offset, leader_record}
 use Rattle.sl_due.specs.Steps.{Step, with_input}
 use Rattle.sl_host_law.proofs.Answers.AnswersSetFree.{answers_set_free}
 use Rattle.sl_host_law.proofs.Answers.LeasesSetFree.{leases_set_free}
-use Rattle.sl_host_law.proofs.Plain.PlainLists.{at_some, flat_has}
+use Rattle.sl_host_law.proofs.SharedFacts.PlainLists.{at_some, flat_has}
 use Rattle.sl_host_law.proofs.Steps.AreasLie.{begins_at, placed}
 use Rattle.sl_host_law.proofs.Steps.InputsFollow.{joined_stays}
-use Rattle.sl_host_law.specs.Answers.Answering.{IsAnswerTo}
+use Rattle.sl_host_law.specs.Answers.AnswersFollow.{IsAnswerTo}
 use Rattle.sl_host_law.specs.Answers.LeaseAnswers.{area_of}
-use Rattle.sl_host_law.specs.Answers.Leasing.{MayWork, block_at, converted, converting, converting_for, record_at}
+use Rattle.sl_host_law.specs.Answers.LeaseDecisions.{MayWork, block_at, converted, converting, converting_for, record_at}
 use Rattle.sl_host_law.specs.Answers.LeasesGoOn.{IfConverted, IsPlacedAt}
 use Rattle.sl_host_law.specs.Questions.Jobs.{command_in, goes_on_in}
 use Rattle.sl_host_law.specs.Questions.Members.{otherwise_at}
 use Rattle.sl_host_law.specs.Replies.Answers.{FitsCall, IsOpen}
-use Rattle.sl_host_law.specs.Replies.Replies.{MayReply}
-use Rattle.sl_host_law.specs.Steps.Taking.{IsCallOf, LeaseMay}
-use Rattle.sl_host_state.specs.Hears.{heard_answer, hearing, member_hearing}
-use Rattle.sl_host_state.specs.Kept.{Config, HostState, LeaseState, MemberState}
-use Rattle.sl_host_state.specs.Makes.{is_lease_on, member_answered, member_replying}
-use Rattle.sl_host_state.specs.declared.kept.JobState.{JobState}
-use Rattle.sl_host_state.specs.declared.kept.OpenCall.{OpenCall}
+use Rattle.sl_host_law.specs.Replies.RepliesAreTaken.{MayReply}
+use Rattle.sl_host_law.specs.Steps.InputsFollow.{IsCallOf, LeaseMay}
+use Rattle.sl_host_state.specs.HeardInputs.{heard_answer, hearing, member_hearing}
+use Rattle.sl_host_state.specs.KeptState.{Config, HostState, LeaseState, MemberState}
+use Rattle.sl_host_state.specs.MadeEffects.{is_lease_on, member_answered, member_replying}
+use Rattle.sl_host_state.specs.declared.kept_parts.JobState.{JobState}
+use Rattle.sl_host_state.specs.declared.kept_parts.OpenCall.{OpenCall}
 use Rattle.sl_trace.specs.Jobs.{process_named}
 use Rattle.sl_trace.specs.declared.lease.Aim.{Aim}
 use Rattle.sl_trace.specs.declared.lease.LeaseNext.TheVariants.{AnswerJob, BecomeExclusive, BecomeShared, GrantJob, Nothing, ReadFor, WriteBlock, WriteLeader}
 use Rattle.sl_trace.specs.declared.lease.LeaseNext.{LeaseNext}
-use Rattle.sl_plain.proofs.Lists.{contains_first, contains_map, find_inside, got_inside}
+use Rattle.sl_words.proofs.Lists.{contains_first, contains_map, find_inside, got_inside}
 use Rattle.sl_sector.specs.declared.sector.Block.{Block}
 use Rattle.sl_sector.specs.declared.sector.Leader.{Leader}
 use Rattle.sl_step_law.proofs.CallsOfMembers.{calls_are_theirs}
 use Rattle.sl_step_law.proofs.LeasesMake.{may_write_block, may_write_leader}
-use Rattle.sl_step_law.specs.Ready.{IsReady}
+use Rattle.sl_step_law.specs.ReadyHosts.{IsReady}
 use Rattle.sl_trace.specs.Traces.{work_job}
 use Rattle.sl_trace.specs.declared.command.Command.{Command}
 use Rattle.sl_trace.specs.declared.effects.Grant.{Grant}

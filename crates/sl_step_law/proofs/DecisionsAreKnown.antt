@@ -1,25 +1,25 @@
 -- What the decision on a line rests on, by the command and by who holds.
 use Rattle.sl_area.specs.Places.{is_base}
-use Rattle.sl_acts.proofs.DecisionsAreTheirs.{decisions_are_theirs}
-use Rattle.sl_acts.specs.Promises.{IsDecidedFor, IsPresent}
+use Rattle.sl_due_facts.proofs.Acts.DecisionsAreTheirs.{decisions_are_theirs}
+use Rattle.sl_due_facts.specs.Acts.DueDaemons.{IsDecidedFor, IsPresent}
 use Rattle.sl_due.specs.DueCommands.{decided}
 use Rattle.sl_due.specs.Steps.{Step, seen}
 use Rattle.sl_due.specs.declared.decision.Decision.TheVariants.{ConvertsTo, GetsValue, GivesUp, Joins, Leaves, ReadsArea, Replies, Requests, SetsValue, Shares, TakesOver}
 use Rattle.sl_due.specs.declared.decision.Decision.{Decision}
 use Rattle.sl_due_facts.proofs.Jobs.DecisionsFit.{DecisionFits, decisions_fit}
-use Rattle.sl_due_leases.proofs.Ways.Kept.LinesReady.{named_base}
+use Rattle.sl_due_leases.proofs.Ways.WayFactsHeld.LinesReady.{named_base}
 use Rattle.sl_host_law.proofs.Decisions.CommandsAreDecided.{commands_are_decided}
-use Rattle.sl_host_law.proofs.Plain.MembersAreSessions.{members_are_sessions}
-use Rattle.sl_host_law.proofs.Plain.PlainLists.{at_some}
-use Rattle.sl_host_law.proofs.Plain.PlainOrders.{ordered_inside}
-use Rattle.sl_host_law.proofs.Plain.SessionNumbers.{placed_by_number}
+use Rattle.sl_host_law.proofs.SharedFacts.MembersAreSessions.{members_are_sessions}
+use Rattle.sl_host_law.proofs.SharedFacts.PlainLists.{at_some}
+use Rattle.sl_host_law.proofs.SharedFacts.PlainOrders.{ordered_inside}
+use Rattle.sl_host_law.proofs.SharedFacts.SessionNumbers.{placed_by_number}
 use Rattle.sl_host_law.proofs.Questions.MembersAnswer.{members_answer}
 use Rattle.sl_host_law.proofs.Replies.PlainNumbers.{same_number}
-use Rattle.sl_host_law.specs.Decisions.Deciding.{decision_of, held_of}
-use Rattle.sl_host_state.specs.Kept.{Config, HostState, MemberState}
+use Rattle.sl_host_law.specs.Decisions.CommandDecisions.{decision_of, held_of}
+use Rattle.sl_host_state.specs.KeptState.{Config, HostState, MemberState}
 use Rattle.sl_trace.specs.Jobs.{resource_named}
 use Rattle.sl_trace.specs.Leases.{holdings_on, spot_of}
-use Rattle.sl_plain.proofs.Lists.{kept_inside}
+use Rattle.sl_words.proofs.Lists.{kept_inside}
 use Rattle.sl_trace.specs.Sessions.{holdings_of, is_active, is_present, session_numbered, sessions}
 use Rattle.sl_trace.specs.declared.session.Session.{Session}
 use Rattle.sl_step_law.proofs.HostsAreKnown.{hosts_are_known}
@@ -27,9 +27,9 @@ use Rattle.sl_step_law.proofs.LastValues.{last_values_are_enough}
 use Rattle.sl_step_law.proofs.LeasesAreKnown.{leases_are_known}
 use Rattle.sl_step_law.proofs.MomentsAreKnown.{moments_are_known}
 use Rattle.sl_step_law.proofs.PlacesAreKnown.{places_are_known}
-use Rattle.sl_step_law.specs.Knowing.{DecisionIs, DecisionsAreKnown, GivingIs, LeaseReady}
+use Rattle.sl_step_law.specs.KnownHosts.{DecisionIs, DecisionsAreKnown, GivingIs, LeaseReady}
 use Rattle.sl_step_law.specs.Moments.{IsMoment}
-use Rattle.sl_step_law.specs.Ready.{IsReady}
+use Rattle.sl_step_law.specs.ReadyHosts.{IsReady}
 use Rattle.sl_trace.specs.Traces.{Setting, Trace, same_place, spot_of_grant}
 use Rattle.sl_trace.specs.declared.command.Command.{Command}
 use Rattle.sl_trace.specs.declared.command.ResourceArg.{ResourceArg}

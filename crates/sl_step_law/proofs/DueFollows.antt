@@ -1,15 +1,15 @@
 -- Each act keeps that the step so far follows those before it, so what is due does.
-use Rattle.sl_acts.proofs.StepsKeep.{Fixed, due_is_of, step_keeps}
-use Rattle.sl_acts.proofs.TracesKeep.{due_is_seen}
-use Rattle.sl_acts.specs.SoFar.{entry_of}
+use Rattle.sl_due_facts.proofs.Acts.StepsKeep.{Fixed, due_is_of, step_keeps}
+use Rattle.sl_due_facts.proofs.Acts.TracesKeep.{due_is_seen}
+use Rattle.sl_due_facts.specs.Acts.TraceSoFar.{entry_of}
 use Rattle.sl_due.specs.Due.{due, due_step}
 use Rattle.sl_due.specs.Steps.{Step}
-use Rattle.sl_due_law.proofs.Whole.AllIsKept.{all_begins, all_is_kept}
-use Rattle.sl_due_law.proofs.Whole.TracesHold.{traces_hold}
-use Rattle.sl_due_law.specs.Whole.Kept.{Kept}
-use Rattle.sl_host_law.specs.Steps.Whole.{entry_at}
-use Rattle.sl_plain.proofs.Lists.{head_is, tail_is}
-use Rattle.sl_step_law.specs.Follows.{DueFollows, InputsCome}
+use Rattle.sl_due_law.proofs.LawfulTraces.AllIsKept.{all_begins, all_is_kept}
+use Rattle.sl_due_law.proofs.LawfulTraces.TracesHold.{traces_hold}
+use Rattle.sl_due_law.specs.LawfulTraces.CarriedFacts.{Kept}
+use Rattle.sl_host_law.specs.Steps.StepsFollow.{entry_at}
+use Rattle.sl_words.proofs.Lists.{head_is, tail_is}
+use Rattle.sl_step_law.specs.DueFollows.{DueFollows, InputsCome}
 use Rattle.sl_trace.specs.Traces.{FollowsTrace, no_effects}
 use Rattle.sl_trace.specs.declared.effects.Entry.{Entry}
 use Rattle.sl_trace.specs.declared.input.Input.TheVariants.{Wake}

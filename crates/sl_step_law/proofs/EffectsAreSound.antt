@@ -1,24 +1,24 @@
 -- A step's effects as a world asks them: by the laws of the trace that the step leaves.
-use Rattle.sl_daemon.specs.Daemons.{IsSoundCall, IsSoundOp}
+use Rattle.sl_world_state.specs.Daemons.{IsSoundCall, IsSoundOp}
 use Rattle.sl_due.specs.Due.{IsHostTrace, due}
 use Rattle.sl_run.specs.Events.{sectors_of as sectors_had}
 use Rattle.sl_step_law.proofs.CallsAreStanding.{traces_stand}
-use Rattle.sl_due_law.proofs.Whole.CallsAreLawful.{new_inside}
-use Rattle.sl_due_law.proofs.Whole.TracesHold.{traces_hold, traces_are_lawful}
-use Rattle.sl_host_law.specs.Steps.Stepping.{effects_of}
-use Rattle.sl_host_law.specs.Steps.Whole.{entry_at}
-use Rattle.sl_host_state.specs.Kept.{HostState}
-use Rattle.sl_host_state.specs.Stands.{sectors_of}
+use Rattle.sl_due_law.proofs.LawfulTraces.CallsAreLawful.{new_inside}
+use Rattle.sl_due_law.proofs.LawfulTraces.TracesHold.{traces_hold, traces_are_lawful}
+use Rattle.sl_host_law.specs.Steps.StepFunction.{effects_of}
+use Rattle.sl_host_law.specs.Steps.StepsFollow.{entry_at}
+use Rattle.sl_host_state.specs.KeptState.{HostState}
+use Rattle.sl_host_state.specs.HostStands.{sectors_of}
 use Rattle.sl_run.specs.Lawful.{Lawful}
-use Rattle.sl_plain.proofs.Lists.{tail_is}
+use Rattle.sl_words.proofs.Lists.{tail_is}
 use Rattle.sl_sector.specs.Records.{IsRecord}
 use Rattle.sl_sector.specs.declared.sector.Rec.{Rec}
 use Rattle.sl_step_law.proofs.CallsAsk.{trace_asks, traces_ask}
 use Rattle.sl_step_law.proofs.AnswersAreKnown.{sector_size}
 use Rattle.sl_step_law.proofs.StepsAreTaken.{steps_are_taken}
-use Rattle.sl_step_law.specs.Asking.{sectors_asked}
-use Rattle.sl_step_law.specs.Sound.{EffectsAreSound}
-use Rattle.sl_step_law.specs.Whole.{MayCome}
+use Rattle.sl_step_law.specs.SectorsAsked.{sectors_asked}
+use Rattle.sl_step_law.specs.SoundEffects.{EffectsAreSound}
+use Rattle.sl_step_law.specs.StepsAreTaken.{MayCome}
 use Rattle.sl_area.specs.Layouts.{Layout}
 use Rattle.sl_area.specs.Places.{block_sectors}
 use Rattle.sl_due_facts.specs.Facts.WayFacts.{sectors_of_read}

@@ -1,9 +1,9 @@
 -- Holdings of a process at a place: where each is alone there, no two are.
 use Rattle.sl_due_leases.proofs.Holdings.PlainPlaces.{place_turned}
-use Rattle.sl_host_law.proofs.Plain.PlainLists.{all_from, in_back}
+use Rattle.sl_host_law.proofs.SharedFacts.PlainLists.{all_from, in_back}
 use Rattle.sl_host_law.proofs.Replies.PlainNumbers.{same_number}
-use Rattle.sl_plain.proofs.Lists.{contains_first, contains_none, kept as kept_in, next_before}
-use Rattle.sl_plain.proofs.Numbers.{number_itself}
+use Rattle.sl_words.proofs.Lists.{contains_first, contains_none, kept as kept_in, next_before}
+use Rattle.sl_words.proofs.Numbers.{number_itself}
 use Rattle.sl_step_law.specs.Holdings.{HoldsOnce}
 use Rattle.sl_trace.specs.Traces.{held_by, same_place}
 use Rattle.sl_trace.specs.declared.effects.Grant.{Grant}

@@ -2,26 +2,26 @@
 use Rattle.sl_due.specs.Steps.{Step, seen}
 use Rattle.sl_due_leases.proofs.Grants.WorksByAnswers.{new_spot}
 use Rattle.sl_due_leases.proofs.Holdings.LeaseConversions.{spot_is}
-use Rattle.sl_due_leases.proofs.Ways.Kept.LinesReady.{base_aligned}
-use Rattle.sl_host_law.proofs.Calls.Calls.SpotsMore.{found_once, spot_there, spots_once, AreOnce}
-use Rattle.sl_host_law.proofs.Plain.PlainLists.{any_mapped, at_some, in_either}
-use Rattle.sl_host_law.proofs.Plain.SessionNumbers.{placed_by_number}
+use Rattle.sl_due_leases.proofs.Ways.WayFactsHeld.LinesReady.{base_aligned}
+use Rattle.sl_host_law.proofs.Calls.MemberCalls.SpotsMore.{found_once, spot_there, spots_once, AreOnce}
+use Rattle.sl_host_law.proofs.SharedFacts.PlainLists.{any_mapped, at_some, in_either}
+use Rattle.sl_host_law.proofs.SharedFacts.SessionNumbers.{placed_by_number}
 use Rattle.sl_host_law.proofs.Replies.PlainNumbers.{same_number}
-use Rattle.sl_host_law.specs.Decisions.Deciding.{held_of}
-use Rattle.sl_host_law.specs.Steps.Lining.{IsLeased}
-use Rattle.sl_host_state.specs.Kept.{HostState, LeaseState, MemberState}
-use Rattle.sl_host_state.specs.Makes.{is_lease_on}
-use Rattle.sl_host_state.specs.Stands.{MemberStands}
+use Rattle.sl_host_law.specs.Decisions.CommandDecisions.{held_of}
+use Rattle.sl_host_law.specs.Steps.LinesFollow.{IsLeased}
+use Rattle.sl_host_state.specs.KeptState.{HostState, LeaseState, MemberState}
+use Rattle.sl_host_state.specs.MadeEffects.{is_lease_on}
+use Rattle.sl_host_state.specs.HostStands.{MemberStands}
 use Rattle.sl_run.specs.LawfulGrant.{LawfulGrant}
 use Rattle.sl_run.specs.LawfulModes.{LawfulExclusiveGrant, LawfulModes, LawfulSharedGrant}
 use Rattle.sl_trace.specs.Leases.{is_lease_call, is_on, lease_calls, lease_step, spot_of_call}
-use Rattle.sl_plain.proofs.Lists.{any_found, contains_map, contains_more, contains_none, kept as kept_in, kept_inside}
-use Rattle.sl_plain.proofs.Options.{some_of}
+use Rattle.sl_words.proofs.Lists.{any_found, contains_map, contains_more, contains_none, kept as kept_in, kept_inside}
+use Rattle.sl_words.proofs.Options.{some_of}
 use Rattle.sl_trace.specs.Sessions.{calls_of, holdings_of, is_call_of, session_numbered}
 use Rattle.sl_trace.specs.declared.session.Session.{Session}
 use Rattle.sl_step_law.proofs.HeldOnce.{held_once}
 use Rattle.sl_step_law.specs.Holdings.{HoldingsAreKnown, HoldsOnce}
-use Rattle.sl_step_law.specs.Ready.{IsReady}
+use Rattle.sl_step_law.specs.ReadyHosts.{IsReady}
 use Rattle.sl_trace.specs.Traces.{EachEntry, Setting, Submitted, Trace, answer_of, answered_in, held_by, holdings, is_ended_by, is_shared, mark, new_call, same_place, same_spot, spot_of_grant, submitted}
 use Rattle.sl_trace.specs.declared.effects.Call.{Call}
 use Rattle.sl_trace.specs.declared.effects.Entry.{Entry}

@@ -1,13 +1,13 @@
 -- Who holds has written a block of the instance: its ballot's, or that which set the mode.
 use Rattle.sl_due_leases.proofs.Holdings.LeaseConversions.{spot_is}
-use Rattle.sl_host_law.proofs.Plain.PlainLists.{in_either}
-use Rattle.sl_host_law.proofs.Plain.SessionNumbers.{placed_by_number}
+use Rattle.sl_host_law.proofs.SharedFacts.PlainLists.{in_either}
+use Rattle.sl_host_law.proofs.SharedFacts.SessionNumbers.{placed_by_number}
 use Rattle.sl_host_law.proofs.Replies.PlainNumbers.{same_number}
 use Rattle.sl_run.specs.LawfulGrant.{LawfulGrant}
 use Rattle.sl_run.specs.LawfulModes.{LawfulExclusiveGrant, LawfulModes, LawfulSharedGrant}
 use Rattle.sl_trace.specs.Leases.{block_of_record, block_written, is_lease_call, is_on, lease_calls, lease_step}
-use Rattle.sl_plain.proofs.Lists.{contains_none, kept_inside}
-use Rattle.sl_plain.proofs.Options.{some_of}
+use Rattle.sl_words.proofs.Lists.{contains_none, kept_inside}
+use Rattle.sl_words.proofs.Options.{some_of}
 use Rattle.sl_sector.specs.declared.sector.Block.{Block}
 use Rattle.sl_trace.specs.Sessions.{calls_of, holdings_of, is_call_of, session_numbered}
 use Rattle.sl_trace.specs.declared.session.Session.{Session}

@@ -2,25 +2,25 @@
 use Rattle.sl_area.specs.Layouts.{Layout}
 use Rattle.sl_due.specs.Steps.{Step, seen}
 use Rattle.sl_due_facts.proofs.Jobs.JobsAreNumbered.{below, command_read, job_reads}
-use Rattle.sl_due_law.proofs.Whole.OwnRecords.{fits_it}
+use Rattle.sl_due_law.proofs.LawfulTraces.OwnRecords.{fits_it}
 use Rattle.sl_host_law.proofs.Calls.Beginnings.NothingIsDue.{began_before}
-use Rattle.sl_host_law.proofs.Plain.MembersAreSessions.{member_inside}
-use Rattle.sl_host_law.proofs.Plain.PlainLists.{at_some}
+use Rattle.sl_host_law.proofs.SharedFacts.MembersAreSessions.{member_inside}
+use Rattle.sl_host_law.proofs.SharedFacts.PlainLists.{at_some}
 use Rattle.sl_host_law.specs.Questions.Jobs.{command_in}
-use Rattle.sl_host_state.specs.Kept.{Config, HostState, MemberState}
-use Rattle.sl_host_state.specs.Stands.{HostStands, MemberStands, kept_job}
-use Rattle.sl_host_state.specs.declared.kept.JobState.{JobState}
-use Rattle.sl_member.specs.Together.{AreApart}
-use Rattle.sl_plain.proofs.Lists.{contains_first, contains_more, find_inside, in_map, kept_inside}
-use Rattle.sl_plain.proofs.Options.{then_value}
+use Rattle.sl_host_state.specs.KeptState.{Config, HostState, MemberState}
+use Rattle.sl_host_state.specs.HostStands.{HostStands, MemberStands, kept_job}
+use Rattle.sl_host_state.specs.declared.kept_parts.JobState.{JobState}
+use Rattle.sl_member.specs.HostMembers.{AreApart}
+use Rattle.sl_words.proofs.Lists.{contains_first, contains_more, find_inside, in_map, kept_inside}
+use Rattle.sl_words.proofs.Options.{then_value}
 use Rattle.sl_sector.specs.Records.{Fits}
 use Rattle.sl_trace.specs.Sessions.{calls_of, free_write, leaving_job}
 use Rattle.sl_trace.specs.declared.delta.DeltaKnown.{DeltaKnown}
 use Rattle.sl_trace.specs.declared.session.Begun.{Begun}
 use Rattle.sl_trace.specs.declared.session.Renewing.{Renewing}
-use Rattle.sl_step_law.specs.Knowing.{HostsAreKnown}
+use Rattle.sl_step_law.specs.KnownHosts.{HostsAreKnown}
 use Rattle.sl_step_law.specs.Moments.{IsMoment}
-use Rattle.sl_step_law.specs.Ready.{IsReady}
+use Rattle.sl_step_law.specs.ReadyHosts.{IsReady}
 use Rattle.sl_trace.specs.Commands.{IsCommand}
 use Rattle.sl_trace.specs.Traces.{Job, Setting, Submitted, Trace, is_running, jobs, line_in, next_job, running_jobs}
 use Rattle.sl_trace.specs.declared.command.Command.{Command}

@@ -1,16 +1,16 @@
 -- A host that has come to its input: all that every act keeps is kept up to there.
-use Rattle.sl_acts.proofs.InputsKeep.{other_acts}
-use Rattle.sl_acts.proofs.StepsKeep.{head_keeps}
+use Rattle.sl_due_facts.proofs.Acts.InputsKeep.{other_acts}
+use Rattle.sl_due_facts.proofs.Acts.StepsKeep.{head_keeps}
 use Rattle.sl_due.specs.Due.{before_input}
 use Rattle.sl_due.specs.Steps.{begin_step}
-use Rattle.sl_due_law.proofs.Whole.AllIsKept.{all_begins, all_is_kept}
-use Rattle.sl_due_law.proofs.Whole.TracesHold.{traces_hold}
-use Rattle.sl_due_law.specs.Whole.Kept.{Kept}
+use Rattle.sl_due_law.proofs.LawfulTraces.AllIsKept.{all_begins, all_is_kept}
+use Rattle.sl_due_law.proofs.LawfulTraces.TracesHold.{traces_hold}
+use Rattle.sl_due_law.specs.LawfulTraces.CarriedFacts.{Kept}
 use Rattle.sl_host_law.proofs.Steps.BeginningsFollow.{beginnings_follow}
 use Rattle.sl_host_law.proofs.Steps.SoundBefore.{before_sound}
-use Rattle.sl_host_law.specs.Steps.Whole.{entry_at}
-use Rattle.sl_host_state.specs.Kept.{HostState}
-use Rattle.sl_step_law.specs.Ready.{HostsAreReady, InputComes}
+use Rattle.sl_host_law.specs.Steps.StepsFollow.{entry_at}
+use Rattle.sl_host_state.specs.KeptState.{HostState}
+use Rattle.sl_step_law.specs.ReadyHosts.{HostsAreReady, InputComes}
 use Rattle.sl_trace.specs.Traces.{Setting, Trace}
 use Rattle.sl_trace.specs.declared.input.Input.{Input}
 use Rattle.std.proofs.Common.{subst}

@@ -1,16 +1,16 @@
 -- A new host of each setting that a daemon may be made of is sound.
 use Rattle.sl_area.specs.Layouts.{IsGeometry, Layout}
-use Rattle.sl_host_law.proofs.Plain.PlainLists.{at_some, each_of, got_below}
-use Rattle.sl_host_law.proofs.Plain.PlainOrders.{ordered_inside}
+use Rattle.sl_host_law.proofs.SharedFacts.PlainLists.{at_some, each_of, got_below}
+use Rattle.sl_host_law.proofs.SharedFacts.PlainOrders.{ordered_inside}
 use Rattle.sl_host_law.proofs.Steps.NewHostsAreSound.{new_hosts_are_sound}
 use Rattle.sl_host_law.specs.Steps.NewHosts.{IsFitSetting}
 use Rattle.sl_host_state.proofs.NewHost.{new_host_stands}
-use Rattle.sl_host_state.specs.New.{IsOfProgram, given_sessions, sizes_in}
+use Rattle.sl_host_state.specs.NewHost.{IsOfProgram, given_sessions, sizes_in}
 use Rattle.sl_run.specs.Lawful.{IsGiven, IsSetting}
-use Rattle.sl_plain.proofs.Lists.{got_index, got_inside, in_map}
+use Rattle.sl_words.proofs.Lists.{got_index, got_inside, in_map}
 use Rattle.sl_trace.specs.Sessions.{given_session}
 use Rattle.sl_trace.specs.declared.session.Session.{Session}
-use Rattle.sl_step_law.specs.Whole.{HostsBegin}
+use Rattle.sl_step_law.specs.StepsAreTaken.{HostsBegin}
 use Rattle.sl_trace.specs.Traces.{Setting}
 use Rattle.sl_trace.specs.declared.command.Command.TheVariants.{AddLockspace}
 use Rattle.sl_trace.specs.declared.command.LockspaceArg.{LockspaceArg}

@@ -1,10 +1,10 @@
 -- The first renewal is written under the generation that was claimed: a live record has one.
 use Rattle.sl_due.specs.Steps.{Step, seen}
 use Rattle.sl_due_facts.proofs.Sessions.JoinedNumbers.{spelled_of}
-use Rattle.sl_host_state.specs.Kept.{HostState, MemberState}
-use Rattle.sl_host_state.specs.declared.kept.OpenCall.{OpenCall}
+use Rattle.sl_host_state.specs.KeptState.{HostState, MemberState}
+use Rattle.sl_host_state.specs.declared.kept_parts.OpenCall.{OpenCall}
 use Rattle.sl_run.specs.LawfulDelta.{LawfulDeltaCall, LawfulFirstRenewal}
-use Rattle.sl_plain.proofs.Lists.{contains_cases, contains_none, find_inside, kept_inside}
+use Rattle.sl_words.proofs.Lists.{contains_cases, contains_none, find_inside, kept_inside}
 use Rattle.sl_sector.specs.Records.{IsDelta}
 use Rattle.sl_sector.specs.declared.sector.DeltaRec.{DeltaRec}
 use Rattle.sl_sector.specs.declared.sector.DeltaState.TheVariants.{Free, Live}
@@ -13,18 +13,18 @@ use Rattle.sl_trace.specs.Sessions.{calls_of, delta_of_record, delta_written, gi
 use Rattle.sl_trace.specs.declared.delta.DeltaKnown.{DeltaKnown}
 use Rattle.sl_step_law.proofs.CallsOfMembers.{IsMembers, joined_still, members_call}
 use Rattle.sl_step_law.proofs.MembersAreKnown.{members_are_known}
-use Rattle.sl_step_law.specs.Awaiting.{IsMembersCall}
+use Rattle.sl_step_law.specs.AnswersAwaited.{IsMembersCall}
 use Rattle.sl_step_law.specs.Members.{JoiningsClaim}
-use Rattle.sl_step_law.specs.Ready.{IsReady}
+use Rattle.sl_step_law.specs.ReadyHosts.{IsReady}
 use Rattle.sl_trace.specs.Traces.{Submitted, record_of, submitted}
 use Rattle.sl_trace.specs.declared.effects.JoinStep.TheVariants.{FirstRenewal}
 use Rattle.sl_trace.specs.declared.effects.Op.TheVariants.{ReadSectors, WriteRecord}
 use Rattle.sl_trace.specs.declared.effects.Op.{Op}
 use Rattle.sl_trace.specs.declared.effects.Purpose.TheVariants.{Joining}
 use Rattle.sl_trace.specs.declared.input.Input.TheVariants.{Wake}
-use Rattle.sl_trace_law.proofs.Sessions.Covering.{joinings_are_in_turn}
-use Rattle.sl_trace_law.proofs.Sessions.Owning.{calls_were_lawful}
-use Rattle.sl_trace_law.specs.Sessions.Promises.{all_done, fits, front_of, has_reply, is_in_turn, made_as}
+use Rattle.sl_run_law.proofs.Sessions.WritesAreCovered.{joinings_are_in_turn}
+use Rattle.sl_run_law.proofs.Sessions.CallOwners.{calls_were_lawful}
+use Rattle.sl_run_law.specs.Sessions.SessionLaws.{all_done, fits, front_of, has_reply, is_in_turn, made_as}
 use Rattle.sl_host_law.proofs.Replies.PlainNumbers.{same_number}
 use Rattle.sl_words.proofs.CaseLaws.{none_some, some_value, true_is_false}
 use Rattle.sl_words.proofs.WordLaws.{and_true}

@@ -2,21 +2,21 @@
 use Rattle.sl_due.specs.Due.{before_input}
 use Rattle.sl_due.specs.Steps.{Step, begin_step, seen}
 use Rattle.sl_due_leases.proofs.Holdings.LeaseConversions.{spot_is}
-use Rattle.sl_due_leases.proofs.Ways.Kept.LinesReady.{base_aligned}
+use Rattle.sl_due_leases.proofs.Ways.WayFactsHeld.LinesReady.{base_aligned}
 use Rattle.sl_due_facts.specs.Facts.WayFacts.{IsAligned}
 use Rattle.sl_host_law.proofs.Decisions.FallingIsEnough.{falling_is_enough}
-use Rattle.sl_host_law.proofs.Plain.MembersAreSessions.{members_are_sessions}
-use Rattle.sl_host_law.proofs.Plain.PlainLists.{at_some}
+use Rattle.sl_host_law.proofs.SharedFacts.MembersAreSessions.{members_are_sessions}
+use Rattle.sl_host_law.proofs.SharedFacts.PlainLists.{at_some}
 use Rattle.sl_host_law.proofs.Questions.MembersAnswer.{members_answer}
-use Rattle.sl_host_law.specs.Decisions.Deciding.{held_of, held_on, member_named}
-use Rattle.sl_host_law.specs.Decisions.Promises.{AreFalling, ValuesFall}
-use Rattle.sl_host_law.specs.Steps.Stepping.{before_taking}
-use Rattle.sl_host_state.specs.Hears.{begun}
-use Rattle.sl_host_state.specs.Kept.{HostState, MemberState}
-use Rattle.sl_host_state.specs.Makes.{is_lease_on}
+use Rattle.sl_host_law.specs.Decisions.CommandDecisions.{held_of, held_on, member_named}
+use Rattle.sl_host_law.specs.Decisions.DecisionLaws.{AreFalling, ValuesFall}
+use Rattle.sl_host_law.specs.Steps.StepFunction.{before_taking}
+use Rattle.sl_host_state.specs.HeardInputs.{begun}
+use Rattle.sl_host_state.specs.KeptState.{HostState, MemberState}
+use Rattle.sl_host_state.specs.MadeEffects.{is_lease_on}
 use Rattle.sl_trace.specs.Counts.{values_on}
 use Rattle.sl_trace.specs.Leases.{spot_of}
-use Rattle.sl_plain.proofs.Lists.{find_inside, kept_inside}
+use Rattle.sl_words.proofs.Lists.{find_inside, kept_inside}
 use Rattle.sl_trace.specs.Sessions.{calls_of}
 use Rattle.sl_step_law.proofs.HoldersLeased.{holdings_are_known}
 use Rattle.sl_step_law.proofs.HostsAreReady.{hosts_are_ready}
@@ -24,8 +24,8 @@ use Rattle.sl_step_law.proofs.LinesMay.{lines_may}
 use Rattle.sl_step_law.proofs.StepsAreTaken.{steps_are_taken}
 use Rattle.sl_step_law.proofs.ValuesFall.{falls_at}
 use Rattle.sl_step_law.specs.LastValues.{ComesPlainly, IsByteInput, LastValuesAreEnough, LinesMayPlainly, StepsAreTakenPlainly}
-use Rattle.sl_step_law.specs.Ready.{IsReady}
-use Rattle.sl_step_law.specs.Whole.{IsPlainInput, MayCome}
+use Rattle.sl_step_law.specs.ReadyHosts.{IsReady}
+use Rattle.sl_step_law.specs.StepsAreTaken.{IsPlainInput, MayCome}
 use Rattle.sl_trace.specs.Traces.{Setting, Trace, is_shared, same_place, spot_of_grant}
 use Rattle.sl_trace.specs.declared.command.Command.TheVariants.{Acquire, AddLockspace, Convert, GetLvb, HostStatus, InqLockspace, Release, ReleaseOrphan, RemLockspace, Request, RunProgram, SetKillpath, SetLvb, Status, TakeOver}
 use Rattle.sl_trace.specs.declared.command.ResourceArg.{ResourceArg}

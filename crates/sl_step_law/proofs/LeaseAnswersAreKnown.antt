@@ -1,36 +1,36 @@
 -- An answer to a lease's call: the lease that hears it, and what stands behind the call.
 use Rattle.sl_area.specs.Layouts.{Layout}
-use Rattle.sl_acts.proofs.Pairs.Decoding.{ArePairs, leader_is}
-use Rattle.sl_acts.proofs.Pairs.Given.{first_are_pairs}
+use Rattle.sl_due_facts.proofs.Acts.Pairs.DecodedRecords.{ArePairs, leader_is}
+use Rattle.sl_due_facts.proofs.Acts.Pairs.GivenByReads.{first_are_pairs}
 use Rattle.sl_area.specs.Places.{is_base, leader_read}
-use Rattle.sl_due_law.proofs.Whole.LeaderWrites.{hosts_fit}
+use Rattle.sl_due_law.proofs.LawfulTraces.LeaderWrites.{hosts_fit}
 use Rattle.sl_due_leases.proofs.Grants.WorksByAnswers.{new_spot}
 use Rattle.sl_due_leases.proofs.Ways.WayStages.{prior_inside, step_way}
 use Rattle.sl_due.specs.Steps.{Step, seen, with_input}
 use Rattle.sl_due_leases.proofs.Holdings.LeaseCallers.{on_own_area, spot_aligned}
 use Rattle.sl_due_facts.specs.Facts.WayFacts.{AgainWay, Ways, way_context}
 use Rattle.sl_host_law.proofs.Answers.AnswersSetFree.{answers_set_free, of_trace}
-use Rattle.sl_host_law.proofs.Calls.Calls.SpotsMore.{one_spot}
-use Rattle.sl_host_law.proofs.Plain.PlainLists.{at_some, found_some}
-use Rattle.sl_host_law.proofs.Plain.SessionNumbers.{placed_by_number}
+use Rattle.sl_host_law.proofs.Calls.MemberCalls.SpotsMore.{one_spot}
+use Rattle.sl_host_law.proofs.SharedFacts.PlainLists.{at_some, found_some}
+use Rattle.sl_host_law.proofs.SharedFacts.SessionNumbers.{placed_by_number}
 use Rattle.sl_host_law.proofs.Replies.PlainNumbers.{same_number}
 use Rattle.sl_trace.specs.Sessions.{session_numbered, sessions}
 use Rattle.sl_host_law.proofs.Steps.InputsFollow.{joined_stays}
-use Rattle.sl_host_law.specs.Answers.Answering.{IsAnswerTo}
+use Rattle.sl_host_law.specs.Answers.AnswersFollow.{IsAnswerTo}
 use Rattle.sl_host_law.specs.Questions.Answers.{spot_in}
 use Rattle.sl_host_law.specs.Replies.Answers.{FitsCall, IsOpen}
 use Rattle.sl_host_law.specs.Steps.Leases.{kept_blocks, lease_at}
-use Rattle.sl_host_law.specs.Steps.Taking.{IsCallOf}
-use Rattle.sl_host_state.specs.Hears.{heard_answer, hearing, is_area_step, is_heeded_by, is_over_with, kept_heard, lease_hearing, lease_told, member_hearing, top_hearing}
-use Rattle.sl_host_state.specs.Kept.{Config, HostState, LeaseState, MemberState}
-use Rattle.sl_host_state.specs.Makes.{is_lease_on, new_lease}
+use Rattle.sl_host_law.specs.Steps.InputsFollow.{IsCallOf}
+use Rattle.sl_host_state.specs.HeardInputs.{heard_answer, hearing, is_area_step, is_heeded_by, is_over_with, kept_heard, lease_hearing, lease_told, member_hearing, top_hearing}
+use Rattle.sl_host_state.specs.KeptState.{Config, HostState, LeaseState, MemberState}
+use Rattle.sl_host_state.specs.MadeEffects.{is_lease_on, new_lease}
 use Rattle.sl_host_state.proofs.Pairs.{first_is_kept}
-use Rattle.sl_host_state.specs.Stands.{first_read, is_kept_of, kept_call, kept_job, kept_waiting, top_mbal}
-use Rattle.sl_host_state.specs.declared.kept.JobState.{JobState}
-use Rattle.sl_host_state.specs.declared.kept.LeaseCall.{LeaseCall}
-use Rattle.sl_host_state.specs.declared.kept.OpenCall.{OpenCall}
-use Rattle.sl_host_state.specs.declared.kept.TopNumber.{TopNumber}
-use Rattle.sl_lease.specs.Asked.{TopStands, heard_with, leader_given, read_given}
+use Rattle.sl_host_state.specs.HostStands.{first_read, is_kept_of, kept_call, kept_job, kept_waiting, top_mbal}
+use Rattle.sl_host_state.specs.declared.kept_parts.JobState.{JobState}
+use Rattle.sl_host_state.specs.declared.kept_parts.LeaseCall.{LeaseCall}
+use Rattle.sl_host_state.specs.declared.kept_parts.OpenCall.{OpenCall}
+use Rattle.sl_host_state.specs.declared.kept_parts.TopNumber.{TopNumber}
+use Rattle.sl_lease.specs.LeaseQuestions.{TopStands, heard_with, leader_given, read_given}
 use Rattle.sl_lease.specs.Bounds.{IsInstance}
 use Rattle.sl_lease.specs.Side.{is_named}
 use Rattle.sl_lease.specs.Steps.{is_first_step, is_read_step}
@@ -41,8 +41,8 @@ use Rattle.sl_words.specs.Bounds.{moments, most_hosts}
 use Rattle.sl_sector.specs.Records.{IsLeader}
 use Rattle.sl_sector.specs.declared.sector.Leader.{Leader}
 use Rattle.sl_member.specs.Laws.{area_of_call}
-use Rattle.sl_plain.proofs.Lists.{find_inside, got_inside, in_map, kept as kept_in, kept_inside}
-use Rattle.sl_plain.proofs.Options.{none_is, some_of}
+use Rattle.sl_words.proofs.Lists.{find_inside, got_inside, in_map, kept as kept_in, kept_inside}
+use Rattle.sl_words.proofs.Options.{none_is, some_of}
 use Rattle.sl_sector.specs.declared.sector.Block.{Block}
 use Rattle.sl_trace.specs.Sessions.{calls_of, is_call_of}
 use Rattle.sl_step_law.proofs.AnswersAreAwaited.{answers_are_awaited}
@@ -54,12 +54,12 @@ use Rattle.sl_step_law.proofs.HoldersLeased.{folded, marked}
 use Rattle.sl_step_law.proofs.LeasesAreKnown.{lease_stands, leases_are_known, listed, ways}
 use Rattle.sl_step_law.proofs.ReadsAreHeard.{first_stays, seeks, told_name, told_top}
 use Rattle.sl_step_law.proofs.MomentsAreKnown.{moments_are_known}
-use Rattle.sl_step_law.specs.Answering.{AnswerArrives, LeaseAnswersAreKnown, LeaseHeard}
-use Rattle.sl_step_law.specs.Asking.{sectors_asked}
-use Rattle.sl_step_law.specs.Awaiting.{IsLeasesCall, IsMembersCall}
+use Rattle.sl_step_law.specs.LeaseAnswers.{AnswerArrives, LeaseAnswersAreKnown, LeaseHeard}
+use Rattle.sl_step_law.specs.SectorsAsked.{sectors_asked}
+use Rattle.sl_step_law.specs.AnswersAwaited.{IsLeasesCall, IsMembersCall}
 use Rattle.sl_step_law.specs.Moments.{IsMoment}
-use Rattle.sl_step_law.specs.Ready.{IsReady}
-use Rattle.sl_step_law.specs.Standing.{EntryStands, WroteBlock, is_look, looks_before_owed}
+use Rattle.sl_step_law.specs.ReadyHosts.{IsReady}
+use Rattle.sl_step_law.specs.CallsStand.{EntryStands, WroteBlock, is_look, looks_before_owed}
 use Rattle.sl_trace.specs.Traces.{EachEntry, FollowsTrace, Job, Submitted, Trace, call_numbered, is_of_job, job_of, mark, new_call, outstanding, is_expected, running_jobs, submitted, waiting_call}
 use Rattle.sl_trace.specs.declared.effects.Call.{Call}
 use Rattle.sl_trace.specs.declared.effects.Entry.{Entry}
@@ -72,8 +72,8 @@ use Rattle.sl_trace.specs.declared.effects.Work.{Work}
 use Rattle.sl_trace.specs.declared.input.Answer.TheVariants.{Read}
 use Rattle.sl_trace.specs.declared.input.Answer.{Answer}
 use Rattle.sl_trace.specs.declared.input.Input.TheVariants.{Answer as Told, Wake}
-use Rattle.sl_trace_law.proofs.Sessions.Making.{calls_are_made}
-use Rattle.sl_trace_law.specs.Sessions.Promises.{IsMade}
+use Rattle.sl_run_law.proofs.Sessions.CallsAreMade.{calls_are_made}
+use Rattle.sl_run_law.specs.Sessions.SessionLaws.{IsMade}
 use Rattle.sl_words.proofs.CaseLaws.{none_some, some_value, true_is_false}
 use Rattle.sl_words.proofs.WordLaws.{and_true, some_is_true}
 use Rattle.sl_words.specs.Words.{is_empty, some_is}

@@ -4,37 +4,37 @@ use Rattle.sl_area.specs.Places.{is_base}
 use Rattle.sl_due.specs.Steps.{Step, seen}
 use Rattle.sl_due_leases.proofs.Grants.WorksByAnswers.{new_spot}
 use Rattle.sl_due_leases.proofs.Holdings.LeaseCallers.{spot_aligned}
-use Rattle.sl_due_leases.proofs.Ways.Kept.LinesReady.{base_aligned}
+use Rattle.sl_due_leases.proofs.Ways.WayFactsHeld.LinesReady.{base_aligned}
 use Rattle.sl_due_facts.specs.Facts.WayFacts.{Ways, way_context}
-use Rattle.sl_host_law.proofs.Calls.Calls.SpotsMore.{AreOnce, found_once, in_with, one_spot, spot_there, spots_once}
-use Rattle.sl_host_law.proofs.Plain.MembersAreSessions.{member_inside}
-use Rattle.sl_host_law.proofs.Plain.PlainLists.{any_mapped, at_some}
-use Rattle.sl_host_law.proofs.Plain.SessionNumbers.{placed_by_number}
+use Rattle.sl_host_law.proofs.Calls.MemberCalls.SpotsMore.{AreOnce, found_once, in_with, one_spot, spot_there, spots_once}
+use Rattle.sl_host_law.proofs.SharedFacts.MembersAreSessions.{member_inside}
+use Rattle.sl_host_law.proofs.SharedFacts.PlainLists.{any_mapped, at_some}
+use Rattle.sl_host_law.proofs.SharedFacts.SessionNumbers.{placed_by_number}
 use Rattle.sl_host_law.proofs.Replies.PlainNumbers.{same_number}
 use Rattle.sl_host_law.proofs.Steps.LeasesAreKnown.{kept_tops}
-use Rattle.sl_host_law.specs.Decisions.Deciding.{held_of, held_on}
+use Rattle.sl_host_law.specs.Decisions.CommandDecisions.{held_of, held_on}
 use Rattle.sl_host_law.specs.Questions.Members.{exclusive_at}
 use Rattle.sl_host_law.specs.Steps.Leases.{kept_blocks, lease_at, top_block}
-use Rattle.sl_host_state.specs.Kept.{Config, HostState, LeaseState, MemberState}
-use Rattle.sl_host_state.specs.Makes.{is_lease_on, new_lease}
-use Rattle.sl_host_state.specs.Stands.{LeaseStands, MemberStands, top_mbal}
-use Rattle.sl_host_state.specs.declared.kept.TopNumber.{TopNumber}
-use Rattle.sl_plain.proofs.Numbers.{number_itself}
+use Rattle.sl_host_state.specs.KeptState.{Config, HostState, LeaseState, MemberState}
+use Rattle.sl_host_state.specs.MadeEffects.{is_lease_on, new_lease}
+use Rattle.sl_host_state.specs.HostStands.{LeaseStands, MemberStands, top_mbal}
+use Rattle.sl_host_state.specs.declared.kept_parts.TopNumber.{TopNumber}
+use Rattle.sl_words.proofs.Numbers.{number_itself}
 use Rattle.sl_sector.specs.declared.sector.Block.{Block}
 use Rattle.sl_words.specs.Words.{greatest}
-use Rattle.sl_lease.specs.Asked.{TopStands}
+use Rattle.sl_lease.specs.LeaseQuestions.{TopStands}
 use Rattle.sl_lease.specs.Bounds.{IsInstance}
 use Rattle.sl_lease.specs.Side.{is_named}
 use Rattle.sl_trace.specs.Leases.{block_submitted, is_lease_call, is_on, lease_calls, spot_of_call, spots_in, with_spot}
-use Rattle.sl_plain.proofs.Lists.{any_found, contains_first, contains_map, contains_more, contains_none, find_inside, got_inside, kept as kept_in, kept_inside}
+use Rattle.sl_words.proofs.Lists.{any_found, contains_first, contains_map, contains_more, contains_none, find_inside, got_inside, kept as kept_in, kept_inside}
 use Rattle.sl_trace.specs.Sessions.{calls_of, is_call_of, me, sessions}
 use Rattle.sl_trace.specs.declared.session.Session.{Session}
 use Rattle.sl_step_law.proofs.BlocksAreInstances.{block_instance, name_verified}
 use Rattle.sl_step_law.proofs.CallsOnPast.{standing}
 use Rattle.sl_step_law.proofs.LooksAreOwed.{open_wrote}
-use Rattle.sl_plain.proofs.Options.{some_of}
+use Rattle.sl_words.proofs.Options.{some_of}
 use Rattle.sl_step_law.proofs.HoldersWrote.{WroteIn, holders_wrote}
-use Rattle.sl_step_law.specs.Leased.{LeasesAreKnown}
+use Rattle.sl_step_law.specs.KnownLeases.{LeasesAreKnown}
 use Rattle.sl_step_law.specs.Moments.{IsMoment}
 use Rattle.sl_trace.specs.Traces.{Submitted, holdings, is_shared, same_place, same_spot, spot_of_grant, submitted}
 use Rattle.sl_trace.specs.declared.effects.Grant.{Grant}

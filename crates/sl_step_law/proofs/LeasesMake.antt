@@ -1,11 +1,11 @@
 -- A lease that waits for nothing may make a call on its area, for work whose job may make one: a read, or a write of the own block or of the leader.
 use Rattle.sl_area.specs.Places.{block_place, leader_offset, leader_record}
-use Rattle.sl_host_law.proofs.Plain.RecordsOfKinds.{block_cases, leader_cases}
-use Rattle.sl_host_law.specs.Answers.Leasing.{MayWork, block_at, record_at, turn_next}
-use Rattle.sl_host_law.specs.Calls.Calls.{fits_lease, is_idle_job, is_leaving_alone}
+use Rattle.sl_host_law.proofs.SharedFacts.RecordsOfKinds.{block_cases, leader_cases}
+use Rattle.sl_host_law.specs.Answers.LeaseDecisions.{MayWork, block_at, record_at, turn_next}
+use Rattle.sl_host_law.specs.Calls.MemberCalls.{fits_lease, is_idle_job, is_leaving_alone}
 use Rattle.sl_host_law.specs.Steps.Leases.{lease_at}
-use Rattle.sl_host_state.specs.Kept.{Config, HostState, LeaseState, MemberState}
-use Rattle.sl_host_state.specs.Makes.{is_lease_on, next_submitted}
+use Rattle.sl_host_state.specs.KeptState.{Config, HostState, LeaseState, MemberState}
+use Rattle.sl_host_state.specs.MadeEffects.{is_lease_on, next_submitted}
 use Rattle.sl_sector.specs.declared.sector.Block.{Block}
 use Rattle.sl_sector.specs.declared.sector.Leader.{Leader}
 use Rattle.sl_trace.specs.Leases.{Phase2_write, is_second, kind_of_step, same_kind, value_of_record}

@@ -1,14 +1,14 @@
 -- A lease's next call, after an answer and in a settling: its area is that of its calls before, and what it looks for it owes.
-use Rattle.sl_acts.proofs.Pairs.Decisions.{begin_cases, within_cases}
-use Rattle.sl_acts.specs.Acts.{Has, Hears, next_of_settling}
-use Rattle.sl_acts.specs.SoFar.{entry_of}
+use Rattle.sl_due_facts.proofs.Acts.Pairs.Decisions.{begin_cases, within_cases}
+use Rattle.sl_due_facts.specs.Acts.Acts.{Has, Hears, next_of_settling}
+use Rattle.sl_due_facts.specs.Acts.TraceSoFar.{entry_of}
 use Rattle.sl_area.specs.Places.{is_base}
 use Rattle.sl_due.specs.DueLease.{carry_lease, next_of_lease}
 use Rattle.sl_due.specs.Steps.{Step, seen}
 use Rattle.sl_due_leases.proofs.Grants.WorksByAnswers.{new_spot}
 use Rattle.sl_due_leases.proofs.Holdings.LeaseCallers.{heard_call, spot_aligned}
-use Rattle.sl_due_leases.proofs.Ways.Kept.LinesReady.{none_open}
-use Rattle.sl_due_law.specs.Whole.Kept.{Kept}
+use Rattle.sl_due_leases.proofs.Ways.WayFactsHeld.LinesReady.{none_open}
+use Rattle.sl_due_law.specs.LawfulTraces.CarriedFacts.{Kept}
 use Rattle.sl_run.specs.Lawful.{IsSetting}
 use Rattle.sl_trace.specs.LeaseWork.{LeasePlace, lease_place, owes_block, settle_begin, settle_next, settle_owed, within_turn}
 use Rattle.sl_trace.specs.Leases.{LeaseKnown, block_written, exclusive_on, has_shared_on, is_lease_call, is_on, known, known_of, lease_calls, lease_step, lver_written, open_on, owed, spot_of_call}
@@ -17,11 +17,11 @@ use Rattle.sl_trace.specs.declared.lease.Aim.{Aim}
 use Rattle.sl_trace.specs.declared.lease.Owed.{Owed}
 use Rattle.sl_trace.specs.declared.lease.LeaseNext.{LeaseNext}
 use Rattle.sl_trace.specs.declared.lease.LeaseNext.TheVariants.{AnswerJob, BecomeExclusive, BecomeShared, GrantJob, Nothing as No_lease, ReadFor, WriteBlock, WriteLeader}
-use Rattle.sl_plain.proofs.Lists.{contains_first, got_inside, kept_inside}
+use Rattle.sl_words.proofs.Lists.{contains_first, got_inside, kept_inside}
 use Rattle.sl_trace.specs.Sessions.{calls_of, is_call_of, me, sessions}
 use Rattle.sl_trace.specs.declared.session.Session.{Session}
 use Rattle.sl_step_law.proofs.LooksAreOwed.{LooksOwed, answers_look, owed_writer, settlings_look}
-use Rattle.sl_step_law.specs.Standing.{CallsStand, WroteBlock}
+use Rattle.sl_step_law.specs.CallsStand.{CallsStand, WroteBlock}
 use Rattle.sl_trace.specs.Traces.{Setting, Submitted, mark, new_call, submitted}
 use Rattle.sl_trace.specs.declared.effects.Call.{Call}
 use Rattle.sl_trace.specs.declared.effects.LeaseStep.{LeaseStep}
@@ -30,14 +30,14 @@ use Rattle.sl_trace.specs.declared.effects.Spot.{Spot}
 use Rattle.sl_trace.specs.declared.effects.Work.{Work}
 use Rattle.sl_trace.specs.declared.effects.Work.TheVariants.{Settling}
 use Rattle.sl_trace.specs.declared.input.Answer.{Answer}
-use Rattle.sl_trace_law.proofs.Sessions.Making.{IsNewCall, WasOpen, old_or_new, was_marked}
+use Rattle.sl_run_law.proofs.Sessions.CallsAreMade.{IsNewCall, WasOpen, old_or_new, was_marked}
 use Rattle.sl_words.proofs.CaseLaws.{none_some, true_is_false}
 use Rattle.sl_words.proofs.WordLaws.{and_true}
 use Rattle.sl_host_law.proofs.Replies.PlainNumbers.{same_number}
 use Rattle.std.proofs.Common.{ap, inl, inr, refl, subst, sym, ◌∙◌}
 use Rattle.sl_step_law.proofs.CallsOnPast.{OnPast, finish, standing}
 use Rattle.sl_step_law.proofs.LeasesOnPast.{Owes, WroteThere, carried}
-use Rattle.sl_trace.specs.Watching.{counts_over}
+use Rattle.sl_trace.specs.Sightings.{counts_over}
 use Rattle.std.specs.Prelude.{Bool, Contains, IsTrue, List, None, Option, Some, [], false, is_some, length, option_map, slice_get, true, ◌%◌, ◌&&◌, ◌∷◌, ◌≡◌, ◌⊎◌}
 
 abbrev pub Known : Step → Type 0

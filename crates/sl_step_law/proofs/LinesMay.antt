@@ -1,38 +1,38 @@
 -- What a line comes to may be done: a lease on a calm area waits for nothing, and who gives up, converts or sets has a lease there.
 use Rattle.sl_area.specs.Layouts.{IsGeometry, Layout, Sizes}
-use Rattle.sl_acts.proofs.Pairs.Decisions.{within_cases}
+use Rattle.sl_due_facts.proofs.Acts.Pairs.Decisions.{within_cases}
 use Rattle.sl_area.specs.Places.{area_sectors, leader_offset, leader_record, value_offset}
 use Rattle.sl_due.specs.Steps.{Step, seen, with_input}
 use Rattle.sl_due.specs.declared.decision.Decision.TheVariants.{ConvertsTo, GetsValue, GivesUp, Joins, Leaves, ReadsArea, Replies, Requests, SetsValue, Shares, TakesOver}
 use Rattle.sl_due.specs.declared.decision.Decision.{Decision}
 use Rattle.sl_due_leases.proofs.Holdings.DecisionsHaveGrounds.{decisions_have_grounds}
 use Rattle.sl_due_leases.proofs.Holdings.LeaseConversions.{spot_is}
-use Rattle.sl_due_leases.proofs.Ways.Kept.LinesReady.{base_aligned, named_base}
+use Rattle.sl_due_leases.proofs.Ways.WayFactsHeld.LinesReady.{base_aligned, named_base}
 use Rattle.sl_due_leases.specs.Holdings.DecisionGrounds.{AsksLease, HasGrounds, Releases}
-use Rattle.sl_host_law.proofs.Calls.Calls.SpotsMore.{one_spot}
+use Rattle.sl_host_law.proofs.Calls.MemberCalls.SpotsMore.{one_spot}
 use Rattle.sl_host_law.proofs.Decisions.CommandsAreDecided.{commands_are_decided}
-use Rattle.sl_host_law.proofs.Plain.PlainLists.{at_some, in_back}
+use Rattle.sl_host_law.proofs.SharedFacts.PlainLists.{at_some, in_back}
 use Rattle.sl_host_law.proofs.Questions.MembersAnswer.{members_answer}
 use Rattle.sl_host_law.proofs.Steps.AreasLie.{has_room, placed}
 use Rattle.sl_host_law.specs.Answers.Grants.{ended, given_up}
-use Rattle.sl_host_law.specs.Answers.Leasing.{BeginsArea, MayCarryLease, MayWork, block_at, record_at}
+use Rattle.sl_host_law.specs.Answers.LeaseDecisions.{BeginsArea, MayCarryLease, MayWork, block_at, record_at}
 use Rattle.sl_host_law.specs.Answers.LeasesGoOn.{IsPlacedAt}
-use Rattle.sl_host_law.specs.Calls.Calls.{fits_lease, fits_value, is_idle_job, is_leaving_alone}
-use Rattle.sl_host_law.specs.Decisions.Deciding.{decision_of, held_of}
-use Rattle.sl_host_law.specs.Decisions.Promises.{LastIsEnough}
-use Rattle.sl_host_law.specs.Parts.Lines.{HeardBy}
-use Rattle.sl_host_law.specs.Replies.Replies.{is_plain_line}
+use Rattle.sl_host_law.specs.Calls.MemberCalls.{fits_lease, fits_value, is_idle_job, is_leaving_alone}
+use Rattle.sl_host_law.specs.Decisions.CommandDecisions.{decision_of, held_of}
+use Rattle.sl_host_law.specs.Decisions.DecisionLaws.{LastIsEnough}
+use Rattle.sl_host_law.specs.StepParts.Lines.{HeardBy}
+use Rattle.sl_host_law.specs.Replies.RepliesAreTaken.{is_plain_line}
 use Rattle.sl_host_law.specs.Steps.Leases.{converting_next, known_at, releasing_next}
-use Rattle.sl_host_law.specs.Steps.Lining.{IsLeased, MayDecide}
+use Rattle.sl_host_law.specs.Steps.LinesFollow.{IsLeased, MayDecide}
 use Rattle.sl_host_law.specs.Questions.Answers.{place_in}
-use Rattle.sl_host_state.specs.Hears.{heard_line, leaves_member, member_leaving, new_job}
-use Rattle.sl_host_state.specs.Kept.{Config, HostState, LeaseState, MemberState}
-use Rattle.sl_host_state.specs.Makes.{is_lease_on, next_submitted}
-use Rattle.sl_host_state.specs.New.{sizes_in}
+use Rattle.sl_host_state.specs.HeardInputs.{heard_line, leaves_member, member_leaving, new_job}
+use Rattle.sl_host_state.specs.KeptState.{Config, HostState, LeaseState, MemberState}
+use Rattle.sl_host_state.specs.MadeEffects.{is_lease_on, next_submitted}
+use Rattle.sl_host_state.specs.NewHost.{sizes_in}
 use Rattle.sl_host_state.specs.Passes.{whos}
-use Rattle.sl_host_state.specs.Stands.{IsWaiting, LeaseStands}
-use Rattle.sl_host_state.specs.declared.kept.JobState.{JobState}
-use Rattle.sl_host_state.specs.declared.kept.LeaseCall.{LeaseCall}
+use Rattle.sl_host_state.specs.HostStands.{IsWaiting, LeaseStands}
+use Rattle.sl_host_state.specs.declared.kept_parts.JobState.{JobState}
+use Rattle.sl_host_state.specs.declared.kept_parts.LeaseCall.{LeaseCall}
 use Rattle.sl_trace.specs.Jobs.{resource_named}
 use Rattle.sl_trace.specs.LeaseWork.{convert_next, release_next, within_turn}
 use Rattle.sl_trace.specs.Leases.{LeaseKnown, holdings_on, is_lease_call, is_on, lease_calls, open_on, spot_of}
@@ -41,7 +41,7 @@ use Rattle.sl_trace.specs.declared.lease.LeaseNext.TheVariants.{AnswerJob, Nothi
 use Rattle.sl_trace.specs.declared.lease.Aim.TheVariants.{Converts, Releases as Releasing}
 use Rattle.sl_trace.specs.declared.reply.Reply.{Reply}
 use Rattle.sl_trace.specs.LeaseWork.{LeasePlace}
-use Rattle.sl_plain.proofs.Lists.{any_of, contains_first, contains_map, contains_none, find_inside, got_inside, in_map, kept as kept_in, kept_inside}
+use Rattle.sl_words.proofs.Lists.{any_of, contains_first, contains_map, contains_none, find_inside, got_inside, in_map, kept as kept_in, kept_inside}
 use Rattle.sl_sector.specs.declared.sector.Block.{Block}
 use Rattle.sl_sector.specs.declared.sector.Leader.{Leader}
 use Rattle.sl_sector.specs.declared.sector.Rec.TheVariants.{ValueIs}
@@ -52,7 +52,7 @@ use Rattle.sl_trace.specs.declared.session.Session.{Session}
 use Rattle.sl_step_law.proofs.HoldersLeased.{holdings_are_known}
 use Rattle.sl_step_law.proofs.LeasesMake.{may_read, may_write_block, may_write_leader, some_room}
 use Rattle.sl_step_law.specs.Lines.{LinesMay}
-use Rattle.sl_step_law.specs.Ready.{IsReady}
+use Rattle.sl_step_law.specs.ReadyHosts.{IsReady}
 use Rattle.sl_trace.specs.Traces.{Submitted, is_shared, outstanding, same_place, spot_of_grant, submitted}
 use Rattle.sl_trace.specs.declared.command.Command.{Command}
 use Rattle.sl_trace.specs.declared.command.ResourceArg.{ResourceArg}
@@ -68,7 +68,7 @@ use Rattle.sl_trace.specs.declared.effects.Work.TheVariants.{ForJob}
 use Rattle.sl_trace.specs.declared.input.Input.TheVariants.{Line, Wake}
 use Rattle.sl_words.proofs.CaseLaws.{some_value, true_is_false}
 use Rattle.sl_words.proofs.WordLaws.{and_true}
-use Rattle.sl_plain.proofs.Numbers.{number_itself}
+use Rattle.sl_words.proofs.Numbers.{number_itself}
 use Rattle.std.proofs.Common.{ap, arith, inl, inr, refl, subst, sym, ◌∙◌}
 use Rattle.std.proofs.lemmas.Bool.Decides.{nat_tests}
 use Rattle.std.proofs.lemmas.Slice.Eq.{bytes_eq-Decides}

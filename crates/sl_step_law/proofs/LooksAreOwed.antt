@@ -1,5 +1,5 @@
 -- A lease looks, at its area before a free or at the blocks before a block, only where it owes what it looks for; and what is owed follows a block.
-use Rattle.sl_acts.proofs.Pairs.Decisions.{begin_cases, within_cases}
+use Rattle.sl_due_facts.proofs.Acts.Pairs.Decisions.{begin_cases, within_cases}
 use Rattle.sl_area.specs.Layouts.{Layout}
 use Rattle.sl_area.specs.Places.{blocks_of, leader_read}
 use Rattle.sl_due_leases.proofs.Ways.NextsFit.WritesFit.{left_is_won}
@@ -17,8 +17,8 @@ use Rattle.sl_trace.specs.declared.lease.LeaseNext.{LeaseNext}
 use Rattle.sl_trace.specs.declared.lease.Owed.TheVariants.{BallotOwed, FreeOwed, ModeOwed}
 use Rattle.sl_trace.specs.declared.lease.Owed.{Owed}
 use Rattle.sl_trace.specs.declared.lease.Stop.{Stop}
-use Rattle.sl_plain.proofs.Lists.{contains_first, contains_more}
-use Rattle.sl_plain.proofs.Options.{then_value}
+use Rattle.sl_words.proofs.Lists.{contains_first, contains_more}
+use Rattle.sl_words.proofs.Options.{then_value}
 use Rattle.sl_sector.specs.declared.sector.Block.{Block}
 use Rattle.sl_sector.specs.declared.sector.Leader.{Leader}
 use Rattle.sl_sector.specs.declared.sector.Owner.{Owner}
@@ -32,7 +32,7 @@ use Rattle.sl_trace.specs.declared.reply.Limited.TheVariants.{Lver as LverLimit,
 use Rattle.sl_trace.specs.declared.reply.Reply.TheVariants.{Held as HeldBy, IoFault, Limit as LimitReached, Shared as SharedBy, TornBlock, TornLeader, WrongArea}
 use Rattle.sl_trace.specs.declared.reply.Reply.{Reply}
 use Rattle.sl_words.proofs.CaseLaws.{none_some, true_is_false}
-use Rattle.sl_step_law.specs.Standing.{is_look}
+use Rattle.sl_step_law.specs.CallsStand.{is_look}
 use Rattle.sl_words.specs.Bounds.{is_number}
 use Rattle.sl_words.specs.Words.{choose, present, some_is}
 use Rattle.std.proofs.Common.{ap, refl, sym}

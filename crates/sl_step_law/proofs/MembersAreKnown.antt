@@ -1,29 +1,29 @@
 -- What is known of a session's own sector, told of its member.
-use Rattle.sl_acts.proofs.InputsKeep.{answer_keeps, other_acts, others_keep}
-use Rattle.sl_acts.proofs.StepsKeep.{arrives_as_expected, at_input, bare_at_input, expected_there, head_keeps, step_keeps}
-use Rattle.sl_acts.proofs.WakesKeep.{wake_keeps}
-use Rattle.sl_acts.specs.Acts.{Expects}
+use Rattle.sl_due_facts.proofs.Acts.InputsKeep.{answer_keeps, other_acts, others_keep}
+use Rattle.sl_due_facts.proofs.Acts.StepsKeep.{arrives_as_expected, at_input, bare_at_input, expected_there, head_keeps, step_keeps}
+use Rattle.sl_due_facts.proofs.Acts.WakesKeep.{wake_keeps}
+use Rattle.sl_due_facts.specs.Acts.Acts.{Expects}
 use Rattle.sl_due.specs.Due.{before_input, due_step}
 use Rattle.sl_due.specs.DueFirst.{begin_recoveries}
 use Rattle.sl_due.specs.DueInputs.{take_input}
 use Rattle.sl_due.specs.DueWake.{is_wake, on_wake}
 use Rattle.sl_due.specs.Steps.{Step, begin_step, seen, when}
-use Rattle.sl_due_law.proofs.Whole.AllIsKept.{all_begins, all_is_kept}
-use Rattle.sl_due_law.proofs.Whole.TracesHold.{traces_hold}
-use Rattle.sl_due_law.specs.Whole.Kept.{Kept}
-use Rattle.sl_host_law.proofs.Plain.MembersAreSessions.{member_inside}
-use Rattle.sl_host_law.proofs.Plain.PlainLists.{at_some}
-use Rattle.sl_host_law.proofs.Plain.SessionNumbers.{below_count}
-use Rattle.sl_host_law.specs.Steps.Whole.{entry_at}
-use Rattle.sl_host_state.specs.Kept.{HostState, MemberState}
-use Rattle.sl_host_state.specs.Stands.{MemberStands, Stands}
-use Rattle.sl_plain.proofs.Lists.{find_inside}
+use Rattle.sl_due_law.proofs.LawfulTraces.AllIsKept.{all_begins, all_is_kept}
+use Rattle.sl_due_law.proofs.LawfulTraces.TracesHold.{traces_hold}
+use Rattle.sl_due_law.specs.LawfulTraces.CarriedFacts.{Kept}
+use Rattle.sl_host_law.proofs.SharedFacts.MembersAreSessions.{member_inside}
+use Rattle.sl_host_law.proofs.SharedFacts.PlainLists.{at_some}
+use Rattle.sl_host_law.proofs.SharedFacts.SessionNumbers.{below_count}
+use Rattle.sl_host_law.specs.Steps.StepsFollow.{entry_at}
+use Rattle.sl_host_state.specs.KeptState.{HostState, MemberState}
+use Rattle.sl_host_state.specs.HostStands.{MemberStands, Stands}
+use Rattle.sl_words.proofs.Lists.{find_inside}
 use Rattle.sl_trace.specs.Sessions.{calls_of, free_write, is_joined, leaving_job, sessions}
 use Rattle.sl_trace.specs.declared.delta.DeltaKnown.{DeltaKnown}
 use Rattle.sl_trace.specs.declared.session.Begun.{Begun}
 use Rattle.sl_trace.specs.declared.session.Renewing.{Renewing}
 use Rattle.sl_step_law.specs.Members.{MemberIsKnown, MembersAreKnown, StepsAreKept}
-use Rattle.sl_step_law.specs.Ready.{InputComes}
+use Rattle.sl_step_law.specs.ReadyHosts.{InputComes}
 use Rattle.sl_trace.specs.Traces.{Job, Setting, Submitted, Trace}
 use Rattle.sl_trace.specs.declared.input.Answer.{Answer}
 use Rattle.sl_trace.specs.declared.input.Input.TheVariants.{Answer as Told, Exit, Line, Number, Spawned, Wake}

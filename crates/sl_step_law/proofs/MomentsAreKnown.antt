@@ -1,8 +1,8 @@
 -- The moments of a step: up to each the host follows it, and all that each act keeps is kept.
-use Rattle.sl_acts.proofs.InputsKeep.{answer_keeps, other_acts, others_keep}
-use Rattle.sl_acts.proofs.StepsKeep.{arrives_as_expected, at_input, bare_at_input, expected_there, head_keeps, step_keeps}
-use Rattle.sl_acts.proofs.WakesKeep.{wake_keeps}
-use Rattle.sl_acts.specs.Acts.{Expects}
+use Rattle.sl_due_facts.proofs.Acts.InputsKeep.{answer_keeps, other_acts, others_keep}
+use Rattle.sl_due_facts.proofs.Acts.StepsKeep.{arrives_as_expected, at_input, bare_at_input, expected_there, head_keeps, step_keeps}
+use Rattle.sl_due_facts.proofs.Acts.WakesKeep.{wake_keeps}
+use Rattle.sl_due_facts.specs.Acts.Acts.{Expects}
 use Rattle.sl_due.specs.Due.{after_input, before_input, due_step}
 use Rattle.sl_due.specs.DueFirst.{begin_recoveries}
 use Rattle.sl_due.specs.DueInputs.{take_input}
@@ -18,22 +18,22 @@ use Rattle.sl_host_law.proofs.Steps.SettlingsWake.{wakes_follow}
 use Rattle.sl_host_law.proofs.Steps.SoundParts.{IsCut, Was, sound_cut}
 use Rattle.sl_host_law.specs.Replies.Answers.{IsOpen}
 use Rattle.sl_host_law.specs.Steps.Inputs.{taking}
-use Rattle.sl_host_law.specs.Steps.Sound.{IsSound}
-use Rattle.sl_host_law.specs.Steps.Stepping.{before_taking, stepping}
-use Rattle.sl_host_law.specs.Steps.Wakes.{waking}
-use Rattle.sl_host_law.specs.Steps.Whole.{MayTake, entry_at}
-use Rattle.sl_host_state.specs.Hears.{begun, heard_answer, hearing, is_over_with, member_hearing}
-use Rattle.sl_host_state.specs.Kept.{HostState, MemberState}
-use Rattle.sl_host_state.specs.Stands.{Stands}
-use Rattle.sl_host_state.specs.declared.kept.OpenCall.{OpenCall}
-use Rattle.sl_plain.proofs.Lists.{in_map, kept_inside}
+use Rattle.sl_host_law.specs.Steps.SoundHosts.{IsSound}
+use Rattle.sl_host_law.specs.Steps.StepFunction.{before_taking, stepping}
+use Rattle.sl_host_law.specs.Steps.WakePasses.{waking}
+use Rattle.sl_host_law.specs.Steps.StepsFollow.{MayTake, entry_at}
+use Rattle.sl_host_state.specs.HeardInputs.{begun, heard_answer, hearing, is_over_with, member_hearing}
+use Rattle.sl_host_state.specs.KeptState.{HostState, MemberState}
+use Rattle.sl_host_state.specs.HostStands.{Stands}
+use Rattle.sl_host_state.specs.declared.kept_parts.OpenCall.{OpenCall}
+use Rattle.sl_words.proofs.Lists.{in_map, kept_inside}
 use Rattle.sl_step_law.proofs.CallsAreStanding.{begun_known, known_is_kept, ready_stand, traces_stand}
 use Rattle.sl_step_law.proofs.HostsAreReady.{hosts_are_ready}
 use Rattle.sl_step_law.proofs.LeasesStandOn.{Known}
 use Rattle.sl_step_law.proofs.StepsAreTaken.{steps_are_taken}
 use Rattle.sl_step_law.specs.Moments.{IsMoment, MomentsAreKnown, taken_host, taken_step}
-use Rattle.sl_step_law.specs.Ready.{InputComes, IsReady}
-use Rattle.sl_step_law.specs.Whole.{MayCome}
+use Rattle.sl_step_law.specs.ReadyHosts.{InputComes, IsReady}
+use Rattle.sl_step_law.specs.StepsAreTaken.{MayCome}
 use Rattle.sl_trace.specs.Traces.{Setting, Trace, is_expected}
 use Rattle.sl_trace.specs.declared.effects.Effects.{Effects}
 use Rattle.sl_trace.specs.declared.input.Answer.{Answer}

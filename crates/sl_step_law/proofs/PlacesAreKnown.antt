@@ -2,27 +2,27 @@
 use Rattle.sl_area.specs.Layouts.{Layout}
 use Rattle.sl_area.specs.Places.{is_base}
 use Rattle.sl_due.specs.Steps.{Step, seen}
-use Rattle.sl_due_law.specs.Whole.Kept.{Kept}
+use Rattle.sl_due_law.specs.LawfulTraces.CarriedFacts.{Kept}
 use Rattle.sl_due_facts.proofs.Jobs.JobsAreNumbered.{command_is_read}
 use Rattle.sl_due_facts.proofs.Jobs.SessionsHaveJobs.{given_one, joined_by}
 use Rattle.sl_due_facts.proofs.Sessions.JoinedNumbers.{spelled_of}
-use Rattle.sl_host_law.proofs.Plain.MembersAreSessions.{member_inside}
-use Rattle.sl_host_law.proofs.Plain.PlainLists.{at_some, each_of}
+use Rattle.sl_host_law.proofs.SharedFacts.MembersAreSessions.{member_inside}
+use Rattle.sl_host_law.proofs.SharedFacts.PlainLists.{at_some, each_of}
 use Rattle.sl_host_law.proofs.Steps.LeasesAreKnown.{kept_tops}
-use Rattle.sl_host_state.specs.Kept.{Config, HostState, MemberState}
-use Rattle.sl_host_state.specs.Stands.{Stands}
+use Rattle.sl_host_state.specs.KeptState.{Config, HostState, MemberState}
+use Rattle.sl_host_state.specs.HostStands.{Stands}
 use Rattle.sl_run.specs.Lawful.{IsGiven, IsSetting}
 use Rattle.sl_lease.specs.Bounds.{IsInstance}
 use Rattle.sl_trace.specs.Leases.{is_lease_call, is_on, leader_of_record}
-use Rattle.sl_plain.proofs.Lists.{kept_inside}
-use Rattle.sl_plain.proofs.Options.{then_value}
+use Rattle.sl_words.proofs.Lists.{kept_inside}
+use Rattle.sl_words.proofs.Options.{then_value}
 use Rattle.sl_sector.specs.Records.{Fits, IsLeader, IsRecord}
 use Rattle.sl_sector.specs.declared.sector.Leader.{Leader}
 use Rattle.sl_sector.specs.declared.sector.Rec.{Rec}
 use Rattle.sl_sector.specs.declared.sector.Rec.TheVariants.{BlockIs, DeltaIs, LeaderIs, PairIs, PairLeaderIs, RequestIs, ValueIs}
 use Rattle.sl_trace.specs.Sessions.{calls_of, is_call_of, sessions}
 use Rattle.sl_trace.specs.declared.session.Session.{Session}
-use Rattle.sl_step_law.specs.Placed.{PlacesAreKnown}
+use Rattle.sl_step_law.specs.KnownPlaces.{PlacesAreKnown}
 use Rattle.sl_trace.specs.Commands.{IsLockspaceArg}
 use Rattle.sl_trace.specs.Traces.{Setting, Submitted, Trace, holdings, is_shared, record_of, spot_of_grant, submitted}
 use Rattle.sl_trace.specs.declared.command.Command.TheVariants.{AddLockspace}

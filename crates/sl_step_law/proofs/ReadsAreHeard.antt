@@ -1,14 +1,14 @@
 -- A lease that has heard a read which isn't made once more: it keeps the greatest number of the blocks that the read gave, and the name of the resource
 -- that was sought, where the leader verified it. A second read is heard with what is kept of the first one.
-use Rattle.sl_acts.proofs.Pairs.Decisions.{not_asked}
+use Rattle.sl_due_facts.proofs.Acts.Pairs.Decisions.{not_asked}
 use Rattle.sl_area.specs.Layouts.{Layout}
 use Rattle.sl_area.specs.Places.{BlocksRead, blocks_of, leader_read, needs_again, pairs_kept, read_once}
-use Rattle.sl_host_state.specs.Hears.{blocks_heard, is_area_step, kept_heard, lease_hearing, read_heard, top_hearing, verified_at}
-use Rattle.sl_host_state.specs.Kept.{LeaseState, PairState}
-use Rattle.sl_host_state.specs.Stands.{first_read}
-use Rattle.sl_host_state.specs.declared.kept.LeaseCall.{LeaseCall}
-use Rattle.sl_host_state.specs.declared.kept.OpenCall.{OpenCall}
-use Rattle.sl_lease.specs.Asked.{heard_with, leader_given, read_given}
+use Rattle.sl_host_state.specs.HeardInputs.{blocks_heard, is_area_step, kept_heard, lease_hearing, read_heard, top_hearing, verified_at}
+use Rattle.sl_host_state.specs.KeptState.{LeaseState, PairState}
+use Rattle.sl_host_state.specs.HostStands.{first_read}
+use Rattle.sl_host_state.specs.declared.kept_parts.LeaseCall.{LeaseCall}
+use Rattle.sl_host_state.specs.declared.kept_parts.OpenCall.{OpenCall}
+use Rattle.sl_lease.specs.LeaseQuestions.{heard_with, leader_given, read_given}
 use Rattle.sl_lease.specs.Steps.{is_first_step, is_read_step}
 use Rattle.sl_sector.specs.declared.sector.Leader.{Leader}
 use Rattle.sl_sector.specs.declared.sector.Owner.{Owner}

@@ -1,7 +1,7 @@
 -- Each act keeps where calls stand: of a session on its own sectors, of a command on the area that it names, of a lease on that of its calls before.
-use Rattle.sl_acts.proofs.DecisionsAreTheirs.{decisions_are_theirs}
-use Rattle.sl_acts.specs.Acts.{Acts, Has}
-use Rattle.sl_acts.specs.Promises.{IsDecidedFor}
+use Rattle.sl_due_facts.proofs.Acts.DecisionsAreTheirs.{decisions_are_theirs}
+use Rattle.sl_due_facts.specs.Acts.Acts.{Acts, Has}
+use Rattle.sl_due_facts.specs.Acts.DueDaemons.{IsDecidedFor}
 use Rattle.sl_area.specs.Places.{delta_offset, is_base, request_offset, value_offset}
 use Rattle.sl_due.specs.DueAnswers.{set_reply}
 use Rattle.sl_due.specs.DueCommands.{carry_decision}
@@ -14,17 +14,17 @@ use Rattle.sl_due_facts.proofs.Jobs.DecisionsFit.{DecisionFits, decisions_fit}
 use Rattle.sl_due_facts.proofs.Jobs.EffectsAreAllowed.{DecisionAllowed, RequestAllowed, decision, delta, ended, exited, left, refusal, removal_of_refused, requested, said, sent, signalled, stopped}
 use Rattle.sl_due_facts.proofs.Jobs.JobsAreNumbered.{command_is_read}
 use Rattle.sl_due_facts.proofs.Jobs.NearlyPlainActs.{AnyMove, AnyStart, Anything, grant_plain}
-use Rattle.sl_due_leases.proofs.Ways.Kept.LinesReady.{named_base}
-use Rattle.sl_due_law.specs.Whole.Kept.{Kept}
+use Rattle.sl_due_leases.proofs.Ways.WayFactsHeld.LinesReady.{named_base}
+use Rattle.sl_due_law.specs.LawfulTraces.CarriedFacts.{Kept}
 use Rattle.sl_run.specs.Lawful.{IsSetting}
 use Rattle.sl_trace.specs.Jobs.{job_of_start, resource_named}
 use Rattle.sl_trace.specs.Leases.{exclusive_on, holdings_on, spot_of}
-use Rattle.sl_plain.proofs.Lists.{find_inside, got_inside, kept_inside}
+use Rattle.sl_words.proofs.Lists.{find_inside, got_inside, kept_inside}
 use Rattle.sl_trace.specs.Sessions.{holdings_of, is_present, sessions}
 use Rattle.sl_trace.specs.declared.delta.DeltaNext.{DeltaNext}
 use Rattle.sl_trace.specs.declared.session.Session.{Session}
 use Rattle.sl_step_law.proofs.OffsetsAreWhole.{base_at_sector, delta_whole, request_whole, value_whole}
-use Rattle.sl_step_law.specs.Standing.{CallsStand}
+use Rattle.sl_step_law.specs.CallsStand.{CallsStand}
 use Rattle.sl_trace.specs.Commands.{IsCommand, IsLockspaceArg}
 use Rattle.sl_trace.specs.Traces.{Setting, Trace, end_of, holdings, next_job, same_place, spot_of_grant}
 use Rattle.sl_trace.specs.declared.command.Command.{Command}
@@ -49,10 +49,10 @@ use Rattle.std.specs.Prelude.{Contains, IsTrue, List, None, Some, not, ℕ, ◌=
 use Rattle.sl_step_law.proofs.CallsOnPast.{Calls, OnPast, StandsAs, allows, one_more, plain, delta_stands}
 use Rattle.sl_step_law.proofs.LeasesOnPast.{head, released, turned}
 use Rattle.sl_step_law.proofs.LeasesStandOn.{Known, ends_so, heard_there, leads, settled, starts_so}
-use Rattle.sl_acts.specs.Promises.{IsPresent}
+use Rattle.sl_due_facts.specs.Acts.DueDaemons.{IsPresent}
 use Rattle.sl_due_facts.proofs.Jobs.EffectsAreAllowed.{removal}
 use Rattle.sl_due.specs.DueDelta.{carry_delta}
-use Rattle.sl_host_law.proofs.Plain.PlainOrders.{ordered_inside}
+use Rattle.sl_host_law.proofs.SharedFacts.PlainOrders.{ordered_inside}
 use Rattle.sl_words.specs.Orders.{is_text_before}
 use Rattle.sl_trace.specs.Traces.{is_shared}
 use Rattle.sl_trace.specs.declared.effects.Purpose.TheVariants.{RequestWrite, ValueRead, ValueWrite}

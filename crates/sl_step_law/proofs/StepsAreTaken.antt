@@ -1,20 +1,20 @@
 -- The whole of a step, of an input that may come.
-use Rattle.sl_acts.proofs.StepsKeep.{expected_there}
+use Rattle.sl_due_facts.proofs.Acts.StepsKeep.{expected_there}
 use Rattle.sl_due.specs.Due.{before_input}
 use Rattle.sl_due.specs.Steps.{Step, begin_step}
 use Rattle.sl_host_law.proofs.Steps.StepsFollow.{steps_follow}
-use Rattle.sl_host_law.specs.Steps.Stepping.{before_taking}
-use Rattle.sl_host_law.specs.Steps.Whole.{MayTake, StepComes}
-use Rattle.sl_host_state.specs.Hears.{begun}
-use Rattle.sl_host_state.specs.Kept.{HostState}
-use Rattle.sl_plain.proofs.Lists.{find_inside}
-use Rattle.sl_host_state.specs.declared.kept.OpenCall.{OpenCall}
+use Rattle.sl_host_law.specs.Steps.StepFunction.{before_taking}
+use Rattle.sl_host_law.specs.Steps.StepsFollow.{MayTake, StepComes}
+use Rattle.sl_host_state.specs.HeardInputs.{begun}
+use Rattle.sl_host_state.specs.KeptState.{HostState}
+use Rattle.sl_words.proofs.Lists.{find_inside}
+use Rattle.sl_host_state.specs.declared.kept_parts.OpenCall.{OpenCall}
 use Rattle.sl_step_law.proofs.AnswersAreKnown.{answers_are_known}
 use Rattle.sl_step_law.proofs.ConversionsMay.{conversions_may}
 use Rattle.sl_step_law.proofs.HostsAreReady.{hosts_are_ready}
 use Rattle.sl_step_law.proofs.LinesMay.{lines_may}
-use Rattle.sl_step_law.specs.Ready.{InputComes, IsReady}
-use Rattle.sl_step_law.specs.Whole.{IsPlainInput, MayCome, StepsAreTaken}
+use Rattle.sl_step_law.specs.ReadyHosts.{InputComes, IsReady}
+use Rattle.sl_step_law.specs.StepsAreTaken.{IsPlainInput, MayCome, StepsAreTaken}
 use Rattle.sl_trace.specs.Traces.{Setting, Trace, is_expected}
 use Rattle.sl_trace.specs.declared.input.Input.TheVariants.{Answer as Told, Exit, Line, Number, Spawned, Wake}
 use Rattle.sl_trace.specs.declared.input.Input.{Input}

@@ -1,27 +1,27 @@
 -- The versions of a session's values on an area fall from the instance of its own block on: who sets a value holds the resource exclusive, and
 -- its own block is in the instance held; and that block's instance never falls.
-use Rattle.sl_acts.specs.SoFar.{entry_of}
+use Rattle.sl_due_facts.specs.Acts.TraceSoFar.{entry_of}
 use Rattle.sl_due.specs.Due.{IsHostTrace}
 use Rattle.sl_due.specs.Steps.{Step, seen}
 use Rattle.sl_due_leases.proofs.Grants.WorksByAnswers.{new_spot}
 use Rattle.sl_due_leases.proofs.Holdings.LeaseConversions.{spot_is}
 use Rattle.sl_due_leases.proofs.Ways.WayNumbers.{goes_up, lver_of, own_lver}
-use Rattle.sl_due_law.proofs.Whole.TracesHold.{traces_hold}
+use Rattle.sl_due_law.proofs.LawfulTraces.TracesHold.{traces_hold}
 use Rattle.sl_due_facts.specs.Facts.CallFacts.{CallFacts}
-use Rattle.sl_due_facts.specs.Facts.Heard.{heard_by}
+use Rattle.sl_due_facts.specs.Facts.HeardCall.{heard_by}
 use Rattle.sl_due_facts.specs.Facts.HoldingFacts.{HoldingFacts, StandsExclusive}
 use Rattle.sl_due_facts.specs.Facts.WayFacts.{IsAligned, WayContext, Ways, way_context}
-use Rattle.sl_due_facts.specs.Facts.Whole.{Facts}
-use Rattle.sl_due_law.specs.Whole.Kept.{Holds, Kept}
-use Rattle.sl_host_law.proofs.Plain.PlainLists.{at_some}
+use Rattle.sl_due_facts.specs.Facts.AllFacts.{Facts}
+use Rattle.sl_due_law.specs.LawfulTraces.CarriedFacts.{Holds, Kept}
+use Rattle.sl_host_law.proofs.SharedFacts.PlainLists.{at_some}
 use Rattle.sl_host_law.proofs.Replies.PlainNumbers.{same_number}
-use Rattle.sl_host_law.specs.Decisions.Promises.{AreFalling}
+use Rattle.sl_host_law.specs.Decisions.DecisionLaws.{AreFalling}
 use Rattle.sl_run.specs.Lawful.{IsSetting}
 use Rattle.sl_run.specs.LawfulValue.{LawfulValue, LawfulValueWrite}
-use Rattle.sl_run.specs.Saying.{cut_at}
+use Rattle.sl_run.specs.LawForms.{cut_at}
 use Rattle.sl_trace.specs.Counts.{values_on}
 use Rattle.sl_trace.specs.Leases.{block_of_record, block_submitted, block_written, holdings_on, is_lease_call, is_on, lease_calls, lease_step, value_of_record, value_written}
-use Rattle.sl_plain.proofs.Lists.{contains_first, contains_more, find_inside, got_inside, kept_inside}
+use Rattle.sl_words.proofs.Lists.{contains_first, contains_more, find_inside, got_inside, kept_inside}
 use Rattle.sl_sector.specs.declared.sector.Block.{Block}
 use Rattle.sl_sector.specs.declared.sector.ValueRec.{ValueRec}
 use Rattle.sl_trace.specs.Sessions.{calls_of, holdings_of, is_call_of, session_numbered, sessions}
@@ -33,9 +33,9 @@ use Rattle.sl_trace.specs.declared.effects.Grant.{Grant}
 use Rattle.sl_trace.specs.declared.effects.Spot.{Spot}
 use Rattle.sl_trace.specs.declared.input.Input.TheVariants.{Answer as Told, Exit, Line, Number, Spawned, Wake}
 use Rattle.sl_trace.specs.declared.input.Input.{Input}
-use Rattle.sl_trace_law.proofs.Sessions.Making.{same_answered}
-use Rattle.sl_trace_law.proofs.Sessions.Owning.{session_more}
-use Rattle.sl_trace_law.specs.Leases.Ways.{lease_among}
+use Rattle.sl_run_law.proofs.Sessions.CallsAreMade.{same_answered}
+use Rattle.sl_run_law.proofs.Sessions.CallOwners.{session_more}
+use Rattle.sl_run_law.specs.Leases.Ways.{lease_among}
 use Rattle.sl_words.proofs.CaseLaws.{false_is_true, none_some, one_value}
 use Rattle.std.proofs.Common.{ap, arith, refl, subst, sym, ◌∙◌}
 use Rattle.std.specs.List.{cons_option}

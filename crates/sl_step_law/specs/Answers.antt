@@ -1,11 +1,11 @@
 -- An answer at its input: whose the open calls are, and what the bytes of an answer are.
 use Rattle.sl_due.specs.Steps.{Step}
-use Rattle.sl_host_law.specs.Parts.Expected.{IsAnswerOf}
+use Rattle.sl_host_law.specs.StepParts.ExpectedIsOpen.{IsAnswerOf}
 use Rattle.sl_host_law.specs.Replies.Answers.{FitsCall, IsOpen}
-use Rattle.sl_host_law.specs.Steps.Taking.{CallsAreTheirs}
-use Rattle.sl_host_state.specs.Kept.{HostState}
-use Rattle.sl_host_state.specs.declared.kept.OpenCall.{OpenCall}
-use Rattle.sl_step_law.specs.Ready.{IsReady}
+use Rattle.sl_host_law.specs.Steps.InputsFollow.{CallsAreTheirs}
+use Rattle.sl_host_state.specs.KeptState.{HostState}
+use Rattle.sl_host_state.specs.declared.kept_parts.OpenCall.{OpenCall}
+use Rattle.sl_step_law.specs.ReadyHosts.{IsReady}
 use Rattle.sl_trace.specs.Traces.{is_expected}
 use Rattle.sl_trace.specs.declared.input.Answer.TheVariants.{Failed, Read, Written}
 use Rattle.sl_trace.specs.declared.input.Answer.{Answer}

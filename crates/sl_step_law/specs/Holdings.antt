@@ -1,11 +1,11 @@
 -- What is known of holdings at a host's input: who holds a resource has a lease on its area, and holds it once.
 use Rattle.sl_due.specs.Steps.{Step}
-use Rattle.sl_host_law.specs.Decisions.Deciding.{held_of}
-use Rattle.sl_host_law.specs.Steps.Lining.{IsLeased}
-use Rattle.sl_host_state.specs.Kept.{HostState, MemberState}
-use Rattle.sl_due_law.specs.Whole.Kept.{Kept}
-use Rattle.sl_host_state.specs.Stands.{Stands}
-use Rattle.sl_step_law.specs.Ready.{IsReady}
+use Rattle.sl_host_law.specs.Decisions.CommandDecisions.{held_of}
+use Rattle.sl_host_law.specs.Steps.LinesFollow.{IsLeased}
+use Rattle.sl_host_state.specs.KeptState.{HostState, MemberState}
+use Rattle.sl_due_law.specs.LawfulTraces.CarriedFacts.{Kept}
+use Rattle.sl_host_state.specs.HostStands.{Stands}
+use Rattle.sl_step_law.specs.ReadyHosts.{IsReady}
 use Rattle.sl_trace.specs.Traces.{held_by, same_place, spot_of_grant}
 use Rattle.sl_trace.specs.declared.effects.Grant.{Grant}
 use Rattle.sl_trace.specs.declared.input.Input.{Input}

@@ -2,16 +2,16 @@
 -- are bytes.
 use Rattle.sl_due.specs.Due.{due}
 use Rattle.sl_due.specs.Steps.{Step}
-use Rattle.sl_host_law.specs.Decisions.Promises.{LastIsEnough}
-use Rattle.sl_host_law.specs.Steps.Lining.{LineMay}
-use Rattle.sl_host_law.specs.Steps.Sound.{IsSound}
-use Rattle.sl_host_law.specs.Steps.Stepping.{effects_of, stepped}
-use Rattle.sl_host_law.specs.Steps.Whole.{StepComes, entry_at}
-use Rattle.sl_host_state.specs.Kept.{HostState}
-use Rattle.sl_host_state.specs.Stands.{HostStands}
+use Rattle.sl_host_law.specs.Decisions.DecisionLaws.{LastIsEnough}
+use Rattle.sl_host_law.specs.Steps.LinesFollow.{LineMay}
+use Rattle.sl_host_law.specs.Steps.SoundHosts.{IsSound}
+use Rattle.sl_host_law.specs.Steps.StepFunction.{effects_of, stepped}
+use Rattle.sl_host_law.specs.Steps.StepsFollow.{StepComes, entry_at}
+use Rattle.sl_host_state.specs.KeptState.{HostState}
+use Rattle.sl_host_state.specs.HostStands.{HostStands}
 use Rattle.sl_step_law.specs.Answers.{IsOfBytes}
-use Rattle.sl_step_law.specs.Ready.{InputComes, IsReady}
-use Rattle.sl_step_law.specs.Whole.{MayCome}
+use Rattle.sl_step_law.specs.ReadyHosts.{InputComes, IsReady}
+use Rattle.sl_step_law.specs.StepsAreTaken.{MayCome}
 use Rattle.sl_trace.specs.Traces.{Setting, Trace}
 use Rattle.sl_trace.specs.declared.command.Command.{Command}
 use Rattle.sl_trace.specs.declared.input.Input.TheVariants.{Answer as Told, Exit, Line, Number, Spawned, Wake}

@@ -1,9 +1,9 @@
 -- A line at its input asks for nothing; but that of the values that its holder set the last is enough, where it sets one.
 use Rattle.sl_due.specs.Steps.{Step}
-use Rattle.sl_host_law.specs.Decisions.Promises.{LastIsEnough}
-use Rattle.sl_host_law.specs.Steps.Lining.{LineMay}
-use Rattle.sl_host_state.specs.Kept.{HostState}
-use Rattle.sl_step_law.specs.Ready.{IsReady}
+use Rattle.sl_host_law.specs.Decisions.DecisionLaws.{LastIsEnough}
+use Rattle.sl_host_law.specs.Steps.LinesFollow.{LineMay}
+use Rattle.sl_host_state.specs.KeptState.{HostState}
+use Rattle.sl_step_law.specs.ReadyHosts.{IsReady}
 use Rattle.sl_trace.specs.declared.command.Command.{Command}
 use Rattle.std.specs.Prelude.{List, Ok, ℕ, ◌≡◌}
 

@@ -3,12 +3,12 @@ use Rattle.sl_due.specs.Due.{before_input, due_step}
 use Rattle.sl_due.specs.DueInputs.{take_input}
 use Rattle.sl_due.specs.DueWake.{is_wake, on_wake}
 use Rattle.sl_due.specs.Steps.{Step, begin_step, when}
-use Rattle.sl_due_law.specs.Whole.Kept.{Kept}
-use Rattle.sl_host_state.specs.Kept.{HostState, MemberState}
-use Rattle.sl_host_state.specs.Stands.{Stands}
-use Rattle.sl_host_state.specs.declared.kept.OpenCall.{OpenCall}
-use Rattle.sl_step_law.specs.Awaiting.{IsMembersCall}
-use Rattle.sl_step_law.specs.Ready.{InputComes, IsReady}
+use Rattle.sl_due_law.specs.LawfulTraces.CarriedFacts.{Kept}
+use Rattle.sl_host_state.specs.KeptState.{HostState, MemberState}
+use Rattle.sl_host_state.specs.HostStands.{Stands}
+use Rattle.sl_host_state.specs.declared.kept_parts.OpenCall.{OpenCall}
+use Rattle.sl_step_law.specs.AnswersAwaited.{IsMembersCall}
+use Rattle.sl_step_law.specs.ReadyHosts.{InputComes, IsReady}
 use Rattle.sl_trace.specs.declared.effects.JoinStep.TheVariants.{FirstRenewal}
 use Rattle.sl_trace.specs.declared.effects.Purpose.TheVariants.{Joining}
 use Rattle.sl_trace.specs.Traces.{Setting, Trace}

@@ -3,19 +3,19 @@ use Rattle.sl_due.specs.Due.{before_input, due_step}
 use Rattle.sl_due.specs.DueInputs.{take_input}
 use Rattle.sl_due.specs.DueWake.{is_wake, on_wake}
 use Rattle.sl_due.specs.Steps.{Step, begin_step, when, with_input}
-use Rattle.sl_due_law.specs.Whole.Kept.{Kept}
+use Rattle.sl_due_law.specs.LawfulTraces.CarriedFacts.{Kept}
 use Rattle.sl_host_law.specs.Replies.Answers.{FitsCall, IsOpen}
 use Rattle.sl_host_law.specs.Steps.Inputs.{taking}
-use Rattle.sl_host_law.specs.Steps.Sound.{IsSound}
-use Rattle.sl_host_law.specs.Steps.Stepping.{before_taking, stepping}
-use Rattle.sl_host_law.specs.Steps.Wakes.{waking}
-use Rattle.sl_host_state.specs.Hears.{begun, heard_answer}
-use Rattle.sl_host_state.specs.Kept.{HostState}
-use Rattle.sl_host_state.specs.Stands.{Stands}
-use Rattle.sl_host_state.specs.declared.kept.OpenCall.{OpenCall}
-use Rattle.sl_step_law.specs.Ready.{InputComes, IsReady}
-use Rattle.sl_step_law.specs.Standing.{CallsStand}
-use Rattle.sl_step_law.specs.Whole.{MayCome}
+use Rattle.sl_host_law.specs.Steps.SoundHosts.{IsSound}
+use Rattle.sl_host_law.specs.Steps.StepFunction.{before_taking, stepping}
+use Rattle.sl_host_law.specs.Steps.WakePasses.{waking}
+use Rattle.sl_host_state.specs.HeardInputs.{begun, heard_answer}
+use Rattle.sl_host_state.specs.KeptState.{HostState}
+use Rattle.sl_host_state.specs.HostStands.{Stands}
+use Rattle.sl_host_state.specs.declared.kept_parts.OpenCall.{OpenCall}
+use Rattle.sl_step_law.specs.ReadyHosts.{InputComes, IsReady}
+use Rattle.sl_step_law.specs.CallsStand.{CallsStand}
+use Rattle.sl_step_law.specs.StepsAreTaken.{MayCome}
 use Rattle.sl_trace.specs.Traces.{Setting, Trace, is_expected}
 use Rattle.sl_trace.specs.declared.input.Answer.{Answer}
 use Rattle.sl_trace.specs.declared.input.Input.TheVariants.{Answer as Told, Wake}

@@ -1,22 +1,22 @@
 //! A host that has come to its input, and what is known of it there.
 
-ghost use Rattle.sl_step_law.specs.Standing.{CallsAreStanding};
+ghost use Rattle.sl_step_law.specs.CallsStand.{CallsAreStanding};
 ghost use Rattle.sl_step_law.specs.Moments.{MomentsAreKnown};
-ghost use Rattle.sl_step_law.specs.Leased.{LeasesAreKnown};
-ghost use Rattle.sl_step_law.specs.Answering.{LeaseAnswersAreKnown};
-ghost use Rattle.sl_step_law.specs.Knowing.{DecisionsAreKnown, HostsAreKnown};
+ghost use Rattle.sl_step_law.specs.KnownLeases.{LeasesAreKnown};
+ghost use Rattle.sl_step_law.specs.LeaseAnswers.{LeaseAnswersAreKnown};
+ghost use Rattle.sl_step_law.specs.KnownHosts.{DecisionsAreKnown, HostsAreKnown};
 ghost use Rattle.sl_step_law.specs.Answers.{AnswersAreKnown};
-ghost use Rattle.sl_step_law.specs.Asking.{CallsAsk};
-ghost use Rattle.sl_step_law.specs.Awaiting.{AnswersAreAwaited};
-ghost use Rattle.sl_step_law.specs.Follows.{DueFollows, InputsCome};
+ghost use Rattle.sl_step_law.specs.SectorsAsked.{CallsAsk};
+ghost use Rattle.sl_step_law.specs.AnswersAwaited.{AnswersAreAwaited};
+ghost use Rattle.sl_step_law.specs.DueFollows.{DueFollows, InputsCome};
 ghost use Rattle.sl_step_law.specs.Holdings.{HoldingsAreKnown};
 ghost use Rattle.sl_step_law.specs.LastValues.{LastValuesAreEnough, LinesMayPlainly, StepsAreTakenPlainly};
 ghost use Rattle.sl_step_law.specs.Lines.{LinesMay};
 ghost use Rattle.sl_step_law.specs.Members.{JoiningsClaim, MembersAreKnown, StepsAreKept};
-ghost use Rattle.sl_step_law.specs.Placed.{PlacesAreKnown};
-ghost use Rattle.sl_step_law.specs.Ready.{HostsAreReady};
-ghost use Rattle.sl_step_law.specs.Sound.{EffectsAreSound};
-ghost use Rattle.sl_step_law.specs.Whole.{HostsBegin, StepsAreTaken};
+ghost use Rattle.sl_step_law.specs.KnownPlaces.{PlacesAreKnown};
+ghost use Rattle.sl_step_law.specs.ReadyHosts.{HostsAreReady};
+ghost use Rattle.sl_step_law.specs.SoundEffects.{EffectsAreSound};
+ghost use Rattle.sl_step_law.specs.StepsAreTaken.{HostsBegin, StepsAreTaken};
 
 /// A host that stands for the steps so far is ready at an input that follows them.
 pub fn hosts_are_ready()

@@ -1,5 +1,5 @@
 -- What the table's changes make of the children that it shows.
-use Rattle.sl_host_state.specs.Stands.{is_there}
+use Rattle.sl_host_state.specs.HostStands.{is_there}
 use Rattle.sl_tables.proofs.NumbersName.{found_by_number, none_above}
 use Rattle.sl_tables.proofs.SlotsStand.{apart, replaced}
 use Rattle.sl_tables.specs.Children.{AreChildren, IsLeft, child_of, children_left}

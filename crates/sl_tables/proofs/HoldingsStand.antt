@@ -1,5 +1,5 @@
 -- What a table of holdings shows: where a search begins, and what one holding more or less makes of it.
-use Rattle.sl_plain.proofs.Lists.{there_is}
+use Rattle.sl_words.proofs.Lists.{there_is}
 use Rattle.sl_tables.proofs.ScansFind.{next_is, take_all}
 use Rattle.sl_tables.proofs.SlotsStand.{above_here, apart, below_kept, kept, number_at, rising_kept}
 use Rattle.sl_tables.specs.Holdings.{AreLed, AreNotedBelow, HoldingsState, IsIndex, Leads, fits, holder_in, is_held_at, is_holder, is_in_mode, is_of_process, least_holder, noted_first, sooner, without_first}

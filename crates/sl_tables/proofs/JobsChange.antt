@@ -1,6 +1,6 @@
 -- A job that is found by its number is the one that stands there.
-use Rattle.sl_host_state.specs.declared.kept.JobState.{JobState}
-use Rattle.sl_plain.proofs.Lists.{find_inside}
+use Rattle.sl_host_state.specs.declared.kept_parts.JobState.{JobState}
+use Rattle.sl_words.proofs.Lists.{find_inside}
 use Rattle.sl_tables.proofs.NumbersName.{found_by_number}
 use Rattle.sl_tables.specs.Jobs.{AreJobs, JobsState, changed}
 use Rattle.sl_words.proofs.CaseLaws.{none_some}

@@ -1,5 +1,5 @@
 -- What a table of open calls shows: calls by number and by area, after one more and after an answer.
-use Rattle.sl_host_state.specs.declared.kept.OpenCall.{OpenCall}
+use Rattle.sl_host_state.specs.declared.kept_parts.OpenCall.{OpenCall}
 use Rattle.sl_tables.specs.Opens.{AreNumbered, OpenState, area_of, first_on, is_on_area, least_on, next_on}
 use Rattle.sl_tables.specs.SpotsCompare.{spot_equiv}
 use Rattle.sl_trace.specs.Traces.{same_spot}
@@ -7,7 +7,7 @@ use Rattle.sl_trace.specs.declared.effects.Spot.{Spot}
 use Rattle.indexmap.proofs.MapLemmas.{Found-position}
 use Rattle.sl_words.proofs.CaseLaws.{none_some, some_value}
 use Rattle.std.proofs.lemmas.Map.Made.{lookup_key_passes}
-use Rattle.sl_plain.proofs.Lists.{contains_cases, contains_none, find_inside}
+use Rattle.sl_words.proofs.Lists.{contains_cases, contains_none, find_inside}
 use Rattle.sl_tables.proofs.SlotsStand.{apart}
 use Rattle.sl_tables.specs.Rising.{AreRising}
 use Rattle.std.proofs.Math.Bool.{and-false}

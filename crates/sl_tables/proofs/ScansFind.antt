@@ -1,6 +1,6 @@
 -- A scan of slots from the front finds what a search of what stands in them finds.
 use Rattle.sl_tables.proofs.SlotsStand.{above_here, number_at}
-use Rattle.sl_plain.proofs.Lists.{there_is}
+use Rattle.sl_words.proofs.Lists.{there_is}
 use Rattle.sl_tables.specs.Rising.{AreRising, found_in, items_of}
 use Rattle.sl_words.specs.Words.{choose}
 use Rattle.sl_words.proofs.CaseLaws.{none_some, some_value}

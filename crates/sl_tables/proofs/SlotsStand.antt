@@ -1,8 +1,8 @@
 -- What slots show, and what a gap or one more slot makes of that.
 use Rattle.sl_tables.specs.Rising.{AreBelow, AreRising, gaps_in, is_full, items_of, standing}
 use Rattle.sl_words.proofs.CaseLaws.{none_some, some_value}
-use Rattle.sl_plain.proofs.Lists.{there_is}
-use Rattle.sl_plain.proofs.Numbers.{number_itself}
+use Rattle.sl_words.proofs.Lists.{there_is}
+use Rattle.sl_words.proofs.Numbers.{number_itself}
 use Rattle.std.proofs.Common.{ap, arith, inl, inr, refl, subst, sym, true≢false, ◌∙◌}
 use Rattle.std.proofs.lemmas.Bool.Decides.{eqb_tells}
 use Rattle.std.proofs.lemmas.Bool.{ne_eqb}

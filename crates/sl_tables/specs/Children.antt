@@ -1,5 +1,5 @@
 -- Children that are kept: those whose start is unanswered, and those that run.
-use Rattle.sl_host_state.specs.Stands.{is_there}
+use Rattle.sl_host_state.specs.HostStands.{is_there}
 use Rattle.sl_tables.specs.declared.children.ChildState.{ChildState}
 use Rattle.sl_trace.specs.Traces.{Child, child_after}
 use Rattle.sl_trace.specs.declared.input.Input.{Input}

@@ -1,5 +1,5 @@
 -- Running jobs.
-use Rattle.sl_host_state.specs.declared.kept.JobState.{JobState}
+use Rattle.sl_host_state.specs.declared.kept_parts.JobState.{JobState}
 use Rattle.sl_trace.specs.declared.command.Command.{Command}
 use Rattle.sl_words.specs.Words.{some_is}
 use Rattle.std.specs.List.{AllByRecursion}

@@ -1,6 +1,6 @@
 //! Children of a host, by number: those whose start is unanswered, and those that run.
 
-ghost use Rattle.sl_host_state.specs.Stands.{is_there};
+ghost use Rattle.sl_host_state.specs.HostStands.{is_there};
 ghost use Rattle.sl_tables.specs.Children.{IsLeft, child_of, children_left};
 ghost use Rattle.sl_trace.specs.declared.input.Input.TheVariants.{Exit as ExitOf, Spawned as SpawnedOf};
 ghost use Rattle.std.specs.Prelude.{OnErr, OnOk, find, true, length, max, option_map, [], ◌+◌, ◌++◌, ◌-◌, ◌<◌, ◌==◌, ◌^◌, ◌∷◌, ◌≡◌, ◌≤◌};

@@ -1,6 +1,6 @@
 //! The running jobs, by number, and how many of them may come to a holding or a child.
 
-ghost use Rattle.sl_host_state.specs.declared.kept.JobState.{JobState as JobStateOf};
+ghost use Rattle.sl_host_state.specs.declared.kept_parts.JobState.{JobState as JobStateOf};
 ghost use Rattle.sl_trace.specs.Jobs.{is_asking_lease, is_program};
 ghost use Rattle.sl_tables.specs.Jobs.{changed, ungranted, weight};
 ghost use Rattle.std.specs.Option.{option_or};

@@ -1,7 +1,7 @@
 //! The calls without an answer, by number and by area.
 
 ghost use Rattle.indexmap.specs.IndexMap.{get, index_map_len, spare};
-ghost use Rattle.sl_host_state.specs.declared.kept.OpenCall.{OpenCall as OpenCallOf};
+ghost use Rattle.sl_host_state.specs.declared.kept_parts.OpenCall.{OpenCall as OpenCallOf};
 ghost use Rattle.sl_tables.specs.Opens.{area_of, count_in, first_on, is_on_area, is_write_of, least_on, next_on};
 ghost use Rattle.sl_tables.specs.Rising.{AreRising, found_in, items_of};
 ghost use Rattle.sl_trace.specs.Traces.{same_spot};

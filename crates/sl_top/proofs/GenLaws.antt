@@ -1,28 +1,28 @@
 -- What a generation owes: the run that was made is as it is promised, and its two lines are the plain program's.
-use Rattle.sl_due_law.proofs.Due.{due_is_lawful}
+use Rattle.sl_due_law.proofs.DueIsLawful.{due_is_lawful}
 use Rattle.sl_generate.proofs.HeadersRead.{headers_are_read}
-use Rattle.sl_generate.proofs.Plain.{generated_is_plain}
-use Rattle.sl_generate.specs.Generating.{All, GeneratedOf, Generates as Made, MadeOf, MayGenerate, Nothing, Part}
+use Rattle.sl_generate.proofs.GeneratedIsPlain.{generated_is_plain}
+use Rattle.sl_generate.specs.GeneratorPlay.{All, GeneratedOf, Generates as Made, MadeOf, MayGenerate, Nothing, Part}
 use Rattle.sl_generate.specs.HeaderLines.{header_lines}
 use Rattle.sl_generate.specs.declared.generator.Generated.TheVariants as generated
 use Rattle.sl_generate.specs.declared.generator.Generated.{Generated}
-use Rattle.sl_header_law.proofs.Commands.{whole_language_may_play}
-use Rattle.sl_headline.proofs.Promising.{made_runs_are_promised}
-use Rattle.sl_headline.specs.Promised.{PromisedRun}
-use Rattle.sl_host_step.specs.Serving.{Serves, whole_commands}
+use Rattle.sl_play.proofs.Headers.CommandsAreRead.{whole_language_may_play}
+use Rattle.sl_headline.proofs.RunsArePromised.{made_runs_are_promised}
+use Rattle.sl_headline.specs.PromisedRuns.{PromisedRun}
+use Rattle.sl_host_step.specs.HostServes.{Serves, whole_commands}
 use Rattle.sl_report.specs.Generator.{gen_header, gen_lines}
 use Rattle.sl_report.specs.Headline.{GenOf, IsFrontOf, SoundRun}
 use Rattle.sl_run.specs.Headers.{IsHeader}
 use Rattle.sl_run.specs.Worlds.{whole_program}
 use Rattle.sl_sector.proofs.WrittenBytes.{sha256_is_digest}
-use Rattle.sl_sound.specs.Promises.{DaemonsDoWhatIsDue}
+use Rattle.sl_sound.specs.SoundLaws.{DaemonsDoWhatIsDue}
 use Rattle.sl_text.specs.Forms.{as_bytes}
 use Rattle.sl_top.proofs.TopLaws.{none_written}
 use Rattle.sl_top.specs.Runs.{Generates}
 use Rattle.sl_top.specs.Statuses.{status_of_generated}
 use Rattle.sl_top.specs.declared.status.Status.TheVariants.{Done, NoMemory, WriteFault}
 use Rattle.sl_top.specs.declared.status.Status.{Status}
-use Rattle.sl_volumes.proofs.Reading.{whole_program_reads}
+use Rattle.sl_headline.proofs.Volumes.WholeProgramReads.{whole_program_reads}
 use Rattle.sl_words.specs.Causes.{Rose}
 use Rattle.std.proofs.Common.{Bool, List, Option, [], inl, inr, refl, subst, sym, ℕ, ◌∙◌, ◌≡◌, ◌≤◌}
 use Rattle.std.specs.Io.KnownBytes.{Appends}

@@ -1,15 +1,15 @@
 -- What a live run owes, and what its statuses tell.
-use Rattle.sl_daemon.specs.Daemons.{begun_with}
-use Rattle.sl_due_law.proofs.Due.{due_is_lawful}
-use Rattle.sl_host_step.specs.Serving.{Serves, whole_commands}
-use Rattle.sl_live_play.specs.Differing.{differ_text}
-use Rattle.sl_live_play.specs.Living.{All, Breaks, Breaks_early, Differing, Due, Ends, Faults, Lacks, Nothing, Of, Owes as OwesLive, Part, Parts, Puts, Stops, Stops_early}
+use Rattle.sl_world_state.specs.Daemons.{begun_with}
+use Rattle.sl_due_law.proofs.DueIsLawful.{due_is_lawful}
+use Rattle.sl_host_step.specs.HostServes.{Serves, whole_commands}
+use Rattle.sl_live_play.specs.DifferenceLines.{differ_text}
+use Rattle.sl_live_play.specs.LiveOwed.{All, Breaks, Breaks_early, Differing, Due, Ends, Faults, Lacks, Nothing, Of, Owes as OwesLive, Part, Parts, Puts, Stops, Stops_early}
 use Rattle.sl_live_play.specs.declared.play.Lived.TheVariants as lived
 use Rattle.sl_live_play.specs.declared.play.Lived.{Lived}
 use Rattle.sl_top.proofs.RunLaws.{nothing_put}
 use Rattle.sl_top.specs.Laws.{LiveHistoriesAreGood, SomeDiffer}
-use Rattle.sl_cli.specs.declared.reading.Words.TheVariants.{Direct, Generate, Help, Live, Replay, Version}
-use Rattle.sl_cli.specs.declared.reading.Words.{Words}
+use Rattle.sl_cli.specs.declared.command_words.Words.TheVariants.{Direct, Generate, Help, Live, Replay, Version}
+use Rattle.sl_cli.specs.declared.command_words.Words.{Words}
 use Rattle.sl_top.specs.Runs.{IsLive, Outside, Owes, RunsLive, folder_in, folder_of}
 use Rattle.sl_top.specs.Statuses.{status_of_live}
 use Rattle.sl_top.specs.declared.status.Status.TheVariants.{AreaFault, BadWords, Differs, NoMemory, NotTheLeader, ReadFault, WriteFault}

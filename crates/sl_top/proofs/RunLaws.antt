@@ -1,30 +1,30 @@
 -- What a replay owes: the run that was made is as promised, and what is written of it is the plain program's report.
-use Rattle.sl_due_law.proofs.Due.{due_is_lawful}
-use Rattle.sl_headline.proofs.Promising.{made_replays_are_promised, made_reports_are_promised}
-use Rattle.sl_headline.specs.Promised.{AsksAreRead, IsPromised, PromisedRun}
-use Rattle.sl_header_law.proofs.Commands.{whole_language_may_play}
-use Rattle.sl_host_step.specs.Serving.{Serves, whole_commands}
-use Rattle.sl_play_schedule.proofs.Owing.{replays_are_owed}
-use Rattle.sl_play_schedule.specs.Replaying.{IsOwed, Of_events, Of_header, ReportsComplete, ReportsLines, played_language}
-use Rattle.sl_play_schedule.specs.Replaying as play
-use Rattle.sl_play_schedule.specs.declared.replay.Played.TheVariants as played
-use Rattle.sl_play_schedule.specs.declared.replay.Played.{Played}
+use Rattle.sl_due_law.proofs.DueIsLawful.{due_is_lawful}
+use Rattle.sl_headline.proofs.RunsArePromised.{made_replays_are_promised, made_reports_are_promised}
+use Rattle.sl_headline.specs.PromisedRuns.{AsksAreRead, IsPromised, PromisedRun}
+use Rattle.sl_play.proofs.Headers.CommandsAreRead.{whole_language_may_play}
+use Rattle.sl_host_step.specs.HostServes.{Serves, whole_commands}
+use Rattle.sl_play.proofs.ReplaysAreOwed.{replays_are_owed}
+use Rattle.sl_play.specs.Replays.{IsOwed, Of_events, Of_header, ReportsComplete, ReportsLines, played_language}
+use Rattle.sl_play.specs.Replays as play
+use Rattle.sl_play.specs.declared.replay.Played.TheVariants as played
+use Rattle.sl_play.specs.declared.replay.Played.{Played}
 use Rattle.sl_report.specs.Headline.{FrontOf, HeadersAreGood, MayHaveBeen, Of_nothing, ReplayOf, ReplayOwed, SoundRun, is_whole_status}
 use Rattle.sl_report.specs.Languages.{Language, whole_language}
 use Rattle.sl_report.specs.Reports.{end_line}
-use Rattle.sl_run_report.proofs.OneReport.{runs_have_one_report}
-use Rattle.sl_run_report.specs.Promises.{replay_status}
+use Rattle.sl_sound.proofs.Reports.OneReport.{runs_have_one_report}
+use Rattle.sl_sound.specs.Reports.ReportLaws.{replay_status}
 use Rattle.sl_sector.proofs.WrittenBytes.{sha256_is_digest}
 use Rattle.sl_sector.specs.Spelling.{IsDigest}
-use Rattle.sl_sound.proofs.Owing.{made_replays_are_sound}
-use Rattle.sl_sound.specs.Made.{MadeRun}
-use Rattle.sl_sound.specs.Promises.{DaemonsDoWhatIsDue}
+use Rattle.sl_sound.proofs.OwedGrows.{made_replays_are_sound}
+use Rattle.sl_sound.specs.MadeRuns.{MadeRun}
+use Rattle.sl_sound.specs.SoundLaws.{DaemonsDoWhatIsDue}
 use Rattle.sl_text.specs.Forms.{as_bytes}
 use Rattle.sl_top.specs.Runs.{Replays}
 use Rattle.sl_top.specs.Statuses.{code, status_of}
 use Rattle.sl_top.specs.declared.status.Status.TheVariants.{Done, NoMemory, ReadFault, WriteFault}
 use Rattle.sl_top.specs.declared.status.Status.{Status}
-use Rattle.sl_volumes.proofs.Reading.{whole_program_reads}
+use Rattle.sl_headline.proofs.Volumes.WholeProgramReads.{whole_program_reads}
 use Rattle.std.proofs.Common.{Bool, List, None, Option, Some, [], append-nil, refl, subst, sym, true, ℕ, ◌++◌, ◌∷◌, ◌≡◌}
 use Rattle.std.specs.Int.{is_in_range}
 use Rattle.std.specs.Io.KnownBytes.{Appends, Consumes}

@@ -1,7 +1,7 @@
 -- Which statuses a run may end with, by what its words say, and why.
 use Rattle.sl_area.specs.Layouts.{Sizes}
-use Rattle.sl_cli.specs.declared.reading.Words.TheVariants.{Direct, Generate, Help, Live, Replay, Version}
-use Rattle.sl_cli.specs.declared.reading.Words.{Words}
+use Rattle.sl_cli.specs.declared.command_words.Words.TheVariants.{Direct, Generate, Help, Live, Replay, Version}
+use Rattle.sl_cli.specs.declared.command_words.Words.{Words}
 use Rattle.sl_cli.specs.declared.texts.TheConstants.{HELP, VERSION}
 use Rattle.sl_direct.proofs.AreaLaws.{leader_is_told}
 use Rattle.sl_direct.proofs.UpgradeTold.{upgrade_is_told}
@@ -11,14 +11,14 @@ use Rattle.sl_direct.specs.declared.action.Action.TheVariants.{ReadLeader, Upgra
 use Rattle.sl_direct.specs.declared.action.Action.{Action}
 use Rattle.sl_direct.specs.declared.action.Directed.TheVariants as directed
 use Rattle.sl_direct.specs.declared.action.Directed.{Directed}
-use Rattle.sl_headline.specs.Promised.{PromisedRun}
+use Rattle.sl_headline.specs.PromisedRuns.{PromisedRun}
 use Rattle.sl_report.specs.Headline.{MayHaveBeen, ReplayHeadline, is_whole_status}
 use Rattle.sl_report.specs.Languages.{whole_language}
-use Rattle.sl_run_report.proofs.OneReport.{accepted_schedules_end_well as accepted_runs}
-use Rattle.sl_run_report.specs.Promises.{replay_status}
+use Rattle.sl_sound.proofs.Reports.OneReport.{accepted_schedules_end_well as accepted_runs}
+use Rattle.sl_sound.specs.Reports.ReportLaws.{replay_status}
 use Rattle.sl_top.proofs.LiveLaws.{live_caused, not_a_look, not_bad as not_bad_live}
 use Rattle.sl_top.proofs.RunLaws.{whole_headers}
-use Rattle.sl_top.specs.Laws.{AcceptedSchedulesEndWell, CantBeUpgraded, CausesHaveStatuses, HasItsCause, IsNotTheLeader, NothingFailed, OthersAreRefused, StatusesHaveCauses, has_leader}
+use Rattle.sl_top.specs.Laws.{AcceptedSchedulesEndWell, CantBeUpgraded, CausesHaveStatuses, HasItsCause, IsNotTheLeader, NothingFailed, OtherSchedulesAreRefused, StatusesHaveCauses, has_leader}
 use Rattle.sl_top.specs.Runs.{ActsOn, IsCutShort, IsWritten, Outside, PutsOut, Replays, RunsLive, bad_words_text}
 use Rattle.sl_top.specs.Statuses.{code, status_after}
 use Rattle.sl_top.specs.declared.status.Status.TheVariants.{AreaFault, BadWords, Differs, Done, NoMemory, NotTheLeader, ReadFault, Refused, WriteFault}
@@ -359,7 +359,7 @@ ends_at_one : (source : List ℕ) (x y : Outside) (s : Status) → Replays x.lef
 ends_at_one source x y s run told refused =
     sym (own_status source x y s told run (ap (λ t. is_whole_status (code t)) refused)) ∙ ap code refused
 
-pub other_schedules_are_refused : OthersAreRefused
+pub other_schedules_are_refused : OtherSchedulesAreRefused
 other_schedules_are_refused =
     record {
       well = λ source x y s run told other none. ends_refused source x y s run told (λ zero. other (accepted_runs.only whole_language whole_headers source zero)) none;

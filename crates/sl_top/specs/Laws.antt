@@ -1,26 +1,26 @@
 -- What each status tells of a run.
 use Rattle.sl_area.specs.Layouts.{Sizes}
-use Rattle.sl_cli.specs.declared.reading.Words.TheVariants.{Direct, Replay}
-use Rattle.sl_cli.specs.declared.reading.Words.{Words}
+use Rattle.sl_cli.specs.declared.command_words.Words.TheVariants.{Direct, Replay}
+use Rattle.sl_cli.specs.declared.command_words.Words.{Words}
 use Rattle.sl_direct.specs.Laws.{can_upgrade, sector_at}
 use Rattle.sl_direct.specs.Lines.{is_its_leader, leader_in_sector}
 use Rattle.sl_direct.specs.declared.action.Action.TheVariants.{ReadLeader, Upgrade}
-use Rattle.sl_host_step.specs.Serving.{Serves, whole_commands}
-use Rattle.sl_live_lines.specs.declared.line.LiveLine.{LiveLine}
-use Rattle.sl_live_play.specs.Differing.{differ_text}
-use Rattle.sl_live_play.specs.Living.{Differing, Lives}
+use Rattle.sl_host_step.specs.HostServes.{Serves, whole_commands}
+use Rattle.sl_reader.specs.declared.live_lines.LiveLine.{LiveLine}
+use Rattle.sl_live_play.specs.DifferenceLines.{differ_text}
+use Rattle.sl_live_play.specs.LiveOwed.{Differing, Lives}
 use Rattle.sl_live_run.specs.declared.compare.LiveDiffer.{LiveDiffer}
 use Rattle.sl_report.specs.Languages.{whole_language}
 use Rattle.sl_run.specs.Caused.{IsCaused}
 use Rattle.sl_run.specs.Lawful.{Lawful}
 use Rattle.sl_run.specs.declared.header.Header.{Header}
-use Rattle.sl_run_report.specs.Followed.{IsAccepted}
+use Rattle.sl_sound.specs.Reports.FollowedSchedules.{IsAccepted}
 use Rattle.sl_top.specs.Runs.{IsCutShort, IsDirect, IsLive, Outside, Owes}
 use Rattle.sl_top.specs.declared.status.Status.TheVariants.{AreaFault, BadWords, Differs, Done, NoMemory, NotTheLeader, ReadFault, Refused, WriteFault}
 use Rattle.sl_top.specs.declared.status.Status.{Status}
 use Rattle.sl_trace.specs.declared.command.ResourceArg.{ResourceArg}
-use Rattle.sl_daemon.specs.Daemons.{begun_with}
-use Rattle.sl_daemon.specs.declared.daemon.Site.{Site}
+use Rattle.sl_world_state.specs.Daemons.{begun_with}
+use Rattle.sl_world_state.specs.declared.daemon.Site.{Site}
 use Rattle.sl_trace.specs.declared.effects.Entry.{Entry}
 use Rattle.sl_words.specs.Causes.{Rose}
 use Rattle.std.specs.Io.KnownBytes.{Appends}
@@ -88,7 +88,7 @@ pub record AcceptedSchedulesEndWell : Type 0 where
   pub only : (source : List ℕ) (x y : Outside) (s : Status) → Owes (Some Replay) x y s → x.left ≡ Some source → s ≡ Done → IsAccepted whole_language source
 
 -- Any other is refused, if nothing fails and memory lasts; and none that is accepted is.
-pub record OthersAreRefused : Type 0 where
+pub record OtherSchedulesAreRefused : Type 0 where
   pub well : (source : List ℕ) (x y : Outside) (s : Status) → Owes (Some Replay) x y s → x.left ≡ Some source → (IsAccepted whole_language source → ⊥) → NothingFailed x y
       → (s ≡ Refused) ⊎ (s ≡ NoMemory)
   pub only : (source : List ℕ) (x y : Outside) (s : Status) → Owes (Some Replay) x y s → x.left ≡ Some source → s ≡ Refused → IsAccepted whole_language source → ⊥

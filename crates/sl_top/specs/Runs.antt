@@ -1,20 +1,20 @@
 -- What a run of the program owes: by what its words say, what it read and wrote, what it left on the disks, and its status.
 use Rattle.sl_cli.specs.CommandWords.{said_in}
-use Rattle.sl_cli.specs.declared.reading.Words.TheVariants.{Direct, Generate, Help, Live, Replay, Version}
-use Rattle.sl_cli.specs.declared.reading.Words.{Words}
+use Rattle.sl_cli.specs.declared.command_words.Words.TheVariants.{Direct, Generate, Help, Live, Replay, Version}
+use Rattle.sl_cli.specs.declared.command_words.Words.{Words}
 use Rattle.sl_cli.specs.declared.texts.TheConstants.{HELP, VERSION}
 use Rattle.sl_direct.specs.Actions.{Directs, path_of}
 use Rattle.sl_direct.specs.declared.action.Action.{Action}
 use Rattle.sl_direct.specs.declared.action.Directed.{Directed}
-use Rattle.sl_play_schedule.specs.Replaying.{ReportsComplete}
-use Rattle.sl_generate.specs.Generating.{GeneratedOf}
+use Rattle.sl_play.specs.Replays.{ReportsComplete}
+use Rattle.sl_generate.specs.GeneratorPlay.{GeneratedOf}
 use Rattle.sl_report.specs.Generator.{gen_lines}
 use Rattle.sl_report.specs.Headline.{GenHeadline, IsFrontOf, MayHaveBeen, ReplayHeadline, ReplayOwed, is_whole_status}
 use Rattle.sl_report.specs.Languages.{whole_language}
-use Rattle.sl_run_report.specs.Promises.{replay_status}
-use Rattle.sl_headline.specs.Promised.{PromisedRun}
-use Rattle.sl_host_step.specs.Serving.{Serves, whole_commands}
-use Rattle.sl_live_play.specs.Living.{Owes as OwesLive}
+use Rattle.sl_sound.specs.Reports.ReportLaws.{replay_status}
+use Rattle.sl_headline.specs.PromisedRuns.{PromisedRun}
+use Rattle.sl_host_step.specs.HostServes.{Serves, whole_commands}
+use Rattle.sl_live_play.specs.LiveOwed.{Owes as OwesLive}
 use Rattle.sl_live_play.specs.declared.play.Lived.{Lived}
 use Rattle.sl_outside.specs.Disks.{CountsBack, Disks, KeepsAllBut}
 use Rattle.sl_run.specs.Worlds.{whole_program}

@@ -5,8 +5,8 @@ use Rattle.sl_generate.specs.declared.generator.Generated.TheVariants as generat
 use Rattle.sl_generate.specs.declared.generator.Generated.{Generated}
 use Rattle.sl_live_play.specs.declared.play.Lived.TheVariants as lived
 use Rattle.sl_live_play.specs.declared.play.Lived.{Lived}
-use Rattle.sl_play_schedule.specs.declared.replay.Played.TheVariants as played
-use Rattle.sl_play_schedule.specs.declared.replay.Played.{Played}
+use Rattle.sl_play.specs.declared.replay.Played.TheVariants as played
+use Rattle.sl_play.specs.declared.replay.Played.{Played}
 use Rattle.sl_top.specs.declared.status.Status.TheVariants.{AreaFault, BadWords, Differs, Done, NoMemory, NotTheLeader, ReadFault, Refused, WriteFault}
 use Rattle.sl_top.specs.declared.status.Status.{Status}
 use Rattle.std.specs.Prelude.{ℕ}

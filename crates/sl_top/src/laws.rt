@@ -1,6 +1,6 @@
 //! What each status tells of a run: laws of the definitions that `run` and `run_offline` cite.
 
-ghost use Rattle.sl_top.specs.Laws.{AcceptedSchedulesEndWell, CausesHaveStatuses, LiveHistoriesAreGood, OthersAreRefused, StatusesHaveCauses};
+ghost use Rattle.sl_top.specs.Laws.{AcceptedSchedulesEndWell, CausesHaveStatuses, LiveHistoriesAreGood, OtherSchedulesAreRefused, StatusesHaveCauses};
 
 /// Each status but `Done` and want of memory comes only with its cause.
 pub fn statuses_have_causes()
@@ -19,7 +19,7 @@ pub fn accepted_schedules_end_well()
 
 /// Any other schedule is refused, unless something fails or memory lacks; no accepted one is.
 pub fn other_schedules_are_refused()
-    ensures { OthersAreRefused }
+    ensures { OtherSchedulesAreRefused }
 {}
 
 /// The history of each machine of a live run is lawful, and each reply in it has its cause.

@@ -6,7 +6,7 @@ ghost use Rattle.std.specs.Prelude.{◌≡◌};
 use sl_direct::Directed;
 use sl_generate::Generated;
 use sl_live_play::Lived;
-use sl_play_schedule::Played;
+use sl_play::Played;
 
 /// How a run of the program ended.
 #[derive(Clone, Copy, Debug, PartialEq, Eq)]

@@ -1,5 +1,5 @@
 -- Evidence, once it is there, is remembered.
-use Rattle.sl_trace.specs.Watching.{counted_over, counts_over}
+use Rattle.sl_trace.specs.Sightings.{counted_over, counts_over}
 use Rattle.sl_trace.specs.declared.session.Session.{Session}
 use Rattle.sl_trace.specs.Traces.{Setting, Trace}
 use Rattle.sl_trace.specs.declared.effects.Entry.{Entry}

@@ -1,4 +1,4 @@
-pub mod Comparing
+pub mod DerivedComparisons
 pub mod TraceFacts
 pub mod EvidenceFacts
 pub mod NumberFacts

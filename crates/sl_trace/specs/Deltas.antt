@@ -10,7 +10,7 @@ use Rattle.sl_sector.specs.declared.sector.DeltaState.TheVariants.{Claimed, Free
 use Rattle.sl_sector.specs.declared.sector.DeltaState.{DeltaState}
 use Rattle.sl_sector.specs.declared.sector.Rec.TheVariants.{DeltaIs}
 use Rattle.sl_trace.specs.Sessions.{calls_of, delta_written, free_write, generation_of, has_open_delta, join_call, last_renewal_submitted, last_seq, leaving_job, recovery_of}
-use Rattle.sl_trace.specs.Watching.{is_free_state}
+use Rattle.sl_trace.specs.Sightings.{is_free_state}
 use Rattle.sl_trace.specs.declared.delta.DeltaKnown.{DeltaKnown}
 use Rattle.sl_trace.specs.declared.delta.DeltaNext.TheVariants.{Disconnect, Join, EndLeaving, MoveConnection, ReadOwn, RegisterAndRead, RefuseJoin, Nothing, WriteClaim, WriteFirst, WriteFree, WriteRenewal}
 use Rattle.sl_trace.specs.declared.delta.DeltaNext.{DeltaNext}

@@ -2,4 +2,4 @@ pub mod SightingLaws
 pub mod SummaryLaws
 pub mod ReasonLaws
 pub mod WatchLaws
-pub mod TellingLaws
+pub mod ToldLaws

@@ -3,7 +3,7 @@ use Rattle.sl_area.specs.Layouts.{Sizes, layout_of}
 use Rattle.sl_sector.specs.declared.sector.DeltaRec.{DeltaRec}
 use Rattle.sl_sector.specs.declared.sector.DeltaState.TheVariants.{Claimed, Free, Live}
 use Rattle.sl_sector.specs.declared.sector.DeltaState.{DeltaState}
-use Rattle.sl_trace.specs.Watching.{evidence, is_free_among, is_free_state, is_live_state, is_silent, newest_of, silence, span}
+use Rattle.sl_trace.specs.Sightings.{evidence, is_free_among, is_free_state, is_live_state, is_silent, newest_of, silence, span}
 use Rattle.sl_trace.specs.declared.sighting.Run.{Run}
 use Rattle.sl_time.specs.Times.{TimingNumbers, dead}
 use Rattle.sl_trace.specs.declared.reply.Evidence.TheVariants.{Freed, Newer, Silent}

@@ -9,7 +9,7 @@ use Rattle.sl_sector.specs.declared.sector.DeltaState.TheVariants.{Claimed, Free
 use Rattle.sl_sector.specs.declared.sector.DeltaState.{DeltaState}
 use Rattle.sl_sector.specs.declared.sector.Rec.TheVariants.{BlockIs, DeltaIs, LeaderIs, PairIs, PairLeaderIs, RequestIs, ValueIs}
 use Rattle.sl_sector.specs.declared.sector.Rec.{Rec}
-use Rattle.sl_trace.specs.Watching.{current_run, evidence, has_seen, new_run, newest_of, run_with, seen_records, sighted, silence}
+use Rattle.sl_trace.specs.Sightings.{current_run, evidence, has_seen, new_run, newest_of, run_with, seen_records, sighted, silence}
 use Rattle.sl_trace.specs.declared.sighting.Run.{Run}
 use Rattle.sl_trace.specs.declared.sighting.Sighting.{Sighting}
 use Rattle.sl_time.specs.Times.{TimingNumbers}

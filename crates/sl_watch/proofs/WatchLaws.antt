@@ -8,7 +8,7 @@ use Rattle.sl_sector.specs.declared.sector.Rec.{Rec}
 use Rattle.sl_sector.specs.Spelling.{delta_in}
 use Rattle.sl_trace.specs.declared.sighting.Sighting.{Sighting}
 use Rattle.sl_watch.proofs.SummaryLaws.{summary_more}
-use Rattle.sl_watch.specs.Seen.{Seen, seen_at, seen_with, sightings_of, spelled_for}
+use Rattle.sl_watch.specs.SeenLooks.{Seen, seen_at, seen_with, sightings_of, spelled_for}
 use Rattle.sl_watch.specs.Summaries.{IsKept, IsSeen, IsSpelledBy, Summary, nothing_seen, summary_of, summary_with}
 use Rattle.sl_watch.specs.Watches.{IsReadTrue, StandsFor, WatchStands, Watched, kept_at}
 use Rattle.sl_watch.specs.declared.summary.Summary.{Summary as Kept}

@@ -5,13 +5,13 @@ use Rattle.sl_sector.specs.Spelling.{IsSectorSize, Spells}
 use Rattle.sl_sector.specs.declared.sector.DeltaRec.{DeltaRec}
 use Rattle.sl_sector.specs.declared.sector.DeltaState.TheVariants.{Claimed}
 use Rattle.sl_sector.specs.declared.sector.Rec.TheVariants.{DeltaIs}
-use Rattle.sl_trace.specs.Watching.{current_run, evidence, host_state, new_run, seen_records, sighted, unchanged}
+use Rattle.sl_trace.specs.Sightings.{current_run, evidence, host_state, new_run, seen_records, sighted, unchanged}
 use Rattle.sl_trace.specs.declared.sighting.Run.{Run}
 use Rattle.sl_trace.specs.declared.sighting.Sighting.{Sighting}
 use Rattle.sl_time.specs.Times.{TimingNumbers}
 use Rattle.sl_trace.specs.declared.reply.Evidence.TheVariants.{Silent}
 use Rattle.sl_trace.specs.declared.reply.HostState.TheVariants.{Unknown}
-use Rattle.sl_watch.specs.Seen.{Seen, sightings_of}
+use Rattle.sl_watch.specs.SeenLooks.{Seen, sightings_of}
 use Rattle.sl_watch.specs.Watches.{IsReadTrue}
 use Rattle.std.specs.List.{All}
 use Rattle.std.specs.Prelude.{List, None, Some, true, ℕ, ◌∷◌, ◌≡◌, ◌≤◌, ◌↔◌}

@@ -1,6 +1,6 @@
 pub mod Laws
 pub mod Reasons
-pub mod Seen
+pub mod SeenLooks
 pub mod Summaries
-pub mod Telling
+pub mod ToldLooks
 pub mod Watches

@@ -2,7 +2,7 @@
 use Rattle.sl_area.specs.Layouts.{Sizes, layout_of}
 use Rattle.sl_sector.specs.declared.sector.DeltaRec.{DeltaRec}
 use Rattle.sl_sector.specs.declared.sector.DeltaState.TheVariants.{Free, Live}
-use Rattle.sl_trace.specs.Watching.{current_run, seen_records, span}
+use Rattle.sl_trace.specs.Sightings.{current_run, seen_records, span}
 use Rattle.sl_trace.specs.declared.sighting.Run.{Run}
 use Rattle.sl_time.specs.Times.{TimingNumbers, dead}
 use Rattle.sl_trace.specs.declared.reply.Evidence.TheVariants.{Freed, Newer, Silent}

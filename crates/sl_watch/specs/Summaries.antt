@@ -4,7 +4,7 @@ use Rattle.sl_area.specs.Layouts.{Layout, program_digest}
 use Rattle.sl_sector.specs.Spelling.{decoded, spelling}
 use Rattle.sl_sector.specs.declared.sector.DeltaRec.{DeltaRec}
 use Rattle.sl_sector.specs.declared.sector.Rec.TheVariants.{DeltaIs}
-use Rattle.sl_trace.specs.Watching.{current_run, has_seen, is_free_among, is_free_state, newest_of, run_with, seen_records, silence, state_of_run}
+use Rattle.sl_trace.specs.Sightings.{current_run, has_seen, is_free_among, is_free_state, newest_of, run_with, seen_records, silence, state_of_run}
 use Rattle.sl_trace.specs.declared.sighting.Run.{Run}
 use Rattle.sl_trace.specs.declared.sighting.Sighting.{Sighting}
 use Rattle.sl_time.specs.Times.{TimingNumbers}

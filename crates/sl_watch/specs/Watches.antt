@@ -4,7 +4,7 @@ use Rattle.sl_sector.specs.Spelling.{decoded, spelling}
 use Rattle.sl_sector.specs.declared.sector.Rec.{Rec}
 use Rattle.sl_trace.specs.declared.sighting.Sighting.{Sighting}
 use Rattle.sl_time.specs.Times.{TimingNumbers}
-use Rattle.sl_watch.specs.Seen.{Seen, sightings_of}
+use Rattle.sl_watch.specs.SeenLooks.{Seen, sightings_of}
 use Rattle.sl_watch.specs.Summaries.{IsKept, nothing_seen, summary_of}
 use Rattle.sl_watch.specs.declared.summary.Summary.{Summary as Kept}
 use Rattle.std.specs.Prelude.{List, Ok, length, slice_index_or, ℕ, ◌-◌, ◌≡◌, ◌≤◌}

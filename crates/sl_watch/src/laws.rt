@@ -1,6 +1,6 @@
 //! What sightings show, and what they don't.
 ghost use Rattle.sl_watch.specs.Laws as laws;
-ghost use Rattle.sl_watch.specs.Telling as telling;
+ghost use Rattle.sl_watch.specs.ToldLooks as telling;
 
 /// A claim that stands still is no evidence against its writer, however long it stands: he may still join.
 pub fn claims_are_no_evidence()

@@ -8,11 +8,11 @@
 //! Two sectors of one size that each spell a record have the same bytes exactly where the records are the same. So the record is kept in
 //! place of the bytes, and nothing is hashed.
 ghost use Rattle.std.specs.Prelude.{IsTrue, Option, Some, ℕ, ◌≡◌, ◌⊎◌, ◌↔◌};
-ghost use Rattle.sl_trace.specs.Watching.{is_free_state, is_live_state, is_silent, run_with, silence, span, state_of_run};
+ghost use Rattle.sl_trace.specs.Sightings.{is_free_state, is_live_state, is_silent, run_with, silence, span, state_of_run};
 ghost use Rattle.sl_trace.specs.declared.sighting.Run.{Run};
 ghost use Rattle.sl_trace.specs.declared.sighting.Sighting.{Sighting};
 ghost use Rattle.sl_watch.specs.Summaries.{IsKeptRun, IsSeen, RunStands, bare_run};
-ghost use Rattle.sl_watch.specs.Telling.{kept_run_with, same_delta};
+ghost use Rattle.sl_watch.specs.ToldLooks.{kept_run_with, same_delta};
 
 use sl_sector::{DeltaRec, DeltaState, Gen, Rec, same_record};
 use sl_time::Timing;

@@ -4,10 +4,10 @@
 //! asked, since a newer one was seen; of a greater one nothing was seen.
 ghost use Rattle.std.specs.Option.{option_map_or};
 ghost use Rattle.std.specs.Prelude.{ℕ, ◌≡◌};
-ghost use Rattle.sl_trace.specs.Watching.{span};
+ghost use Rattle.sl_trace.specs.Sightings.{span};
 ghost use Rattle.sl_trace.specs.declared.sighting.Sighting.{Sighting};
 ghost use Rattle.sl_watch.specs.Summaries.{IsKept, IsSeen, Summary as Contents, evidence_by, freed_with, nothing_seen, state_by, summary_with, bare};
-ghost use Rattle.sl_watch.specs.Telling.{kept_with};
+ghost use Rattle.sl_watch.specs.ToldLooks.{kept_with};
 
 use crate::run::{KeptRun, is_free};
 use sl_sector::{DeltaRec, Gen};

@@ -17,19 +17,18 @@ ghost use Rattle.std.specs.Prelude.{IfOk, IfSome, IsSome, List, length, [], ◌�
 ghost use Rattle.std.specs.Option.{option_map_or};
 ghost use Rattle.sl_area.specs.Layouts.{layout_of, program_digest};
 ghost use Rattle.sl_sector.specs.Spelling.{decoded};
-ghost use Rattle.sl_trace.specs.Watching.{evidence, host_state, span, unchanged};
+ghost use Rattle.sl_trace.specs.Sightings.{evidence, host_state, span, unchanged};
 ghost use Rattle.sl_trace.specs.declared.sighting.Sighting.{Sighting};
 ghost use Rattle.sl_watch.specs.Reasons.{IsFirstReason, SawFree, SawNewer, StoodStill};
-ghost use Rattle.sl_watch.specs.Seen.{Seen, seen_at, seen_with, spelled_for};
+ghost use Rattle.sl_watch.specs.SeenLooks.{Seen, seen_at, seen_with, spelled_for};
 ghost use Rattle.sl_watch.specs.Summaries.{bare, evidence_by, nothing_seen, state_by};
-ghost use Rattle.sl_watch.specs.Telling.{delta_found, told_at};
+ghost use Rattle.sl_watch.specs.ToldLooks.{delta_found, told_at};
 ghost use Rattle.sl_watch.specs.Watches.{IsReadTrue, StandsFor, WatchStands, kept_at};
 
 use crate::run::KeptRun;
 use crate::summary::Summary;
 use sl_area::Geometry;
-use sl_sector::{Bad, DeltaRec, Gen, HostId, Rec, delta_in};
-use sl_sectors::Image;
+use sl_sector::{Bad, DeltaRec, Gen, HostId, Image, Rec, delta_in};
 use sl_text::Name;
 use sl_time::Timing;
 use sl_trace::{Evidence, HostState};
@@ -45,7 +44,7 @@ pub struct Watch {
 }
 
 impl Model for Watch {
-    ghost use Rattle.sl_watch.specs.Telling.{delta_found, told_at};
+    ghost use Rattle.sl_watch.specs.ToldLooks.{delta_found, told_at};
     ghost use Rattle.sl_watch.specs.Watches.{Watched};
     ghost use Rattle.std.specs.Prelude.{length, ◌≡◌};
 

@@ -29,7 +29,7 @@ pub struct Wdmd {
 impl Model for Wdmd {
     ghost use Rattle.indexmap.specs.IndexMap.{IsUnique};
     ghost use Rattle.sl_trace.specs.Connections.{Connection};
-    ghost use Rattle.sl_wdmd.specs.Kept.{connections_of};
+    ghost use Rattle.sl_wdmd.specs.KeptConnections.{connections_of};
     ghost use Rattle.std.specs.Prelude.{List, bytes_eq};
 
     ghost Value = { List Connection };

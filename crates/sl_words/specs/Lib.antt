@@ -5,3 +5,4 @@ pub mod Causes
 pub mod Bounds
 pub mod Laws
 pub mod Tables
+pub mod Rooms

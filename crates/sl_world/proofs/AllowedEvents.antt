@@ -1,17 +1,17 @@
 -- What an event gives that nothing refuses, and what comes of it.
-use Rattle.sl_daemon.specs.declared.daemon.Most.{Most}
-use Rattle.sl_daemon.specs.Daemons.{text_for_locks}
-use Rattle.sl_kept.specs.Changes.{change_flight, crashed_machine, dropped_flight, first_kept, landed_in, passed_in, restarted_machine, sampled_flight, tested_machine}
-use Rattle.sl_kept.specs.Inputs.{done_in, input_for, input_in, ok_in, own_in, rest_in}
-use Rattle.sl_kept.specs.Kept.{FlightState, KeptState, MachineState, change_machine_in, flight_in, flight_of_machine, machine_in}
-use Rattle.sl_kept.specs.Refusing.{is_shaped_in, left_in, writes_in, needs_running, on_flight_in, on_kept, pass_tests_in, reads_in, refusal_in, tests_in}
-use Rattle.sl_kept.specs.Sane.{WorldStands}
-use Rattle.sl_kept.specs.Showing.{shown}
-use Rattle.sl_kept.specs.Steps.{stepped_kept, taken_kept}
-use Rattle.sl_kept_law.proofs.Allowed.{open_test}
-use Rattle.sl_kept_law.proofs.Tests.{Tests}
-use Rattle.sl_plain.proofs.Lists.{find_inside}
-use Rattle.sl_plain.proofs.Options.{some_there}
+use Rattle.sl_world_state.specs.declared.daemon.Most.{Most}
+use Rattle.sl_world_state.specs.Daemons.{text_for_locks}
+use Rattle.sl_world_state.specs.Changes.{change_flight, crashed_machine, dropped_flight, first_kept, landed_in, passed_in, restarted_machine, sampled_flight, tested_machine}
+use Rattle.sl_world_state.specs.Inputs.{done_in, input_for, input_in, ok_in, own_in, rest_in}
+use Rattle.sl_world_state.specs.KeptWorld.{FlightState, KeptState, MachineState, change_machine_in, flight_in, flight_of_machine, machine_in}
+use Rattle.sl_world_state.specs.Refusals.{is_shaped_in, left_in, writes_in, needs_running, on_flight_in, on_kept, pass_tests_in, reads_in, refusal_in, tests_in}
+use Rattle.sl_world_state.specs.SaneWorlds.{WorldStands}
+use Rattle.sl_world_state.specs.ShownWorlds.{shown}
+use Rattle.sl_world_state.specs.Steps.{stepped_kept, taken_kept}
+use Rattle.sl_world_law.proofs.AllowedEvents.{open_test}
+use Rattle.sl_world_law.proofs.TestLists.{Tests}
+use Rattle.sl_words.proofs.Lists.{find_inside}
+use Rattle.sl_words.proofs.Options.{some_there}
 use Rattle.sl_run.specs.Events.{machine_of}
 use Rattle.sl_run.specs.Worlds.{World, first_that}
 use Rattle.sl_run.specs.declared.event.Event.TheVariants.{AnswerCall, Crash, Do, DropWrite, GiveAsk, GiveCommand, GiveLvm, Land, Pass, Restart, Sample, SpawnedOf, Test, WakeUp}
@@ -27,14 +27,14 @@ use Rattle.sl_trace.specs.declared.input.Answer.TheVariants.{Failed, Read, Writt
 use Rattle.sl_trace.specs.declared.input.Input.TheVariants.{Answer as Told, Line, Number, Spawned, Wake}
 use Rattle.sl_trace.specs.declared.input.Input.{Input}
 use Rattle.sl_world.proofs.GivenSteps.{not_false}
-use Rattle.sl_world.specs.Allowing.{AllCome, IsAllowed, MayGive}
-use Rattle.sl_world.specs.Giving.{HasSampled, IsGiven}
+use Rattle.sl_world.specs.AllowedEvents.{AllCome, IsAllowed, MayGive}
+use Rattle.sl_world.specs.GivenSteps.{HasSampled, IsGiven}
 use Rattle.sl_words.proofs.CaseLaws.{none_some}
 use Rattle.sl_words.specs.Words.{choose}
 use Rattle.sl_world_law.proofs.DirectChanges.{quiet_events}
 use Rattle.sl_world_law.proofs.EventsStand.{steps_are_ready, steps_stand}
 use Rattle.sl_world_law.proofs.OwnEvents.{ends_stand, own_stands}
-use Rattle.sl_world_law.specs.Standing.{Comes, IsReady, begins_or_ends}
+use Rattle.sl_world_law.specs.WorldsStand.{Comes, IsReady, begins_or_ends}
 use Rattle.std.proofs.Common.{ap, ap₂, arith, refl, subst, sym, ◌∙◌}
 use Rattle.std.proofs.lemmas.Bool.Decides.{Decides-eqb, nat_tests}
 use Rattle.std.proofs.lemmas.List.{length-map}

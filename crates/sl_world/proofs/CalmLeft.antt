@@ -1,16 +1,16 @@
 -- Where no two holdings conflict before an event, no two that stand before its grants do; and what is known of all behind them.
-use Rattle.sl_kept.specs.Changes.{first_kept, reset_machine}
-use Rattle.sl_kept.specs.Inputs.{input_in}
-use Rattle.sl_kept.specs.Kept.{KeptState, MachineState, machine_in}
-use Rattle.sl_kept.specs.Showing.{Tells, shown}
-use Rattle.sl_kept.specs.Steps.{owned_machine, stepped_kept, stepped_machine, taken_kept}
-use Rattle.sl_kept_law.proofs.Lookups.{machine_shown}
-use Rattle.sl_kept_law.proofs.WholeEvents.{events_are_kept}
-use Rattle.sl_machine.specs.Keeping.{kept_state}
+use Rattle.sl_world_state.specs.Changes.{first_kept, reset_machine}
+use Rattle.sl_world_state.specs.Inputs.{input_in}
+use Rattle.sl_world_state.specs.KeptWorld.{KeptState, MachineState, machine_in}
+use Rattle.sl_world_state.specs.ShownWorlds.{Tells, shown}
+use Rattle.sl_world_state.specs.Steps.{owned_machine, stepped_kept, stepped_machine, taken_kept}
+use Rattle.sl_world_law.proofs.Lookups.{machine_shown}
+use Rattle.sl_world_law.proofs.WholeEvents.{events_are_kept}
+use Rattle.sl_machine.specs.KeptParts.{kept_state}
 use Rattle.sl_machine.specs.Machines.{machine_state}
-use Rattle.sl_machine.specs.declared.kept.Kept.{Kept}
+use Rattle.sl_machine.specs.declared.kept_world.Kept.{Kept}
 use Rattle.sl_machine.specs.declared.machine.Machine.{Machine as KeptMachine}
-use Rattle.sl_plain.proofs.Lists.{set_here}
+use Rattle.sl_words.proofs.Lists.{set_here}
 use Rattle.sl_run.specs.Conflicts.{Holding, has_conflict}
 use Rattle.sl_run.specs.Events.{machine_of}
 use Rattle.sl_run.specs.Locks.{Locks}
@@ -23,11 +23,11 @@ use Rattle.sl_trace.specs.declared.effects.Effects.{Effects}
 use Rattle.sl_trace.specs.declared.effects.Grant.{Grant}
 use Rattle.sl_trace.specs.declared.input.Input.{Input}
 use Rattle.sl_words.proofs.CaseLaws.{false_is_true}
-use Rattle.sl_world.proofs.Fewer.{Within, all_from, all_within, conflict_within, here_within, kept_within, within_both, within_filter, within_left, within_right}
+use Rattle.sl_world.proofs.FewerConflicts.{Within, all_from, all_within, conflict_within, here_within, kept_within, within_both, within_filter, within_left, within_right}
 use Rattle.sl_world.proofs.LeftGrants.{all_by, at_if, changed, first_helds, front_of, held_by, held_is, helds, if_open, is_one_reset, is_reset, nowhere, number_there, others_by, others_set, stepped_helds, taken_helds}
-use Rattle.sl_world.specs.Counting.{all_held, held_before, holding, holdings_with}
-use Rattle.sl_world.specs.Leaving.{CalmAfter, CalmBefore}
-use Rattle.sl_world_law.specs.Telling.{held_in, holdings_in, others_in}
+use Rattle.sl_world.specs.ConflictCounts.{all_held, held_before, holding, holdings_with}
+use Rattle.sl_world.specs.ConflictsLeft.{CalmAfter, CalmBefore}
+use Rattle.sl_world_law.specs.ToldEvents.{held_in, holdings_in, others_in}
 use Rattle.std.proofs.Common.{ap, ap₂, arith, refl, subst, sym, ◌∙◌}
 use Rattle.std.proofs.lemmas.Bool.Decides.{nat_tests}
 use Rattle.std.proofs.lemmas.List.{map-set}

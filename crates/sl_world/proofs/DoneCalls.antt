@@ -1,11 +1,11 @@
 -- A call that is done: what its event makes of a world.
-use Rattle.sl_daemon.specs.declared.daemon.Most.{Most}
-use Rattle.sl_kept.specs.Changes.{write_at}
-use Rattle.sl_kept.specs.Inputs.{rest_in}
-use Rattle.sl_kept.specs.Kept.{FlightState, KeptState, MachineState, Place, flight_of_machine, machine_in}
-use Rattle.sl_kept.specs.Refusing.{left_in}
-use Rattle.sl_kept.specs.Steps.{stepped_machine, taken_kept}
-use Rattle.sl_machine.specs.Calling.{LeavesWhole}
+use Rattle.sl_world_state.specs.declared.daemon.Most.{Most}
+use Rattle.sl_world_state.specs.Changes.{write_at}
+use Rattle.sl_world_state.specs.Inputs.{rest_in}
+use Rattle.sl_world_state.specs.KeptWorld.{FlightState, KeptState, MachineState, Place, flight_of_machine, machine_in}
+use Rattle.sl_world_state.specs.Refusals.{left_in}
+use Rattle.sl_world_state.specs.Steps.{stepped_machine, taken_kept}
+use Rattle.sl_machine.specs.CallWrites.{LeavesWhole}
 use Rattle.sl_machine.specs.declared.calls.Landing.{Landing}
 use Rattle.sl_run.specs.declared.event.Event.TheVariants.{Do}
 use Rattle.sl_run.specs.declared.header.Header.{Header}
@@ -17,12 +17,12 @@ use Rattle.sl_trace.specs.declared.input.Answer.TheVariants.{Read, Written}
 use Rattle.sl_trace.specs.declared.input.Input.TheVariants.{Answer as Told}
 use Rattle.sl_trace.specs.declared.input.Input.{Input}
 use Rattle.sl_world.proofs.AllowedEvents.{do_called, do_given, given_comes}
-use Rattle.sl_world.specs.Allowing.{AllCome, IsAllowed}
-use Rattle.sl_world.specs.Giving.{HasSampled, IsGiven, written_by}
+use Rattle.sl_world.specs.AllowedEvents.{AllCome, IsAllowed}
+use Rattle.sl_world.specs.GivenSteps.{HasSampled, IsGiven, written_by}
 use Rattle.sl_words.proofs.CaseLaws.{one_value, some_value}
-use Rattle.sl_plain.proofs.Options.{some_there}
+use Rattle.sl_words.proofs.Options.{some_there}
 use Rattle.sl_world_law.proofs.DirectChanges.{done_directly}
-use Rattle.sl_world_law.specs.Direct.{landed_first}
+use Rattle.sl_world_law.specs.DirectChanges.{landed_first}
 use Rattle.std.proofs.Common.{ap, ap₂, refl, sym, ◌∙◌}
 use Rattle.std.specs.Arc.{arc_value}
 use Rattle.std.specs.Prelude.{Bool, IfSome, List, None, Option, Some, false, is_none, is_some, length, slice_set, true, ℕ, ◌-◌, ◌≡◌}

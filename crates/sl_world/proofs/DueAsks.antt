@@ -1,16 +1,16 @@
 -- The first machine with an ask that is due.
-use Rattle.sl_kept.specs.Showing.{shown}
-use Rattle.sl_machine.specs.Keeping.{kept_state}
+use Rattle.sl_world_state.specs.ShownWorlds.{shown}
+use Rattle.sl_machine.specs.KeptParts.{kept_state}
 use Rattle.sl_machine.specs.Machines.{machine_state}
-use Rattle.sl_machine.specs.declared.kept.Kept.{Kept}
+use Rattle.sl_machine.specs.declared.kept_world.Kept.{Kept}
 use Rattle.sl_machine.specs.declared.machine.Machine.{Machine}
 use Rattle.sl_run.specs.Locks.{Locks}
 use Rattle.sl_run.specs.declared.header.Header.{Header}
 use Rattle.sl_text.specs.Forms.{Form}
 use Rattle.sl_trace.specs.Traces.{Setting, Trace}
 use Rattle.sl_trace.specs.declared.command.Command.{Command}
-use Rattle.sl_world.specs.Allowing.{StandsForSome}
-use Rattle.sl_world_law.specs.Telling.{asking_in}
+use Rattle.sl_world.specs.AllowedEvents.{StandsForSome}
+use Rattle.sl_world_law.specs.ToldEvents.{asking_in}
 use Rattle.sl_words.proofs.CaseLaws.{some_value}
 use Rattle.std.proofs.Common.{Bool, List, None, Option, Some, [], ap, arith, cond, false, length, map, not, refl, sym, true, ℕ, ◌+◌, ◌<◌, ◌∙◌, ◌∷◌, ◌≡◌, ◌≤◌}
 use Rattle.std.proofs.lemmas.Bool.Decides.{nat_tests}

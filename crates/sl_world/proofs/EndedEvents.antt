@@ -1,18 +1,18 @@
 -- Processes that exit, machines that go down, and the world that begins.
-use Rattle.sl_daemon.specs.Daemons.{program_of}
-use Rattle.sl_kept.specs.Changes.{first_kept, reset_machine, torn_by}
-use Rattle.sl_kept.specs.FirstKept.{first_state}
-use Rattle.sl_kept.specs.Inputs.{input_for, input_in, own_in}
-use Rattle.sl_kept.specs.Kept.{KeptState, MachineState, change_machine_in, machine_in}
-use Rattle.sl_kept.specs.Refusing.{is_shaped_in, refusal_in, tests_in}
-use Rattle.sl_kept.specs.Sane.{ReadsCommands, WorldStands}
-use Rattle.sl_kept.specs.Steps.{stepped_kept, taken_kept}
+use Rattle.sl_world_state.specs.Daemons.{program_of}
+use Rattle.sl_world_state.specs.Changes.{first_kept, reset_machine, torn_by}
+use Rattle.sl_world_state.specs.FirstKept.{first_state}
+use Rattle.sl_world_state.specs.Inputs.{input_for, input_in, own_in}
+use Rattle.sl_world_state.specs.KeptWorld.{KeptState, MachineState, change_machine_in, machine_in}
+use Rattle.sl_world_state.specs.Refusals.{is_shaped_in, refusal_in, tests_in}
+use Rattle.sl_world_state.specs.SaneWorlds.{ReadsCommands, WorldStands}
+use Rattle.sl_world_state.specs.Steps.{stepped_kept, taken_kept}
 use Rattle.sl_run.specs.Headers.{IsHeader}
 use Rattle.sl_run.specs.Worlds.{World, first_that, world_with}
 use Rattle.sl_run.specs.declared.event.Event.TheVariants.{ExitOf, Reset, Tear}
 use Rattle.sl_run.specs.declared.event.Refusal.TheVariants.{MissingUp, Syntax}
 use Rattle.sl_run.specs.declared.event.Refusal.{Refusal}
-use Rattle.sl_machine.specs.Testing.{tear_tests}
+use Rattle.sl_machine.specs.EventTests.{tear_tests}
 use Rattle.sl_run.specs.declared.header.Header.{Header}
 use Rattle.sl_text.specs.Forms.{Form}
 use Rattle.sl_trace.specs.Traces.{Setting, Trace, no_effects}
@@ -20,12 +20,12 @@ use Rattle.sl_trace.specs.declared.command.Command.{Command}
 use Rattle.sl_trace.specs.declared.effects.Effects.{Effects}
 use Rattle.sl_trace.specs.declared.input.Input.TheVariants.{Exit}
 use Rattle.sl_world.proofs.AllowedEvents.{machine_there, no_input, no_own, quietly_comes, unrefused}
-use Rattle.sl_world.specs.Allowing.{AllCome, IsAllowed, StandsForSome}
+use Rattle.sl_world.specs.AllowedEvents.{AllCome, IsAllowed, StandsForSome}
 use Rattle.sl_words.specs.Words.{choose}
 use Rattle.sl_world_law.proofs.DirectChanges.{resets_are_quiet}
 use Rattle.sl_world_law.proofs.FirstStanding.{first_worlds_stand}
 use Rattle.sl_world_law.proofs.OwnEvents.{ends_stand, own_stands}
-use Rattle.sl_world_law.specs.Standing.{Comes, HaveBegun}
+use Rattle.sl_world_law.specs.WorldsStand.{Comes, HaveBegun}
 use Rattle.std.proofs.Common.{ap, ap₂, refl, subst, sym, ◌∙◌}
 use Rattle.std.specs.List.{list_any, slice_set}
 use Rattle.std.specs.Prelude.{Bool, Err, IfErr, IfOk, List, None, Ok, OnOk, Option, Result, Some, bytes_eq, false, not, option_and_then, true, [], ℕ, ◌-◌, ◌∷◌, ◌≡◌}
@@ -60,11 +60,6 @@ first_stands commands stands h k hosts ns ok reads begun is same =
     (named_otherwise commands stands (first_state h) hosts (world_with (program_of commands) h) ns (first_worlds_stand commands stands h ok reads hosts begun) same)
 
 -- ---- answers of calls
-
--- Two things that an answer ok says may be said as one.
-pub if_ok_both : {A E : Type 0} (P Q R : A → Type 0) (r : Result A E) → ((a : A) → P a → Q a → R a) → IfOk r P → IfOk r Q → IfOk r R
-if_ok_both P Q R (Ok a) more p q = more a p q
-if_ok_both P Q R (Err e) more p q = tt
 
 pub if_err_then : {A E : Type 0} (P Q : E → Type 0) (r : Result A E) → ((e : E) → P e → Q e) → IfErr r P → IfErr r Q
 if_err_then P Q (Ok a) more p = tt

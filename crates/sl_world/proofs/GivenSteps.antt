@@ -1,14 +1,14 @@
 -- A daemon has taken a step: what is kept has room for it, and takes it up.
-use Rattle.sl_daemon.specs.declared.daemon.Most.{Most}
-use Rattle.sl_kept.specs.Kept.{KeptState, MachineState, change_machine_in, machine_in}
-use Rattle.sl_kept.specs.Steps.{stepped_machine, taken_kept}
+use Rattle.sl_world_state.specs.declared.daemon.Most.{Most}
+use Rattle.sl_world_state.specs.KeptWorld.{KeptState, MachineState, change_machine_in, machine_in}
+use Rattle.sl_world_state.specs.Steps.{stepped_machine, taken_kept}
 use Rattle.sl_machine.proofs.KeptLaws.{placed}
 use Rattle.sl_locks.specs.Steps.{lock_input}
-use Rattle.sl_machine.specs.Hearing.{IsLockInput, heard_of}
-use Rattle.sl_machine.specs.Keeping.{AtMachine, kept_state, place_in}
+use Rattle.sl_machine.specs.HeardInputs.{IsLockInput, heard_of}
+use Rattle.sl_machine.specs.KeptParts.{AtMachine, kept_state, place_in}
 use Rattle.sl_machine.specs.Machines.{HasRoom, TakesStep, machine_state, stepped_by}
-use Rattle.sl_machine.specs.declared.heard.Heard.{Heard}
-use Rattle.sl_machine.specs.declared.kept.Kept.{Kept}
+use Rattle.sl_machine.specs.declared.heard_inputs.Heard.{Heard}
+use Rattle.sl_machine.specs.declared.kept_world.Kept.{Kept}
 use Rattle.sl_locks.specs.declared.step.LockInput.{LockInput}
 use Rattle.sl_machine.specs.declared.machine.Machine.{Machine}
 use Rattle.sl_run.specs.Locks.{Locks}
@@ -20,12 +20,12 @@ use Rattle.sl_trace.specs.declared.command.Command.{Command}
 use Rattle.sl_trace.specs.declared.effects.Effects.{Effects}
 use Rattle.sl_trace.specs.declared.input.Input.TheVariants.{Answer as Told, Exit, Line, Number, Spawned, Wake}
 use Rattle.sl_trace.specs.declared.input.Input.{Input}
-use Rattle.sl_world.specs.Allowing.{LacksAt, LeavesAt}
-use Rattle.sl_world.specs.Giving.{IsGiven}
-use Rattle.sl_world.specs.Hosting.{HostStepped}
+use Rattle.sl_world.specs.AllowedEvents.{LacksAt, LeavesAt}
+use Rattle.sl_world.specs.GivenSteps.{IsGiven}
+use Rattle.sl_world.specs.RunningDaemons.{HostStepped}
 use Rattle.sl_words.proofs.CaseLaws.{one_value, true_is_false}
 use Rattle.sl_world_law.proofs.EventsStand.{steps_fit}
-use Rattle.sl_world_law.specs.Standing.{FitsKept, HasStepped, IsReady}
+use Rattle.sl_world_law.specs.WorldsStand.{FitsKept, HasStepped, IsReady}
 use Rattle.std.proofs.Common.{ap, arith, refl, subst, sym, ◌∙◌}
 use Rattle.std.proofs.lemmas.Bool.Decides.{nat_tests}
 use Rattle.std.proofs.lemmas.Option.{slice_get-map}
@@ -180,7 +180,3 @@ pub ask_there : {L : Type 0} (locks : L → Locks) (k : Kept L) (m : ℕ) (a : M
 unfolding machine_state
 ask_there locks k m a text at due s there =
     ap (λ (z : MachineState). z.locks.due) (sym (one_value (machine_state locks a) s (machine_in (kept_state locks k) m) at there)) ∙ sym due
-
-pub on_ok_then : {A E : Type 0} (P Q : Type 0) (r : Result A E) → (P → Q) → OnOk r P → OnOk r Q
-on_ok_then P Q (Ok a) more p = more p
-on_ok_then P Q (Err e) more p = tt

@@ -1,17 +1,17 @@
 -- What is asked of all that the other machines hold is asked of each of them.
-use Rattle.sl_kept.specs.Kept.{MachineState, machine_in}
-use Rattle.sl_machine.specs.Keeping.{kept_state}
+use Rattle.sl_world_state.specs.KeptWorld.{MachineState, machine_in}
+use Rattle.sl_machine.specs.KeptParts.{kept_state}
 use Rattle.sl_machine.specs.Machines.{machine_state}
-use Rattle.sl_machine.specs.declared.kept.Kept.{Kept}
+use Rattle.sl_machine.specs.declared.kept_world.Kept.{Kept}
 use Rattle.sl_machine.specs.declared.machine.Machine.{Machine}
-use Rattle.sl_plain.proofs.Lists.{there_is}
+use Rattle.sl_words.proofs.Lists.{there_is}
 use Rattle.sl_report.specs.Reports.{conflicts_after}
 use Rattle.sl_run.specs.Conflicts.{Holding, has_conflict}
 use Rattle.sl_run.specs.Locks.{Locks}
 use Rattle.sl_trace.specs.declared.effects.Grant.{Grant}
-use Rattle.sl_world.specs.Counting.{all_with, any_beside, any_there, conflicts_left, conflicts_with, held_before, holding, holdings_with, others_from}
-use Rattle.sl_world_law.proofs.Conflicting.{one_more_conflict}
-use Rattle.sl_world_law.specs.Telling.{held_in, others_in}
+use Rattle.sl_world.specs.ConflictCounts.{all_with, any_beside, any_there, conflicts_left, conflicts_with, held_before, holding, holdings_with, others_from}
+use Rattle.sl_world_law.proofs.ConflictsAreCounted.{one_more_conflict}
+use Rattle.sl_world_law.specs.ToldEvents.{held_in, others_in}
 use Rattle.std.proofs.Common.{append_assoc, ap, ap₂, arith, refl, sym, ◌∙◌}
 use Rattle.std.proofs.lemmas.Bool.Decides.{nat_tests}
 use Rattle.std.proofs.lemmas.List.{drop_more, map-append, take_more}

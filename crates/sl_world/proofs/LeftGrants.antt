@@ -1,15 +1,15 @@
 -- What is granted at an event stands last among what its machine holds then, and the other machines hold what they held.
-use Rattle.sl_kept.specs.Changes.{change_flight, completed_in, crashed_machine, dropped_flight, first_kept, landed_flight, landed_in, machine_later, restarted_machine, sampled_flight, started_machine, tested_machine, torn_by, torn_flight, write_at}
-use Rattle.sl_kept.specs.Refusing.{left_in, torn_in}
-use Rattle.sl_kept.specs.Inputs.{input_in}
-use Rattle.sl_kept.specs.Kept.{FlightState, KeptState, MachineState, Place, change_machine_in, flight_of_machine, machine_in}
-use Rattle.sl_kept.specs.Showing.{shown}
-use Rattle.sl_kept.specs.Steps.{owned_machine, stepped_kept, stepped_machine, taken_kept}
-use Rattle.sl_kept_law.proofs.Lookups.{machine_shown}
-use Rattle.sl_kept_law.proofs.WholeEvents.{events_are_kept}
-use Rattle.sl_world.specs.Leaving.{ConflictsAreLeft}
-use Rattle.sl_plain.proofs.Lists.{set_here}
-use Rattle.sl_plain.proofs.Numbers.{number_itself}
+use Rattle.sl_world_state.specs.Changes.{change_flight, completed_in, crashed_machine, dropped_flight, first_kept, landed_flight, landed_in, machine_later, restarted_machine, sampled_flight, started_machine, tested_machine, torn_by, torn_flight, write_at}
+use Rattle.sl_world_state.specs.Refusals.{left_in, torn_in}
+use Rattle.sl_world_state.specs.Inputs.{input_in}
+use Rattle.sl_world_state.specs.KeptWorld.{FlightState, KeptState, MachineState, Place, change_machine_in, flight_of_machine, machine_in}
+use Rattle.sl_world_state.specs.ShownWorlds.{shown}
+use Rattle.sl_world_state.specs.Steps.{owned_machine, stepped_kept, stepped_machine, taken_kept}
+use Rattle.sl_world_law.proofs.Lookups.{machine_shown}
+use Rattle.sl_world_law.proofs.WholeEvents.{events_are_kept}
+use Rattle.sl_world.specs.ConflictsLeft.{ConflictsAreLeft}
+use Rattle.sl_words.proofs.Lists.{set_here}
+use Rattle.sl_words.proofs.Numbers.{number_itself}
 use Rattle.sl_report.specs.Reports.{conflicts_after}
 use Rattle.sl_run.specs.Conflicts.{Holding}
 use Rattle.sl_run.specs.Events.{input_at, input_of, machine_of, next_input, own_effects}
@@ -21,9 +21,9 @@ use Rattle.sl_trace.specs.Traces.{held_after, is_ended_by, no_effects}
 use Rattle.sl_trace.specs.declared.effects.Effects.{Effects}
 use Rattle.sl_trace.specs.declared.effects.Grant.{Grant}
 use Rattle.sl_trace.specs.declared.input.Input.{Input}
-use Rattle.sl_world.specs.Counting.{conflicts_left, holding}
+use Rattle.sl_world.specs.ConflictCounts.{conflicts_left, holding}
 use Rattle.sl_words.proofs.CaseLaws.{false_is_true, true_is_false}
-use Rattle.sl_world_law.specs.Telling.{conflicts_in, held_in, others_in}
+use Rattle.sl_world_law.specs.ToldEvents.{conflicts_in, held_in, others_in}
 use Rattle.std.proofs.Common.{ap, ap₂, arith, refl, subst, sym, ◌∙◌}
 use Rattle.std.proofs.lemmas.List.{length-append, map-set}
 use Rattle.std.proofs.lemmas.List.Elements.{filter-append}

@@ -5,9 +5,9 @@ pub mod ToldSteps
 pub mod DoneCalls
 pub mod StartedDaemons
 pub mod EndedEvents
-pub mod Refused
+pub mod RefusedEvents
 pub mod HeldThere
 pub mod LeftGrants
 pub mod DueAsks
-pub mod Fewer
+pub mod FewerConflicts
 pub mod CalmLeft

@@ -1,16 +1,16 @@
 -- A daemon begins: what its event makes of a world.
-use Rattle.sl_daemon.specs.Daemons.{begun_with}
-use Rattle.sl_daemon.specs.declared.daemon.Site.{Site}
-use Rattle.sl_kept.specs.Changes.{first_kept, named_in, started_machine}
-use Rattle.sl_kept.specs.Inputs.{own_in}
-use Rattle.sl_kept.specs.Kept.{KeptState, MachineState, change_machine_in, machine_in}
-use Rattle.sl_kept.specs.Refusing.{refusal_in, tests_in}
-use Rattle.sl_kept.specs.Steps.{stepped_kept}
-use Rattle.sl_kept_law.proofs.Allowed.{open_test}
+use Rattle.sl_world_state.specs.Daemons.{begun_with}
+use Rattle.sl_world_state.specs.declared.daemon.Site.{Site}
+use Rattle.sl_world_state.specs.Changes.{first_kept, named_in, started_machine}
+use Rattle.sl_world_state.specs.Inputs.{own_in}
+use Rattle.sl_world_state.specs.KeptWorld.{KeptState, MachineState, change_machine_in, machine_in}
+use Rattle.sl_world_state.specs.Refusals.{refusal_in, tests_in}
+use Rattle.sl_world_state.specs.Steps.{stepped_kept}
+use Rattle.sl_world_law.proofs.AllowedEvents.{open_test}
 use Rattle.sl_run.specs.Lawful.{IsSetting}
-use Rattle.sl_machine.specs.Keeping.{kept_state}
+use Rattle.sl_machine.specs.KeptParts.{kept_state}
 use Rattle.sl_machine.specs.Machines.{machine_state}
-use Rattle.sl_machine.specs.declared.kept.Kept.{Kept}
+use Rattle.sl_machine.specs.declared.kept_world.Kept.{Kept}
 use Rattle.sl_machine.specs.declared.machine.Machine.{Machine}
 use Rattle.sl_run.specs.Headers.{IsHeader}
 use Rattle.sl_run.specs.Locks.{Locks}
@@ -24,12 +24,12 @@ use Rattle.sl_trace.specs.declared.command.Command.{Command}
 use Rattle.sl_trace.specs.declared.input.Given.{Given}
 use Rattle.sl_world.proofs.AllowedEvents.{machine_there, no_input, no_own, unrefused}
 use Rattle.sl_world.proofs.GivenSteps.{header_kept, next_kept}
-use Rattle.sl_world.specs.Allowing.{AllCome, IsAllowed}
-use Rattle.sl_world.specs.Hosting.{HostBegun}
+use Rattle.sl_world.specs.AllowedEvents.{AllCome, IsAllowed}
+use Rattle.sl_world.specs.RunningDaemons.{HostBegun}
 use Rattle.sl_words.proofs.CaseLaws.{one_value}
 use Rattle.sl_world_law.proofs.DirectChanges.{quiet_events}
 use Rattle.sl_world_law.proofs.OwnEvents.{beginnings_are_settings, beginnings_stand}
-use Rattle.sl_world_law.specs.Standing.{Comes, new_site}
+use Rattle.sl_world_law.specs.WorldsStand.{Comes, new_site}
 use Rattle.std.proofs.Common.{ap, ap₂, refl, subst, sym, ◌∙◌}
 use Rattle.std.specs.List.{list_any}
 use Rattle.std.specs.Prelude.{IsTrue, List, None, Option, Some, bytes_eq, false, not, reverse, slice_set, [], ℕ, ◌-◌, ◌∷◌, ◌≡◌}

@@ -1,14 +1,14 @@
 -- What is told of a daemon's step, or of what the machine does itself, is what the definitions tell of the event.
-use Rattle.sl_daemon.specs.declared.daemon.Most.{Most}
-use Rattle.sl_kept.specs.Changes.{first_kept}
-use Rattle.sl_kept.specs.Inputs.{input_for, input_in}
-use Rattle.sl_kept.specs.Kept.{KeptState, MachineState, machine_in}
-use Rattle.sl_kept.specs.Refusing.{refusal_in}
+use Rattle.sl_world_state.specs.declared.daemon.Most.{Most}
+use Rattle.sl_world_state.specs.Changes.{first_kept}
+use Rattle.sl_world_state.specs.Inputs.{input_for, input_in}
+use Rattle.sl_world_state.specs.KeptWorld.{KeptState, MachineState, machine_in}
+use Rattle.sl_world_state.specs.Refusals.{refusal_in}
 use Rattle.sl_locks.specs.Steps.{lock_input}
 use Rattle.sl_locks.specs.declared.step.LockInput.{LockInput}
 use Rattle.sl_locks.specs.declared.step.StepTold.{StepTold}
 use Rattle.sl_machine.proofs.PartsHeard.{locks_hear_their_part}
-use Rattle.sl_machine.specs.Hearing.{IsLockInput, heard_by_locks}
+use Rattle.sl_machine.specs.HeardInputs.{IsLockInput, heard_by_locks}
 use Rattle.sl_machine.specs.Machines.{HasTold, told_by}
 use Rattle.sl_report.specs.Reports.{StepTold as ToldStep}
 use Rattle.sl_run.specs.Events.{machine_of}
@@ -23,12 +23,12 @@ use Rattle.sl_trace.specs.declared.effects.Effects.{Effects}
 use Rattle.sl_trace.specs.declared.input.Input.TheVariants.{Answer as Answered, Exit, Line, Number, Spawned, Wake}
 use Rattle.sl_trace.specs.declared.input.Input.{Input}
 use Rattle.sl_world.proofs.AllowedEvents.{simply_comes}
-use Rattle.sl_world.specs.Allowing.{AllCome, IsAllowed}
-use Rattle.sl_world.specs.Giving.{IsGiven}
-use Rattle.sl_world.specs.Telling.{ComesTold, GivesTold, told_view}
+use Rattle.sl_world.specs.AllowedEvents.{AllCome, IsAllowed}
+use Rattle.sl_world.specs.GivenSteps.{IsGiven}
+use Rattle.sl_world.specs.ToldEvents.{ComesTold, GivesTold, told_view}
 use Rattle.sl_words.proofs.CaseLaws.{none_some}
 use Rattle.sl_words.specs.Words.{choose}
-use Rattle.sl_world_law.specs.Telling.{told_in, told_of}
+use Rattle.sl_world_law.specs.ToldEvents.{told_in, told_of}
 use Rattle.std.proofs.Common.{List, None, Option, Some, ap, ap₂, false, refl, subst, sym, ℕ, ◌≡◌, ◌∙◌}
 use Rattle.std.specs.Option.{option_map_or}
 use Rattle.std.specs.Prelude.{option_and_then}
@@ -111,11 +111,3 @@ exit_silent k m p s at off = ap (option_and_then (input_for k (ExitOf m p))) at 
 pub step_told : (told : StepTold) (i : Input) (l : LockInput) (fx : Effects) (k after : KeptState) (m : ℕ) → after ≡ k → lock_input l ≡ heard_by_locks i
     → ((s : MachineState) → machine_in after m ≡ Some s → HasTold told (lock_input l) fx s) → (s : MachineState) → machine_in k m ≡ Some s → HasTold told i fx s
 step_told told i l fx k after m same is has s at = heard_told told i l fx s is (has s (ap (λ z. machine_in z m) same ∙ at))
-
--- An event that nobody takes, by what it is.
-pub quiet_told : {D : Type 0} (commands : Header → List (Form Command)) (stands : D → Setting → Trace → Type 0) (k : KeptState) (hosts : List (Option D)) (e f : Event) (fx : Effects)
-    (after : KeptState) (running : List (Option D)) (told : StepTold) → f ≡ e → AllCome commands stands k hosts e after running no_effects → input_in k e ≡ None
-    → fx ≡ no_effects → told_view told ≡ as_told fx None → ComesTold commands stands k hosts f after running told
-quiet_told commands stands k hosts e f fx after running told is comes none quiet told_is =
-    subst (λ x. ComesTold commands stands k hosts x after running told) (sym is)
-    (own_told commands stands k hosts e no_effects after running told comes none (told_is ∙ ap (λ x. as_told x None) quiet))

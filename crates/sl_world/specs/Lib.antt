@@ -1,6 +1,6 @@
-pub mod Hosting
-pub mod Allowing
-pub mod Giving
-pub mod Telling
-pub mod Counting
-pub mod Leaving
+pub mod RunningDaemons
+pub mod AllowedEvents
+pub mod GivenSteps
+pub mod ToldEvents
+pub mod ConflictCounts
+pub mod ConflictsLeft

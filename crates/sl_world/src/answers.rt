@@ -1,25 +1,25 @@
 //! Answers: of a call as it stands, and of one that is done in the same event.
 
-ghost use Rattle.sl_daemon.specs.Daemons.{read_of};
-ghost use Rattle.sl_kept.specs.Kept.{FlightState, flight_of_machine};
-ghost use Rattle.sl_kept.specs.Inputs.{rest_in};
-ghost use Rattle.sl_kept.specs.Refusing.{left_in};
-ghost use Rattle.sl_machine.specs.Calling.{LeavesWhole};
+ghost use Rattle.sl_world_state.specs.Daemons.{read_of};
+ghost use Rattle.sl_world_state.specs.KeptWorld.{FlightState, flight_of_machine};
+ghost use Rattle.sl_world_state.specs.Inputs.{rest_in};
+ghost use Rattle.sl_world_state.specs.Refusals.{left_in};
+ghost use Rattle.sl_machine.specs.CallWrites.{LeavesWhole};
 ghost use Rattle.std.specs.Arc.{arc_value};
 ghost use Rattle.std.specs.Option.{option_copied};
-ghost use Rattle.sl_machine.specs.Keeping.{kept_state};
+ghost use Rattle.sl_machine.specs.KeptParts.{kept_state};
 ghost use Rattle.sl_run.specs.declared.event.Event.TheVariants.{AnswerCall, Do};
-ghost use Rattle.sl_world.specs.Allowing.{IsAllowed, MayGive};
-ghost use Rattle.sl_world.specs.Giving.{HasSampled, IsLeft, IsSame, written_by};
-ghost use Rattle.sl_world.specs.Telling.{ComesTold, GivesTold};
+ghost use Rattle.sl_world.specs.AllowedEvents.{IsAllowed, MayGive};
+ghost use Rattle.sl_world.specs.GivenSteps.{HasSampled, IsLeft, IsSame, written_by};
+ghost use Rattle.sl_world.specs.ToldEvents.{ComesTold, GivesTold};
 ghost use Rattle.std.specs.Prelude.{IfOk, IfSome, OnErr, Some, false, is_none, is_some, length, option_map, true, ◌≡◌};
 
 use crate::world::{World, has_numbers, reading};
-use sl_daemon::Daemon;
 use sl_locks::{LockInput, StepTold};
 use sl_machine::{Flight, Kept, Landing, LockTable, hear_read};
-use sl_sectors::Images;
+use sl_sector::Images;
 use sl_trace::{Answer, Input};
+use sl_world_state::Daemon;
 use std::alloc::AllocError;
 
 /// What a call has sampled, if it reads. An `Err` is want of memory.
@@ -143,7 +143,7 @@ impl<D: Daemon, L: LockTable> World<D, L> {
     }
 
     /// A call is answered failed.
-    pub(crate) fn fail(&mut self, machine: u32, call: u64) -> Result<StepTold, AllocError>
+    fn fail(&mut self, machine: u32, call: u64) -> Result<StepTold, AllocError>
         requires { IsAllowed D.commands D.stands (kept_state L.locks self.old.kept) self.old.hosts (AnswerCall machine call false) }
         ensures ok { IfOk result (ComesTold D.commands D.stands (kept_state L.locks self.old.kept) self.old.hosts (AnswerCall machine call false) (kept_state L.locks self.new.kept) self.new.hosts) }
         ensures err { OnErr result (IsSame (kept_state L.locks self.old.kept) self.old.hosts (kept_state L.locks self.new.kept) self.new.hosts) }
@@ -158,7 +158,7 @@ impl<D: Daemon, L: LockTable> World<D, L> {
     }
 
     /// A call is answered ok as it stands.
-    pub(crate) fn answer(&mut self, machine: u32, call: u64) -> Result<StepTold, AllocError>
+    fn answer_ok(&mut self, machine: u32, call: u64) -> Result<StepTold, AllocError>
         requires { IsAllowed D.commands D.stands (kept_state L.locks self.old.kept) self.old.hosts (AnswerCall machine call true) }
         ensures ok { IfOk result (ComesTold D.commands D.stands (kept_state L.locks self.old.kept) self.old.hosts (AnswerCall machine call true) (kept_state L.locks self.new.kept) self.new.hosts) }
         ensures err { OnErr result (IsSame (kept_state L.locks self.old.kept) self.old.hosts (kept_state L.locks self.new.kept) self.new.hosts) }
@@ -173,6 +173,24 @@ impl<D: Daemon, L: LockTable> World<D, L> {
                     answer: Answer::Written,
                 },
             ),
+        }
+    }
+
+    /// A call is answered, ok as it stands or failed.
+    pub(crate) fn answer(
+        &mut self,
+        machine: u32,
+        call: u64,
+        ok: bool,
+    ) -> Result<StepTold, AllocError>
+        requires { IsAllowed D.commands D.stands (kept_state L.locks self.old.kept) self.old.hosts (AnswerCall machine call ok) }
+        ensures ok { IfOk result (ComesTold D.commands D.stands (kept_state L.locks self.old.kept) self.old.hosts (AnswerCall machine call ok) (kept_state L.locks self.new.kept) self.new.hosts) }
+        ensures err { OnErr result (IsSame (kept_state L.locks self.old.kept) self.old.hosts (kept_state L.locks self.new.kept) self.new.hosts) }
+    {
+        if ok {
+            self.answer_ok(machine, call)
+        } else {
+            self.fail(machine, call)
         }
     }
 

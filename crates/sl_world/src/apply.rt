@@ -3,27 +3,26 @@
 //! `apply` asks first why the event may not happen, and then matches it: one method an event, each of which is shown to make the world that the
 //! definitions make of it, with the effects that it answers. A refusal or want of memory leaves the world for which it stood.
 
-ghost use Rattle.sl_kept.specs.Refusing.{refusal_in};
-ghost use Rattle.sl_kept.specs.Sane.{WorldStands};
-ghost use Rattle.sl_machine.specs.Keeping.{kept_state};
-ghost use Rattle.sl_machine.specs.Testing.{bars_locks, is_tear};
-ghost use Rattle.sl_world.specs.Allowing.{AllCome, IsAllowed, StandsForSome};
-ghost use Rattle.sl_world.specs.Giving.{IsSame};
-ghost use Rattle.sl_world.specs.Telling.{ComesTold};
+ghost use Rattle.sl_world_state.specs.Refusals.{refusal_in};
+ghost use Rattle.sl_world_state.specs.SaneWorlds.{WorldStands};
+ghost use Rattle.sl_machine.specs.KeptParts.{kept_state};
+ghost use Rattle.sl_machine.specs.EventTests.{bars_locks, is_tear};
+ghost use Rattle.sl_world.specs.AllowedEvents.{IsAllowed, StandsForSome};
+ghost use Rattle.sl_world.specs.GivenSteps.{IsSame};
+ghost use Rattle.sl_world.specs.ToldEvents.{ComesTold};
 ghost use Rattle.sl_run.specs.Events as events;
 ghost use Rattle.sl_run.specs.Worlds as worlds;
 ghost use Rattle.sl_run.specs.declared.event.Event.TheVariants.{Tear};
-ghost use Rattle.sl_trace.specs.Traces.{no_effects};
 ghost use Rattle.sl_run.specs.declared.event.Refusal.{Refusal as RefusalOf};
-ghost use Rattle.std.specs.Prelude.{Err, IfOk, OnErr, OnOk, Some, true, ◌≡◌, ◌⊎◌};
+ghost use Rattle.std.specs.Prelude.{Err, IfOk, OnErr, Some, true, ◌≡◌, ◌⊎◌};
 
-use crate::ends::told_alone;
+use crate::ends::told_nothing;
 use crate::world::World;
-use sl_daemon::Daemon;
 use sl_locks::StepTold;
-use sl_machine::{LockTable, no_effects};
+use sl_machine::LockTable;
 use sl_run::{Event, Refusal};
 use sl_text::Bytes;
+use sl_world_state::Daemon;
 use std::alloc::AllocError;
 
 /// Why an event isn't applied.
@@ -64,13 +63,13 @@ impl<D: Daemon, L: LockTable> World<D, L> {
         call: u64,
         kept: u32,
         bytes: &Bytes,
-    ) -> Result<(), AllocError>
+    ) -> Result<StepTold, AllocError>
         requires { IsAllowed D.commands D.stands (kept_state L.locks self.old.kept) self.old.hosts (Tear machine call kept bytes.now) }
-        ensures ok { OnOk result (AllCome D.commands D.stands (kept_state L.locks self.old.kept) self.old.hosts (Tear machine call kept bytes.now) (kept_state L.locks self.new.kept) self.new.hosts no_effects) }
+        ensures ok { IfOk result (ComesTold D.commands D.stands (kept_state L.locks self.old.kept) self.old.hosts (Tear machine call kept bytes.now) (kept_state L.locks self.new.kept) self.new.hosts) }
         ensures err { OnErr result (IsSame (kept_state L.locks self.old.kept) self.old.hosts (kept_state L.locks self.new.kept) self.new.hosts) }
     {
         match self.tear(machine, call, kept, bytes)? {
-            Ok(()) => Ok(()),
+            Ok(()) => Ok(told_nothing(*self.kept.machines.allocator())),
             Err(_) => unreachable!(),
         }
     }
@@ -81,12 +80,8 @@ impl<D: Daemon, L: LockTable> World<D, L> {
         ensures ok { IfOk result (ComesTold D.commands D.stands (kept_state L.locks self.old.kept) self.old.hosts event (kept_state L.locks self.new.kept) self.new.hosts) }
         ensures err { OnErr result (IsSame (kept_state L.locks self.old.kept) self.old.hosts (kept_state L.locks self.new.kept) self.new.hosts) }
     {
-        let alloc = *self.kept.machines.allocator();
         match event {
-            Event::Pass { time, growths } => {
-                self.pass(time, &growths);
-                Ok(told_alone(no_effects(alloc)))
-            }
+            Event::Pass { time, growths } => self.pass(time, &growths),
             Event::WakeUp { machine } => self.wake(machine),
             Event::GiveCommand { machine, text } => self.command(machine, text),
             Event::GiveLvm { machine, line } => self.lvm_line(machine, line),
@@ -95,58 +90,28 @@ impl<D: Daemon, L: LockTable> World<D, L> {
                 machine,
                 call,
                 sectors,
-            } => {
-                self.sample(machine, call, sectors)?;
-                Ok(told_alone(no_effects(alloc)))
-            }
-            Event::Land { machine, call } => {
-                self.land(machine, call)?;
-                Ok(told_alone(no_effects(alloc)))
-            }
+            } => self.sample(machine, call, sectors),
+            Event::Land { machine, call } => self.land(machine, call),
             Event::Tear {
                 machine,
                 call,
                 kept,
                 bytes,
-            } => {
-                self.tear_allowed(machine, call, kept, &bytes)?;
-                Ok(told_alone(no_effects(alloc)))
-            }
-            Event::AnswerCall { machine, call, ok } => {
-                if ok {
-                    self.answer(machine, call)
-                } else {
-                    self.fail(machine, call)
-                }
-            }
+            } => self.tear_allowed(machine, call, kept, &bytes),
+            Event::AnswerCall { machine, call, ok } => self.answer(machine, call, ok),
             Event::Do { machine, call } => self.do_call(machine, call),
-            Event::DropWrite { machine, call } => {
-                self.drop_write(machine, call);
-                Ok(told_alone(no_effects(alloc)))
-            }
-            Event::Test { machine } => {
-                self.test(machine);
-                Ok(told_alone(no_effects(alloc)))
-            }
+            Event::DropWrite { machine, call } => self.drop_write(machine, call),
+            Event::Test { machine } => self.test(machine),
             Event::ExitOf { machine, process } => self.exit(machine, process),
             Event::SpawnedOf {
                 machine,
                 process,
                 ok,
             } => self.spawned(machine, process, ok),
-            Event::StartDaemon { machine, name } => {
-                self.start(machine, name)?;
-                Ok(told_alone(no_effects(alloc)))
-            }
-            Event::Crash { machine } => {
-                self.crash(machine);
-                Ok(told_alone(no_effects(alloc)))
-            }
+            Event::StartDaemon { machine, name } => self.start(machine, name),
+            Event::Crash { machine } => self.crash(machine),
             Event::Reset { machine } => self.reset(machine),
-            Event::Restart { machine } => {
-                self.restart(machine);
-                Ok(told_alone(no_effects(alloc)))
-            }
+            Event::Restart { machine } => self.restart(machine),
         }
     }
 

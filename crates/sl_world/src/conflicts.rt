@@ -5,19 +5,19 @@
 //! grant costs one test of each holding. Whether none do is known again behind it. Only where it isn't known each two holdings are tested,
 //! once a step; and where nothing is granted nothing is looked at. Nothing is allocated.
 
-ghost use Rattle.sl_machine.specs.Keeping.{kept_state};
+ghost use Rattle.sl_machine.specs.KeptParts.{kept_state};
 ghost use Rattle.sl_machine.specs.Machines.{machine_state};
 ghost use Rattle.sl_report.specs.Reports.{conflicts_after};
 ghost use Rattle.sl_run.specs.Conflicts as conflicts;
 ghost use Rattle.sl_trace.specs.Traces as traces;
-ghost use Rattle.sl_world.specs.Counting.{all_with, any_beside, any_there, conflicts_left, conflicts_with, held_before, holding, holdings_with, others_from};
-ghost use Rattle.sl_world_law.specs.Telling.{held_in};
+ghost use Rattle.sl_world.specs.ConflictCounts.{all_with, any_beside, any_there, conflicts_left, conflicts_with, held_before, holding, holdings_with, others_from};
+ghost use Rattle.sl_world_law.specs.ToldEvents.{held_in};
 ghost use Rattle.std.specs.Prelude.{drop, false, if◌then◌else◌, length, map, not, take, true, ◌&&◌, ◌+◌, ◌<◌, ◌==◌, ◌≡◌, ◌≤◌};
 
 use crate::world::World;
-use sl_daemon::Daemon;
 use sl_machine::{LockTable, Machine};
 use sl_trace::{Grant, Mode};
+use sl_world_state::Daemon;
 
 /// Whether a mode is shared.
 fn is_shared(mode: Mode) -> bool

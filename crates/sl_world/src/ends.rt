@@ -1,21 +1,22 @@
 //! Processes that exit, and machines that go down: what no daemon takes the machine does itself.
 
-ghost use Rattle.sl_kept.specs.Inputs.{input_in, own_in};
-ghost use Rattle.sl_kept.specs.Kept.{MachineState, machine_in};
-ghost use Rattle.sl_kept.specs.Steps.{taken_kept};
-ghost use Rattle.sl_machine.specs.Keeping.{kept_state};
+ghost use Rattle.sl_world_state.specs.Inputs.{input_in, own_in};
+ghost use Rattle.sl_world_state.specs.KeptWorld.{MachineState, machine_in};
+ghost use Rattle.sl_world_state.specs.Steps.{taken_kept};
+ghost use Rattle.sl_machine.specs.KeptParts.{kept_state};
 ghost use Rattle.sl_run.specs.declared.event.Event.TheVariants.{ExitOf, Reset};
-ghost use Rattle.sl_world.specs.Allowing.{IsAllowed};
-ghost use Rattle.sl_world.specs.Giving.{IsSame};
-ghost use Rattle.sl_world.specs.Telling.{ComesTold, told_view};
+ghost use Rattle.sl_trace.specs.Traces as traces;
+ghost use Rattle.sl_world.specs.AllowedEvents.{IsAllowed};
+ghost use Rattle.sl_world.specs.GivenSteps.{IsSame};
+ghost use Rattle.sl_world.specs.ToldEvents.{ComesTold, told_view};
 ghost use Rattle.std.specs.Prelude.{IfOk, None, OnErr, Some, false, ◌≡◌};
 
 use crate::world::World;
-use sl_daemon::Daemon;
 use sl_locks::StepTold;
-use sl_machine::{Kept, LockTable};
+use sl_machine::{Kept, LockTable, no_effects};
 use sl_trace::{Effects, Input};
-use std::alloc::AllocError;
+use sl_world_state::Daemon;
+use std::alloc::{AllocError, Global};
 
 /// Whether a daemon runs on a machine; where there is none, none does.
 fn runs_on<L: LockTable>(kept: &Kept<L>, machine: u32) -> bool
@@ -52,6 +53,13 @@ pub(crate) fn told_alone(effects: Effects) -> StepTold
         effects,
         line: None,
     }
+}
+
+/// What is told where nothing is. It takes no memory.
+pub(crate) fn told_nothing(alloc: Global) -> StepTold
+    ensures { told_view result ≡ record { effects = traces.no_effects; line = None } }
+{
+    told_alone(no_effects(alloc))
 }
 
 impl<D: Daemon, L: LockTable> World<D, L> {

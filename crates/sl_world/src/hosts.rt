@@ -2,21 +2,21 @@
 //!
 //! One daemon takes a step, begins or ends at a time; the others stay as they are.
 
-ghost use Rattle.sl_daemon.specs.Daemons.{begun_with, read_of};
-ghost use Rattle.sl_kept.specs.Sane.{ReadsCommands};
+ghost use Rattle.sl_world_state.specs.Daemons.{begun_with, read_of};
+ghost use Rattle.sl_world_state.specs.SaneWorlds.{ReadsCommands};
 ghost use Rattle.sl_run.specs.Lawful.{IsSetting};
 ghost use Rattle.sl_run.specs.Headers.{IsHeader};
-ghost use Rattle.sl_world.specs.Hosting.{HostBegun, HostStepped, MayStepAt};
-ghost use Rattle.sl_world_law.specs.Standing.{HaveBegun, HasBegun};
-ghost use Rattle.sl_kept.specs.FirstKept as first_kept;
+ghost use Rattle.sl_world.specs.RunningDaemons.{HostBegun, HostStepped, MayStepAt};
+ghost use Rattle.sl_world_law.specs.WorldsStand.{HaveBegun, HasBegun};
+ghost use Rattle.sl_world_state.specs.FirstKept as first_kept;
 ghost use Rattle.std.specs.List.{slice_set};
 ghost use Rattle.std.specs.Prelude.{IfOk, None, OnErr, OnOk, Option, Some, [], ◌++◌, ◌+◌, ◌∷◌, length, slice_get, ◌<◌, ◌≡◌};
 
 use crate::sites::{first_site, session_of};
-use sl_daemon::{Daemon, Most, Site};
 use sl_run::Header;
-use sl_sectors::Images;
+use sl_sector::Images;
 use sl_trace::{Effects, Input};
+use sl_world_state::{Daemon, Most, Site};
 use std::alloc::{AllocError, Global};
 use std::marker::Model;
 

@@ -1,6 +1,6 @@
 //! What is known of an event that has come to pass.
 
-ghost use Rattle.sl_world.specs.Leaving.{CalmAfter, CalmBefore, ConflictsAreLeft};
+ghost use Rattle.sl_world.specs.ConflictsLeft.{CalmAfter, CalmBefore, ConflictsAreLeft};
 
 /// The conflicts of an event are told by what is held after it.
 pub fn conflicts_are_left()

@@ -1,21 +1,21 @@
 //! What a report and a generator of schedules ask of a world.
 
-ghost use Rattle.sl_kept.specs.Kept.{machine_in};
-ghost use Rattle.sl_kept.specs.Refusing.{refusal_in};
-ghost use Rattle.sl_machine.specs.Keeping.{kept_state};
-ghost use Rattle.sl_machine.specs.Testing.{is_tear};
-ghost use Rattle.sl_world.specs.Allowing.{StandsForSome};
-ghost use Rattle.sl_world.specs.Giving.{IsSame};
+ghost use Rattle.sl_world_state.specs.KeptWorld.{machine_in};
+ghost use Rattle.sl_world_state.specs.Refusals.{refusal_in};
+ghost use Rattle.sl_machine.specs.KeptParts.{kept_state};
+ghost use Rattle.sl_machine.specs.EventTests.{is_tear};
+ghost use Rattle.sl_world.specs.AllowedEvents.{StandsForSome};
+ghost use Rattle.sl_world.specs.GivenSteps.{IsSame};
 ghost use Rattle.sl_words.specs.Words.{least};
-ghost use Rattle.sl_world_law.specs.Drawing.{is_useful_in, least_call_in, starves_in};
-ghost use Rattle.sl_world_law.specs.Telling.{asking_in, tested_in};
+ghost use Rattle.sl_world_law.specs.DrawnCandidates.{is_useful_in, least_call_in, starves_in};
+ghost use Rattle.sl_world_law.specs.ToldEvents.{asking_in, tested_in};
 ghost use Rattle.std.specs.List.{position};
 ghost use Rattle.std.specs.Prelude.{IfOk, OnErr, filter, is_none, is_some, length, map, not, option_and_then, option_map, true, ◌+◌, ◌≡◌, ◌≤◌};
 
 use crate::world::World;
-use sl_daemon::Daemon;
 use sl_machine::{LockTable, Machine};
 use sl_run::{Event, Header};
+use sl_world_state::Daemon;
 use std::alloc::AllocError;
 
 /// Whether an ask is due on a machine.

@@ -1,16 +1,16 @@
 //! With what daemons begin: the session lines of a header, machine by machine.
 
-ghost use Rattle.sl_kept.specs.FirstKept as first_kept;
+ghost use Rattle.sl_world_state.specs.FirstKept as first_kept;
 ghost use Rattle.sl_run.specs.Worlds as worlds;
-ghost use Rattle.sl_world_law.specs.Standing as standing;
+ghost use Rattle.sl_world_law.specs.WorldsStand as standing;
 ghost use Rattle.std.specs.Option.{option_copied, option_to_list};
 ghost use Rattle.std.specs.Prelude.{IfOk, OnOk, bytes_eq, filter_map, find, ◌++◌, ◌==◌, ◌≡◌};
 
-use sl_daemon::Site;
 use sl_disks::clock_reading;
 use sl_run::{Header, LockspaceLine, SessionLine};
 use sl_text::{Name, Seq};
 use sl_trace::{Given, Numbers};
+use sl_world_state::Site;
 use std::alloc::{AllocError, Global};
 
 /// The first session line of a machine: it has a daemon if it has one.

@@ -1,19 +1,21 @@
 //! A daemon begins.
 
-ghost use Rattle.sl_kept.specs.Kept.{MachineState, machine_in};
-ghost use Rattle.sl_machine.specs.Keeping.{kept_state};
+ghost use Rattle.sl_world_state.specs.KeptWorld.{MachineState, machine_in};
+ghost use Rattle.sl_machine.specs.KeptParts.{kept_state};
 ghost use Rattle.sl_run.specs.declared.event.Event.TheVariants.{StartDaemon};
-ghost use Rattle.sl_trace.specs.Traces.{no_effects};
-ghost use Rattle.sl_world.specs.Allowing.{AllCome, IsAllowed};
-ghost use Rattle.sl_world.specs.Giving.{IsSame};
-ghost use Rattle.sl_world_law.specs.Standing.{new_site};
-ghost use Rattle.std.specs.Prelude.{IfOk, None, OnErr, OnOk, Some, ◌≡◌};
+ghost use Rattle.sl_world.specs.AllowedEvents.{IsAllowed};
+ghost use Rattle.sl_world.specs.GivenSteps.{IsSame};
+ghost use Rattle.sl_world.specs.ToldEvents.{ComesTold};
+ghost use Rattle.sl_world_law.specs.WorldsStand.{new_site};
+ghost use Rattle.std.specs.Prelude.{IfOk, None, OnErr, Some, ◌≡◌};
 
+use crate::ends::told_nothing;
 use crate::world::World;
-use sl_daemon::{Daemon, Site};
+use sl_locks::StepTold;
 use sl_machine::{Kept, LockTable};
 use sl_text::{Name, Seq};
 use sl_trace::Numbers;
+use sl_world_state::{Daemon, Site};
 use std::alloc::AllocError;
 
 /// With what a daemon begins on a machine. An `Err` is of no machine.
@@ -38,9 +40,9 @@ fn site_of<L: LockTable>(kept: &Kept<L>, machine: u32, name: Name) -> Result<Sit
 
 impl<D: Daemon, L: LockTable> World<D, L> {
     /// A daemon begins. An `Err` is want of memory.
-    pub(crate) fn start(&mut self, machine: u32, name: Name) -> Result<(), AllocError>
+    pub(crate) fn start(&mut self, machine: u32, name: Name) -> Result<StepTold, AllocError>
         requires { IsAllowed D.commands D.stands (kept_state L.locks self.old.kept) self.old.hosts (StartDaemon machine name) }
-        ensures ok { OnOk result (AllCome D.commands D.stands (kept_state L.locks self.old.kept) self.old.hosts (StartDaemon machine name) (kept_state L.locks self.new.kept) self.new.hosts no_effects) }
+        ensures ok { IfOk result (ComesTold D.commands D.stands (kept_state L.locks self.old.kept) self.old.hosts (StartDaemon machine name) (kept_state L.locks self.new.kept) self.new.hosts) }
         ensures err { OnErr result (IsSame (kept_state L.locks self.old.kept) self.old.hosts (kept_state L.locks self.new.kept) self.new.hosts) }
     {
         let alloc = *self.kept.machines.allocator();
@@ -52,7 +54,7 @@ impl<D: Daemon, L: LockTable> World<D, L> {
                 self.hosts
                     .start(alloc, self.kept.header(), machine as usize - 1, site)?;
                 self.kept.start(machine, name);
-                Ok(())
+                Ok(told_nothing(alloc))
             }
         }
     }

@@ -4,19 +4,19 @@
 //! effects are put away. The first and the second may want memory and then change nothing; the third can't fail. So an event either comes to pass whole, or
 //! nothing that is seen has changed.
 
-ghost use Rattle.sl_kept.specs.Kept.{MachineState, machine_in};
-ghost use Rattle.sl_machine.specs.Keeping.{kept_state};
+ghost use Rattle.sl_world_state.specs.KeptWorld.{MachineState, machine_in};
+ghost use Rattle.sl_machine.specs.KeptParts.{kept_state};
 ghost use Rattle.sl_time.specs.Times.{reading_of};
-ghost use Rattle.sl_world.specs.Allowing.{LacksAt, LeavesAt, MayGive};
-ghost use Rattle.sl_world.specs.Giving.{IsSame};
-ghost use Rattle.sl_world.specs.Telling.{GivesTold};
+ghost use Rattle.sl_world.specs.AllowedEvents.{LacksAt, LeavesAt, MayGive};
+ghost use Rattle.sl_world.specs.GivenSteps.{IsSame};
+ghost use Rattle.sl_world.specs.ToldEvents.{GivesTold};
 ghost use Rattle.std.specs.Prelude.{IfOk, None, OnErr, Some, false, true, ◌≡◌};
 
 use crate::hosts::Hosts;
-use sl_daemon::Daemon;
 use sl_locks::StepTold;
 use sl_machine::{Kept, LockTable, hear, lock_input_of};
 use sl_trace::Input;
+use sl_world_state::Daemon;
 use std::alloc::{AllocError, Global};
 
 /// A world: what is kept, and the daemons that run.

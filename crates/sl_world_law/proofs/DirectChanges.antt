@@ -1,14 +1,14 @@
 -- What an event makes of what is kept, said directly.
-use Rattle.sl_kept.specs.Changes.{change_flight, completed_in, first_kept, landed_flight, landed_in, reset_machine, sampled_flight, stays_open, write_at}
-use Rattle.sl_kept.specs.Inputs.{done_in, own_in, rest_in}
-use Rattle.sl_kept.specs.Kept.{FlightState, KeptState, MachineState, Place, change_machine_in, flight_in, machine_in}
-use Rattle.sl_kept.specs.Refusing.{left_in}
-use Rattle.sl_kept.specs.Showing.{Tells, flight_of_course, shown}
-use Rattle.sl_kept.specs.Steps.{new_flight, owned_machine, stepped_kept, stepped_machine, taken_kept}
-use Rattle.sl_kept_law.proofs.ChangedCalls.{open_is}
-use Rattle.sl_kept_law.proofs.Lookups.{machine_shown}
-use Rattle.sl_plain.proofs.Lists.{contains_first, contains_more, find_inside, in_map, kept_inside, set_here}
-use Rattle.sl_plain.proofs.Options.{mapped_value, then_value}
+use Rattle.sl_world_state.specs.Changes.{change_flight, completed_in, first_kept, landed_flight, landed_in, reset_machine, sampled_flight, stays_open, write_at}
+use Rattle.sl_world_state.specs.Inputs.{done_in, own_in, rest_in}
+use Rattle.sl_world_state.specs.KeptWorld.{FlightState, KeptState, MachineState, Place, change_machine_in, flight_in, machine_in}
+use Rattle.sl_world_state.specs.Refusals.{left_in}
+use Rattle.sl_world_state.specs.ShownWorlds.{Tells, flight_of_course, shown}
+use Rattle.sl_world_state.specs.Steps.{new_flight, owned_machine, stepped_kept, stepped_machine, taken_kept}
+use Rattle.sl_world_law.proofs.ChangedCalls.{open_is}
+use Rattle.sl_world_law.proofs.Lookups.{machine_shown}
+use Rattle.sl_words.proofs.Lists.{contains_first, contains_more, find_inside, in_map, kept_inside, set_here}
+use Rattle.sl_words.proofs.Options.{mapped_value, then_value}
 use Rattle.sl_run.specs.Events.{ends_of, machine_of}
 use Rattle.sl_run.specs.Worlds.{Machine, World, flights, is_open, machine_at}
 use Rattle.sl_run.specs.declared.event.Event.TheVariants.{Reset}
@@ -22,7 +22,7 @@ use Rattle.sl_trace.specs.declared.input.Input.TheVariants.{Answer as Told}
 use Rattle.sl_trace.specs.declared.input.Input.{Input}
 use Rattle.sl_words.proofs.CaseLaws.{none_some, some_value}
 use Rattle.sl_words.proofs.WordLaws.{and_true}
-use Rattle.sl_world_law.specs.Direct.{DoneDirectly, QuietEvents, ResetsAreQuiet}
+use Rattle.sl_world_law.specs.DirectChanges.{DoneDirectly, QuietEvents, ResetsAreQuiet}
 use Rattle.std.proofs.Common.{ap, ap₂, refl, subst, suc, sym, zero, ◌∙◌}
 use Rattle.std.proofs.lemmas.Bool.Decides.{Decides-eqb}
 use Rattle.std.specs.Option.{option_map_or}

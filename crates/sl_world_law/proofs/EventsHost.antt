@@ -1,7 +1,7 @@
 -- What an event changes first leaves the daemons that run as they are, or ends or begins one.
-use Rattle.sl_daemon.specs.Daemons.{Stood}
-use Rattle.sl_kept_law.proofs.Lookups.{machine_place}
-use Rattle.sl_plain.proofs.Lists.{contains_cases}
+use Rattle.sl_world_state.specs.Daemons.{Stood}
+use Rattle.sl_world_law.proofs.Lookups.{machine_place}
+use Rattle.sl_words.proofs.Lists.{contains_cases}
 use Rattle.sl_run.specs.Events.{add_landing, after_crash, after_effects, after_reset, after_restart, after_start, after_test, change_call, complete, fated, first_change, flight_at, land_torn, land_whole, next_step, sampled_more, sectors_left, take_step, torn_bytes, write_bytes}
 use Rattle.sl_run.specs.Worlds.{Course, Daemon, Dropped, Fate, Landed, Machine, Torn, World, change_machine, daemons_on, is_in_flight, is_write_course, machine_at, new_daemon, next_numbers, setting_of, stamp_now}
 use Rattle.sl_run.specs.declared.event.Event.TheVariants.{Crash, Do, DropWrite, Land, Pass, Reset, Restart, Sample, StartDaemon, Tear, Test}
@@ -10,8 +10,8 @@ use Rattle.sl_trace.specs.Traces.{Setting, Trace}
 use Rattle.sl_trace.specs.declared.effects.Call.{Call}
 use Rattle.sl_trace.specs.declared.effects.Effects.{Effects}
 use Rattle.sl_words.proofs.CaseLaws.{true_is_false}
-use Rattle.sl_world_law.proofs.Hosted.{Hosted, changed_hosted, next_hosted, passed_hosted, same_hosted}
-use Rattle.sl_world_law.specs.Standing.{begins_or_ends}
+use Rattle.sl_world_law.proofs.DaemonsStand.{Hosted, changed_hosted, next_hosted, passed_hosted, same_hosted}
+use Rattle.sl_world_law.specs.WorldsStand.{begins_or_ends}
 use Rattle.std.proofs.Common.{ap, inl, inr, refl, subst, sym}
 use Rattle.std.specs.Option.{option_map_or}
 use Rattle.std.specs.Prelude.{Bool, Contains, List, None, Option, Some, false, length, slice_set, true, [], ℕ, ◌-◌, ◌∷◌, ◌≡◌}

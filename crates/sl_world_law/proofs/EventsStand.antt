@@ -1,31 +1,31 @@
 -- What is kept and the daemons that run stand for the world after each event.
 use Rattle.sl_area.specs.Layouts.{Layout}
-use Rattle.sl_daemon.specs.Daemons.{IsSoundCall, MayCome, Stood, entry_of}
-use Rattle.sl_daemon.specs.declared.daemon.Most.{Most}
-use Rattle.sl_kept.specs.Inputs.{input_in}
-use Rattle.sl_kept.specs.Kept.{KeptState, MachineState, machine_in}
-use Rattle.sl_kept.specs.Refusing.{refusal_in}
-use Rattle.sl_kept.specs.Sane.{ReadsCommands, RunsOn, WorldStands}
-use Rattle.sl_kept.specs.Showing.{shown}
-use Rattle.sl_kept.specs.Steps.{stepped_kept}
-use Rattle.sl_kept_law.proofs.GivenInputs.{inputs_are_kept}
-use Rattle.sl_kept_law.proofs.Lookups.{machine_place, machine_shown}
-use Rattle.sl_kept_law.proofs.RefusalCases.{refusals_are_kept}
-use Rattle.sl_kept_law.proofs.WholeEvents.{RunsThen, events_are_kept, runs_then}
-use Rattle.sl_plain.proofs.Lists.{contains_cases, contains_more, there_is}
-use Rattle.sl_plain.proofs.Options.{then_value}
+use Rattle.sl_world_state.specs.Daemons.{IsSoundCall, MayCome, Stood, entry_of}
+use Rattle.sl_world_state.specs.declared.daemon.Most.{Most}
+use Rattle.sl_world_state.specs.Inputs.{input_in}
+use Rattle.sl_world_state.specs.KeptWorld.{KeptState, MachineState, machine_in}
+use Rattle.sl_world_state.specs.Refusals.{refusal_in}
+use Rattle.sl_world_state.specs.SaneWorlds.{ReadsCommands, RunsOn, WorldStands}
+use Rattle.sl_world_state.specs.ShownWorlds.{shown}
+use Rattle.sl_world_state.specs.Steps.{stepped_kept}
+use Rattle.sl_world_law.proofs.GivenInputs.{inputs_are_kept}
+use Rattle.sl_world_law.proofs.Lookups.{machine_place, machine_shown}
+use Rattle.sl_world_law.proofs.RefusalCases.{refusals_are_kept}
+use Rattle.sl_world_law.proofs.WholeEvents.{RunsThen, events_are_kept, runs_then}
+use Rattle.sl_words.proofs.Lists.{contains_cases, contains_more, there_is}
+use Rattle.sl_words.proofs.Options.{then_value}
 use Rattle.sl_run.specs.Events.{after_step, first_change, happens, input_of, machine_of, may_happen, next_input, next_step, take_step}
 use Rattle.sl_run.specs.Runs.{HasSteps, own_effects_of}
 use Rattle.sl_run.specs.Worlds.{Daemon, Machine, World, daemons_on, machine_at, next_numbers, reading_now, stamp_now}
 use Rattle.sl_run.specs.declared.event.Event.TheVariants.{Crash, Reset, StartDaemon}
 use Rattle.sl_run.specs.declared.event.Event.{Event}
 use Rattle.sl_run.specs.declared.header.Header.{Header}
-use Rattle.sl_run_law.proofs.Landing.Passing.{event_goes_on}
-use Rattle.sl_sane_law.proofs.ComingInputs.{inputs_may_come, numbers_of}
-use Rattle.sl_sane_law.proofs.SaneEvents.{sanity_stays}
-use Rattle.sl_sane_law.proofs.SaneSteps.{daemons_now, daemons_then, runs_inside, runs_still, stepped_daemon}
-use Rattle.sl_sane_law.specs.Inputs.{HasNumbers}
-use Rattle.sl_sane_law.specs.Sanity.{IsSoundStep}
+use Rattle.sl_run_law.proofs.Landing.OneEvent.{event_goes_on}
+use Rattle.sl_world_law.proofs.ComingInputs.{inputs_may_come, numbers_of}
+use Rattle.sl_world_law.proofs.SaneEvents.{sanity_stays}
+use Rattle.sl_world_law.proofs.SaneSteps.{daemons_now, daemons_then, runs_inside, runs_still, stepped_daemon}
+use Rattle.sl_world_law.specs.SaneInputs.{HasNumbers}
+use Rattle.sl_world_law.specs.SanityStays.{IsSoundStep}
 use Rattle.sl_text.specs.Forms.{Form}
 use Rattle.sl_time.specs.Times.{reading_of}
 use Rattle.sl_trace.specs.Traces.{Setting, Trace}
@@ -36,8 +36,8 @@ use Rattle.sl_trace.specs.declared.input.Input.{Input}
 use Rattle.sl_trace.specs.declared.input.Numbers.{Numbers}
 use Rattle.sl_words.proofs.CaseLaws.{none_some, one_value, some_value}
 use Rattle.sl_world_law.proofs.EventsHost.{first_hosted}
-use Rattle.sl_world_law.proofs.Hosted.{Hosted, changed_hosted, hosted, next_hosted, standing}
-use Rattle.sl_world_law.specs.Standing.{HasStepped, LeavesNumbers, RefusalsStand, StepsAreReady, StepsFit, StepsStand, begins_or_ends, seat_of}
+use Rattle.sl_world_law.proofs.DaemonsStand.{Hosted, changed_hosted, hosted, next_hosted, standing}
+use Rattle.sl_world_law.specs.WorldsStand.{HasStepped, LeavesNumbers, RefusalsStand, StepsAreReady, StepsFit, StepsStand, begins_or_ends, seat_of}
 use Rattle.std.proofs.Common.{ap, arith, inl, inr, refl, subst, suc, sym, zero, ◌∙◌}
 use Rattle.std.proofs.lemmas.Option.{slice_get_within}
 use Rattle.std.specs.List.{range_with_len}

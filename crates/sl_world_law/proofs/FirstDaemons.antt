@@ -1,11 +1,11 @@
 -- The session lines of a header make settings of daemons.
 use Rattle.sl_area.specs.Layouts.{Layout, layout_of}
 use Rattle.sl_area.specs.Places.{is_base}
-use Rattle.sl_daemon.specs.Daemons.{begun_with}
-use Rattle.sl_kept.specs.FirstKept.{given_to}
+use Rattle.sl_world_state.specs.Daemons.{begun_with}
+use Rattle.sl_world_state.specs.FirstKept.{given_to}
 use Rattle.sl_run.specs.Lawful.{IsGiven}
-use Rattle.sl_plain.proofs.Lists.{find_inside}
-use Rattle.sl_plain.proofs.Options.{mapped_value}
+use Rattle.sl_words.proofs.Lists.{find_inside}
+use Rattle.sl_words.proofs.Options.{mapped_value}
 use Rattle.sl_run.specs.Headers.{GoTogether, IsArea, IsHeader}
 use Rattle.sl_run.specs.Worlds.{clock_reading, given_of, mebibyte}
 use Rattle.sl_run.specs.declared.header.FirstReading.{FirstReading}
@@ -19,7 +19,7 @@ use Rattle.sl_trace.specs.declared.input.Given.{Given}
 use Rattle.sl_words.proofs.CaseLaws.{is_false, none_some}
 use Rattle.sl_words.specs.Bounds.{moments}
 use Rattle.sl_world_law.proofs.PlainGivens.{given_of_one, pairs_given}
-use Rattle.sl_world_law.specs.Standing.{FirstSettings, first_site}
+use Rattle.sl_world_law.specs.WorldsStand.{FirstSettings, first_site}
 use Rattle.std.proofs.Common.{ap, arith, refl, subst, sym, ◌∙◌}
 use Rattle.std.proofs.lemmas.Bool.Decides.{Decides-eqb}
 use Rattle.std.proofs.lemmas.Bool.{and_from, eq-eqb, lt-ltb}

@@ -1,30 +1,30 @@
 -- What is kept of a header's world at moment 0, and the daemons that its session lines begin, stand for that world.
 use Rattle.sl_area.specs.Layouts.{layout_of}
-use Rattle.sl_daemon.specs.Daemons.{Stood, begun_with, program_of}
-use Rattle.sl_kept.specs.FirstKept.{first_machine, first_state, given_to, session_of}
-use Rattle.sl_kept.specs.Kept.{KeptState}
-use Rattle.sl_kept.specs.Sane.{ReadsCommands, RunsOn, WorldStands}
-use Rattle.sl_kept.specs.Showing.{Tells, disks_of, shown, starting_of}
-use Rattle.sl_kept_law.proofs.Changing.{names_on}
-use Rattle.sl_kept_law.proofs.FirstMachines.{first_worlds_are_sane}
-use Rattle.sl_kept_law.proofs.Sectors.{range_at}
-use Rattle.sl_plain.proofs.Lists.{contains_cases, contains_none, there_is}
-use Rattle.sl_plain.proofs.Options.{mapped_value}
+use Rattle.sl_world_state.specs.Daemons.{Stood, begun_with, program_of}
+use Rattle.sl_world_state.specs.FirstKept.{first_machine, first_state, given_to, session_of}
+use Rattle.sl_world_state.specs.KeptWorld.{KeptState}
+use Rattle.sl_world_state.specs.SaneWorlds.{ReadsCommands, RunsOn, WorldStands}
+use Rattle.sl_world_state.specs.ShownWorlds.{Tells, disks_of, shown, starting_of}
+use Rattle.sl_world_law.proofs.MachineChanges.{names_on}
+use Rattle.sl_world_law.proofs.FirstMachines.{first_worlds_are_sane}
+use Rattle.sl_world_law.proofs.Sectors.{range_at}
+use Rattle.sl_words.proofs.Lists.{contains_cases, contains_none, there_is}
+use Rattle.sl_words.proofs.Options.{mapped_value}
 use Rattle.sl_run.specs.Headers.{IsHeader}
 use Rattle.sl_run.specs.Locks.{fresh_locks}
 use Rattle.sl_run.specs.Worlds.{Daemon, Machine, World, clock_reading, daemons_on, first_numbers, first_stamp, machine_of_header, new_daemon, next_numbers, world_with}
 use Rattle.sl_run.specs.declared.header.Header.{Header}
 use Rattle.sl_run.specs.declared.header.SessionLine.{SessionLine}
-use Rattle.sl_run_law.proofs.Front.Having.{contains_flat}
-use Rattle.sl_sane_law.proofs.PlainLists.{place_of_one}
+use Rattle.sl_run_law.proofs.Front.JoinedLists.{contains_flat}
+use Rattle.sl_world_law.proofs.PlainLists.{place_of_one}
 use Rattle.sl_text.specs.Forms.{Form}
 use Rattle.sl_trace.specs.Connections.{given_connection}
 use Rattle.sl_trace.specs.Traces.{Setting, Trace}
 use Rattle.sl_trace.specs.declared.command.Command.{Command}
 use Rattle.sl_words.proofs.CaseLaws.{some_value}
 use Rattle.sl_world_law.proofs.FirstDaemons.{first_settings}
-use Rattle.sl_world_law.proofs.Hosted.{Hosted, standing}
-use Rattle.sl_world_law.specs.Standing.{EachStood, FirstWorldsStand, HasBegun, HaveBegun, PureDaemon, PureWorldsStand, first_site, is_trace_of, pure_hosts}
+use Rattle.sl_world_law.proofs.DaemonsStand.{Hosted, standing}
+use Rattle.sl_world_law.specs.WorldsStand.{EachStood, FirstWorldsStand, HasBegun, HaveBegun, PureDaemon, PureWorldsStand, first_site, is_trace_of, pure_hosts}
 use Rattle.std.proofs.Common.{ap, ap₂, arith, inl, inr, refl, subst, sym, ◌∙◌}
 use Rattle.std.proofs.lemmas.List.FromFn.{length-map-range_with_len, length-range_with_len}
 use Rattle.std.proofs.lemmas.Option.{slice_get-map, slice_get_within}

@@ -1,17 +1,17 @@
 -- Events that no daemon takes: what is kept and the daemons that run stand for the world after them.
 use Rattle.sl_area.specs.Layouts.{layout_of}
-use Rattle.sl_daemon.specs.Daemons.{Stood, begun_with, program_of}
-use Rattle.sl_kept.specs.Inputs.{own_in}
-use Rattle.sl_kept.specs.Kept.{KeptState, MachineState}
-use Rattle.sl_kept.specs.Sane.{ReadsCommands, WorldStands}
-use Rattle.sl_kept.specs.Showing.{shown}
-use Rattle.sl_kept.specs.Steps.{stepped_kept}
-use Rattle.sl_kept_law.proofs.Allowed.{allowed, machine_found}
-use Rattle.sl_kept_law.proofs.GivenInputs.{inputs_are_kept, own_effects_are_kept}
-use Rattle.sl_kept_law.proofs.Lookups.{machine_place, machine_shown}
-use Rattle.sl_kept_law.proofs.WholeEvents.{events_are_kept}
+use Rattle.sl_world_state.specs.Daemons.{Stood, begun_with, program_of}
+use Rattle.sl_world_state.specs.Inputs.{own_in}
+use Rattle.sl_world_state.specs.KeptWorld.{KeptState, MachineState}
+use Rattle.sl_world_state.specs.SaneWorlds.{ReadsCommands, WorldStands}
+use Rattle.sl_world_state.specs.ShownWorlds.{shown}
+use Rattle.sl_world_state.specs.Steps.{stepped_kept}
+use Rattle.sl_world_law.proofs.AllowedEvents.{allowed, machine_found}
+use Rattle.sl_world_law.proofs.GivenInputs.{inputs_are_kept, own_effects_are_kept}
+use Rattle.sl_world_law.proofs.Lookups.{machine_place, machine_shown}
+use Rattle.sl_world_law.proofs.WholeEvents.{events_are_kept}
 use Rattle.sl_run.specs.Lawful.{IsSetting}
-use Rattle.sl_plain.proofs.Options.{mapped_value}
+use Rattle.sl_words.proofs.Options.{mapped_value}
 use Rattle.sl_run.specs.Events.{event_tests, first_change, happens, input_of, machine_of, may_happen, needs_daemon, next_step, take_step}
 use Rattle.sl_run.specs.Headers.{IsHeader}
 use Rattle.sl_run.specs.Runs.{HasSteps}
@@ -20,7 +20,7 @@ use Rattle.sl_run.specs.declared.event.Event.TheVariants.{Crash, Reset, StartDae
 use Rattle.sl_run.specs.declared.event.Event.{Event}
 use Rattle.sl_run.specs.declared.event.Refusal.TheVariants.{MissingUp}
 use Rattle.sl_run.specs.declared.header.Header.{Header}
-use Rattle.sl_sane_law.proofs.SaneEvents.{may_start, sanity_stays}
+use Rattle.sl_world_law.proofs.SaneEvents.{may_start, sanity_stays}
 use Rattle.sl_sector.proofs.WrittenBytes.{sha256_is_digest}
 use Rattle.sl_text.specs.Forms.{Form}
 use Rattle.sl_text.specs.Names.{is_name}
@@ -31,8 +31,8 @@ use Rattle.sl_trace.specs.declared.input.Numbers.{Numbers}
 use Rattle.sl_words.proofs.CaseLaws.{none_some}
 use Rattle.sl_world_law.proofs.EventsHost.{crashed_hosted, first_hosted, new_setting, own_hosted, reset_hosted, started_hosted}
 use Rattle.sl_world_law.proofs.EventsStand.{may_be, reads_still, steps_own}
-use Rattle.sl_world_law.proofs.Hosted.{Hosted, hosted, standing}
-use Rattle.sl_world_law.specs.Standing.{BeginningsAreSettings, BeginningsStand, Comes, EndsStand, OwnStands, new_site}
+use Rattle.sl_world_law.proofs.DaemonsStand.{Hosted, hosted, standing}
+use Rattle.sl_world_law.specs.WorldsStand.{BeginningsAreSettings, BeginningsStand, Comes, EndsStand, OwnStands, new_site}
 use Rattle.std.proofs.Common.{ap, arith, refl, subst, sym, ◌∙◌}
 use Rattle.std.specs.Prelude.{IsTrue, List, None, Option, Some, not, option_and_then, slice_set, true, [], ℕ, ◌-◌, ◌∷◌, ◌≡◌}
 

@@ -1,5 +1,5 @@
 -- Plain facts of lists: what is given of some elements, and pairs of it.
-use Rattle.sl_plain.proofs.Lists.{contains_cases, contains_first, contains_more, contains_none}
+use Rattle.sl_words.proofs.Lists.{contains_cases, contains_first, contains_more, contains_none}
 use Rattle.std.proofs.Common.{ap, arith, inl, inr, refl, suc, ◌∙◌}
 use Rattle.std.proofs.lemmas.List.Elements.{All-contains, Contains-get_or}
 use Rattle.std.proofs.lemmas.List.Kept.{AllPairs-cons}

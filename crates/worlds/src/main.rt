@@ -10,10 +10,10 @@
 mod case;
 
 use case::{Case, read_case};
-use sl_header_law::laws::whole_language_may_play;
 use sl_io::{MemSink, MemSource, WriteSink, write_all};
 use sl_locks::LvmLocks;
-use sl_play_schedule::{Played, play_schedule};
+use sl_play::laws::headers::whole_language_may_play;
+use sl_play::{Played, play_schedule};
 use sl_script::Script;
 use sl_text::number::push_number;
 use std::alloc::{AllocError, Global};

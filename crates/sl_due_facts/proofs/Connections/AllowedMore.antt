@@ -1,6 +1,6 @@
 -- What is allowed of replies and calls is allowed where each of them is.
-use Rattle.sl_acts.specs.Acts.{next_of_conversion, next_of_release}
-use Rattle.sl_acts.proofs.DecisionsAreTheirs.{Of}
+use Rattle.sl_due_facts.specs.Acts.Acts.{next_of_conversion, next_of_release}
+use Rattle.sl_due_facts.proofs.Acts.DecisionsAreTheirs.{Of}
 use Rattle.sl_due.specs.Steps.{Step, add_end, seen}
 use Rattle.sl_due.specs.declared.decision.Decision.TheVariants.{ConvertsTo, GetsValue, GivesUp, Joins, Leaves, ReadsArea, Replies, Requests, SetsValue, Shares, TakesOver}
 use Rattle.sl_due.specs.declared.decision.Decision.{Decision}

@@ -1,24 +1,24 @@
 -- What a reply, a move and a call leave of the sessions and of what is known of connections.
-use Rattle.sl_acts.specs.Acts.{Has}
-use Rattle.sl_acts.specs.SoFar.{entry_of}
+use Rattle.sl_due_facts.specs.Acts.Acts.{Has}
+use Rattle.sl_due_facts.specs.Acts.TraceSoFar.{entry_of}
 use Rattle.sl_due.specs.DueFirst.{remove_connection}
 use Rattle.sl_due.specs.Steps.{Step, add_call_of, add_move, add_reply, seen, when}
 use Rattle.sl_due_facts.proofs.Jobs.CallsStay.{IsLate, calls_stay}
 use Rattle.sl_run.specs.LawfulWatchdog.{is_covered}
-use Rattle.sl_due_facts.proofs.Parts.CallsGrow.{any_more, others_stay, same_sessions}
-use Rattle.sl_due_facts.proofs.Parts.EffectsAreTold.{effects_are_told}
-use Rattle.sl_due_facts.proofs.Parts.JoinedCallsKeepOrder.{one_number}
-use Rattle.sl_plain.proofs.Lists.{contains_first, contains_none}
-use Rattle.sl_plain.proofs.Numbers.{number_itself}
-use Rattle.sl_plain.proofs.Options.{not_some}
+use Rattle.sl_due_facts.proofs.AddedEffects.CallsGrow.{any_more, others_stay, same_sessions}
+use Rattle.sl_due_facts.proofs.AddedEffects.EffectsAreTold.{effects_are_told}
+use Rattle.sl_due_facts.proofs.AddedEffects.JoinedCallsKeepOrder.{one_number}
+use Rattle.sl_words.proofs.Lists.{contains_first, contains_none}
+use Rattle.sl_words.proofs.Numbers.{number_itself}
+use Rattle.sl_words.proofs.Options.{not_some}
 use Rattle.sl_due_facts.proofs.Connections.ConnectionsChange.{Alters, IsAlone, altered_away, same_connections}
 use Rattle.sl_due_facts.proofs.Connections.ConnectionsNamed.{connected, register_other, remove_named, remove_other, renew_other}
 use Rattle.sl_due_facts.proofs.Connections.SessionParts.{SameSession, same_itself, same_then}
-use Rattle.sl_due_facts.specs.Connections.Promises.{HasConnectionFacts}
+use Rattle.sl_due_facts.specs.Connections.ConnectionLaws.{HasConnectionFacts}
 use Rattle.sl_due_facts.proofs.Sessions.NameEffects.{call_present, joined_of, move_present, refused_of, reply_joins_more, reply_present}
 use Rattle.sl_trace.specs.Sessions.{calls_of, is_call_of, is_join_call, is_join_done, joined_after, refused_after, removed_after, sessions}
 use Rattle.sl_trace.specs.declared.session.Session.{Session}
-use Rattle.sl_due_facts.specs.Facts.Heard.{IsOpen, heard_by}
+use Rattle.sl_due_facts.specs.Facts.HeardCall.{IsOpen, heard_by}
 use Rattle.sl_due_facts.specs.Facts.SessionFacts.{ConnectionFacts}
 use Rattle.sl_trace.specs.Connections.{Connection, after_move, connection_named, connections, is_registered, last_registering, registers, unregisters}
 use Rattle.sl_trace.specs.Traces.{Replied, Setting, Submitted, Trace, is_write, new_call, next_call, reply_to}
@@ -29,7 +29,7 @@ use Rattle.sl_trace.specs.declared.effects.Move.{Move}
 use Rattle.sl_trace.specs.declared.effects.Op.{Op}
 use Rattle.sl_trace.specs.declared.effects.Purpose.{Purpose}
 use Rattle.sl_trace.specs.declared.reply.Reply.{Reply}
-use Rattle.sl_trace_law.proofs.Sessions.Naming.{same_name}
+use Rattle.sl_run_law.proofs.Sessions.SessionNames.{same_name}
 use Rattle.sl_words.proofs.CaseLaws.{is_false, none_some, not_both}
 use Rattle.sl_words.specs.Words.{choose}
 use Rattle.std.proofs.Common.{ap, inl, inr, refl, subst, sym, ◌∙◌}

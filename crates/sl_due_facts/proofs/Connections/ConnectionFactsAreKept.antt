@@ -1,9 +1,9 @@
 -- What is known of connections is kept by each act, and holds once a step has begun.
-use Rattle.sl_acts.proofs.Additions.{any_last}
-use Rattle.sl_acts.proofs.InputsKeep.{has_heard}
-use Rattle.sl_acts.proofs.LoopsKeep.{for_each_keeps, when_keeps}
-use Rattle.sl_acts.specs.Acts.{Has, Hears, lone_job, next_of_settling}
-use Rattle.sl_acts.specs.SoFar.{entry_of}
+use Rattle.sl_due_facts.proofs.Acts.AddedAtEnd.{any_last}
+use Rattle.sl_due_facts.proofs.Acts.InputsKeep.{has_heard}
+use Rattle.sl_due_facts.proofs.Acts.LoopsKeep.{for_each_keeps, when_keeps}
+use Rattle.sl_due_facts.specs.Acts.Acts.{Has, Hears, lone_job, next_of_settling}
+use Rattle.sl_due_facts.specs.Acts.TraceSoFar.{entry_of}
 use Rattle.sl_area.specs.Places.{request_offset}
 use Rattle.sl_due.specs.DueAnswers.{set_reply}
 use Rattle.sl_due.specs.DueDelta.{carry_delta, end_leaving, move_connection, survey, write_own_sector}
@@ -27,9 +27,9 @@ use Rattle.sl_trace.specs.LeaseWork.{lease_place}
 use Rattle.sl_trace.specs.Leases.{holdings_on, known, lver_written, spot_of_call}
 use Rattle.sl_trace.specs.declared.lease.LeaseNext.TheVariants.{AnswerJob}
 use Rattle.sl_trace.specs.declared.lease.LeaseNext.{LeaseNext}
-use Rattle.sl_due_facts.proofs.Parts.JoinedCallsKeepOrder.{joined_is_covered}
-use Rattle.sl_plain.proofs.Lists.{find_fails, find_inside, got_inside, kept_inside}
-use Rattle.sl_plain.proofs.Options.{not_some, some_of, some_there}
+use Rattle.sl_due_facts.proofs.AddedEffects.JoinedCallsKeepOrder.{joined_is_covered}
+use Rattle.sl_words.proofs.Lists.{find_fails, find_inside, got_inside, kept_inside}
+use Rattle.sl_words.proofs.Options.{not_some, some_of, some_there}
 use Rattle.sl_sector.specs.Bitmaps.{no_bits}
 use Rattle.sl_sector.specs.declared.sector.DeltaRec.{DeltaRec}
 use Rattle.sl_sector.specs.declared.sector.DeltaState.TheVariants.{Free, Live}
@@ -47,11 +47,11 @@ use Rattle.sl_due_facts.proofs.Connections.JoiningDecisions.{heard_decides, hear
 use Rattle.sl_due_facts.proofs.Connections.JoiningSteps.{joining_connections}
 use Rattle.sl_due_facts.proofs.Connections.OtherJobs.{other_heard, other_of_process, other_of_session, other_starter}
 use Rattle.sl_due_facts.proofs.Connections.SessionParts.{covered_of, present_joined, unjoined_not}
-use Rattle.sl_due_facts.specs.Connections.Promises.{ConnectionFactsAreKept, ConnectionFactsBegin, HasConnectionFacts}
+use Rattle.sl_due_facts.specs.Connections.ConnectionLaws.{ConnectionFactsAreKept, ConnectionFactsBegin, HasConnectionFacts}
 use Rattle.sl_due_facts.proofs.Sessions.NameFactsAreKept.{joined_on_wake, names_wake, refused_on_wake, removed_on_wake}
 use Rattle.sl_due_facts.proofs.Sessions.NamesAreAllowed.{NameCall, NameReply, heard_joined, heard_mine, is_joining, joined_unrefused, lease_named, request_named}
 use Rattle.sl_due_facts.proofs.Sessions.NamesGrow.{input_names}
-use Rattle.sl_due_facts.specs.Sessions.Promises.{HasNameFacts}
+use Rattle.sl_due_facts.specs.Sessions.SessionLaws.{HasNameFacts}
 use Rattle.sl_trace.specs.Deltas.{DeltaLease}
 use Rattle.sl_trace.specs.Sessions.{calls_of, free_write, generation_of, holdings_of, is_free_purpose, is_join_call, is_joined, is_renewal, joined_after, last_renewal, leaving_job, present_sessions, recovery_of, refused_after, removed_after, session_numbered, sessions}
 use Rattle.sl_trace.specs.declared.delta.DeltaKnown.{DeltaKnown}
@@ -59,9 +59,9 @@ use Rattle.sl_trace.specs.declared.delta.DeltaNext.TheVariants.{MoveConnection, 
 use Rattle.sl_trace.specs.declared.delta.DeltaNext.{DeltaNext}
 use Rattle.sl_trace.specs.declared.session.Begun.{Begun}
 use Rattle.sl_trace.specs.declared.session.Session.{Session}
-use Rattle.sl_due_facts.specs.Facts.Heard.{IsOpen, heard_by}
+use Rattle.sl_due_facts.specs.Facts.HeardCall.{IsOpen, heard_by}
 use Rattle.sl_due_facts.specs.Facts.SessionFacts.{ConnectionFacts}
-use Rattle.sl_due_facts.specs.Facts.Whole.{Whole}
+use Rattle.sl_due_facts.specs.Facts.AllFacts.{Whole}
 use Rattle.sl_time.specs.Times.{fail}
 use Rattle.sl_trace.specs.Connections.{connections, is_registered, unregisters}
 use Rattle.sl_trace.specs.Traces.{Setting, Submitted, Trace, holdings, is_running, is_shared, job_of, running_jobs, same_place, work_job}
@@ -80,8 +80,8 @@ use Rattle.sl_trace.specs.declared.input.Answer.{Answer}
 use Rattle.sl_trace.specs.declared.input.Input.TheVariants.{Exit, Number, Spawned, Wake}
 use Rattle.sl_trace.specs.declared.reply.Reply.TheVariants.{BadCommand as Misread, Done, IoFault, IoTimeout, NoProcess, Recovering, SpawnFault}
 use Rattle.sl_trace.specs.declared.reply.Reply.{Reply}
-use Rattle.sl_trace_law.proofs.Sessions.Naming.{same_name}
-use Rattle.sl_trace_law.proofs.Sessions.Staying.{joined_more}
+use Rattle.sl_run_law.proofs.Sessions.SessionNames.{same_name}
+use Rattle.sl_run_law.proofs.Sessions.MarksStay.{joined_more}
 use Rattle.sl_words.proofs.CaseLaws.{false_is_true, none_some, not_both, one_value}
 use Rattle.sl_words.specs.Words.{choose}
 use Rattle.std.proofs.Common.{ap, ap₂, inl, inr, refl, subst, sym, ◌∙◌}
@@ -89,7 +89,7 @@ use Rattle.std.proofs.lemmas.Bool.{eqb-true}
 use Rattle.std.specs.List.{list_any}
 use Rattle.std.specs.Prelude.{Bool, Contains, List, None, Option, Some, [], false, filter, is_none, is_some, length, not, true, ℕ, ◌&&◌, ◌++◌, ◌+◌, ◌==◌, ◌∷◌, ◌≡◌}
 use Rattle.sl_trace.specs.Deltas.{delta_known, delta_of_session, delta_record, is_renewal_due, next_after_free, next_after_renewal, next_free, next_in_joining, next_on_wake, next_renewal, own_offset}
-use Rattle.sl_plain.proofs.Numbers.{equal_is_most}
+use Rattle.sl_words.proofs.Numbers.{equal_is_most}
 use Rattle.sl_due_facts.proofs.Jobs.AnsweredCallsFit.{at, both_of}
 
 -- ---- what a delta lease decides of a joined session

@@ -1,8 +1,8 @@
 -- At the end of an answer's entry no connection waits for what the answer makes due.
-use Rattle.sl_acts.proofs.InputsKeep.{has_heard}
-use Rattle.sl_acts.proofs.LoopsKeep.{when_keeps}
-use Rattle.sl_acts.specs.Acts.{Has, Hears, IsIdle}
-use Rattle.sl_acts.specs.SoFar.{entry_of}
+use Rattle.sl_due_facts.proofs.Acts.InputsKeep.{has_heard}
+use Rattle.sl_due_facts.proofs.Acts.LoopsKeep.{when_keeps}
+use Rattle.sl_due_facts.specs.Acts.Acts.{Has, Hears, IsIdle}
+use Rattle.sl_due_facts.specs.Acts.TraceSoFar.{entry_of}
 use Rattle.sl_area.specs.Places.{request_offset}
 use Rattle.sl_due.specs.DueAnswers.{set_reply}
 use Rattle.sl_due.specs.DueDelta.{carry_delta, move_connection, survey}
@@ -19,14 +19,14 @@ use Rattle.sl_due_facts.proofs.Jobs.RepliesComeAfter.{IsLateDelta, IsLateLease, 
 use Rattle.sl_due_facts.proofs.Jobs.SessionsArePresent.{session_has}
 use Rattle.sl_due_facts.proofs.Jobs.SessionsHaveJobs.{one_session}
 use Rattle.sl_due_facts.proofs.Jobs.SessionsStand.{recovery_joined}
-use Rattle.sl_due_facts.specs.Jobs.Promises.{HasCallFacts}
+use Rattle.sl_due_facts.specs.Jobs.JobLaws.{HasCallFacts}
 use Rattle.sl_run.specs.LawfulWatchdog.{is_covered}
 use Rattle.sl_trace.specs.LeaseWork.{lease_place}
 use Rattle.sl_trace.specs.Leases.{holdings_on, known, lver_written, spot_of_call}
 use Rattle.sl_trace.specs.declared.lease.LeaseNext.{LeaseNext}
-use Rattle.sl_plain.proofs.Lists.{any_found, any_of, contains_map, contains_more, find_fails, find_inside, got_inside, kept, kept_inside}
-use Rattle.sl_plain.proofs.Numbers.{number_itself}
-use Rattle.sl_plain.proofs.Options.{some_of, some_there}
+use Rattle.sl_words.proofs.Lists.{any_found, any_of, contains_map, contains_more, find_fails, find_inside, got_inside, kept, kept_inside}
+use Rattle.sl_words.proofs.Numbers.{number_itself}
+use Rattle.sl_words.proofs.Options.{some_of, some_there}
 use Rattle.sl_sector.specs.Bitmaps.{no_bits}
 use Rattle.sl_sector.specs.declared.sector.DeltaRec.{DeltaRec}
 use Rattle.sl_sector.specs.declared.sector.DeltaState.TheVariants.{Free}
@@ -38,21 +38,21 @@ use Rattle.sl_due_facts.proofs.Connections.ConnectionsChange.{altered_away}
 use Rattle.sl_due_facts.proofs.Connections.HeardCalls.{heard_before, newest_heard, session_then}
 use Rattle.sl_due_facts.proofs.Connections.JoiningConnections.{Working, refused_by_reply, working_inside, working_turn, working_unjoined}
 use Rattle.sl_due_facts.proofs.Connections.JoiningDecisions.{heard_working}
-use Rattle.sl_due_facts.specs.Connections.Promises.{ConnectionFactsConclude, HasConnectionFacts, HasConnectionsPlainly}
+use Rattle.sl_due_facts.specs.Connections.ConnectionLaws.{ConnectionFactsConclude, HasConnectionFacts, HasConnectionsPlainly}
 use Rattle.sl_due_facts.proofs.Sessions.NameActs.{joined_by_reply}
 use Rattle.sl_due_facts.proofs.Sessions.NameEffects.{joined_of, refused_of}
 use Rattle.sl_due_facts.proofs.Sessions.NameFactsConclude.{fitting}
 use Rattle.sl_due_facts.proofs.Sessions.NamesAreAllowed.{NameCall, NameReply, caller_joined, freed_named, heard_joined, heard_mine, is_joining, lease_named, renewed_named, request_named}
 use Rattle.sl_due_facts.proofs.Sessions.NamesAtEnd.{Growing, below_of, growing_itself, grows, grows_joining}
-use Rattle.sl_due_facts.specs.Sessions.Promises.{HasNameFacts}
+use Rattle.sl_due_facts.specs.Sessions.SessionLaws.{HasNameFacts}
 use Rattle.sl_trace.specs.Sessions.{calls_of, generation_of, has_open_write, is_call_of, is_join_call, is_join_done, is_joined, is_present, joined_after, last_renewal, open_calls_of, recovery_of, refused_after, removed_after, session_numbered, session_of_job, sessions}
 use Rattle.sl_trace.specs.declared.delta.DeltaKnown.{DeltaKnown}
 use Rattle.sl_trace.specs.declared.delta.DeltaNext.TheVariants.{Nothing, WriteFree}
 use Rattle.sl_trace.specs.declared.delta.DeltaNext.{DeltaNext}
 use Rattle.sl_trace.specs.declared.session.Session.{Session}
-use Rattle.sl_due_facts.specs.Facts.Heard.{IsOpen, heard_by}
+use Rattle.sl_due_facts.specs.Facts.HeardCall.{IsOpen, heard_by}
 use Rattle.sl_due_facts.specs.Facts.SessionFacts.{IsHeardWriter}
-use Rattle.sl_due_facts.specs.Facts.Whole.{Whole}
+use Rattle.sl_due_facts.specs.Facts.AllFacts.{Whole}
 use Rattle.sl_trace.specs.Connections.{is_registered}
 use Rattle.sl_trace.specs.Traces.{Answered, Replied, Submitted, answered_in, call_numbered, is_answer_for, is_expected, is_running, is_shared, is_write, job_of, mark, new_call, next_call, outstanding, reply_to, submitted, unanswered}
 use Rattle.sl_trace.specs.declared.effects.Call.{Call}
@@ -71,11 +71,11 @@ use Rattle.sl_trace.specs.declared.input.Answer.{Answer}
 use Rattle.sl_trace.specs.declared.input.Input.TheVariants.{Answer as Told, Wake}
 use Rattle.sl_trace.specs.declared.reply.Reply.TheVariants.{Done, Generation, IoFault, Recovering}
 use Rattle.sl_trace.specs.declared.reply.Reply.{Reply}
-use Rattle.sl_trace_law.proofs.Sessions.Covering.{joinings_are_in_turn}
-use Rattle.sl_trace_law.proofs.Sessions.Joining.{done_unanswered}
-use Rattle.sl_trace_law.proofs.Sessions.Making.{SameCall, same_answered}
-use Rattle.sl_trace_law.proofs.Sessions.Staying.{joined_more}
-use Rattle.sl_trace_law.specs.Sessions.Promises.{all_done, fits, fits_as, is_in_turn}
+use Rattle.sl_run_law.proofs.Sessions.WritesAreCovered.{joinings_are_in_turn}
+use Rattle.sl_run_law.proofs.Sessions.JoiningsInTurn.{done_unanswered}
+use Rattle.sl_run_law.proofs.Sessions.CallsAreMade.{SameCall, same_answered}
+use Rattle.sl_run_law.proofs.Sessions.MarksStay.{joined_more}
+use Rattle.sl_run_law.specs.Sessions.SessionLaws.{all_done, fits, fits_as, is_in_turn}
 use Rattle.sl_words.proofs.CaseLaws.{false_is_true, none_some, not_both, one_value, some_value, true_is_false}
 use Rattle.sl_words.proofs.WordLaws.{and_true}
 use Rattle.sl_words.specs.Words.{choose, some_is}

@@ -1,6 +1,6 @@
 -- What is known of connections is kept where the input is seen.
-use Rattle.sl_acts.specs.Acts.{Expects, Has}
-use Rattle.sl_acts.specs.SoFar.{SoFar, entry_of}
+use Rattle.sl_due_facts.specs.Acts.Acts.{Expects, Has}
+use Rattle.sl_due_facts.specs.Acts.TraceSoFar.{SoFar, entry_of}
 use Rattle.sl_due.specs.Steps.{Step, seen, with_input}
 use Rattle.sl_due_facts.proofs.Jobs.AnsweredCallsFit.{record_writes}
 use Rattle.sl_due_facts.proofs.Jobs.CallsHaveFacts.{calls_before, sessions_bare, sessions_told}
@@ -9,17 +9,17 @@ use Rattle.sl_due_facts.proofs.Jobs.JobsAreAllowed.{is_told}
 use Rattle.sl_due_facts.proofs.Jobs.SessionsArePresent.{session_has}
 use Rattle.sl_run.specs.LawfulDelta.{LawfulClaim}
 use Rattle.sl_run.specs.LawfulWatchdog.{is_covered}
-use Rattle.sl_due_facts.proofs.Parts.JoinedCallsKeepOrder.{joined_is_covered}
-use Rattle.sl_plain.proofs.Lists.{any_found, any_of, contains_first, contains_map, find_inside, in_map, kept, kept_inside}
-use Rattle.sl_plain.proofs.Numbers.{trans_le}
-use Rattle.sl_plain.proofs.Options.{then_value}
-use Rattle.sl_run_law.proofs.Watchdog.Renewing.{renewed_after}
-use Rattle.sl_run_law.specs.Watchdog.Acting.{renewal_told}
+use Rattle.sl_due_facts.proofs.AddedEffects.JoinedCallsKeepOrder.{joined_is_covered}
+use Rattle.sl_words.proofs.Lists.{any_found, any_of, contains_first, contains_map, find_inside, in_map, kept, kept_inside}
+use Rattle.sl_words.proofs.Numbers.{trans_le}
+use Rattle.sl_words.proofs.Options.{then_value}
+use Rattle.sl_run_law.proofs.Watchdog.OneOpenRenewal.{renewed_after}
+use Rattle.sl_run_law.specs.Watchdog.ActingTimes.{renewal_told}
 use Rattle.sl_sector.specs.Bitmaps.{no_bits}
 use Rattle.sl_sector.specs.declared.sector.DeltaState.TheVariants.{Claimed}
 use Rattle.sl_due_facts.proofs.Connections.ConnectionsChange.{same_connections}
 use Rattle.sl_due_facts.proofs.Connections.SessionParts.{covered_at_work, covered_refused, covered_unjoined, joined_and_covered}
-use Rattle.sl_due_facts.specs.Connections.Promises.{HasConnectionFacts}
+use Rattle.sl_due_facts.specs.Connections.ConnectionLaws.{HasConnectionFacts}
 use Rattle.sl_due_facts.proofs.Sessions.JoiningsGoOn.{law_of}
 use Rattle.sl_due_facts.proofs.Sessions.NamesGrow.{calls_of_told, input_present, write_then}
 use Rattle.sl_trace.specs.Deltas.{delta_of_session, delta_record}
@@ -27,9 +27,9 @@ use Rattle.sl_trace.specs.Sessions.{calls_of, delta_of_record, has_open_write, i
 use Rattle.sl_trace.specs.declared.session.Session.{Session}
 use Rattle.sl_trace.specs.declared.stage.Stage.TheVariants.{Looking}
 use Rattle.sl_trace.specs.declared.stage.Stage.{Stage}
-use Rattle.sl_due_facts.specs.Facts.Heard.{IsOpen, heard_by}
+use Rattle.sl_due_facts.specs.Facts.HeardCall.{IsOpen, heard_by}
 use Rattle.sl_due_facts.specs.Facts.SessionFacts.{ConnectionFacts, IsHeardWriter}
-use Rattle.sl_due_facts.specs.Facts.Whole.{Whole}
+use Rattle.sl_due_facts.specs.Facts.AllFacts.{Whole}
 use Rattle.sl_time.specs.Times.{fail}
 use Rattle.sl_trace.specs.Traces.{Answered, Submitted, Trace, answer_of, answered_in, call_numbered, is_answered_ok, is_ok_answer, is_write, mark, record_of, submitted}
 use Rattle.sl_trace.specs.declared.effects.Call.{Call}
@@ -40,8 +40,8 @@ use Rattle.sl_trace.specs.declared.effects.Purpose.{Purpose}
 use Rattle.sl_trace.specs.declared.input.Answer.{Answer}
 use Rattle.sl_trace.specs.declared.input.Input.TheVariants.{Answer as Told, Exit, Line, Number, Spawned, Wake}
 use Rattle.sl_trace.specs.declared.input.Input.{Input}
-use Rattle.sl_trace_law.proofs.Sessions.Making.{SameCall, same_answered}
-use Rattle.sl_trace_law.specs.Sessions.Promises.{front_of, made_as}
+use Rattle.sl_run_law.proofs.Sessions.CallsAreMade.{SameCall, same_answered}
+use Rattle.sl_run_law.specs.Sessions.SessionLaws.{front_of, made_as}
 use Rattle.sl_words.proofs.CaseLaws.{false_is_true, none_some, not_both, some_value, true_is_false}
 use Rattle.sl_words.specs.Words.{some_is}
 use Rattle.std.proofs.Common.{ap, arith, inl, inr, refl, subst, sym, ◌∙◌}

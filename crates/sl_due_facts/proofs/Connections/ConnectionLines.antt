@@ -1,9 +1,9 @@
 -- What is known of connections is kept by what a command comes to.
-use Rattle.sl_acts.proofs.Additions.{contains_at, contains_last}
-use Rattle.sl_acts.proofs.DecisionsAreTheirs.{Of}
-use Rattle.sl_acts.proofs.PlainActs.{line_has}
-use Rattle.sl_acts.specs.Acts.{Has}
-use Rattle.sl_acts.specs.SoFar.{entry_of}
+use Rattle.sl_due_facts.proofs.Acts.AddedAtEnd.{contains_at, contains_last}
+use Rattle.sl_due_facts.proofs.Acts.DecisionsAreTheirs.{Of}
+use Rattle.sl_due_facts.proofs.Acts.PlainActs.{line_has}
+use Rattle.sl_due_facts.specs.Acts.Acts.{Has}
+use Rattle.sl_due_facts.specs.Acts.TraceSoFar.{entry_of}
 use Rattle.sl_area.specs.Places.{delta_offset}
 use Rattle.sl_due.specs.DueCommands.{carry_decision, decided}
 use Rattle.sl_due.specs.Steps.{Step, add_call_of, add_reply, seen, with_input}
@@ -22,11 +22,11 @@ use Rattle.sl_due_facts.proofs.Jobs.SessionsArePresent.{joined_present}
 use Rattle.sl_due_facts.proofs.Jobs.SessionsHaveJobs.{number_taken}
 use Rattle.sl_run.specs.LawfulWatchdog.{is_covered}
 use Rattle.sl_trace.specs.Jobs.{is_command_that, jobs_of_session, lockspace_named}
-use Rattle.sl_due_facts.proofs.Parts.CallsGrow.{mine_more, others_stay}
-use Rattle.sl_plain.proofs.Lists.{any_of, contains_cases, got_inside, kept, kept_inside}
-use Rattle.sl_plain.proofs.Numbers.{number_itself}
-use Rattle.sl_plain.proofs.Options.{some_of}
-use Rattle.sl_run_law.proofs.Front.Having.{contains_left}
+use Rattle.sl_due_facts.proofs.AddedEffects.CallsGrow.{mine_more, others_stay}
+use Rattle.sl_words.proofs.Lists.{any_of, contains_cases, got_inside, kept, kept_inside}
+use Rattle.sl_words.proofs.Numbers.{number_itself}
+use Rattle.sl_words.proofs.Options.{some_of}
+use Rattle.sl_run_law.proofs.Front.JoinedLists.{contains_left}
 use Rattle.sl_due_facts.proofs.Connections.AllowedMore.{StopsAllowed, more_decision}
 use Rattle.sl_due_facts.proofs.Connections.ConnectionEffects.{IsOtherJob, reply_connections}
 use Rattle.sl_due_facts.proofs.Connections.ConnectionInputs.{input_connections}
@@ -34,17 +34,17 @@ use Rattle.sl_due_facts.proofs.Connections.ConnectionWalk.{During, NoMove, Plain
 use Rattle.sl_due_facts.proofs.Connections.ConnectionsNamed.{connected}
 use Rattle.sl_due_facts.proofs.Connections.OtherJobs.{other_of_session}
 use Rattle.sl_due_facts.proofs.Connections.SessionParts.{SameSession, covered_at_work, covered_present, present_of, same_covered, same_present, unjoined_not}
-use Rattle.sl_due_facts.specs.Connections.Promises.{HasConnectionFacts}
+use Rattle.sl_due_facts.specs.Connections.ConnectionLaws.{HasConnectionFacts}
 use Rattle.sl_due_facts.proofs.Sessions.NameActs.{running_unrefused}
 use Rattle.sl_due_facts.proofs.Sessions.NamesAreAllowed.{Holds, NameCall, NameReply, decision_named, is_joining}
 use Rattle.sl_due_facts.proofs.Sessions.NamesAtEnd.{running_unjoined}
 use Rattle.sl_due_facts.proofs.Sessions.NamesGrow.{input_names, input_present}
-use Rattle.sl_due_facts.specs.Sessions.Promises.{HasNameFacts}
+use Rattle.sl_due_facts.specs.Sessions.SessionLaws.{HasNameFacts}
 use Rattle.sl_trace.specs.Sessions.{calls_of, has_open_write, is_active, is_call_of, is_covered_stage, is_joined, is_present, joined_after, joining_session, last_renewal, leaving_job, open_calls_of, recovery_of, refused_after, removed_after, session_named, session_numbered, sessions, stage_in}
 use Rattle.sl_trace.specs.declared.session.Session.{Session}
-use Rattle.sl_due_facts.specs.Facts.Heard.{IsOpen}
+use Rattle.sl_due_facts.specs.Facts.HeardCall.{IsOpen}
 use Rattle.sl_due_facts.specs.Facts.SessionFacts.{ConnectionFacts, IsHeardWriter}
-use Rattle.sl_due_facts.specs.Facts.Whole.{Whole}
+use Rattle.sl_due_facts.specs.Facts.AllFacts.{Whole}
 use Rattle.sl_time.specs.Times.{fail}
 use Rattle.sl_trace.specs.Connections.{Connection, is_registered, last_registering}
 use Rattle.sl_trace.specs.Traces.{Job, Setting, Submitted, Trace, is_running, is_write, job_numbered, jobs, new_call, next_call, next_job, running_jobs, submitted, unanswered}
@@ -60,8 +60,8 @@ use Rattle.sl_trace.specs.declared.effects.Purpose.{Purpose}
 use Rattle.sl_trace.specs.declared.input.Input.TheVariants.{Line, Wake}
 use Rattle.sl_trace.specs.declared.reply.Reply.TheVariants.{Recovering}
 use Rattle.sl_trace.specs.declared.reply.Reply.{Reply}
-use Rattle.sl_trace_law.proofs.Leases.NumberLaws.{number_is_place}
-use Rattle.sl_trace_law.proofs.Sessions.Naming.{absent}
+use Rattle.sl_run_law.proofs.Leases.NumberLaws.{number_is_place}
+use Rattle.sl_run_law.proofs.Sessions.SessionNames.{absent}
 use Rattle.sl_words.proofs.CaseLaws.{false_is_true, none_some}
 use Rattle.sl_words.proofs.WordLaws.{and_true}
 use Rattle.sl_words.specs.Words.{some_is}

@@ -1,6 +1,6 @@
 -- What is known of connections is kept by the effects of an act that moves no connection and replies to no joining: its calls are of joined
 -- sessions.
-use Rattle.sl_acts.specs.Acts.{Has}
+use Rattle.sl_due_facts.specs.Acts.Acts.{Has}
 use Rattle.sl_due.specs.Steps.{Step, add_call_of, add_reply, seen}
 use Rattle.sl_due_facts.proofs.Jobs.CallsStay.{IsLate, calls_stay}
 use Rattle.sl_due_facts.proofs.Jobs.EffectsAreAllowed.{Allows}
@@ -8,17 +8,17 @@ use Rattle.sl_due_facts.proofs.Jobs.NearlyPlainActs.{AnyStart}
 use Rattle.sl_due_facts.proofs.Jobs.SessionsArePresent.{joined_present, present_inside}
 use Rattle.sl_due_facts.proofs.Jobs.SessionsStand.{joined_then, running_before}
 use Rattle.sl_run.specs.LawfulWatchdog.{is_covered}
-use Rattle.sl_due_facts.proofs.Parts.JoinedCallsKeepOrder.{joined_is_covered}
-use Rattle.sl_plain.proofs.Lists.{got_inside}
-use Rattle.sl_plain.proofs.Options.{some_there}
+use Rattle.sl_due_facts.proofs.AddedEffects.JoinedCallsKeepOrder.{joined_is_covered}
+use Rattle.sl_words.proofs.Lists.{got_inside}
+use Rattle.sl_words.proofs.Options.{some_there}
 use Rattle.sl_due_facts.proofs.Connections.ConnectionEffects.{IsOtherJob, alters_call, alters_nothing, reply_connections}
 use Rattle.sl_due_facts.proofs.Connections.ConnectionsChange.{IsAlone, altered_still}
-use Rattle.sl_due_facts.specs.Connections.Promises.{HasConnectionFacts}
+use Rattle.sl_due_facts.specs.Connections.ConnectionLaws.{HasConnectionFacts}
 use Rattle.sl_due_facts.proofs.Sessions.NameEffects.{reply_joins_more, reply_present}
 use Rattle.sl_due_facts.proofs.Sessions.NamesAreAllowed.{is_joining, joined_unrefused}
 use Rattle.sl_trace.specs.Sessions.{is_join_call, is_joined, is_present, joined_after, removed_after, sessions}
 use Rattle.sl_trace.specs.declared.session.Session.{Session}
-use Rattle.sl_due_facts.specs.Facts.Heard.{heard_by}
+use Rattle.sl_due_facts.specs.Facts.HeardCall.{heard_by}
 use Rattle.sl_due_facts.specs.Facts.SessionFacts.{ConnectionFacts, NameFacts}
 use Rattle.sl_trace.specs.Traces.{Submitted, is_before_input, is_running, job_of, jobs, submitted}
 use Rattle.sl_trace.specs.declared.effects.JoinStep.TheVariants.{FirstRead}

@@ -5,7 +5,7 @@ use Rattle.sl_due_facts.proofs.Connections.ConnectionsNamed.{connected}
 use Rattle.sl_due_facts.proofs.Connections.SessionParts.{SameSession, covered_present, same_covered, same_is_joined, same_present}
 use Rattle.sl_trace.specs.Sessions.{calls_of, is_joined, is_present, joined_after, last_renewal, sessions}
 use Rattle.sl_trace.specs.declared.session.Session.{Session}
-use Rattle.sl_due_facts.specs.Facts.Heard.{IsOpen}
+use Rattle.sl_due_facts.specs.Facts.HeardCall.{IsOpen}
 use Rattle.sl_due_facts.specs.Facts.SessionFacts.{ConnectionFacts, IsHeardWriter}
 use Rattle.sl_time.specs.Times.{fail}
 use Rattle.sl_trace.specs.Connections.{Connection, is_registered, last_registering}

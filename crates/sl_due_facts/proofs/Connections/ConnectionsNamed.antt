@@ -1,13 +1,13 @@
 -- What a move leaves of the connection of a name.
-use Rattle.sl_acts.proofs.Additions.{not_is}
+use Rattle.sl_due_facts.proofs.Acts.AddedAtEnd.{not_is}
 use Rattle.sl_due_facts.proofs.Jobs.CallsHaveFacts.{find_mapped}
 use Rattle.sl_due_facts.proofs.Jobs.JobsAreNumbered.{finds_none}
-use Rattle.sl_plain.proofs.Lists.{find_inside, kept_inside}
-use Rattle.sl_plain.proofs.Options.{mapped_value}
+use Rattle.sl_words.proofs.Lists.{find_inside, kept_inside}
+use Rattle.sl_words.proofs.Options.{mapped_value}
 use Rattle.sl_trace.specs.Connections.{Connection, after_move, connection_named, connections, renewed_connection}
 use Rattle.sl_trace.specs.Traces.{Setting, Trace}
 use Rattle.sl_trace.specs.declared.effects.Move.TheVariants.{Register, Renew, Unregister}
-use Rattle.sl_trace_law.proofs.Sessions.Naming.{same_name}
+use Rattle.sl_run_law.proofs.Sessions.SessionNames.{same_name}
 use Rattle.sl_words.proofs.CaseLaws.{not_both}
 use Rattle.std.proofs.Common.{ap, refl, sym, ◌∙◌}
 use Rattle.std.proofs.lemmas.List.Folds.{find-append}

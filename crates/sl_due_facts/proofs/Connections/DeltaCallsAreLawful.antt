@@ -1,7 +1,7 @@
 -- Where a delta lease decides on a renewal, a free, a claim or a first renewal, its write is lawful.
-use Rattle.sl_acts.proofs.Additions.{not_is}
-use Rattle.sl_acts.proofs.InputsKeep.{has_heard}
-use Rattle.sl_acts.specs.Acts.{Has, Hears}
+use Rattle.sl_due_facts.proofs.Acts.AddedAtEnd.{not_is}
+use Rattle.sl_due_facts.proofs.Acts.InputsKeep.{has_heard}
+use Rattle.sl_due_facts.specs.Acts.Acts.{Has, Hears}
 use Rattle.sl_area.specs.Layouts.{record_in, sector_with}
 use Rattle.sl_due.specs.Steps.{Step, seen}
 use Rattle.sl_due_facts.proofs.Jobs.EffectsAreAllowed.{DeltaAllowed}
@@ -9,9 +9,9 @@ use Rattle.sl_due_facts.proofs.Jobs.JobsAreAllowed.{heard_answered}
 use Rattle.sl_due_facts.proofs.Jobs.NearlyPlainActs.{AnyMove}
 use Rattle.sl_run.specs.LawfulCalls.{may_submit}
 use Rattle.sl_run.specs.LawfulDelta.{Gave, LawfulDeciding}
-use Rattle.sl_plain.proofs.Lists.{find_inside, kept, kept_inside}
-use Rattle.sl_plain.proofs.Numbers.{number_itself}
-use Rattle.sl_plain.proofs.Options.{not_some, then_value}
+use Rattle.sl_words.proofs.Lists.{find_inside, kept, kept_inside}
+use Rattle.sl_words.proofs.Numbers.{number_itself}
+use Rattle.sl_words.proofs.Options.{not_some, then_value}
 use Rattle.sl_sector.specs.Bitmaps.{no_bits}
 use Rattle.sl_sector.specs.Spelling.{delta_in}
 use Rattle.sl_sector.specs.declared.sector.DeltaRec.{DeltaRec}
@@ -33,7 +33,7 @@ use Rattle.sl_trace.specs.declared.delta.DeltaNext.{DeltaNext}
 use Rattle.sl_trace.specs.declared.session.Session.{Session}
 use Rattle.sl_trace.specs.declared.stage.Stage.TheVariants.{Deciding, Standing, Verifying}
 use Rattle.sl_trace.specs.declared.stage.Stage.{Stage}
-use Rattle.sl_due_facts.specs.Facts.Whole.{Whole}
+use Rattle.sl_due_facts.specs.Facts.AllFacts.{Whole}
 use Rattle.sl_time.specs.Times.{renew}
 use Rattle.sl_trace.specs.Traces.{Answered, Job, Setting, Submitted, Trace, bytes_given, gave, is_answered_ok, is_running, same_place, submitted, unanswered}
 use Rattle.sl_trace.specs.declared.effects.JoinStep.TheVariants.{ClaimWrite, DecidingRead, FirstRead, FirstRenewal, VerifyRead}
@@ -43,14 +43,14 @@ use Rattle.sl_trace.specs.declared.input.Answer.TheVariants.{Read}
 use Rattle.sl_trace.specs.declared.input.Answer.{Answer}
 use Rattle.sl_trace.specs.declared.reply.Limited.TheVariants.{Gen as GenLimit, Seq as SeqLimit}
 use Rattle.sl_trace.specs.declared.reply.Reply.TheVariants.{Limit as LimitReached}
-use Rattle.sl_trace_law.proofs.Leases.NumberLaws.{number_is_place}
-use Rattle.sl_trace_law.proofs.Sessions.Covering.{joinings_are_in_turn}
-use Rattle.sl_trace_law.proofs.Sessions.Fronts.{front_answers_stay}
-use Rattle.sl_trace_law.proofs.Sessions.Joining.{done_unanswered}
-use Rattle.sl_trace_law.proofs.Sessions.Naming.{same_name}
-use Rattle.sl_trace_law.proofs.Sessions.Ordering.{joinings_are_ordered, open_stage}
-use Rattle.sl_trace_law.proofs.Sessions.Silence.{stage_by}
-use Rattle.sl_trace_law.specs.Sessions.Promises.{IsMade, all_done, fits, front_of, is_in_turn, made_as}
+use Rattle.sl_run_law.proofs.Leases.NumberLaws.{number_is_place}
+use Rattle.sl_run_law.proofs.Sessions.WritesAreCovered.{joinings_are_in_turn}
+use Rattle.sl_run_law.proofs.Sessions.FrontAnswersStay.{front_answers_stay}
+use Rattle.sl_run_law.proofs.Sessions.JoiningsInTurn.{done_unanswered}
+use Rattle.sl_run_law.proofs.Sessions.SessionNames.{same_name}
+use Rattle.sl_run_law.proofs.Sessions.JoiningsAreOrdered.{joinings_are_ordered, open_stage}
+use Rattle.sl_run_law.proofs.Sessions.EndedAreSilent.{stage_by}
+use Rattle.sl_run_law.specs.Sessions.SessionLaws.{IsMade, all_done, fits, front_of, is_in_turn, made_as}
 use Rattle.sl_words.proofs.CaseLaws.{false_is_true, none_some, some_value}
 use Rattle.sl_words.proofs.WordLaws.{and_true}
 use Rattle.sl_words.specs.Bounds.{is_number}

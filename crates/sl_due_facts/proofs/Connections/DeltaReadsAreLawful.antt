@@ -1,7 +1,7 @@
 -- Where a delta lease decides on a read, but a deciding one, it is lawful.
-use Rattle.sl_acts.proofs.Additions.{any_last}
-use Rattle.sl_acts.specs.Acts.{Has, Hears}
-use Rattle.sl_acts.specs.SoFar.{entry_of}
+use Rattle.sl_due_facts.proofs.Acts.AddedAtEnd.{any_last}
+use Rattle.sl_due_facts.specs.Acts.Acts.{Has, Hears}
+use Rattle.sl_due_facts.specs.Acts.TraceSoFar.{entry_of}
 use Rattle.sl_due.specs.DueDelta.{move_connection, register}
 use Rattle.sl_due.specs.Steps.{Step, add_reply, seen}
 use Rattle.sl_due_facts.proofs.Jobs.CallsStay.{calls_stay, late_join}
@@ -10,11 +10,11 @@ use Rattle.sl_run.proofs.LawFacts.{orderly-front}
 use Rattle.sl_run.specs.Lawful.{Orderly}
 use Rattle.sl_run.specs.LawfulCalls.{may_submit}
 use Rattle.sl_run.specs.LawfulWatchdog.{is_covered}
-use Rattle.sl_run.specs.Saying.{cut_at}
-use Rattle.sl_plain.proofs.Lists.{any_found, contains_cases, contains_first, contains_none, got_inside, in_map, kept, kept_inside}
-use Rattle.sl_plain.proofs.Numbers.{number_itself}
-use Rattle.sl_plain.proofs.Options.{none_is}
-use Rattle.sl_run_law.proofs.Watchdog.Finding.{open_delta}
+use Rattle.sl_run.specs.LawForms.{cut_at}
+use Rattle.sl_words.proofs.Lists.{any_found, contains_cases, contains_first, contains_none, got_inside, in_map, kept, kept_inside}
+use Rattle.sl_words.proofs.Numbers.{number_itself}
+use Rattle.sl_words.proofs.Options.{none_is}
+use Rattle.sl_run_law.proofs.Watchdog.FoundCalls.{open_delta}
 use Rattle.sl_due_facts.proofs.Connections.ConnectionEffects.{move_same}
 use Rattle.sl_due_facts.proofs.Connections.ConnectionFactsAreKept.{heard_is_joined}
 use Rattle.sl_due_facts.proofs.Connections.ConnectionInputs.{other_marked}
@@ -32,9 +32,9 @@ use Rattle.sl_trace.specs.declared.delta.DeltaNext.TheVariants.{Nothing, RefuseJ
 use Rattle.sl_trace.specs.declared.delta.DeltaNext.{DeltaNext}
 use Rattle.sl_trace.specs.declared.session.Session.{Session}
 use Rattle.sl_trace.specs.declared.stage.Stage.TheVariants.{Looking, Standing, Waiting}
-use Rattle.sl_due_facts.specs.Facts.Heard.{heard_by}
+use Rattle.sl_due_facts.specs.Facts.HeardCall.{heard_by}
 use Rattle.sl_due_facts.specs.Facts.SessionFacts.{ConnectionFacts, IsHeardWriter, NameFacts}
-use Rattle.sl_due_facts.specs.Facts.Whole.{Whole}
+use Rattle.sl_due_facts.specs.Facts.AllFacts.{Whole}
 use Rattle.sl_time.specs.Times.{dead, fail, join_max}
 use Rattle.sl_trace.specs.Connections.{is_registered, registers_with}
 use Rattle.sl_trace.specs.Traces.{Answered, Setting, Submitted, Trace, answer_of, answered_in, is_answered_ok, is_ok_answer, is_running, mark, new_call, submitted, unanswered}
@@ -47,13 +47,13 @@ use Rattle.sl_trace.specs.declared.effects.Purpose.TheVariants.{Joining, Renewal
 use Rattle.sl_trace.specs.declared.input.Answer.{Answer}
 use Rattle.sl_trace.specs.declared.input.Input.TheVariants.{Wake}
 use Rattle.sl_trace.specs.declared.reply.Reply.TheVariants.{Generation, IdLate}
-use Rattle.sl_trace_law.proofs.Sessions.Growing.{mine_marked, mine_next, other_next, to_all}
-use Rattle.sl_trace_law.proofs.Sessions.Joining.{done_unanswered}
-use Rattle.sl_trace_law.proofs.Sessions.Making.{SameCall, same_answered, was_marked}
-use Rattle.sl_trace_law.proofs.Sessions.Naming.{same_name}
-use Rattle.sl_trace_law.proofs.Sessions.Ordering.{open_stage}
-use Rattle.sl_trace_law.proofs.Sessions.Owning.{is_the_one, session_more}
-use Rattle.sl_trace_law.specs.Sessions.Promises.{all_done, fits, is_in_turn}
+use Rattle.sl_run_law.proofs.Sessions.TraceGrowth.{mine_marked, mine_next, other_next, to_all}
+use Rattle.sl_run_law.proofs.Sessions.JoiningsInTurn.{done_unanswered}
+use Rattle.sl_run_law.proofs.Sessions.CallsAreMade.{SameCall, same_answered, was_marked}
+use Rattle.sl_run_law.proofs.Sessions.SessionNames.{same_name}
+use Rattle.sl_run_law.proofs.Sessions.JoiningsAreOrdered.{open_stage}
+use Rattle.sl_run_law.proofs.Sessions.CallOwners.{is_the_one, session_more}
+use Rattle.sl_run_law.specs.Sessions.SessionLaws.{all_done, fits, is_in_turn}
 use Rattle.sl_words.proofs.CaseLaws.{false_is_true, is_false, none_some, not_both, one_value, true_is_false}
 use Rattle.sl_words.proofs.WordLaws.{and_true}
 use Rattle.sl_words.specs.Words.{some_is}

@@ -1,14 +1,14 @@
 -- The call whose answer was heard: it was open before, it is the newest of a joining, and a renewal among them counts.
-use Rattle.sl_acts.proofs.InputsKeep.{has_heard}
-use Rattle.sl_acts.specs.Acts.{Hears}
-use Rattle.sl_acts.specs.SoFar.{entry_of}
+use Rattle.sl_due_facts.proofs.Acts.InputsKeep.{has_heard}
+use Rattle.sl_due_facts.specs.Acts.Acts.{Hears}
+use Rattle.sl_due_facts.specs.Acts.TraceSoFar.{entry_of}
 use Rattle.sl_due.specs.Steps.{Step, seen, with_input}
 use Rattle.sl_due_facts.proofs.Jobs.CallsHaveFacts.{calls_before, find_mapped, sessions_bare}
 use Rattle.sl_due_facts.proofs.Jobs.CallsOfJobsFit.{list_all_inside}
 use Rattle.sl_due_facts.proofs.Jobs.JobsAreAllowed.{calls_heard, heard_answered}
 use Rattle.sl_due_facts.proofs.Jobs.SessionsStand.{recovery_joined}
-use Rattle.sl_plain.proofs.Lists.{any_found, contains_cases, contains_map, contains_none, kept, kept_inside}
-use Rattle.sl_plain.proofs.Options.{mapped_value, none_is, some_there}
+use Rattle.sl_words.proofs.Lists.{any_found, contains_cases, contains_map, contains_none, kept, kept_inside}
+use Rattle.sl_words.proofs.Options.{mapped_value, none_is, some_there}
 use Rattle.sl_due_facts.proofs.Sessions.NameFactsConclude.{heard_answer}
 use Rattle.sl_due_facts.proofs.Sessions.NamesAreAllowed.{heard_mine}
 use Rattle.sl_due_facts.proofs.Sessions.NamesGrow.{calls_of_told}
@@ -16,7 +16,7 @@ use Rattle.sl_trace.specs.Sessions.{calls_of, is_call_of, is_joined, is_renewal,
 use Rattle.sl_trace.specs.declared.session.Begun.{Begun}
 use Rattle.sl_trace.specs.declared.session.Renewing.{Renewing}
 use Rattle.sl_trace.specs.declared.session.Session.{Session}
-use Rattle.sl_due_facts.specs.Facts.Whole.{Whole}
+use Rattle.sl_due_facts.specs.Facts.AllFacts.{Whole}
 use Rattle.sl_time.specs.Times.{fail}
 use Rattle.sl_trace.specs.Traces.{Answered, Setting, Submitted, Trace, answered_in, call_numbered, is_answer_for, is_answered_ok, is_expected, is_ok_answer, outstanding, submitted}
 use Rattle.sl_trace.specs.declared.effects.Call.{Call}
@@ -24,11 +24,11 @@ use Rattle.sl_trace.specs.declared.effects.Entry.{Entry}
 use Rattle.sl_trace.specs.declared.input.Answer.TheVariants.{Written}
 use Rattle.sl_trace.specs.declared.input.Answer.{Answer}
 use Rattle.sl_trace.specs.declared.input.Input.TheVariants.{Answer as Told, Wake}
-use Rattle.sl_trace_law.proofs.Sessions.Covering.{joinings_are_in_turn}
-use Rattle.sl_trace_law.proofs.Sessions.Joining.{joined_before}
-use Rattle.sl_trace_law.proofs.Sessions.Making.{SameCall, same_answered}
-use Rattle.sl_trace_law.proofs.Sessions.Staying.{joined_more}
-use Rattle.sl_trace_law.specs.Sessions.Promises.{all_done, fits, has_reply, is_in_turn}
+use Rattle.sl_run_law.proofs.Sessions.WritesAreCovered.{joinings_are_in_turn}
+use Rattle.sl_run_law.proofs.Sessions.JoiningsInTurn.{joined_before}
+use Rattle.sl_run_law.proofs.Sessions.CallsAreMade.{SameCall, same_answered}
+use Rattle.sl_run_law.proofs.Sessions.MarksStay.{joined_more}
+use Rattle.sl_run_law.specs.Sessions.SessionLaws.{all_done, fits, has_reply, is_in_turn}
 use Rattle.sl_words.proofs.CaseLaws.{none_some, not_both, one_value}
 use Rattle.sl_words.proofs.WordLaws.{and_true}
 use Rattle.sl_words.specs.Words.{choose, some_is}

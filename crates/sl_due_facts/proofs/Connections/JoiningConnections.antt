@@ -1,7 +1,7 @@
 -- What is known of connections is kept where a joining is refused, and where its refusal's last write was answered.
-use Rattle.sl_acts.proofs.InputsKeep.{has_heard}
-use Rattle.sl_acts.specs.Acts.{Has, Hears}
-use Rattle.sl_acts.specs.SoFar.{SoFar, entry_of}
+use Rattle.sl_due_facts.proofs.Acts.InputsKeep.{has_heard}
+use Rattle.sl_due_facts.specs.Acts.Acts.{Has, Hears}
+use Rattle.sl_due_facts.specs.Acts.TraceSoFar.{SoFar, entry_of}
 use Rattle.sl_due.specs.DueFirst.{refuse, remove_connection, remove_of_refused}
 use Rattle.sl_due.specs.Steps.{Step, add_move, add_reply, seen, when, with_input, with_some}
 use Rattle.sl_due_facts.proofs.Jobs.CallsHaveFacts.{calls_before}
@@ -10,21 +10,21 @@ use Rattle.sl_due_facts.proofs.Jobs.JobsAreAllowed.{calls_heard}
 use Rattle.sl_due_facts.proofs.Jobs.SessionsArePresent.{session_has}
 use Rattle.sl_due_facts.proofs.Jobs.SessionsHaveJobs.{one_session}
 use Rattle.sl_run.specs.LawfulWatchdog.{is_covered}
-use Rattle.sl_due_facts.proofs.Parts.EffectsAreTold.{effects_are_told}
-use Rattle.sl_plain.proofs.Lists.{any_found, contains_map, find_fails, find_inside, got_inside, kept, kept_inside}
-use Rattle.sl_plain.proofs.Numbers.{number_itself}
-use Rattle.sl_plain.proofs.Options.{none_is, some_there}
+use Rattle.sl_due_facts.proofs.AddedEffects.EffectsAreTold.{effects_are_told}
+use Rattle.sl_words.proofs.Lists.{any_found, contains_map, find_fails, find_inside, got_inside, kept, kept_inside}
+use Rattle.sl_words.proofs.Numbers.{number_itself}
+use Rattle.sl_words.proofs.Options.{none_is, some_there}
 use Rattle.sl_due_facts.proofs.Connections.ConnectionEffects.{alters_move, alters_nothing, alters_reply, removal_connections, removed_away, removes_own, reply_connections}
 use Rattle.sl_due_facts.proofs.Connections.ConnectionWalk.{alone_of}
 use Rattle.sl_due_facts.proofs.Connections.ConnectionsChange.{Alters, IsAlone, altered_away, altered_still}
 use Rattle.sl_due_facts.proofs.Connections.SessionParts.{at_work_is_present, covered_at_work, covered_refused, unjoined_not}
-use Rattle.sl_due_facts.specs.Connections.Promises.{HasConnectionFacts}
+use Rattle.sl_due_facts.specs.Connections.ConnectionLaws.{HasConnectionFacts}
 use Rattle.sl_due_facts.proofs.Sessions.NameActs.{running_unrefused}
 use Rattle.sl_due_facts.proofs.Sessions.NameEffects.{refused_of}
 use Rattle.sl_due_facts.proofs.Sessions.NamesAtEnd.{running_unjoined}
 use Rattle.sl_trace.specs.Sessions.{calls_of, has_open_write, is_call_of, is_join_done, is_present, joined_after, open_calls_of, refused_after, removed_after, session_of_job, sessions}
 use Rattle.sl_trace.specs.declared.session.Session.{Session}
-use Rattle.sl_due_facts.specs.Facts.Heard.{IsOpen, heard_by}
+use Rattle.sl_due_facts.specs.Facts.HeardCall.{IsOpen, heard_by}
 use Rattle.sl_due_facts.specs.Facts.SessionFacts.{NameFacts}
 use Rattle.sl_trace.specs.Connections.{is_registered}
 use Rattle.sl_trace.specs.Traces.{Replied, Submitted, answer_of, answered_in, is_running, is_write, reply_to, submitted, unanswered}
@@ -33,11 +33,11 @@ use Rattle.sl_trace.specs.declared.effects.Move.TheVariants.{Unregister}
 use Rattle.sl_trace.specs.declared.input.Answer.{Answer}
 use Rattle.sl_trace.specs.declared.input.Input.TheVariants.{Wake}
 use Rattle.sl_trace.specs.declared.reply.Reply.{Reply}
-use Rattle.sl_trace_law.proofs.Sessions.Covering.{covered_in, joinings_are_in_turn}
-use Rattle.sl_trace_law.proofs.Sessions.Making.{same_answered}
-use Rattle.sl_trace_law.proofs.Sessions.Naming.{same_name}
-use Rattle.sl_trace_law.proofs.Sessions.Staying.{refused_apart}
-use Rattle.sl_trace_law.specs.Sessions.Promises.{is_in_turn}
+use Rattle.sl_run_law.proofs.Sessions.WritesAreCovered.{covered_in, joinings_are_in_turn}
+use Rattle.sl_run_law.proofs.Sessions.CallsAreMade.{same_answered}
+use Rattle.sl_run_law.proofs.Sessions.SessionNames.{same_name}
+use Rattle.sl_run_law.proofs.Sessions.MarksStay.{refused_apart}
+use Rattle.sl_run_law.specs.Sessions.SessionLaws.{is_in_turn}
 use Rattle.sl_words.proofs.CaseLaws.{false_is_true, none_some, not_both}
 use Rattle.sl_words.specs.Words.{choose, some_is}
 use Rattle.std.proofs.Common.{ap, inl, inr, refl, subst, sym, ◌∙◌}

@@ -1,6 +1,6 @@
 -- What a joining decides may be done of its connection: after an answer, and on a wake.
-use Rattle.sl_acts.proofs.InputsKeep.{has_heard}
-use Rattle.sl_acts.specs.Acts.{Has, Hears}
+use Rattle.sl_due_facts.proofs.Acts.InputsKeep.{has_heard}
+use Rattle.sl_due_facts.specs.Acts.Acts.{Has, Hears}
 use Rattle.sl_area.specs.Layouts.{record_in, sector_with}
 use Rattle.sl_due.specs.Steps.{Step, seen}
 use Rattle.sl_due_facts.proofs.Jobs.AnsweredCallsFit.{both_of}
@@ -8,7 +8,7 @@ use Rattle.sl_due_facts.proofs.Jobs.CallsOfJobsFit.{joining_of}
 use Rattle.sl_due_facts.proofs.Jobs.JobsAreAllowed.{is_told}
 use Rattle.sl_due_facts.proofs.Jobs.RepliesComeAfter.{on_bool, on_option}
 use Rattle.sl_run.specs.LawfulWatchdog.{is_covered}
-use Rattle.sl_plain.proofs.Lists.{contains_first, find_inside, got_inside, kept_inside}
+use Rattle.sl_words.proofs.Lists.{contains_first, find_inside, got_inside, kept_inside}
 use Rattle.sl_sector.specs.Bitmaps.{no_bits}
 use Rattle.sl_sector.specs.Spelling.{delta_in}
 use Rattle.sl_sector.specs.declared.sector.DeltaRec.{DeltaRec}
@@ -20,14 +20,14 @@ use Rattle.sl_due_facts.proofs.Connections.JoiningSteps.{JoinsConnection, NoHear
 use Rattle.sl_due_facts.proofs.Connections.SessionParts.{covered_at_work}
 use Rattle.sl_trace.specs.Deltas.{DeltaLease, claim_of, claim_on, delta_of_session, delta_record, id_held, id_lost, is_watched_out, join_step_of, next_after_deciding, next_after_first, next_after_verify, next_after_watch, next_by_time, next_in_joining, next_in_watch, next_on_wake, watched}
 use Rattle.sl_trace.specs.Sessions.{calls_of, generation_of, is_call_of, is_covered_stage, is_renewal, last_renewal, session_numbered, sessions, stage_after, stage_in}
-use Rattle.sl_trace.specs.Watching.{is_free_state}
+use Rattle.sl_trace.specs.Sightings.{is_free_state}
 use Rattle.sl_trace.specs.declared.delta.DeltaNext.TheVariants.{Nothing, ReadOwn, RefuseJoin, RegisterAndRead, WriteClaim, WriteFirst}
 use Rattle.sl_trace.specs.declared.delta.DeltaNext.{DeltaNext}
 use Rattle.sl_trace.specs.declared.session.Session.{Session}
 use Rattle.sl_trace.specs.declared.stage.Stage.TheVariants.{Looking}
 use Rattle.sl_trace.specs.declared.stage.Stage.{Stage}
-use Rattle.sl_due_facts.specs.Facts.Heard.{heard_by}
-use Rattle.sl_due_facts.specs.Facts.Whole.{Whole}
+use Rattle.sl_due_facts.specs.Facts.HeardCall.{heard_by}
+use Rattle.sl_due_facts.specs.Facts.AllFacts.{Whole}
 use Rattle.sl_time.specs.Times.{dead, join_max, renew}
 use Rattle.sl_trace.specs.Traces.{Answered, Submitted, call_numbered, is_answered_ok, is_ok_answer, is_running, is_write, submitted}
 use Rattle.sl_trace.specs.declared.effects.JoinStep.TheVariants.{ClaimWrite, DecidingRead, FirstRead, FirstRenewal, VerifyRead, WatchRead}
@@ -39,7 +39,7 @@ use Rattle.sl_trace.specs.declared.input.Answer.{Answer}
 use Rattle.sl_trace.specs.declared.input.Input.TheVariants.{Wake}
 use Rattle.sl_trace.specs.declared.reply.Limited.TheVariants.{Gen as GenLimit, Seq as SeqLimit}
 use Rattle.sl_trace.specs.declared.reply.Reply.TheVariants.{IdLate, Limit as LimitReached, TornDelta, WrongDelta}
-use Rattle.sl_trace_law.specs.Sessions.Promises.{all_done, fits, fits_as, is_in_turn, leads_to}
+use Rattle.sl_run_law.specs.Sessions.SessionLaws.{all_done, fits, fits_as, is_in_turn, leads_to}
 use Rattle.sl_words.proofs.CaseLaws.{false_is_true, none_some, not_both, one_value, some_value, true_is_false}
 use Rattle.sl_words.proofs.WordLaws.{and_true}
 use Rattle.sl_words.specs.Bounds.{is_number}

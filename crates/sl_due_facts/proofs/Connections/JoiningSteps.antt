@@ -1,22 +1,22 @@
 -- What is known of connections is kept by each step of a joining at work.
-use Rattle.sl_acts.specs.SoFar.{entry_of}
+use Rattle.sl_due_facts.specs.Acts.TraceSoFar.{entry_of}
 use Rattle.sl_due.specs.DueDelta.{carry_delta, for_joining, move_connection, read_own_sector, register, survey, write_own_sector}
 use Rattle.sl_due.specs.DueFirst.{refuse}
 use Rattle.sl_due.specs.Steps.{Step, add_call_of, add_move, add_reply, seen, with_some}
 use Rattle.sl_due_facts.proofs.Jobs.CallsStay.{is_special, late, late_join}
 use Rattle.sl_due_facts.proofs.Jobs.SessionsHaveJobs.{one_session}
 use Rattle.sl_run.specs.LawfulWatchdog.{is_covered}
-use Rattle.sl_due_facts.proofs.Parts.CallsGrow.{mine_more}
-use Rattle.sl_due_facts.proofs.Parts.JoinedCallsKeepOrder.{joined_is_covered}
-use Rattle.sl_plain.proofs.Numbers.{number_itself}
-use Rattle.sl_plain.proofs.Options.{not_some, some_there}
+use Rattle.sl_due_facts.proofs.AddedEffects.CallsGrow.{mine_more}
+use Rattle.sl_due_facts.proofs.AddedEffects.JoinedCallsKeepOrder.{joined_is_covered}
+use Rattle.sl_words.proofs.Numbers.{number_itself}
+use Rattle.sl_words.proofs.Options.{not_some, some_there}
 use Rattle.sl_sector.specs.declared.sector.Rec.TheVariants.{DeltaIs}
 use Rattle.sl_due_facts.proofs.Connections.ConnectionEffects.{alters_call, alters_move, alters_nothing, alters_reply, move_named, move_same, registers_own, renews_own}
 use Rattle.sl_due_facts.proofs.Connections.ConnectionsChange.{IsAlone, altered, altered_still}
 use Rattle.sl_due_facts.proofs.Connections.ConnectionsNamed.{connected, register_named, renew_own, renew_some}
 use Rattle.sl_due_facts.proofs.Connections.JoiningConnections.{Working, refusal_connections, removal_here, working_alone, working_inside, working_unjoined, working_unrefused}
 use Rattle.sl_due_facts.proofs.Connections.SessionParts.{covered_at_work, covered_present, unjoined_not}
-use Rattle.sl_due_facts.specs.Connections.Promises.{HasConnectionFacts}
+use Rattle.sl_due_facts.specs.Connections.ConnectionLaws.{HasConnectionFacts}
 use Rattle.sl_due_facts.proofs.Sessions.NameActs.{joined_by_reply}
 use Rattle.sl_due_facts.proofs.Sessions.NamesAreAllowed.{joined_unrefused}
 use Rattle.sl_trace.specs.Deltas.{own_offset}
@@ -25,7 +25,7 @@ use Rattle.sl_trace.specs.declared.delta.DeltaNext.TheVariants.{Disconnect, EndL
 use Rattle.sl_trace.specs.declared.delta.DeltaNext.{DeltaNext}
 use Rattle.sl_trace.specs.declared.session.Session.{Session}
 use Rattle.sl_trace.specs.declared.stage.Stage.TheVariants.{Waiting}
-use Rattle.sl_due_facts.specs.Facts.Heard.{heard_by}
+use Rattle.sl_due_facts.specs.Facts.HeardCall.{heard_by}
 use Rattle.sl_due_facts.specs.Facts.SessionFacts.{IsHeardWriter}
 use Rattle.sl_time.specs.Times.{fail}
 use Rattle.sl_trace.specs.Connections.{Connection, connections, last_registering, registers, unregisters}
@@ -40,14 +40,14 @@ use Rattle.sl_trace.specs.declared.effects.Purpose.TheVariants.{Joining, Survey}
 use Rattle.sl_trace.specs.declared.input.Input.TheVariants.{Wake}
 use Rattle.sl_trace.specs.declared.reply.Reply.TheVariants.{Generation}
 use Rattle.sl_trace.specs.declared.reply.Reply.{Reply}
-use Rattle.sl_trace_law.proofs.Sessions.Naming.{same_name}
-use Rattle.sl_trace_law.proofs.Sessions.Staying.{joined_more}
+use Rattle.sl_run_law.proofs.Sessions.SessionNames.{same_name}
+use Rattle.sl_run_law.proofs.Sessions.MarksStay.{joined_more}
 use Rattle.sl_words.proofs.CaseLaws.{is_false, none_some, not_both, some_value, true_is_false}
 use Rattle.sl_words.specs.Words.{choose}
 use Rattle.std.proofs.Common.{ap, ap₂, inl, inr, refl, subst, sym, ◌∙◌}
 use Rattle.std.specs.List.{list_any}
 use Rattle.std.specs.Prelude.{Bool, Contains, List, None, Option, Some, [], bytes_eq, false, is_none, is_some, length, true, ℕ, ◌&&◌, ◌++◌, ◌+◌, ◌||◌, ◌∷◌, ◌≡◌, ◌⊎◌}
-use Rattle.sl_plain.proofs.Numbers.{equal_is_most}
+use Rattle.sl_words.proofs.Numbers.{equal_is_most}
 
 -- ---- removed only where joined
 

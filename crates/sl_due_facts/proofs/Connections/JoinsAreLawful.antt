@@ -1,9 +1,9 @@
 -- Each session that has joined did so by the answer ok of its first renewal: of the entry so far.
-use Rattle.sl_acts.proofs.Additions.{contains_at, contains_last}
-use Rattle.sl_acts.proofs.InputsKeep.{has_heard}
-use Rattle.sl_acts.proofs.LoopsKeep.{when_keeps, with_some_keeps}
-use Rattle.sl_acts.specs.Acts.{Acts, Has, Hears}
-use Rattle.sl_acts.specs.SoFar.{entry_of}
+use Rattle.sl_due_facts.proofs.Acts.AddedAtEnd.{contains_at, contains_last}
+use Rattle.sl_due_facts.proofs.Acts.InputsKeep.{has_heard}
+use Rattle.sl_due_facts.proofs.Acts.LoopsKeep.{when_keeps, with_some_keeps}
+use Rattle.sl_due_facts.specs.Acts.Acts.{Acts, Has, Hears}
+use Rattle.sl_due_facts.specs.Acts.TraceSoFar.{entry_of}
 use Rattle.sl_area.specs.Places.{delta_offset}
 use Rattle.sl_due.specs.DueCommands.{carry_decision}
 use Rattle.sl_due.specs.DueDelta.{carry_delta, end_leaving, for_joining, move_connection, read_own_sector, register, survey, write_own_sector}
@@ -19,15 +19,15 @@ use Rattle.sl_due_facts.proofs.Jobs.JobsAreAllowed.{heard_answered, late_on_wake
 use Rattle.sl_due_facts.proofs.Jobs.JobsAreNumbered.{next_is_new}
 use Rattle.sl_due_facts.proofs.Jobs.RepliesComeAfter.{on_bool}
 use Rattle.sl_due_facts.proofs.Jobs.SessionsHaveJobs.{one_session}
-use Rattle.sl_due_facts.specs.Jobs.Promises.{BeginsWith}
+use Rattle.sl_due_facts.specs.Jobs.JobLaws.{BeginsWith}
 use Rattle.sl_run.specs.Lawful.{Orderly}
 use Rattle.sl_run.specs.LawfulDelta.{LawfulJoin}
-use Rattle.sl_due_facts.proofs.Parts.CallsGrow.{mine_more, others_stay, same_sessions}
-use Rattle.sl_due_facts.proofs.Parts.EffectsAreTold.{effects_are_told}
-use Rattle.sl_due_facts.proofs.Parts.JoinedCallsKeepOrder.{one_number}
-use Rattle.sl_plain.proofs.Lists.{in_map}
-use Rattle.sl_plain.proofs.Numbers.{number_itself}
-use Rattle.sl_plain.proofs.Options.{some_of, some_there}
+use Rattle.sl_due_facts.proofs.AddedEffects.CallsGrow.{mine_more, others_stay, same_sessions}
+use Rattle.sl_due_facts.proofs.AddedEffects.EffectsAreTold.{effects_are_told}
+use Rattle.sl_due_facts.proofs.AddedEffects.JoinedCallsKeepOrder.{one_number}
+use Rattle.sl_words.proofs.Lists.{in_map}
+use Rattle.sl_words.proofs.Numbers.{number_itself}
+use Rattle.sl_words.proofs.Options.{some_of, some_there}
 use Rattle.sl_sector.specs.declared.sector.Rec.TheVariants.{DeltaIs}
 use Rattle.sl_due_facts.proofs.Connections.ConnectionEffects.{reply_same}
 use Rattle.sl_due_facts.proofs.Connections.HeardCalls.{newest_heard}
@@ -49,7 +49,7 @@ use Rattle.sl_trace.specs.Sessions.{calls_of, generation_of, given_session, has_
 use Rattle.sl_trace.specs.declared.delta.DeltaNext.TheVariants.{Disconnect, EndLeaving, Join, MoveConnection, Nothing, ReadOwn, RefuseJoin, RegisterAndRead, WriteClaim, WriteFirst, WriteFree, WriteRenewal}
 use Rattle.sl_trace.specs.declared.delta.DeltaNext.{DeltaNext}
 use Rattle.sl_trace.specs.declared.session.Session.{Session}
-use Rattle.sl_due_facts.specs.Facts.Whole.{Whole}
+use Rattle.sl_due_facts.specs.Facts.AllFacts.{Whole}
 use Rattle.sl_time.specs.Times.{fail}
 use Rattle.sl_trace.specs.Connections.{is_registered}
 use Rattle.sl_trace.specs.Traces.{Answered, Replied, Setting, Submitted, Trace, answer_of, answered_in, is_running, job_numbered, mark, new_call, next_call, next_job, reply_to}
@@ -71,8 +71,8 @@ use Rattle.sl_trace.specs.declared.input.Input.TheVariants.{Answer as Told, Exit
 use Rattle.sl_trace.specs.declared.input.Input.{Input}
 use Rattle.sl_trace.specs.declared.reply.Reply.TheVariants.{Done, Generation, IoFault, IoTimeout}
 use Rattle.sl_trace.specs.declared.reply.Reply.{Reply}
-use Rattle.sl_trace_law.proofs.Leases.NumberLaws.{number_is_place}
-use Rattle.sl_trace_law.proofs.Sessions.Making.{same_answered}
+use Rattle.sl_run_law.proofs.Leases.NumberLaws.{number_is_place}
+use Rattle.sl_run_law.proofs.Sessions.CallsAreMade.{same_answered}
 use Rattle.sl_words.proofs.CaseLaws.{false_is_true, none_some, not_both, some_value}
 use Rattle.sl_words.specs.Words.{choose}
 use Rattle.std.proofs.Common.{ap, inl, inr, refl, subst, sym, ◌∙◌}

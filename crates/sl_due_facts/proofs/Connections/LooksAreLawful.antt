@@ -1,6 +1,6 @@
 -- The first read of a joining and its deciding read are lawful where they are made.
-use Rattle.sl_acts.proofs.Additions.{any_last}
-use Rattle.sl_acts.specs.Acts.{Hears}
+use Rattle.sl_due_facts.proofs.Acts.AddedAtEnd.{any_last}
+use Rattle.sl_due_facts.specs.Acts.Acts.{Hears}
 use Rattle.sl_area.specs.Layouts.{record_in}
 use Rattle.sl_due.specs.DueDelta.{register}
 use Rattle.sl_due.specs.Steps.{Step, seen, with_input}
@@ -14,9 +14,9 @@ use Rattle.sl_due_facts.proofs.Jobs.SessionsHaveJobs.{contains_only}
 use Rattle.sl_due_facts.proofs.Jobs.SessionsStand.{no_members}
 use Rattle.sl_run.specs.LawfulCalls.{may_submit}
 use Rattle.sl_run.specs.LawfulDelta.{Gave, WatchOver}
-use Rattle.sl_plain.proofs.Lists.{contains_cases, contains_none, find_inside, kept_inside}
-use Rattle.sl_plain.proofs.Numbers.{number_itself}
-use Rattle.sl_plain.proofs.Options.{some_of}
+use Rattle.sl_words.proofs.Lists.{contains_cases, contains_none, find_inside, kept_inside}
+use Rattle.sl_words.proofs.Numbers.{number_itself}
+use Rattle.sl_words.proofs.Options.{some_of}
 use Rattle.sl_sector.specs.Spelling.{delta_in}
 use Rattle.sl_sector.specs.declared.sector.DeltaRec.{DeltaRec}
 use Rattle.sl_sector.specs.declared.sector.DeltaState.TheVariants.{Claimed, Free, Live}
@@ -32,13 +32,13 @@ use Rattle.sl_due_facts.proofs.Sessions.NamesAreAllowed.{heard_mine}
 use Rattle.sl_due_facts.proofs.Sessions.NamesAtEnd.{running_unjoined}
 use Rattle.sl_due_facts.proofs.Sessions.NamesGrow.{input_present}
 use Rattle.sl_trace.specs.Sessions.{calls_of, free_write, is_call_of, is_delta_purpose, is_join_call, join_call, joined_after, joining_session, present_sessions, refused_after, removed_after, session_named, session_numbered, sessions, stage_after, stage_in, stage_of}
-use Rattle.sl_trace.specs.Watching.{is_free_state}
+use Rattle.sl_trace.specs.Sightings.{is_free_state}
 use Rattle.sl_trace.specs.declared.delta.DeltaNext.TheVariants.{Nothing, RefuseJoin, RegisterAndRead}
 use Rattle.sl_trace.specs.declared.delta.DeltaNext.{DeltaNext}
 use Rattle.sl_trace.specs.declared.session.Session.{Session}
 use Rattle.sl_trace.specs.declared.stage.Stage.TheVariants.{Looking}
-use Rattle.sl_due_facts.specs.Facts.Heard.{heard_by}
-use Rattle.sl_due_facts.specs.Facts.Whole.{Whole}
+use Rattle.sl_due_facts.specs.Facts.HeardCall.{heard_by}
+use Rattle.sl_due_facts.specs.Facts.AllFacts.{Whole}
 use Rattle.sl_time.specs.Times.{fail, take_over}
 use Rattle.sl_trace.specs.Commands.{IsLockspaceArg}
 use Rattle.sl_trace.specs.Connections.{registers_with}
@@ -57,9 +57,9 @@ use Rattle.sl_trace.specs.declared.input.Answer.TheVariants.{Failed, Read, Writt
 use Rattle.sl_trace.specs.declared.input.Answer.{Answer}
 use Rattle.sl_trace.specs.declared.input.Input.TheVariants.{Line, Wake}
 use Rattle.sl_trace.specs.declared.reply.Reply.TheVariants.{TornDelta, WrongDelta}
-use Rattle.sl_trace_law.proofs.Sessions.Naming.{absent, same_name}
-use Rattle.sl_trace_law.proofs.Sessions.Ordering.{joinings_are_ordered, open_stage}
-use Rattle.sl_trace_law.specs.Sessions.Promises.{all_done, fits, fits_as, has_reply, is_in_turn, is_ordered, may_come}
+use Rattle.sl_run_law.proofs.Sessions.SessionNames.{absent, same_name}
+use Rattle.sl_run_law.proofs.Sessions.JoiningsAreOrdered.{joinings_are_ordered, open_stage}
+use Rattle.sl_run_law.specs.Sessions.SessionLaws.{all_done, fits, fits_as, has_reply, is_in_turn, is_ordered, may_come}
 use Rattle.sl_words.proofs.CaseLaws.{false_is_true, is_false, none_some, not_both, one_value, some_value}
 use Rattle.sl_words.proofs.WordLaws.{and_true}
 use Rattle.sl_words.specs.Words.{some_is}

@@ -1,12 +1,12 @@
 -- What the moves of an entry so far say is kept by acts of one session, and by those that move nothing.
 use Rattle.sl_due_facts.specs.Connections.MovedSoFar.{IsClosed, MovedSoFar}
-use Rattle.sl_acts.specs.SoFar.{SoFar, entry_of}
+use Rattle.sl_due_facts.specs.Acts.TraceSoFar.{SoFar, entry_of}
 use Rattle.sl_due.specs.Steps.{Step, seen, with_input}
 use Rattle.sl_due_facts.proofs.Jobs.SessionsArePresent.{joined_present, present_inside, session_has}
 use Rattle.sl_run.specs.LawfulWatchdog.{is_covered}
-use Rattle.sl_plain.proofs.Lists.{any_found, any_of, kept, kept_inside}
-use Rattle.sl_plain.proofs.Options.{none_is}
-use Rattle.sl_run_law.proofs.Front.Having.{contains_left}
+use Rattle.sl_words.proofs.Lists.{any_found, any_of, kept, kept_inside}
+use Rattle.sl_words.proofs.Options.{none_is}
+use Rattle.sl_run_law.proofs.Front.JoinedLists.{contains_left}
 use Rattle.sl_due_facts.proofs.Connections.ConnectionLines.{writing_present}
 use Rattle.sl_due_facts.proofs.Connections.ConnectionsChange.{Alters, IsAlone}
 use Rattle.sl_due_facts.proofs.Connections.SessionParts.{SameSession, covered_at_work, covered_present, same_present, unjoined_not}
@@ -15,13 +15,13 @@ use Rattle.sl_due_facts.proofs.Sessions.NamesGrow.{input_present, write_then}
 use Rattle.sl_trace.specs.Sessions.{begun_in, calls_of, has_open_write, is_covered_stage, is_joined, is_present, joined_after, open_calls_of, refused_after, removed_after, sessions, stage_in}
 use Rattle.sl_trace.specs.declared.session.Session.{Session}
 use Rattle.sl_trace.specs.declared.stage.Stage.TheVariants.{Waiting}
-use Rattle.sl_due_facts.specs.Facts.Heard.{IsOpen, heard_by}
+use Rattle.sl_due_facts.specs.Facts.HeardCall.{IsOpen, heard_by}
 use Rattle.sl_due_facts.specs.Facts.SessionFacts.{NameFacts}
 use Rattle.sl_trace.specs.Connections.{registers, unregisters}
 use Rattle.sl_trace.specs.Traces.{Submitted, is_write, unanswered}
 use Rattle.sl_trace.specs.declared.input.Input.TheVariants.{Wake}
 use Rattle.sl_trace.specs.declared.input.Input.{Input}
-use Rattle.sl_trace_law.proofs.Sessions.Apart.{writers_stay}
+use Rattle.sl_run_law.proofs.Sessions.NamesAreApart.{writers_stay}
 use Rattle.sl_words.proofs.CaseLaws.{false_is_true, is_false, not_both}
 use Rattle.std.proofs.Common.{ap, ap₂, inl, inr, refl, subst, sym, ◌∙◌}
 use Rattle.std.proofs.lemmas.Slice.Eq.{bytes_eq-Decides}

@@ -1,9 +1,9 @@
 -- What the moves of an entry so far say is kept by each act, and holds once a step has begun.
 use Rattle.sl_due_facts.proofs.Connections.StepsBeginSteady.{begins_steady}
-use Rattle.sl_acts.proofs.Additions.{contains_at}
-use Rattle.sl_acts.proofs.InputsKeep.{has_heard}
-use Rattle.sl_acts.specs.Acts.{Acts, Has, Hears}
-use Rattle.sl_acts.specs.SoFar.{SoFar, entry_of}
+use Rattle.sl_due_facts.proofs.Acts.AddedAtEnd.{contains_at}
+use Rattle.sl_due_facts.proofs.Acts.InputsKeep.{has_heard}
+use Rattle.sl_due_facts.specs.Acts.Acts.{Acts, Has, Hears}
+use Rattle.sl_due_facts.specs.Acts.TraceSoFar.{SoFar, entry_of}
 use Rattle.sl_area.specs.Places.{delta_offset}
 use Rattle.sl_due.specs.DueCommands.{carry_decision}
 use Rattle.sl_due.specs.DueDelta.{carry_delta, end_leaving, move_connection, survey}
@@ -17,12 +17,12 @@ use Rattle.sl_due_facts.proofs.Jobs.RepliesComeAfter.{on_bool}
 use Rattle.sl_due_facts.proofs.Jobs.SessionsArePresent.{joined_present}
 use Rattle.sl_due_facts.proofs.Jobs.SessionsHaveJobs.{contains_either}
 use Rattle.sl_due_facts.proofs.Jobs.SessionsStand.{joined_then, leaving_joined, recovery_joined}
-use Rattle.sl_due_facts.specs.Jobs.Promises.{BeginsWith}
+use Rattle.sl_due_facts.specs.Jobs.JobLaws.{BeginsWith}
 use Rattle.sl_run.specs.LawfulWatchdog.{is_covered}
-use Rattle.sl_due_facts.proofs.Parts.CallsGrow.{any_more, others_stay}
-use Rattle.sl_due_facts.proofs.Parts.JoinedCallsKeepOrder.{joined_is_covered}
-use Rattle.sl_plain.proofs.Lists.{any_found, contains_first, contains_map, contains_none, find_fails, find_inside, got_inside, head_is, in_map, kept_inside}
-use Rattle.sl_plain.proofs.Options.{none_is, some_of, some_there}
+use Rattle.sl_due_facts.proofs.AddedEffects.CallsGrow.{any_more, others_stay}
+use Rattle.sl_due_facts.proofs.AddedEffects.JoinedCallsKeepOrder.{joined_is_covered}
+use Rattle.sl_words.proofs.Lists.{any_found, contains_first, contains_map, contains_none, find_fails, find_inside, got_inside, head_is, in_map, kept_inside}
+use Rattle.sl_words.proofs.Options.{none_is, some_of, some_there}
 use Rattle.sl_due_facts.proofs.Connections.ConnectionEffects.{IsOtherJob, alters_call, alters_move, alters_nothing, move_same, removes_own, renews_own}
 use Rattle.sl_due_facts.proofs.Connections.ConnectionFactsAreKept.{alone_joined, heard_is_joined}
 use Rattle.sl_due_facts.proofs.Connections.ConnectionInputs.{claim_writes, claimed_or_same, other_marked, stage_by_ok}
@@ -42,8 +42,8 @@ use Rattle.sl_trace.specs.declared.delta.DeltaNext.TheVariants.{MoveConnection, 
 use Rattle.sl_trace.specs.declared.delta.DeltaNext.{DeltaNext}
 use Rattle.sl_trace.specs.declared.session.Session.{Session}
 use Rattle.sl_trace.specs.declared.stage.Stage.TheVariants.{Waiting}
-use Rattle.sl_due_facts.specs.Facts.Heard.{heard_by}
-use Rattle.sl_due_facts.specs.Facts.Whole.{Whole}
+use Rattle.sl_due_facts.specs.Facts.HeardCall.{heard_by}
+use Rattle.sl_due_facts.specs.Facts.AllFacts.{Whole}
 use Rattle.sl_time.specs.Times.{fail}
 use Rattle.sl_trace.specs.Connections.{is_registered, registers, unregisters}
 use Rattle.sl_trace.specs.Traces.{Answered, Submitted, answered_in, is_answered_ok, is_running, is_write, mark, new_call, next_call, next_job, submitted}
@@ -60,10 +60,10 @@ use Rattle.sl_trace.specs.declared.input.Answer.{Answer}
 use Rattle.sl_trace.specs.declared.input.Input.TheVariants.{Line, Wake}
 use Rattle.sl_trace.specs.declared.reply.Reply.TheVariants.{Done, IoFault, IoTimeout}
 use Rattle.sl_trace.specs.declared.reply.Reply.{Reply}
-use Rattle.sl_trace_law.proofs.Leases.NumberLaws.{number_is_place}
-use Rattle.sl_trace_law.proofs.Sessions.Joining.{joined_before}
-use Rattle.sl_trace_law.proofs.Sessions.Making.{SameCall, same_answered}
-use Rattle.sl_trace_law.proofs.Sessions.Staying.{refused_apart, refused_more}
+use Rattle.sl_run_law.proofs.Leases.NumberLaws.{number_is_place}
+use Rattle.sl_run_law.proofs.Sessions.JoiningsInTurn.{joined_before}
+use Rattle.sl_run_law.proofs.Sessions.CallsAreMade.{SameCall, same_answered}
+use Rattle.sl_run_law.proofs.Sessions.MarksStay.{refused_apart, refused_more}
 use Rattle.sl_words.proofs.CaseLaws.{false_is_true, is_false, none_some, not_both}
 use Rattle.std.proofs.Common.{ap, arith, inl, inr, refl, subst, sym, ◌∙◌}
 use Rattle.std.proofs.lemmas.Bool.{eqb-true}

@@ -1,13 +1,13 @@
 -- Which jobs are no joining's: their commands join nothing.
-use Rattle.sl_acts.specs.Acts.{Hears}
+use Rattle.sl_due_facts.specs.Acts.Acts.{Hears}
 use Rattle.sl_due.specs.Steps.{Step, seen}
 use Rattle.sl_due_facts.proofs.Jobs.JobsAreNumbered.{found_after, found_before, next_is_new}
 use Rattle.sl_due_facts.proofs.Jobs.SessionsHaveJobs.{contains_either, contains_only}
-use Rattle.sl_due_facts.specs.Jobs.Promises.{HasJobFacts}
+use Rattle.sl_due_facts.specs.Jobs.JobLaws.{HasJobFacts}
 use Rattle.sl_trace.specs.Jobs.{child_of_job, command_numbered, command_of, is_command_that, is_job_of_process, job_of_start, jobs_of_session, lockspace_named, process_named, resource_named}
-use Rattle.sl_plain.proofs.Lists.{contains_none, find_inside, kept_inside}
-use Rattle.sl_plain.proofs.Numbers.{number_itself}
-use Rattle.sl_plain.proofs.Options.{some_of, then_value}
+use Rattle.sl_words.proofs.Lists.{contains_none, find_inside, kept_inside}
+use Rattle.sl_words.proofs.Numbers.{number_itself}
+use Rattle.sl_words.proofs.Options.{some_of, then_value}
 use Rattle.sl_due_facts.proofs.Connections.ConnectionEffects.{IsOtherJob}
 use Rattle.sl_due_facts.proofs.Connections.ConnectionsChange.{IsAlone}
 use Rattle.sl_due_facts.proofs.Connections.SessionParts.{at_work_is_present, unjoined_not}
@@ -17,7 +17,7 @@ use Rattle.sl_due_facts.proofs.Sessions.NamesAtEnd.{running_unjoined}
 use Rattle.sl_trace.specs.Sessions.{is_joined, joined_after, joining_session, session_numbered}
 use Rattle.sl_trace.specs.declared.session.Session.{Session}
 use Rattle.sl_due_facts.specs.Facts.JobFacts.{FitsCommand}
-use Rattle.sl_due_facts.specs.Facts.Whole.{Whole}
+use Rattle.sl_due_facts.specs.Facts.AllFacts.{Whole}
 use Rattle.sl_trace.specs.Traces.{Child, Job, Setting, Submitted, Trace, child_numbered, children, is_running, job_in, job_numbered, job_of, jobs, line_in, next_job, running_jobs, submitted}
 use Rattle.sl_trace.specs.declared.command.Command.TheVariants.{Acquire, AddLockspace, Convert, GetLvb, HostStatus, InqLockspace, Release, ReleaseOrphan, RemLockspace, Request, RunProgram, SetKillpath, SetLvb, Status, TakeOver}
 use Rattle.sl_trace.specs.declared.command.Command.{Command}

@@ -2,13 +2,13 @@
 use Rattle.sl_due_facts.proofs.Jobs.SessionsArePresent.{joined_present}
 use Rattle.sl_due_facts.proofs.Jobs.SessionsStand.{joined_then}
 use Rattle.sl_run.specs.LawfulWatchdog.{is_covered}
-use Rattle.sl_plain.proofs.Truth.{or_false}
+use Rattle.sl_words.proofs.Truth.{or_false}
 use Rattle.sl_due_facts.proofs.Sessions.NameEffects.{at_work_present}
 use Rattle.sl_due_facts.proofs.Sessions.NamesAreAllowed.{joined_unrefused}
 use Rattle.sl_trace.specs.Sessions.{calls_of, free_write, has_open_write, is_covered_stage, is_joined, is_present, joined_after, refused_after, removed_after, stage_in}
 use Rattle.sl_trace.specs.declared.session.Session.{Session}
 use Rattle.sl_trace.specs.Traces.{Submitted, Trace, is_write, unanswered}
-use Rattle.sl_trace_law.proofs.Sessions.Silence.{stage_by}
+use Rattle.sl_run_law.proofs.Sessions.EndedAreSilent.{stage_by}
 use Rattle.sl_words.proofs.CaseLaws.{false_is_true, none_some, not_both}
 use Rattle.std.proofs.Common.{ap, ap₂, inl, inr, refl, sym, ◌∙◌}
 use Rattle.std.specs.List.{list_any}

@@ -1,7 +1,7 @@
 -- A step begins with recoveries: these move no connection, reply to no joining and call for nothing.
-use Rattle.sl_acts.proofs.LoopsKeep.{for_each_keeps, when_keeps}
-use Rattle.sl_acts.specs.Acts.{Has}
-use Rattle.sl_acts.specs.SoFar.{entry_of}
+use Rattle.sl_due_facts.proofs.Acts.LoopsKeep.{for_each_keeps, when_keeps}
+use Rattle.sl_due_facts.specs.Acts.Acts.{Has}
+use Rattle.sl_due_facts.specs.Acts.TraceSoFar.{entry_of}
 use Rattle.sl_due.specs.DueFirst.{begin_recoveries, begin_recovery, begins_now, signal_and_refuse}
 use Rattle.sl_due.specs.Steps.{Step, begin_step, seen}
 use Rattle.sl_due_facts.proofs.Jobs.EffectsAreAllowed.{stopped}
@@ -17,11 +17,11 @@ use Rattle.sl_due_facts.proofs.Connections.OtherJobs.{other_of_session}
 use Rattle.sl_due_facts.proofs.Connections.SessionParts.{present_joined}
 use Rattle.sl_due_facts.proofs.Connections.SteadyActs.{Steady, job_steady, steady_allow, steady_itself}
 use Rattle.sl_due_facts.proofs.Sessions.NameFactsAreKept.{joined_on_wake, names_wake}
-use Rattle.sl_due_facts.specs.Sessions.Promises.{HasNameFacts}
+use Rattle.sl_due_facts.specs.Sessions.SessionLaws.{HasNameFacts}
 use Rattle.sl_trace.specs.Sessions.{is_joined, joined_after, last_renewal, present_sessions, recovery_of}
 use Rattle.sl_trace.specs.declared.session.Begun.{Begun}
 use Rattle.sl_trace.specs.declared.session.Session.{Session}
-use Rattle.sl_due_facts.specs.Facts.Whole.{WholeTrace}
+use Rattle.sl_due_facts.specs.Facts.AllFacts.{WholeTrace}
 use Rattle.sl_trace.specs.Traces.{Setting, Trace}
 use Rattle.sl_trace.specs.declared.reply.Reply.TheVariants.{Recovering}
 use Rattle.sl_words.proofs.CaseLaws.{false_is_true}

@@ -1,8 +1,8 @@
 -- What a joining has read is kept by each act, and holds once a step has begun.
-use Rattle.sl_acts.proofs.Additions.{contains_last}
-use Rattle.sl_acts.proofs.LoopsKeep.{for_each_keeps, when_keeps}
-use Rattle.sl_acts.specs.Acts.{Acts}
-use Rattle.sl_acts.specs.SoFar.{entry_of}
+use Rattle.sl_due_facts.proofs.Acts.AddedAtEnd.{contains_last}
+use Rattle.sl_due_facts.proofs.Acts.LoopsKeep.{for_each_keeps, when_keeps}
+use Rattle.sl_due_facts.specs.Acts.Acts.{Acts}
+use Rattle.sl_due_facts.specs.Acts.TraceSoFar.{entry_of}
 use Rattle.sl_area.specs.Layouts.{record_in}
 use Rattle.sl_area.specs.Places.{delta_offset}
 use Rattle.sl_due.specs.DueCommands.{carry_decision, decided}
@@ -18,17 +18,17 @@ use Rattle.sl_due_facts.proofs.Jobs.JobFactsBegin.{running_then, sessions_then}
 use Rattle.sl_due_facts.proofs.Jobs.LinesAreAllowed.{IsBegun}
 use Rattle.sl_due_facts.proofs.Jobs.NearlyPlainActs.{AnyMove, AnyStart, Anything, NoLook, decision_plain, nearly_acts}
 use Rattle.sl_due_facts.proofs.Jobs.SessionsStand.{running_before}
-use Rattle.sl_due_facts.specs.Jobs.Promises.{HasCallFacts}
-use Rattle.sl_due_facts.proofs.Parts.CallsGrow.{same_sessions}
-use Rattle.sl_plain.proofs.Lists.{contains_cases, contains_first, contains_map, contains_more, in_map, kept, kept_inside}
-use Rattle.sl_plain.proofs.Options.{some_of}
+use Rattle.sl_due_facts.specs.Jobs.JobLaws.{HasCallFacts}
+use Rattle.sl_due_facts.proofs.AddedEffects.CallsGrow.{same_sessions}
+use Rattle.sl_words.proofs.Lists.{contains_cases, contains_first, contains_map, contains_more, in_map, kept, kept_inside}
+use Rattle.sl_words.proofs.Options.{some_of}
 use Rattle.sl_sector.specs.Spelling.{delta_in}
 use Rattle.sl_sector.specs.declared.sector.DeltaRec.{DeltaRec}
 use Rattle.sl_due_facts.proofs.Sessions.NamesGrow.{calls_of_told, unheard_inside}
 use Rattle.sl_trace.specs.Sessions.{calls_of, is_call_of, is_join_call, joining_session, present_sessions, recovery_of, session_numbered, sessions}
 use Rattle.sl_trace.specs.declared.session.Session.{Session}
-use Rattle.sl_due_facts.specs.Facts.Heard.{heard_by}
-use Rattle.sl_due_facts.specs.Facts.Whole.{Whole}
+use Rattle.sl_due_facts.specs.Facts.HeardCall.{heard_by}
+use Rattle.sl_due_facts.specs.Facts.AllFacts.{Whole}
 use Rattle.sl_trace.proofs.TraceFacts.{submitted-push}
 use Rattle.sl_trace.specs.Traces.{Answered, Setting, Submitted, Trace, answer_of, answered_in, gave, is_running, mark, new_call, next_call, next_job, submitted}
 use Rattle.sl_trace.specs.declared.command.Command.{Command}

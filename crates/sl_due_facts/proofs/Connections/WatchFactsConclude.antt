@@ -1,8 +1,8 @@
 -- At the end of an answer's entry a joining that runs on has read what it watches.
-use Rattle.sl_acts.proofs.InputsKeep.{has_heard}
-use Rattle.sl_acts.proofs.LoopsKeep.{when_keeps}
-use Rattle.sl_acts.specs.Acts.{Hears, IsIdle}
-use Rattle.sl_acts.specs.SoFar.{entry_of}
+use Rattle.sl_due_facts.proofs.Acts.InputsKeep.{has_heard}
+use Rattle.sl_due_facts.proofs.Acts.LoopsKeep.{when_keeps}
+use Rattle.sl_due_facts.specs.Acts.Acts.{Hears, IsIdle}
+use Rattle.sl_due_facts.specs.Acts.TraceSoFar.{entry_of}
 use Rattle.sl_area.specs.Layouts.{record_in}
 use Rattle.sl_area.specs.Places.{request_offset}
 use Rattle.sl_due.specs.DueAnswers.{set_reply}
@@ -19,14 +19,14 @@ use Rattle.sl_due_facts.proofs.Jobs.NearlyPlainActs.{AnyMove, AnyStart}
 use Rattle.sl_due_facts.proofs.Jobs.RepliesComeAfter.{IsLateDelta, IsLateLease, joining_late, lease_late, on_bool, on_option, set_late, value_late}
 use Rattle.sl_due_facts.proofs.Jobs.SessionsArePresent.{session_has}
 use Rattle.sl_due_facts.proofs.Jobs.SessionsHaveJobs.{contains_only}
-use Rattle.sl_due_facts.specs.Jobs.Promises.{HasCallFacts}
+use Rattle.sl_due_facts.specs.Jobs.JobLaws.{HasCallFacts}
 use Rattle.sl_trace.specs.LeaseWork.{lease_place}
 use Rattle.sl_trace.specs.Leases.{known, lver_written, spot_of_call}
 use Rattle.sl_trace.specs.declared.lease.LeaseNext.{LeaseNext}
-use Rattle.sl_due_facts.proofs.Parts.CallsGrow.{same_sessions}
-use Rattle.sl_plain.proofs.Lists.{contains_cases, find_inside, kept, kept_inside}
-use Rattle.sl_plain.proofs.Numbers.{number_itself}
-use Rattle.sl_plain.proofs.Options.{some_of, some_there}
+use Rattle.sl_due_facts.proofs.AddedEffects.CallsGrow.{same_sessions}
+use Rattle.sl_words.proofs.Lists.{contains_cases, find_inside, kept, kept_inside}
+use Rattle.sl_words.proofs.Numbers.{number_itself}
+use Rattle.sl_words.proofs.Options.{some_of, some_there}
 use Rattle.sl_sector.specs.Bitmaps.{no_bits}
 use Rattle.sl_sector.specs.Spelling.{delta_in}
 use Rattle.sl_sector.specs.declared.sector.DeltaRec.{DeltaRec}
@@ -45,14 +45,14 @@ use Rattle.sl_due_facts.proofs.Sessions.NameFactsConclude.{heard_answer}
 use Rattle.sl_due_facts.proofs.Sessions.NamesAreAllowed.{NameCall, NameReply, freed_named, heard_joined, is_joining, lease_named, renewed_named, request_named}
 use Rattle.sl_due_facts.proofs.Sessions.NamesAtEnd.{Growing, growing_itself, grows, grows_joining, running_unjoined}
 use Rattle.sl_trace.specs.Sessions.{calls_of, generation_of, is_call_of, is_join_call, is_present, join_call, joined_after, last_renewal, recovery_of, same_join_step, session_numbered, sessions}
-use Rattle.sl_trace.specs.Watching.{is_free_state}
+use Rattle.sl_trace.specs.Sightings.{is_free_state}
 use Rattle.sl_trace.specs.declared.delta.DeltaKnown.{DeltaKnown}
 use Rattle.sl_trace.specs.declared.delta.DeltaNext.TheVariants.{Nothing, RefuseJoin, RegisterAndRead, WriteFree}
 use Rattle.sl_trace.specs.declared.delta.DeltaNext.{DeltaNext}
 use Rattle.sl_trace.specs.declared.session.Session.{Session}
-use Rattle.sl_due_facts.specs.Facts.Concluding.{Concludes}
-use Rattle.sl_due_facts.specs.Facts.Heard.{heard_by}
-use Rattle.sl_due_facts.specs.Facts.Whole.{Whole}
+use Rattle.sl_due_facts.specs.Facts.ConcludingActs.{Concludes}
+use Rattle.sl_due_facts.specs.Facts.HeardCall.{heard_by}
+use Rattle.sl_due_facts.specs.Facts.AllFacts.{Whole}
 use Rattle.sl_trace.proofs.TraceFacts.{submitted-push}
 use Rattle.sl_trace.specs.Connections.{is_registered}
 use Rattle.sl_trace.specs.Traces.{Answered, Setting, Submitted, bytes_given, call_numbered, gave, is_running, job_of, new_call, next_call, submitted}
@@ -72,9 +72,9 @@ use Rattle.sl_trace.specs.declared.input.Answer.{Answer}
 use Rattle.sl_trace.specs.declared.input.Input.TheVariants.{Answer as Told, Wake}
 use Rattle.sl_trace.specs.declared.reply.Reply.TheVariants.{Done, IoFault, Recovering, TornDelta, WrongDelta}
 use Rattle.sl_trace.specs.declared.reply.Reply.{Reply}
-use Rattle.sl_trace_law.proofs.Sessions.Ordering.{joinings_are_ordered}
-use Rattle.sl_trace_law.proofs.Sessions.Staying.{joined_more}
-use Rattle.sl_trace_law.specs.Sessions.Promises.{is_ordered, may_come}
+use Rattle.sl_run_law.proofs.Sessions.JoiningsAreOrdered.{joinings_are_ordered}
+use Rattle.sl_run_law.proofs.Sessions.MarksStay.{joined_more}
+use Rattle.sl_run_law.specs.Sessions.SessionLaws.{is_ordered, may_come}
 use Rattle.sl_words.proofs.CaseLaws.{false_is_true, none_some, not_both, one_value, some_value}
 use Rattle.sl_words.proofs.WordLaws.{and_true}
 use Rattle.std.proofs.Common.{ap, inl, inr, refl, subst, sym, ◌∙◌}

@@ -1,17 +1,17 @@
 -- The law of the watchdog, of the entry so far: from what is known of connections, of holdings and of the entry's moves.
-use Rattle.sl_plain.proofs.Numbers.{equal_is_most}
-use Rattle.sl_acts.specs.SoFar.{entry_of}
+use Rattle.sl_words.proofs.Numbers.{equal_is_most}
+use Rattle.sl_due_facts.specs.Acts.TraceSoFar.{entry_of}
 use Rattle.sl_due.specs.Steps.{Step, seen}
 use Rattle.sl_due_facts.proofs.Jobs.SessionsArePresent.{session_has}
 use Rattle.sl_due_facts.proofs.Jobs.SessionsStand.{no_members}
 use Rattle.sl_run.specs.LawfulWatchdog.{CoveredBy, LawfulWatchdog, acts_until, is_covered}
-use Rattle.sl_plain.proofs.Lists.{kept_inside}
-use Rattle.sl_plain.proofs.Options.{some_there}
+use Rattle.sl_words.proofs.Lists.{kept_inside}
+use Rattle.sl_words.proofs.Options.{some_there}
 use Rattle.sl_due_facts.proofs.Connections.SessionParts.{covered_present, joined_and_covered}
-use Rattle.sl_due_facts.specs.Connections.Promises.{HasConnectionFacts}
+use Rattle.sl_due_facts.specs.Connections.ConnectionLaws.{HasConnectionFacts}
 use Rattle.sl_trace.specs.Sessions.{holdings_of, is_joined, joined_after, last_renewal, session_numbered, sessions}
 use Rattle.sl_trace.specs.declared.session.Session.{Session}
-use Rattle.sl_due_facts.specs.Facts.Heard.{heard_by}
+use Rattle.sl_due_facts.specs.Facts.HeardCall.{heard_by}
 use Rattle.sl_due_facts.specs.Facts.HoldingFacts.{HoldingFacts}
 use Rattle.sl_time.specs.Times.{fail}
 use Rattle.sl_trace.specs.Connections.{Connection, connection_named, connections, last_registering, registers, unregisters}

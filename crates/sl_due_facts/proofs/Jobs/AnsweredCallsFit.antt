@@ -1,7 +1,7 @@
 -- Where an answer or the end of a step makes due what is done for a job, it is allowed.
-use Rattle.sl_acts.proofs.InputsKeep.{has_heard}
-use Rattle.sl_acts.specs.Acts.{Has, Hears}
-use Rattle.sl_acts.specs.SoFar.{SoFar}
+use Rattle.sl_due_facts.proofs.Acts.InputsKeep.{has_heard}
+use Rattle.sl_due_facts.specs.Acts.Acts.{Has, Hears}
+use Rattle.sl_due_facts.specs.Acts.TraceSoFar.{SoFar}
 use Rattle.sl_area.specs.Places.{request_offset}
 use Rattle.sl_due.specs.DueRequests.{owner_read}
 use Rattle.sl_due.specs.Steps.{Step, seen}
@@ -20,9 +20,9 @@ use Rattle.sl_trace.specs.Jobs.{aim_of, aim_of_command, command_numbered, comman
 use Rattle.sl_trace.specs.Leases.{spot_of, spot_of_call}
 use Rattle.sl_trace.specs.declared.lease.Aim.{Aim}
 use Rattle.sl_trace.specs.declared.lease.LeaseNext.{LeaseNext}
-use Rattle.sl_plain.proofs.Lists.{any_of, contains_none, find_inside, got_inside, kept}
-use Rattle.sl_plain.proofs.Numbers.{number_itself}
-use Rattle.sl_plain.proofs.Options.{mapped_value, some_of, some_there, then_value}
+use Rattle.sl_words.proofs.Lists.{any_of, contains_none, find_inside, got_inside, kept}
+use Rattle.sl_words.proofs.Numbers.{number_itself}
+use Rattle.sl_words.proofs.Options.{mapped_value, some_of, some_there, then_value}
 use Rattle.sl_sector.specs.Bitmaps.{no_bits}
 use Rattle.sl_sector.specs.declared.sector.DeltaRec.{DeltaRec}
 use Rattle.sl_sector.specs.declared.sector.DeltaState.TheVariants.{Free, Live}
@@ -35,7 +35,7 @@ use Rattle.sl_trace.specs.declared.delta.DeltaNext.{DeltaNext}
 use Rattle.sl_trace.specs.declared.delta.DeltaNext.TheVariants.{MoveConnection, Nothing, WriteFree, WriteRenewal}
 use Rattle.sl_trace.specs.declared.session.Session.{Session}
 use Rattle.sl_due_facts.specs.Facts.JobFacts.{FitsCommand, IsOfResource, SeeksResource}
-use Rattle.sl_due_facts.specs.Facts.Whole.{Whole}
+use Rattle.sl_due_facts.specs.Facts.AllFacts.{Whole}
 use Rattle.sl_trace.specs.Traces.{Job, Submitted, is_write, job_of, record_of, same_place, submitted}
 use Rattle.sl_trace.specs.declared.command.Command.{Command}
 use Rattle.sl_trace.specs.declared.command.Command.TheVariants.{Acquire, AddLockspace, Convert, GetLvb, HostStatus, InqLockspace, Release, ReleaseOrphan, RemLockspace, Request, RunProgram, SetKillpath, SetLvb, Status, TakeOver}
@@ -52,11 +52,11 @@ use Rattle.sl_trace.specs.declared.effects.Work.TheVariants.{ForJob, Settling}
 use Rattle.sl_trace.specs.declared.input.Answer.{Answer}
 use Rattle.sl_trace.specs.declared.input.Answer.TheVariants.{Failed, Read, Written}
 use Rattle.sl_trace.specs.declared.reply.Reply.TheVariants.{Done, IoFault}
-use Rattle.sl_trace_law.proofs.Leases.NumberLaws.{number_is_place}
-use Rattle.sl_trace_law.proofs.Sessions.Apart.{writers_stay}
-use Rattle.sl_trace_law.proofs.Sessions.Owning.{calls_were_lawful}
-use Rattle.sl_trace_law.proofs.Sessions.Staying.{marks_stay}
-use Rattle.sl_trace_law.specs.Sessions.Promises.{IsMade, WasLawful, front_of, made_as}
+use Rattle.sl_run_law.proofs.Leases.NumberLaws.{number_is_place}
+use Rattle.sl_run_law.proofs.Sessions.NamesAreApart.{writers_stay}
+use Rattle.sl_run_law.proofs.Sessions.CallOwners.{calls_were_lawful}
+use Rattle.sl_run_law.proofs.Sessions.MarksStay.{marks_stay}
+use Rattle.sl_run_law.specs.Sessions.SessionLaws.{IsMade, WasLawful, front_of, made_as}
 use Rattle.sl_words.proofs.CaseLaws.{none_some, one_value, some_value, true_is_false}
 use Rattle.sl_words.proofs.WordLaws.{and_true}
 use Rattle.std.proofs.Common.{ap, ap₂, refl, subst, sym, ◌∙◌}

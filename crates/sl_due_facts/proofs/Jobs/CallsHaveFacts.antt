@@ -1,12 +1,12 @@
 -- What is known of calls is kept by each act: a call's number finds it, its answer is later than it and fits it.
-use Rattle.sl_acts.proofs.Additions.{begun_by}
-use Rattle.sl_acts.specs.Acts.{Expects}
-use Rattle.sl_acts.specs.SoFar.{entry_of}
+use Rattle.sl_due_facts.proofs.Acts.AddedAtEnd.{begun_by}
+use Rattle.sl_due_facts.specs.Acts.Acts.{Expects}
+use Rattle.sl_due_facts.specs.Acts.TraceSoFar.{entry_of}
 use Rattle.sl_due.specs.Steps.{Step, add_call_of, seen, with_input}
-use Rattle.sl_due_facts.specs.Jobs.Promises.{HasCallFacts}
-use Rattle.sl_plain.proofs.Lists.{any_found, contains_cases, contains_none, in_map, kept_inside}
-use Rattle.sl_plain.proofs.Numbers.{below_itself_suc, less_than_suc, number_itself}
-use Rattle.sl_plain.proofs.Options.{some_of}
+use Rattle.sl_due_facts.specs.Jobs.JobLaws.{HasCallFacts}
+use Rattle.sl_words.proofs.Lists.{any_found, contains_cases, contains_none, in_map, kept_inside}
+use Rattle.sl_words.proofs.Numbers.{below_itself_suc, less_than_suc, number_itself}
+use Rattle.sl_words.proofs.Options.{some_of}
 use Rattle.sl_trace.specs.Sessions.{is_join_call, session_numbered, sessions}
 use Rattle.sl_trace.specs.declared.session.Session.{Session}
 use Rattle.sl_trace.proofs.TraceFacts.{submitted-push}
@@ -19,7 +19,7 @@ use Rattle.sl_trace.specs.declared.effects.Purpose.{Purpose}
 use Rattle.sl_trace.specs.declared.input.Answer.{Answer}
 use Rattle.sl_trace.specs.declared.input.Input.{Input}
 use Rattle.sl_trace.specs.declared.input.Input.TheVariants.{Answer as Told, Wake}
-use Rattle.sl_trace_law.proofs.Sessions.Making.{IsNewCall, SameCall, WasOpen, old_or_new, same_answered, was_marked}
+use Rattle.sl_run_law.proofs.Sessions.CallsAreMade.{IsNewCall, SameCall, WasOpen, old_or_new, same_answered, was_marked}
 use Rattle.sl_words.proofs.CaseLaws.{is_false, no_value, one_value, some_value}
 use Rattle.sl_words.proofs.WordLaws.{and_true}
 use Rattle.std.proofs.Common.{ap, ap₂, arith, inl, inr, refl, subst, sym, ◌∙◌}

@@ -1,7 +1,7 @@
 -- Where a call is made for a job it fits the job's command, and the job has no other call unanswered.
-use Rattle.sl_acts.proofs.InputsKeep.{has_heard}
-use Rattle.sl_acts.specs.Acts.{Has, Hears}
-use Rattle.sl_acts.specs.SoFar.{SoFar}
+use Rattle.sl_due_facts.proofs.Acts.InputsKeep.{has_heard}
+use Rattle.sl_due_facts.specs.Acts.Acts.{Has, Hears}
+use Rattle.sl_due_facts.specs.Acts.TraceSoFar.{SoFar}
 use Rattle.sl_due.specs.Steps.{Step, seen}
 use Rattle.sl_due_facts.proofs.Jobs.CallsStay.{IsLate, is_special, late_join}
 use Rattle.sl_due_facts.proofs.Jobs.EffectsAreAllowed.{DeltaAllowed}
@@ -10,9 +10,9 @@ use Rattle.sl_due_facts.proofs.Jobs.JobsAreAllowed.{MayCall, MayMove, MayReply, 
 use Rattle.sl_due_facts.proofs.Jobs.RepliesComeAfter.{IsLateDelta}
 use Rattle.sl_due_facts.proofs.Jobs.SessionsHaveJobs.{joined_by, one_session}
 use Rattle.sl_trace.specs.Jobs.{command_numbered}
-use Rattle.sl_plain.proofs.Lists.{contains_cases, contains_none, find_inside, got_inside, kept}
-use Rattle.sl_plain.proofs.Numbers.{number_itself}
-use Rattle.sl_plain.proofs.Options.{none_is, some_of}
+use Rattle.sl_words.proofs.Lists.{contains_cases, contains_none, find_inside, got_inside, kept}
+use Rattle.sl_words.proofs.Numbers.{number_itself}
+use Rattle.sl_words.proofs.Options.{none_is, some_of}
 use Rattle.sl_trace.specs.Deltas.{own_offset}
 use Rattle.sl_trace.specs.Sessions.{calls_of, is_call_of, is_join_done, joined_after, session_numbered, sessions}
 use Rattle.sl_trace.specs.declared.delta.DeltaNext.{DeltaNext}
@@ -30,9 +30,9 @@ use Rattle.sl_trace.specs.declared.effects.Purpose.{Purpose}
 use Rattle.sl_trace.specs.declared.effects.Purpose.TheVariants.{Joining, Lease, Leaving, Renewal, RequestRead, RequestWrite, SeeRequest, Survey, ValueRead, ValueWrite}
 use Rattle.sl_trace.specs.declared.input.Answer.{Answer}
 use Rattle.sl_trace.specs.declared.reply.Reply.{Reply}
-use Rattle.sl_trace_law.proofs.Leases.NumberLaws.{number_is_place}
-use Rattle.sl_trace_law.proofs.Sessions.Covering.{joinings_are_in_turn}
-use Rattle.sl_trace_law.specs.Sessions.Promises.{all_done, fits, has_reply, is_in_turn}
+use Rattle.sl_run_law.proofs.Leases.NumberLaws.{number_is_place}
+use Rattle.sl_run_law.proofs.Sessions.WritesAreCovered.{joinings_are_in_turn}
+use Rattle.sl_run_law.specs.Sessions.SessionLaws.{all_done, fits, has_reply, is_in_turn}
 use Rattle.sl_words.proofs.CaseLaws.{false_is_true, none_some, some_value, true_is_false}
 use Rattle.sl_words.proofs.WordLaws.{and_true}
 use Rattle.sl_words.specs.Words.{choose}

@@ -4,7 +4,7 @@ use Rattle.sl_area.specs.Layouts.{Layout, Sizes, layout_of, layout_with}
 use Rattle.sl_area.specs.Places.{block_place, block_sectors, is_base}
 use Rattle.sl_run.specs.Lawful.{IsSetting}
 use Rattle.sl_trace.specs.Leases.{spot_of_call}
-use Rattle.sl_plain.proofs.Numbers.{plus_zero}
+use Rattle.sl_words.proofs.Numbers.{plus_zero}
 use Rattle.sl_sector.specs.Spelling.{is_first_turn}
 use Rattle.sl_trace.specs.Traces.{Setting, Submitted}
 use Rattle.sl_trace.specs.declared.effects.Spot.{Spot}

@@ -1,9 +1,9 @@
 -- A reply leaves all calls as they are, unless it ends a job before the answer that its entry brings is heeded.
-use Rattle.sl_acts.specs.SoFar.{entry_of}
+use Rattle.sl_due_facts.specs.Acts.TraceSoFar.{entry_of}
 use Rattle.sl_due.specs.Steps.{Step, add_reply, seen}
-use Rattle.sl_due_facts.proofs.Parts.CallsGrow.{any_more}
-use Rattle.sl_plain.proofs.Lists.{contains_first, contains_more}
-use Rattle.sl_plain.proofs.Truth.{left_is_false}
+use Rattle.sl_due_facts.proofs.AddedEffects.CallsGrow.{any_more}
+use Rattle.sl_words.proofs.Lists.{contains_first, contains_more}
+use Rattle.sl_words.proofs.Truth.{left_is_false}
 use Rattle.sl_trace.specs.Sessions.{is_join_done}
 use Rattle.sl_trace.specs.Traces.{Answered, Submitted, answer_of, answered_in, is_before_input, is_going_on, is_running, job_of, mark, new_call, submitted}
 use Rattle.sl_trace.specs.declared.effects.JobReply.{JobReply}

@@ -5,10 +5,10 @@ use Rattle.sl_due.specs.declared.decision.Decision.TheVariants.{ConvertsTo, Gets
 use Rattle.sl_trace.specs.Counts.{holds_already, is_killpath_limit, next_value_seq, other_holder}
 use Rattle.sl_trace.specs.Jobs.{aim_of_command, resource_named, wanted_mode}
 use Rattle.sl_trace.specs.Leases.{holdings_on, orphan_on, shared_on, spot_of}
-use Rattle.sl_plain.proofs.Lists.{find_inside}
-use Rattle.sl_plain.proofs.Options.{then_value}
+use Rattle.sl_words.proofs.Lists.{find_inside}
+use Rattle.sl_words.proofs.Options.{then_value}
 use Rattle.sl_trace.specs.Sessions.{generation_of, is_active, is_joined, is_session_arg, last_renewal, last_seq, present_sessions, session_named, sessions}
-use Rattle.sl_trace.specs.Watching.{states_seen}
+use Rattle.sl_trace.specs.Sightings.{states_seen}
 use Rattle.sl_trace.specs.declared.session.Session.{Session}
 use Rattle.sl_trace.specs.Limits.{most_lockspaces}
 use Rattle.sl_trace.specs.Traces.{Setting, Trace, is_orphan, is_shared}

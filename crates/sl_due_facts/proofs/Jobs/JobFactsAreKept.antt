@@ -1,10 +1,10 @@
 -- What is known of calls and of jobs is kept by each act.
-use Rattle.sl_acts.proofs.Additions.{any_last, begun_by}
-use Rattle.sl_acts.proofs.DecisionsAreTheirs.{Of}
-use Rattle.sl_acts.proofs.InputsKeep.{has_heard}
-use Rattle.sl_acts.proofs.PlainActs.{line_has}
-use Rattle.sl_acts.specs.Acts.{Acts, Has, Hears, lone_job, next_of_settling}
-use Rattle.sl_acts.specs.SoFar.{entry_of}
+use Rattle.sl_due_facts.proofs.Acts.AddedAtEnd.{any_last, begun_by}
+use Rattle.sl_due_facts.proofs.Acts.DecisionsAreTheirs.{Of}
+use Rattle.sl_due_facts.proofs.Acts.InputsKeep.{has_heard}
+use Rattle.sl_due_facts.proofs.Acts.PlainActs.{line_has}
+use Rattle.sl_due_facts.specs.Acts.Acts.{Acts, Has, Hears, lone_job, next_of_settling}
+use Rattle.sl_due_facts.specs.Acts.TraceSoFar.{entry_of}
 use Rattle.sl_area.specs.Places.{delta_offset}
 use Rattle.sl_due.specs.DueAnswers.{set_reply}
 use Rattle.sl_due.specs.DueCommands.{carry_decision, decided}
@@ -32,14 +32,14 @@ use Rattle.sl_trace.specs.Jobs.{job_of_start}
 use Rattle.sl_trace.specs.LeaseWork.{lease_place}
 use Rattle.sl_trace.specs.Leases.{known, lver_written, spot_of_call}
 use Rattle.sl_trace.specs.declared.lease.LeaseNext.{LeaseNext}
-use Rattle.sl_plain.proofs.Lists.{find_inside, got_before, kept_inside}
-use Rattle.sl_plain.proofs.Places.{last_there}
+use Rattle.sl_words.proofs.Lists.{find_inside, got_before, kept_inside}
+use Rattle.sl_words.proofs.Places.{last_there}
 use Rattle.sl_trace.specs.Deltas.{delta_known, delta_of_session, join_step_of, next_after_free, next_after_renewal, next_by_time, next_free, next_in_joining, next_on_wake, next_renewal}
 use Rattle.sl_trace.specs.Sessions.{added, calls_of, generation_of, is_join_call, joining_session, recovery_of, sessions}
 use Rattle.sl_trace.specs.declared.delta.DeltaNext.{DeltaNext}
 use Rattle.sl_trace.specs.declared.delta.DeltaNext.TheVariants.{Nothing}
 use Rattle.sl_trace.specs.declared.session.Session.{Session}
-use Rattle.sl_due_facts.specs.Facts.Whole.{Whole}
+use Rattle.sl_due_facts.specs.Facts.AllFacts.{Whole}
 use Rattle.sl_trace.specs.TraceLaws.{with_call}
 use Rattle.sl_trace.specs.Traces.{Answered, Setting, Submitted, is_of_job, is_running, job_of, next_call, next_job, outstanding, submitted, waiting_call}
 use Rattle.sl_trace.specs.declared.command.Command.{Command}

@@ -1,5 +1,5 @@
 -- What is known of calls and of jobs holds once a step has begun.
-use Rattle.sl_acts.proofs.LoopsKeep.{for_each_keeps, when_keeps}
+use Rattle.sl_due_facts.proofs.Acts.LoopsKeep.{for_each_keeps, when_keeps}
 use Rattle.sl_due.specs.DueFirst.{begin_recoveries, begin_recovery, begins_now, signal_and_refuse}
 use Rattle.sl_due.specs.Steps.{Step, begin_step, seen}
 use Rattle.sl_due_facts.proofs.Jobs.AnsweredCallsFit.{at}
@@ -9,11 +9,11 @@ use Rattle.sl_due_facts.proofs.Jobs.JobFactsGrow.{Both}
 use Rattle.sl_due_facts.proofs.Jobs.JobsAreAllowed.{MayCall, MayMove, MayReply, MayStart, Meanwhile, allows, late_on_wake, starts_nothing, stops_allowed}
 use Rattle.sl_due_facts.proofs.Jobs.JobsAreNumbered.{numbered_before}
 use Rattle.sl_due_facts.proofs.Jobs.SessionsHaveJobs.{joined_by}
-use Rattle.sl_due_facts.specs.Jobs.Promises.{BeginsWith}
+use Rattle.sl_due_facts.specs.Jobs.JobLaws.{BeginsWith}
 use Rattle.sl_trace.specs.Jobs.{command_numbered, command_of}
 use Rattle.sl_trace.specs.Sessions.{present_sessions, recovery_of, sessions}
 use Rattle.sl_due_facts.specs.Facts.CallFacts.{CallFacts}
-use Rattle.sl_due_facts.specs.Facts.Heard.{IsOpen}
+use Rattle.sl_due_facts.specs.Facts.HeardCall.{IsOpen}
 use Rattle.sl_due_facts.specs.Facts.JobFacts.{JobFacts}
 use Rattle.sl_trace.specs.Traces.{Child, Replied, Setting, Submitted, Trace, child_after, children, is_running, job_numbered, no_effects, reply_to}
 use Rattle.sl_trace.specs.declared.input.Input.TheVariants.{Wake}

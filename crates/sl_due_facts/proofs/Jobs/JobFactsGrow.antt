@@ -1,21 +1,21 @@
 -- What is known of calls and of jobs is kept by each effect that is allowed, and by the input.
-use Rattle.sl_acts.proofs.Additions.{contains_last}
-use Rattle.sl_acts.specs.Acts.{Expects}
-use Rattle.sl_acts.specs.SoFar.{entry_of}
+use Rattle.sl_due_facts.proofs.Acts.AddedAtEnd.{contains_last}
+use Rattle.sl_due_facts.specs.Acts.Acts.{Expects}
+use Rattle.sl_due_facts.specs.Acts.TraceSoFar.{entry_of}
 use Rattle.sl_due.specs.Steps.{Step, add_call_of, add_reply, add_start, seen, with_input}
 use Rattle.sl_due_facts.proofs.Jobs.CallsHaveFacts.{calls_before, calls_told, input_kept, one_more, sessions_told}
 use Rattle.sl_due_facts.proofs.Jobs.CallsStay.{IsLate, calls_stay}
 use Rattle.sl_due_facts.proofs.Jobs.JobsAreNumbered.{numbered_seen}
 use Rattle.sl_due_facts.proofs.Jobs.SessionsHaveJobs.{contains_either, joined_by}
-use Rattle.sl_due_facts.specs.Jobs.Promises.{HasCallFacts, HasJobFacts}
+use Rattle.sl_due_facts.specs.Jobs.JobLaws.{HasCallFacts, HasJobFacts}
 use Rattle.sl_trace.specs.Jobs.{command_numbered, command_of}
 use Rattle.sl_trace.specs.Leases.{spot_of_call}
-use Rattle.sl_due_facts.proofs.Parts.EffectsAreTold.{effects_are_told}
-use Rattle.sl_plain.proofs.Lists.{any_found, contains_cases, contains_first, contains_map, contains_more, contains_none, in_map, kept_inside}
-use Rattle.sl_plain.proofs.Options.{none_is, some_of, then_value}
+use Rattle.sl_due_facts.proofs.AddedEffects.EffectsAreTold.{effects_are_told}
+use Rattle.sl_words.proofs.Lists.{any_found, contains_cases, contains_first, contains_map, contains_more, contains_none, in_map, kept_inside}
+use Rattle.sl_words.proofs.Options.{none_is, some_of, then_value}
 use Rattle.sl_trace.specs.Sessions.{joining_session, session_numbered, sessions}
 use Rattle.sl_trace.specs.declared.session.Session.{Session}
-use Rattle.sl_due_facts.specs.Facts.Heard.{IsOpen, heard_by}
+use Rattle.sl_due_facts.specs.Facts.HeardCall.{IsOpen, heard_by}
 use Rattle.sl_due_facts.specs.Facts.JobFacts.{FitsCommand}
 use Rattle.sl_trace.proofs.TraceFacts.{submitted-push}
 use Rattle.sl_trace.specs.Traces.{Child, Job, Setting, Submitted, Trace, call_numbered, child_after, children, is_answer_for, is_before_input, is_expected, is_running, job_numbered, job_of, jobs, new_call, new_child, next_call, outstanding, submitted}
@@ -32,7 +32,7 @@ use Rattle.sl_trace.specs.declared.input.Answer.{Answer}
 use Rattle.sl_trace.specs.declared.input.Input.{Input}
 use Rattle.sl_trace.specs.declared.input.Input.TheVariants.{Answer as Told, Exit, Spawned, Wake}
 use Rattle.sl_trace.specs.declared.reply.Reply.{Reply}
-use Rattle.sl_trace_law.proofs.Sessions.Making.{WasOpen, was_marked}
+use Rattle.sl_run_law.proofs.Sessions.CallsAreMade.{WasOpen, was_marked}
 use Rattle.sl_words.proofs.CaseLaws.{none_some, one_value, some_value}
 use Rattle.sl_words.proofs.WordLaws.{and_true}
 use Rattle.std.proofs.Common.{ap, inl, inr, refl, subst, sym, ◌∙◌}

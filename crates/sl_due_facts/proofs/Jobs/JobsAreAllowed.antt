@@ -1,20 +1,20 @@
 -- Each effect of each act is allowed: it is of a job that a line has brought, and a call fits its job's command and is the job's only one.
-use Rattle.sl_acts.proofs.SessionsStay.{numbered_more}
-use Rattle.sl_acts.specs.Acts.{Has, Hears}
-use Rattle.sl_acts.specs.SoFar.{entry_of}
+use Rattle.sl_due_facts.proofs.Acts.SessionsStay.{numbered_more}
+use Rattle.sl_due_facts.specs.Acts.Acts.{Has, Hears}
+use Rattle.sl_due_facts.specs.Acts.TraceSoFar.{entry_of}
 use Rattle.sl_due.specs.DueWake.{is_wake}
 use Rattle.sl_due.specs.Steps.{Step, add_call_of, seen}
 use Rattle.sl_due_facts.proofs.Jobs.CallsStay.{IsLate, calls_stay}
 use Rattle.sl_due_facts.proofs.Jobs.EffectsAreAllowed.{Allows}
 use Rattle.sl_due_facts.proofs.Jobs.JobFactsGrow.{Both, CallFits, IsFree, IsNumbered, Since, call_kept, late_since, numbered_since, reply_kept, start_kept}
-use Rattle.sl_due_facts.specs.Jobs.Promises.{HasCallFacts}
+use Rattle.sl_due_facts.specs.Jobs.JobLaws.{HasCallFacts}
 use Rattle.sl_trace.specs.Jobs.{command_numbered, command_of, is_command_that, job_of_start, jobs_of_session, lockspace_named}
-use Rattle.sl_plain.proofs.Lists.{contains_map, find_fails, find_inside, in_map, kept_inside}
-use Rattle.sl_plain.proofs.Numbers.{number_itself}
-use Rattle.sl_plain.proofs.Options.{some_of, then_value}
+use Rattle.sl_words.proofs.Lists.{contains_map, find_fails, find_inside, in_map, kept_inside}
+use Rattle.sl_words.proofs.Numbers.{number_itself}
+use Rattle.sl_words.proofs.Options.{some_of, then_value}
 use Rattle.sl_trace.specs.Sessions.{last_renewal, session_numbered}
 use Rattle.sl_trace.specs.declared.session.Session.{Session}
-use Rattle.sl_due_facts.specs.Facts.Heard.{heard_by}
+use Rattle.sl_due_facts.specs.Facts.HeardCall.{heard_by}
 use Rattle.sl_due_facts.specs.Facts.JobFacts.{FitsCommand}
 use Rattle.sl_trace.specs.Traces.{Answered, Child, Job, Submitted, answer_of, answered_in, call_numbered, child_numbered, children, is_running, job_numbered, job_of, jobs, mark, new_call, next_call, running_jobs, submitted}
 use Rattle.sl_trace.specs.declared.command.Command.TheVariants.{RunProgram}
@@ -28,7 +28,7 @@ use Rattle.sl_trace.specs.declared.input.Input.{Input}
 use Rattle.sl_trace.specs.declared.input.Input.TheVariants.{Answer as Told, Wake}
 use Rattle.sl_trace.specs.declared.reply.Reply.{Reply}
 use Rattle.sl_trace.specs.declared.reply.Reply.TheVariants.{Recovering}
-use Rattle.sl_trace_law.proofs.Sessions.Making.{same_answered}
+use Rattle.sl_run_law.proofs.Sessions.CallsAreMade.{same_answered}
 use Rattle.sl_words.proofs.CaseLaws.{false_is_true, none_some, not_both, one_value, some_value, true_is_false}
 use Rattle.sl_words.specs.Words.{some_is}
 use Rattle.std.proofs.Common.{ap, inl, inr, refl, subst, sym, ◌∙◌}

@@ -1,10 +1,10 @@
 -- Jobs are numbered in order: a job's number is below the next line's, and what a number names stays.
-use Rattle.sl_acts.proofs.Additions.{contains_last}
+use Rattle.sl_due_facts.proofs.Acts.AddedAtEnd.{contains_last}
 use Rattle.sl_due.specs.Steps.{Step, seen, with_input}
 use Rattle.sl_trace.specs.Jobs.{command_numbered, command_of}
-use Rattle.sl_plain.proofs.Lists.{contains_first, contains_more, contains_none, find_inside}
-use Rattle.sl_plain.proofs.Numbers.{less_is_other, number_itself}
-use Rattle.sl_plain.proofs.Options.{then_value}
+use Rattle.sl_words.proofs.Lists.{contains_first, contains_more, contains_none, find_inside}
+use Rattle.sl_words.proofs.Numbers.{less_is_other, number_itself}
+use Rattle.sl_words.proofs.Options.{then_value}
 use Rattle.sl_trace.specs.Traces.{Job, Setting, Trace, job_in, job_numbered, jobs, next_job, numbers_taken}
 use Rattle.sl_trace.specs.declared.command.Command.{Command}
 use Rattle.sl_trace.specs.declared.effects.Effects.{Effects}

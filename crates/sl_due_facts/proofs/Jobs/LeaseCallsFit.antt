@@ -1,6 +1,6 @@
 -- Where a call on a resource's area is made for a job it is of the command's resource, and the job has no other call unanswered.
 use Rattle.sl_due.specs.DueLease.{next_turn}
-use Rattle.sl_acts.specs.Acts.{Has}
+use Rattle.sl_due_facts.specs.Acts.Acts.{Has}
 use Rattle.sl_area.specs.Places.{block_offset, block_place, block_sectors}
 use Rattle.sl_due.specs.Steps.{Step, seen}
 use Rattle.sl_due_facts.proofs.Jobs.CallsOfJobsFit.{no_job}
@@ -18,8 +18,8 @@ use Rattle.sl_trace.specs.LeaseWork.{read_of_step}
 use Rattle.sl_trace.specs.Leases.{spot_of}
 use Rattle.sl_trace.specs.declared.lease.LeaseNext.{LeaseNext}
 use Rattle.sl_trace.specs.declared.lease.LeaseNext.TheVariants.{AnswerJob, BecomeExclusive, BecomeShared, GrantJob, Nothing as No_lease, ReadFor, WriteBlock, WriteLeader}
-use Rattle.sl_plain.proofs.Lists.{contains_cases, contains_none}
-use Rattle.sl_plain.proofs.Numbers.{plus_zero}
+use Rattle.sl_words.proofs.Lists.{contains_cases, contains_none}
+use Rattle.sl_words.proofs.Numbers.{plus_zero}
 use Rattle.sl_trace.specs.Sessions.{sessions}
 use Rattle.sl_trace.specs.declared.session.Session.{Session}
 use Rattle.sl_due_facts.specs.Facts.JobFacts.{SeeksResource}

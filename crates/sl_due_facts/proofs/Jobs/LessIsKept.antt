@@ -1,5 +1,5 @@
 -- What follows from what is kept is kept.
-use Rattle.sl_acts.specs.Acts.{Acts}
+use Rattle.sl_due_facts.specs.Acts.Acts.{Acts}
 use Rattle.sl_due.specs.Steps.{Step}
 
 -- Where less is asked than is kept.

@@ -1,8 +1,8 @@
 -- What a command line makes due is allowed: its job is new.
 use Rattle.sl_trace.specs.declared.lease.Aim.TheVariants.{Converts}
-use Rattle.sl_acts.proofs.DecisionsAreTheirs.{Of}
-use Rattle.sl_acts.proofs.Pairs.Decisions.{within_cases}
-use Rattle.sl_acts.specs.Acts.{Has, next_of_conversion, next_of_release}
+use Rattle.sl_due_facts.proofs.Acts.DecisionsAreTheirs.{Of}
+use Rattle.sl_due_facts.proofs.Acts.Pairs.Decisions.{within_cases}
+use Rattle.sl_due_facts.specs.Acts.Acts.{Has, next_of_conversion, next_of_release}
 use Rattle.sl_area.specs.Layouts.{Layout}
 use Rattle.sl_area.specs.Places.{is_base, value_offset}
 use Rattle.sl_due.specs.Steps.{Step, add_end, seen, with_input}
@@ -25,9 +25,9 @@ use Rattle.sl_trace.specs.LeaseWork.{LeasePlace, convert_next, lease_place, with
 use Rattle.sl_trace.specs.Leases.{LeaseKnown, holdings_on, known, spot_of}
 use Rattle.sl_trace.specs.declared.lease.LeaseNext.{LeaseNext}
 use Rattle.sl_trace.specs.declared.lease.LeaseNext.TheVariants.{Nothing as No_lease, ReadFor, WriteBlock}
-use Rattle.sl_plain.proofs.Lists.{find_inside, got_inside, kept_inside}
-use Rattle.sl_plain.proofs.Numbers.{plus_zero}
-use Rattle.sl_plain.proofs.Options.{some_of}
+use Rattle.sl_words.proofs.Lists.{find_inside, got_inside, kept_inside}
+use Rattle.sl_words.proofs.Numbers.{plus_zero}
+use Rattle.sl_words.proofs.Options.{some_of}
 use Rattle.sl_sector.specs.declared.sector.Rec.TheVariants.{ValueIs}
 use Rattle.sl_trace.specs.Sessions.{holdings_of, present_sessions, session_named, sessions}
 use Rattle.sl_trace.specs.declared.session.Session.{Session}

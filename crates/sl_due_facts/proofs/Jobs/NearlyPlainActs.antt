@@ -1,5 +1,5 @@
 -- What each effect keeps but a first read, which begins a session, is kept by each act but that of a line.
-use Rattle.sl_acts.specs.Acts.{Acts, Expects, next_of_conversion, next_of_release, next_of_settling}
+use Rattle.sl_due_facts.specs.Acts.Acts.{Acts, Expects, next_of_conversion, next_of_release, next_of_settling}
 use Rattle.sl_area.specs.Places.{request_offset}
 use Rattle.sl_due.specs.DueAnswers.{set_reply}
 use Rattle.sl_due.specs.DueCommands.{answer_line, carry_decision, decided, reply_at_once}

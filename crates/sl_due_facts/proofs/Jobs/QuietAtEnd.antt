@@ -1,5 +1,5 @@
 -- At the end of an answer's entry no job goes on under a session in recovery or leaving.
-use Rattle.sl_acts.specs.Acts.{Hears, IsIdle, lone_job}
+use Rattle.sl_due_facts.specs.Acts.Acts.{Hears, IsIdle, lone_job}
 use Rattle.sl_area.specs.Places.{request_offset}
 use Rattle.sl_due.specs.DueAnswers.{set_reply}
 use Rattle.sl_due.specs.DueDelta.{begins_by_read}
@@ -12,14 +12,14 @@ use Rattle.sl_due_facts.proofs.Jobs.QuietEffects.{quiet_effects}
 use Rattle.sl_due_facts.proofs.Jobs.QuietFactsConclude.{plain_at, plain_heard, plain_survey, shown_quiet}
 use Rattle.sl_due_facts.proofs.Jobs.RepliesComeAfter.{joining_late}
 use Rattle.sl_due_facts.proofs.Jobs.SessionsArePresent.{joined_present}
-use Rattle.sl_due_facts.specs.Jobs.Promises.{IsQuiet, QuietFactsConclude}
+use Rattle.sl_due_facts.specs.Jobs.JobLaws.{IsQuiet, QuietFactsConclude}
 use Rattle.sl_trace.specs.Leases.{spot_of_call}
-use Rattle.sl_plain.proofs.Lists.{find_inside}
-use Rattle.sl_plain.proofs.Options.{some_of}
+use Rattle.sl_words.proofs.Lists.{find_inside}
+use Rattle.sl_words.proofs.Options.{some_of}
 use Rattle.sl_trace.specs.Deltas.{delta_known, delta_of_session, next_after_free, next_after_renewal, next_free, next_in_joining}
 use Rattle.sl_trace.specs.Sessions.{calls_of, generation_of, is_joined, is_present, is_survey_purpose, recovery_of, session_numbered}
 use Rattle.sl_trace.specs.declared.session.Session.{Session}
-use Rattle.sl_due_facts.specs.Facts.Whole.{Whole}
+use Rattle.sl_due_facts.specs.Facts.AllFacts.{Whole}
 use Rattle.sl_trace.specs.Traces.{Submitted, bytes_given, call_numbered, submitted}
 use Rattle.sl_trace.specs.declared.effects.Op.TheVariants.{ReadSectors}
 use Rattle.sl_trace.specs.declared.effects.Purpose.{Purpose}

@@ -1,13 +1,13 @@
 -- That no job goes on under a session in recovery or leaving is kept by each effect, by other inputs than lines, and by lines.
-use Rattle.sl_acts.specs.SoFar.{entry_of}
+use Rattle.sl_due_facts.specs.Acts.TraceSoFar.{entry_of}
 use Rattle.sl_due.specs.Steps.{Step, add_move, add_reply, seen}
 use Rattle.sl_due_facts.proofs.Jobs.NearlyPlainActs.{Nearly}
 use Rattle.sl_due_facts.proofs.Jobs.SessionsStand.{leaving_joined, move_joined, no_members, recovery_joined, reply_joined, reply_leaving, running_before}
 use Rattle.sl_trace.specs.Jobs.{is_command_that, jobs_of_session, lockspace_named}
-use Rattle.sl_due_facts.proofs.Parts.CallsGrow.{same_sessions}
-use Rattle.sl_plain.proofs.Lists.{contains_none, kept, kept_inside}
-use Rattle.sl_plain.proofs.Numbers.{number_itself}
-use Rattle.sl_plain.proofs.Options.{some_there}
+use Rattle.sl_due_facts.proofs.AddedEffects.CallsGrow.{same_sessions}
+use Rattle.sl_words.proofs.Lists.{contains_none, kept, kept_inside}
+use Rattle.sl_words.proofs.Numbers.{number_itself}
+use Rattle.sl_words.proofs.Options.{some_there}
 use Rattle.sl_trace.specs.Sessions.{is_joined, is_recovering, leaving_job, recovers, recovery_of, renewed_by, renewing, renewing_after, shows_other}
 use Rattle.sl_trace.specs.declared.session.Begun.{Begun}
 use Rattle.sl_trace.specs.declared.session.Renewing.{Renewing}

@@ -1,7 +1,7 @@
 -- That no job goes on under a session in recovery or leaving is kept by each act.
-use Rattle.sl_acts.proofs.LoopsKeep.{for_each_keeps}
-use Rattle.sl_acts.specs.Acts.{Acts}
-use Rattle.sl_acts.specs.SoFar.{entry_of}
+use Rattle.sl_due_facts.proofs.Acts.LoopsKeep.{for_each_keeps}
+use Rattle.sl_due_facts.specs.Acts.Acts.{Acts}
+use Rattle.sl_due_facts.specs.Acts.TraceSoFar.{entry_of}
 use Rattle.sl_area.specs.Places.{delta_offset}
 use Rattle.sl_due.specs.DueCommands.{carry_decision, decided, reply_at_once}
 use Rattle.sl_due.specs.DueDelta.{begins_by_read}
@@ -22,15 +22,15 @@ use Rattle.sl_due_facts.proofs.Jobs.QuietLines.{NamesActive, lined_leaving, line
 use Rattle.sl_due_facts.proofs.Jobs.SessionsArePresent.{joined_present, present_inside}
 use Rattle.sl_due_facts.proofs.Jobs.SessionsHaveJobs.{contains_either, contains_only}
 use Rattle.sl_due_facts.proofs.Jobs.SessionsStand.{leaving_joined, move_joined, no_members, recovery_joined, reply_joined, reply_leaving, reply_stops, running_before, stopped_stays}
-use Rattle.sl_due_facts.specs.Jobs.Promises.{HasQuietFacts}
+use Rattle.sl_due_facts.specs.Jobs.JobLaws.{HasQuietFacts}
 use Rattle.sl_trace.specs.Jobs.{is_command_that, jobs_of_session, lockspace_named, resource_named}
-use Rattle.sl_due_facts.proofs.Parts.CallsGrow.{same_sessions}
-use Rattle.sl_plain.proofs.Lists.{contains_cases, contains_none, find_inside, kept, kept_inside}
-use Rattle.sl_plain.proofs.Options.{some_of, some_there}
+use Rattle.sl_due_facts.proofs.AddedEffects.CallsGrow.{same_sessions}
+use Rattle.sl_words.proofs.Lists.{contains_cases, contains_none, find_inside, kept, kept_inside}
+use Rattle.sl_words.proofs.Options.{some_of, some_there}
 use Rattle.sl_trace.specs.Sessions.{is_active, is_join_done, is_joined, is_recovering, is_session_arg, joined_after, joining_session, last_renewal, leaving_job, present_sessions, recovery_of, session_named, sessions}
 use Rattle.sl_trace.specs.declared.session.Session.{Session}
-use Rattle.sl_due_facts.specs.Facts.Heard.{heard_by}
-use Rattle.sl_due_facts.specs.Facts.Whole.{Whole}
+use Rattle.sl_due_facts.specs.Facts.HeardCall.{heard_by}
+use Rattle.sl_due_facts.specs.Facts.AllFacts.{Whole}
 use Rattle.sl_trace.specs.Traces.{Job, Replied, Setting, Trace, is_running, job_numbered, jobs, next_call, next_job, reply_in, reply_to, running_jobs}
 use Rattle.sl_trace.specs.declared.command.Command.{Command}
 use Rattle.sl_trace.specs.declared.command.Command.TheVariants.{Acquire, AddLockspace, Convert, GetLvb, HostStatus, InqLockspace, Release, ReleaseOrphan, RemLockspace, Request, RunProgram, SetKillpath, SetLvb, Status, TakeOver}

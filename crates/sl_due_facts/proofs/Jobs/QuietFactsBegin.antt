@@ -1,6 +1,6 @@
 -- Once a step has begun no job goes on under a session in recovery or leaving.
-use Rattle.sl_acts.proofs.LoopsKeep.{for_each_keeps, when_keeps}
-use Rattle.sl_acts.specs.SoFar.{entry_of}
+use Rattle.sl_due_facts.proofs.Acts.LoopsKeep.{for_each_keeps, when_keeps}
+use Rattle.sl_due_facts.specs.Acts.TraceSoFar.{entry_of}
 use Rattle.sl_due.specs.DueFirst.{begin_recoveries, begin_recovery, begins_now, signal_and_refuse}
 use Rattle.sl_due.specs.Steps.{Step, begin_step, for_each, seen, when}
 use Rattle.sl_due_facts.proofs.Jobs.EffectsAreAllowed.{stopped}
@@ -10,11 +10,11 @@ use Rattle.sl_due_facts.proofs.Jobs.QuietEffects.{is_recovering_parts, names_it}
 use Rattle.sl_due_facts.proofs.Jobs.QuietFactsAreKept.{Stopping, job_at_stop, stop_leaves, stopping, stopping_itself}
 use Rattle.sl_due_facts.proofs.Jobs.SessionsArePresent.{joined_present, present_inside}
 use Rattle.sl_due_facts.proofs.Jobs.SessionsStand.{leaving_joined, no_members, recovery_joined}
-use Rattle.sl_due_facts.specs.Jobs.Promises.{BeginsWith, HasQuietFacts}
+use Rattle.sl_due_facts.specs.Jobs.JobLaws.{BeginsWith, HasQuietFacts}
 use Rattle.sl_trace.specs.Jobs.{is_command_that, jobs_of_session}
-use Rattle.sl_plain.proofs.Lists.{contains_cases, contains_none, kept, kept_inside}
-use Rattle.sl_plain.proofs.Numbers.{number_itself}
-use Rattle.sl_plain.proofs.Options.{some_there}
+use Rattle.sl_words.proofs.Lists.{contains_cases, contains_none, kept, kept_inside}
+use Rattle.sl_words.proofs.Numbers.{number_itself}
+use Rattle.sl_words.proofs.Options.{some_there}
 use Rattle.sl_trace.specs.Sessions.{is_joined, is_recovering, joined_after, leaving_job, present_sessions, recovers, recovery_of, removed_after, removed_in, renewed_by, renewing, renewing_after, sessions, shows_other}
 use Rattle.sl_trace.specs.declared.session.Begun.{Begun}
 use Rattle.sl_trace.specs.declared.session.Renewing.{Renewing}

@@ -1,7 +1,7 @@
 -- Where all that an answer makes due is done, no job goes on under a session in recovery or leaving: recovery that began by the read which
 -- the answer brings has had its jobs refused.
-use Rattle.sl_acts.specs.Acts.{Hears}
-use Rattle.sl_acts.specs.SoFar.{entry_of}
+use Rattle.sl_due_facts.specs.Acts.Acts.{Hears}
+use Rattle.sl_due_facts.specs.Acts.TraceSoFar.{entry_of}
 use Rattle.sl_due.specs.DueDelta.{begins_by_read}
 use Rattle.sl_due.specs.DueFirst.{signal_and_refuse}
 use Rattle.sl_due.specs.Steps.{Step, seen}
@@ -9,16 +9,16 @@ use Rattle.sl_due_facts.proofs.Jobs.QuietEffects.{is_recovering_parts}
 use Rattle.sl_due_facts.proofs.Jobs.QuietFactsAreKept.{Stopping, job_at_stop, stop_leaves, stop_stopping}
 use Rattle.sl_due_facts.proofs.Jobs.SessionsArePresent.{session_has}
 use Rattle.sl_due_facts.proofs.Jobs.SessionsStand.{leaving_joined, no_members, recovery_joined}
-use Rattle.sl_due_facts.specs.Jobs.Promises.{IsQuiet}
+use Rattle.sl_due_facts.specs.Jobs.JobLaws.{IsQuiet}
 use Rattle.sl_trace.specs.Jobs.{jobs_of_session}
-use Rattle.sl_plain.proofs.Lists.{contains_map, contains_none, find_inside}
-use Rattle.sl_plain.proofs.Options.{some_there}
+use Rattle.sl_words.proofs.Lists.{contains_map, contains_none, find_inside}
+use Rattle.sl_words.proofs.Options.{some_there}
 use Rattle.sl_trace.specs.Sessions.{generation_of, is_call_of, is_joined, is_recovering, is_survey_purpose, leaving_job, recovers, recovery_of, renewed_by, renewing, renewing_after, session_numbered, sessions, shows_other, shows_other_in}
 use Rattle.sl_trace.specs.declared.session.Begun.{Begun}
 use Rattle.sl_trace.specs.declared.session.Renewing.{Renewing}
 use Rattle.sl_trace.specs.declared.session.Session.{Session}
-use Rattle.sl_due_facts.specs.Facts.Heard.{heard_by}
-use Rattle.sl_due_facts.specs.Facts.Whole.{Whole}
+use Rattle.sl_due_facts.specs.Facts.HeardCall.{heard_by}
+use Rattle.sl_due_facts.specs.Facts.AllFacts.{Whole}
 use Rattle.sl_time.specs.Times.{fail}
 use Rattle.sl_trace.specs.Traces.{Job, Setting, Submitted, Trace, answered_in, bytes_given, call_numbered, mark, submitted}
 use Rattle.sl_trace.specs.declared.effects.Call.{Call}
@@ -26,7 +26,7 @@ use Rattle.sl_trace.specs.declared.effects.Entry.{Entry}
 use Rattle.sl_trace.specs.declared.input.Answer.{Answer}
 use Rattle.sl_trace.specs.declared.input.Answer.TheVariants.{Failed, Read, Written}
 use Rattle.sl_trace.specs.declared.input.Input.TheVariants.{Answer as Told}
-use Rattle.sl_trace_law.proofs.Sessions.Making.{old_stays, same_answered}
+use Rattle.sl_run_law.proofs.Sessions.CallsAreMade.{old_stays, same_answered}
 use Rattle.sl_words.proofs.CaseLaws.{false_is_true, none_some, not_both, one_value, some_value}
 use Rattle.sl_words.proofs.WordLaws.{and_true, some_is_true}
 use Rattle.sl_words.specs.Words.{choose, some_is}

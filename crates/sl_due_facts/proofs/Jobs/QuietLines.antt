@@ -1,7 +1,7 @@
 -- A line brings no job under a session in recovery or leaving, but a leaving's own.
-use Rattle.sl_acts.proofs.Additions.{any_last, contains_last}
-use Rattle.sl_acts.specs.Acts.{Expects}
-use Rattle.sl_acts.specs.SoFar.{entry_of}
+use Rattle.sl_due_facts.proofs.Acts.AddedAtEnd.{any_last, contains_last}
+use Rattle.sl_due_facts.specs.Acts.Acts.{Expects}
+use Rattle.sl_due_facts.specs.Acts.TraceSoFar.{entry_of}
 use Rattle.sl_due.specs.DueCommands.{reply_at_once}
 use Rattle.sl_due.specs.DueDelta.{begins_by_read}
 use Rattle.sl_due.specs.Steps.{Step, add_reply, seen, with_input}
@@ -15,17 +15,17 @@ use Rattle.sl_due_facts.proofs.Jobs.QuietEffects.{by_input, is_recovering_parts,
 use Rattle.sl_due_facts.proofs.Jobs.SessionsArePresent.{joined_present, present_inside}
 use Rattle.sl_due_facts.proofs.Jobs.SessionsHaveJobs.{leaves_is, left_in, left_unanswered}
 use Rattle.sl_due_facts.proofs.Jobs.SessionsStand.{leaving_joined, no_members, recovery_joined, reply_joined, reply_stops}
-use Rattle.sl_due_facts.specs.Jobs.Promises.{HasQuietFacts}
+use Rattle.sl_due_facts.specs.Jobs.JobLaws.{HasQuietFacts}
 use Rattle.sl_trace.specs.Jobs.{command_of, is_command_that, jobs_of_session, lockspace_named, resource_named}
-use Rattle.sl_plain.proofs.Lists.{contains_none, find_inside, kept, kept_inside}
-use Rattle.sl_plain.proofs.Numbers.{number_itself}
-use Rattle.sl_plain.proofs.Options.{none_is, some_there}
+use Rattle.sl_words.proofs.Lists.{contains_none, find_inside, kept, kept_inside}
+use Rattle.sl_words.proofs.Numbers.{number_itself}
+use Rattle.sl_words.proofs.Options.{none_is, some_there}
 use Rattle.sl_trace.specs.Sessions.{is_active, is_joined, is_recovering, is_session_arg, leaving_in, leaving_job, present_sessions, recovery_of, session_named, sessions}
 use Rattle.sl_trace.specs.declared.session.Begun.{Begun}
 use Rattle.sl_trace.specs.declared.session.Session.{Session}
-use Rattle.sl_due_facts.specs.Facts.Heard.{heard_by}
+use Rattle.sl_due_facts.specs.Facts.HeardCall.{heard_by}
 use Rattle.sl_due_facts.specs.Facts.SessionFacts.{QuietFacts}
-use Rattle.sl_due_facts.specs.Facts.Whole.{Whole}
+use Rattle.sl_due_facts.specs.Facts.AllFacts.{Whole}
 use Rattle.sl_trace.specs.Traces.{Job, Setting, Trace, is_running, jobs, next_job, running_jobs}
 use Rattle.sl_trace.specs.declared.command.Command.{Command}
 use Rattle.sl_trace.specs.declared.command.Command.TheVariants.{Acquire, AddLockspace, Convert, GetLvb, HostStatus, InqLockspace, Release, ReleaseOrphan, RemLockspace, Request, RunProgram, SetKillpath, SetLvb, Status, TakeOver}
@@ -37,7 +37,7 @@ use Rattle.sl_trace.specs.declared.input.Answer.{Answer}
 use Rattle.sl_trace.specs.declared.input.Input.{Input}
 use Rattle.sl_trace.specs.declared.input.Input.TheVariants.{Answer as Told, Exit, Line, Number, Spawned, Wake}
 use Rattle.sl_trace.specs.declared.reply.Reply.{Reply}
-use Rattle.sl_trace_law.proofs.Sessions.Naming.{absent}
+use Rattle.sl_run_law.proofs.Sessions.SessionNames.{absent}
 use Rattle.sl_words.proofs.CaseLaws.{false_is_true, none_some, not_both, some_value, true_is_false}
 use Rattle.sl_words.proofs.WordLaws.{and_true, some_is_true}
 use Rattle.std.proofs.Common.{ap, ap₂, arith, inl, inr, refl, subst, sym, ◌∙◌}

@@ -3,9 +3,9 @@
 use Rattle.sl_sector.specs.declared.sector.Leader.{Leader}
 use Rattle.sl_trace.specs.declared.session.Session.{Session}
 use Rattle.sl_trace.specs.declared.effects.Spot.{Spot}
-use Rattle.sl_acts.specs.Acts.{next_of_settling}
+use Rattle.sl_due_facts.specs.Acts.Acts.{next_of_settling}
 use Rattle.sl_area.specs.Layouts.{Layout, record_in, sector_with}
-use Rattle.sl_acts.proofs.Pairs.Decisions.{asked_is, bytes_are, settling_is, within_cases}
+use Rattle.sl_due_facts.proofs.Acts.Pairs.Decisions.{asked_is, bytes_are, settling_is, within_cases}
 use Rattle.sl_area.specs.Places.{BlocksRead, blocks_of, leader_of, leader_read, read_at}
 use Rattle.sl_due.specs.DueAnswers.{set_reply}
 use Rattle.sl_due.specs.DueRequests.{request_refusal, value_reply}
@@ -33,7 +33,7 @@ use Rattle.sl_sector.specs.declared.sector.Owner.{Owner}
 use Rattle.sl_sector.specs.declared.sector.Rec.TheVariants.{DeltaIs}
 use Rattle.sl_trace.specs.Deltas.{DeltaLease, claim_of, claim_on, delta_record, id_held, id_lost, is_watched_out, join_step_of, next_after_claim, next_after_deciding, next_after_first, next_after_join_read, next_after_join_write, next_after_verify, next_after_watch, next_by_time, next_in_joining, next_in_watch, next_on_wake, watched, where_watched}
 use Rattle.sl_trace.specs.Sessions.{is_join_call}
-use Rattle.sl_trace.specs.Watching.{is_free_state}
+use Rattle.sl_trace.specs.Sightings.{is_free_state}
 use Rattle.sl_trace.specs.declared.delta.DeltaNext.{DeltaNext}
 use Rattle.sl_trace.specs.declared.delta.DeltaNext.TheVariants.{EndLeaving, Nothing, ReadOwn, RefuseJoin, RegisterAndRead, WriteClaim, WriteFirst, WriteFree}
 use Rattle.sl_time.specs.Times.{dead, join_max, renew}

@@ -1,9 +1,9 @@
 -- What began a session or its leaving: a command of the job that it names.
-use Rattle.sl_acts.proofs.Additions.{not_is}
+use Rattle.sl_due_facts.proofs.Acts.AddedAtEnd.{not_is}
 use Rattle.sl_due_facts.proofs.Jobs.JobsAreNumbered.{command_stays, line_is, number_below, numbered_stays}
 use Rattle.sl_trace.specs.Jobs.{command_numbered, command_of}
-use Rattle.sl_plain.proofs.Lists.{contains_cases, contains_first, contains_more, contains_none, in_map}
-use Rattle.sl_plain.proofs.Options.{then_value}
+use Rattle.sl_words.proofs.Lists.{contains_cases, contains_first, contains_more, contains_none, in_map}
+use Rattle.sl_words.proofs.Options.{then_value}
 use Rattle.sl_trace.specs.Sessions.{added, added_by, begun_in, given_session, is_join_call, is_joined, is_session_arg, joining_session, leaves, leaving_in, leaving_job, sessions}
 use Rattle.sl_trace.specs.declared.session.Session.{Session}
 use Rattle.sl_trace.specs.Traces.{Job, Setting, Trace, job_numbered, line_in, next_job}

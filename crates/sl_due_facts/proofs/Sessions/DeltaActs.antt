@@ -1,8 +1,8 @@
 -- Acts of joinings, frees and lines keep what is known of delta records.
-use Rattle.sl_acts.proofs.Additions.{contains_at}
-use Rattle.sl_acts.proofs.LoopsKeep.{with_some_keeps}
-use Rattle.sl_acts.specs.Acts.{Has}
-use Rattle.sl_acts.specs.SoFar.{entry_of}
+use Rattle.sl_due_facts.proofs.Acts.AddedAtEnd.{contains_at}
+use Rattle.sl_due_facts.proofs.Acts.LoopsKeep.{with_some_keeps}
+use Rattle.sl_due_facts.specs.Acts.Acts.{Has}
+use Rattle.sl_due_facts.specs.Acts.TraceSoFar.{entry_of}
 use Rattle.sl_due.specs.DueDelta.{carry_delta, move_connection, read_own_sector, register, survey, write_own_sector}
 use Rattle.sl_due.specs.Steps.{Step, add_call_of, add_move, add_reply, seen}
 use Rattle.sl_due_facts.proofs.Jobs.CallsStay.{calls_stay, late_join}
@@ -12,9 +12,9 @@ use Rattle.sl_due_facts.proofs.Jobs.RepliesComeAfter.{IsLateDelta}
 use Rattle.sl_due_facts.proofs.Jobs.SessionsArePresent.{session_has}
 use Rattle.sl_due_facts.proofs.Jobs.SessionsHaveJobs.{one_session}
 use Rattle.sl_due_facts.proofs.Jobs.SessionsStand.{joined_then, leaving_joined, no_members, reply_joined, reply_leaving}
-use Rattle.sl_due_facts.proofs.Parts.CallsGrow.{mine_more, others_stay, same_sessions}
-use Rattle.sl_plain.proofs.Lists.{contains_none, got_inside, kept, kept_inside}
-use Rattle.sl_plain.proofs.Numbers.{number_itself}
+use Rattle.sl_due_facts.proofs.AddedEffects.CallsGrow.{mine_more, others_stay, same_sessions}
+use Rattle.sl_words.proofs.Lists.{contains_none, got_inside, kept, kept_inside}
+use Rattle.sl_words.proofs.Numbers.{number_itself}
 use Rattle.sl_sector.specs.declared.sector.Rec.TheVariants.{DeltaIs}
 use Rattle.sl_due_facts.proofs.Sessions.DeltaConditions.{freed_before, part_of, plain_reply, unjoined_unfreed}
 use Rattle.sl_due_facts.proofs.Sessions.DeltaGrow.{DeltaCall, DeltaPart, DeltaReply, DeltaSince, FreedBefore, call_delta, leaving_goes_on, reply_joins_none}
@@ -22,14 +22,14 @@ use Rattle.sl_due_facts.proofs.Sessions.DeltaIsAllowed.{delta_allows, delta_at}
 use Rattle.sl_due_facts.proofs.Sessions.HoldingsOfSessions.{HeldBy}
 use Rattle.sl_due_facts.proofs.Sessions.JoinedNumbers.{HasNumbers, JoinsNot}
 use Rattle.sl_due_facts.proofs.Sessions.NamesAtEnd.{running_unjoined}
-use Rattle.sl_due_facts.specs.Sessions.Promises.{HasDeltaFacts}
+use Rattle.sl_due_facts.specs.Sessions.SessionLaws.{HasDeltaFacts}
 use Rattle.sl_trace.specs.Deltas.{own_offset}
 use Rattle.sl_trace.specs.Sessions.{calls_of, free_write, generation_in, holdings_of, is_call_of, is_free_purpose, is_join_call, is_join_done, is_joined, joined_after, leaving_job, removed_after, seq_in, session_numbered, sessions}
 use Rattle.sl_trace.specs.declared.delta.DeltaNext.{DeltaNext}
 use Rattle.sl_trace.specs.declared.delta.DeltaNext.TheVariants.{Disconnect, EndLeaving, Join, MoveConnection, Nothing, ReadOwn, RefuseJoin, RegisterAndRead, WriteClaim, WriteFirst, WriteFree, WriteRenewal}
 use Rattle.sl_trace.specs.declared.session.Session.{Session}
 use Rattle.sl_due_facts.specs.Facts.SessionFacts.{DeltaFacts}
-use Rattle.sl_due_facts.specs.Facts.Whole.{Whole}
+use Rattle.sl_due_facts.specs.Facts.AllFacts.{Whole}
 use Rattle.sl_time.specs.Times.{fail}
 use Rattle.sl_trace.specs.Traces.{Replied, Submitted, holdings, is_running, line_in, new_call, next_call, reply_to, submitted}
 use Rattle.sl_trace.specs.declared.effects.Call.{Call}
@@ -42,7 +42,7 @@ use Rattle.sl_trace.specs.declared.effects.Op.TheVariants.{ReadSectors, WriteRec
 use Rattle.sl_trace.specs.declared.effects.Purpose.{Purpose}
 use Rattle.sl_trace.specs.declared.effects.Purpose.TheVariants.{Joining, Renewal, Survey}
 use Rattle.sl_trace.specs.declared.reply.Reply.TheVariants.{Generation}
-use Rattle.sl_trace_law.proofs.Leases.NumberLaws.{number_is_place}
+use Rattle.sl_run_law.proofs.Leases.NumberLaws.{number_is_place}
 use Rattle.sl_words.proofs.CaseLaws.{false_is_true, none_some, not_both, one_value, some_value}
 use Rattle.sl_words.proofs.WordLaws.{and_true}
 use Rattle.sl_words.specs.Bounds.{is_number}

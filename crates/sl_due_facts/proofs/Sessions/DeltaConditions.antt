@@ -1,9 +1,9 @@
 -- What each act decides is allowed of delta records: a session that wrote its free makes no call.
 use Rattle.sl_due.specs.DueLease.{name_on, next_turn}
-use Rattle.sl_acts.proofs.Additions.{not_is}
-use Rattle.sl_acts.proofs.InputsKeep.{has_heard}
-use Rattle.sl_acts.specs.Acts.{Has, Hears}
-use Rattle.sl_acts.specs.SoFar.{SoFar, entry_of}
+use Rattle.sl_due_facts.proofs.Acts.AddedAtEnd.{not_is}
+use Rattle.sl_due_facts.proofs.Acts.InputsKeep.{has_heard}
+use Rattle.sl_due_facts.specs.Acts.Acts.{Has, Hears}
+use Rattle.sl_due_facts.specs.Acts.TraceSoFar.{SoFar, entry_of}
 use Rattle.sl_area.specs.Places.{area_sectors, block_offset, block_place, block_record, block_sectors, leader_offset, leader_record, request_offset}
 use Rattle.sl_due.specs.DueRequests.{owner_read}
 use Rattle.sl_due.specs.Steps.{Step, seen}
@@ -17,8 +17,8 @@ use Rattle.sl_due_facts.proofs.Jobs.RepliesComeAfter.{on_bool, request_late}
 use Rattle.sl_trace.specs.Leases.{holdings_on}
 use Rattle.sl_trace.specs.declared.lease.LeaseNext.{LeaseNext}
 use Rattle.sl_trace.specs.declared.lease.LeaseNext.TheVariants.{AnswerJob, BecomeExclusive, BecomeShared, GrantJob, Nothing as No_lease, ReadFor, WriteBlock, WriteLeader}
-use Rattle.sl_plain.proofs.Lists.{any_found, contains_map, contains_none, find_inside, got_inside, in_map, kept_inside}
-use Rattle.sl_plain.proofs.Options.{none_is, not_some, some_of}
+use Rattle.sl_words.proofs.Lists.{any_found, contains_map, contains_none, find_inside, got_inside, in_map, kept_inside}
+use Rattle.sl_words.proofs.Options.{none_is, not_some, some_of}
 use Rattle.sl_sector.specs.declared.sector.DeltaRec.{DeltaRec}
 use Rattle.sl_sector.specs.declared.sector.DeltaState.TheVariants.{Live}
 use Rattle.sl_sector.specs.declared.sector.Rec.TheVariants.{RequestIs}
@@ -31,7 +31,7 @@ use Rattle.sl_trace.specs.declared.delta.DeltaNext.{DeltaNext}
 use Rattle.sl_trace.specs.declared.delta.DeltaNext.TheVariants.{MoveConnection, Nothing, WriteRenewal}
 use Rattle.sl_trace.specs.declared.session.Session.{Session}
 use Rattle.sl_due_facts.specs.Facts.SessionFacts.{DeltaFacts}
-use Rattle.sl_due_facts.specs.Facts.Whole.{Whole}
+use Rattle.sl_due_facts.specs.Facts.AllFacts.{Whole}
 use Rattle.sl_time.specs.Times.{renew}
 use Rattle.sl_trace.specs.Traces.{Answered, Job, Setting, Submitted, Trace, answer_of, answered_in, call_numbered, is_answer_for, is_before_input, is_expected, line_in, next_job, outstanding, record_of, same_place, submitted}
 use Rattle.sl_trace.specs.declared.command.Command.{Command}
@@ -55,7 +55,7 @@ use Rattle.sl_trace.specs.declared.input.Answer.TheVariants.{Failed, Read, Writt
 use Rattle.sl_trace.specs.declared.input.Input.TheVariants.{Answer as Told}
 use Rattle.sl_trace.specs.declared.reply.Reply.{Reply}
 use Rattle.sl_trace.specs.declared.reply.Reply.TheVariants.{Done, Granted, IoFault}
-use Rattle.sl_trace_law.proofs.Sessions.Making.{same_answered}
+use Rattle.sl_run_law.proofs.Sessions.CallsAreMade.{same_answered}
 use Rattle.sl_words.proofs.CaseLaws.{false_is_true, none_some, not_both, one_value, some_value, true_is_false}
 use Rattle.sl_words.proofs.WordLaws.{and_true}
 use Rattle.sl_words.specs.Bounds.{is_number, record_numbers}

@@ -1,6 +1,6 @@
 -- How an input that is no line changes what is known of delta records, and what the write of a free does.
-use Rattle.sl_acts.specs.Acts.{Has}
-use Rattle.sl_acts.specs.SoFar.{entry_of}
+use Rattle.sl_due_facts.specs.Acts.Acts.{Has}
+use Rattle.sl_due_facts.specs.Acts.TraceSoFar.{entry_of}
 use Rattle.sl_due.specs.DueDelta.{carry_delta}
 use Rattle.sl_due.specs.Steps.{Step, add_call_of, add_reply, seen, with_input}
 use Rattle.sl_due_facts.proofs.Jobs.CallsHaveFacts.{sessions_told, timely}
@@ -8,10 +8,10 @@ use Rattle.sl_due_facts.proofs.Jobs.CallsStay.{is_special}
 use Rattle.sl_due_facts.proofs.Jobs.EffectsAreAllowed.{Allows}
 use Rattle.sl_due_facts.proofs.Jobs.NearlyPlainActs.{AnyMove, AnyStart, is_command_line}
 use Rattle.sl_due_facts.proofs.Jobs.SessionsArePresent.{session_has}
-use Rattle.sl_due_facts.proofs.Parts.CallsGrow.{mine_more, others_stay, same_sessions}
-use Rattle.sl_plain.proofs.Lists.{contains_cases, contains_none, got_inside, kept, kept_inside}
-use Rattle.sl_plain.proofs.Numbers.{below_suc}
-use Rattle.sl_plain.proofs.Options.{some_of}
+use Rattle.sl_due_facts.proofs.AddedEffects.CallsGrow.{mine_more, others_stay, same_sessions}
+use Rattle.sl_words.proofs.Lists.{contains_cases, contains_none, got_inside, kept, kept_inside}
+use Rattle.sl_words.proofs.Numbers.{below_suc}
+use Rattle.sl_words.proofs.Options.{some_of}
 use Rattle.sl_sector.specs.Bitmaps.{no_bits}
 use Rattle.sl_sector.specs.declared.sector.DeltaRec.{DeltaRec}
 use Rattle.sl_sector.specs.declared.sector.DeltaState.TheVariants.{Free}
@@ -23,14 +23,14 @@ use Rattle.sl_due_facts.proofs.Sessions.DeltaIsAllowed.{delta_at, input_delta, m
 use Rattle.sl_due_facts.proofs.Sessions.HoldingsOfSessions.{HeldBy, held_itself}
 use Rattle.sl_due_facts.proofs.Sessions.JoinedNumbers.{HasNumbers}
 use Rattle.sl_due_facts.proofs.Sessions.NamesGrow.{calls_of_told}
-use Rattle.sl_due_facts.specs.Sessions.Promises.{HasDeltaFacts}
+use Rattle.sl_due_facts.specs.Sessions.SessionLaws.{HasDeltaFacts}
 use Rattle.sl_trace.specs.Deltas.{delta_known, delta_of_session, delta_record, next_free, own_offset}
 use Rattle.sl_trace.specs.Sessions.{calls_of, free_write, generation_in, generation_of, holdings_of, is_call_of, is_joined, last_seq, leaving_job, open_calls_of, seq_in, session_numbered, sessions}
 use Rattle.sl_trace.specs.declared.delta.DeltaNext.{DeltaNext}
 use Rattle.sl_trace.specs.declared.delta.DeltaNext.TheVariants.{Nothing, WriteFree}
 use Rattle.sl_trace.specs.declared.session.Session.{Session}
 use Rattle.sl_due_facts.specs.Facts.SessionFacts.{DeltaFacts}
-use Rattle.sl_due_facts.specs.Facts.Whole.{Whole}
+use Rattle.sl_due_facts.specs.Facts.AllFacts.{Whole}
 use Rattle.sl_trace.specs.Traces.{Answered, Job, Submitted, line_in, new_call, next_call, submitted, unanswered}
 use Rattle.sl_trace.specs.declared.effects.Call.{Call}
 use Rattle.sl_trace.specs.declared.effects.Op.TheVariants.{WriteRecord}

@@ -1,6 +1,6 @@
 -- What is known of delta records holds once a step has begun.
-use Rattle.sl_acts.proofs.LoopsKeep.{for_each_keeps, when_keeps}
-use Rattle.sl_acts.specs.SoFar.{entry_of}
+use Rattle.sl_due_facts.proofs.Acts.LoopsKeep.{for_each_keeps, when_keeps}
+use Rattle.sl_due_facts.specs.Acts.TraceSoFar.{entry_of}
 use Rattle.sl_due.specs.DueFirst.{begin_recoveries, begin_recovery, begins_now, signal_and_refuse}
 use Rattle.sl_due.specs.Steps.{Step, begin_step, for_each, seen}
 use Rattle.sl_due_facts.proofs.Jobs.EffectsAreAllowed.{stopped}
@@ -9,7 +9,7 @@ use Rattle.sl_due_facts.proofs.Jobs.JobsAreAllowed.{late_on_wake}
 use Rattle.sl_due_facts.proofs.Jobs.NearlyPlainActs.{AnyMove, AnyStart}
 use Rattle.sl_due_facts.proofs.Jobs.QuietFactsBegin.{leaving_wake}
 use Rattle.sl_due_facts.proofs.Jobs.SessionsStand.{no_members}
-use Rattle.sl_plain.proofs.Lists.{contains_none, kept, kept_inside}
+use Rattle.sl_words.proofs.Lists.{contains_none, kept, kept_inside}
 use Rattle.sl_due_facts.proofs.Sessions.DeltaActs.{DeltaDone, allows_done, delta_full, no_number}
 use Rattle.sl_due_facts.proofs.Sessions.DeltaConditions.{freed_before, part_of}
 use Rattle.sl_due_facts.proofs.Sessions.DeltaFactsAreKept.{since_done}
@@ -17,7 +17,7 @@ use Rattle.sl_due_facts.proofs.Sessions.DeltaGrow.{DeltaCall, DeltaReply, DeltaS
 use Rattle.sl_due_facts.proofs.Sessions.DeltaIsAllowed.{delta_at}
 use Rattle.sl_due_facts.proofs.Sessions.HoldingsOfSessions.{HeldBy, held_itself, held_stop}
 use Rattle.sl_due_facts.proofs.Sessions.NameFactsAreKept.{joined_on_wake, removed_on_wake}
-use Rattle.sl_due_facts.specs.Sessions.Promises.{DeltaFactsBegin}
+use Rattle.sl_due_facts.specs.Sessions.SessionLaws.{DeltaFactsBegin}
 use Rattle.sl_trace.specs.Sessions.{holdings_of, is_joined, last_renewal, present_sessions, recovery_of, sessions}
 use Rattle.sl_trace.specs.declared.session.Session.{Session}
 use Rattle.sl_due_facts.specs.Facts.SessionFacts.{DeltaFacts}

@@ -1,11 +1,11 @@
 -- All acts keep what is known of delta records.
-use Rattle.sl_acts.proofs.Additions.{contains_at, contains_last}
-use Rattle.sl_acts.proofs.DecisionsAreTheirs.{Of}
-use Rattle.sl_acts.proofs.InputsKeep.{has_heard}
-use Rattle.sl_acts.proofs.LoopsKeep.{for_each_keeps, when_keeps}
-use Rattle.sl_acts.proofs.PlainActs.{line_has}
-use Rattle.sl_acts.specs.Acts.{Has, Hears, next_of_settling}
-use Rattle.sl_acts.specs.SoFar.{entry_of}
+use Rattle.sl_due_facts.proofs.Acts.AddedAtEnd.{contains_at, contains_last}
+use Rattle.sl_due_facts.proofs.Acts.DecisionsAreTheirs.{Of}
+use Rattle.sl_due_facts.proofs.Acts.InputsKeep.{has_heard}
+use Rattle.sl_due_facts.proofs.Acts.LoopsKeep.{for_each_keeps, when_keeps}
+use Rattle.sl_due_facts.proofs.Acts.PlainActs.{line_has}
+use Rattle.sl_due_facts.specs.Acts.Acts.{Has, Hears, next_of_settling}
+use Rattle.sl_due_facts.specs.Acts.TraceSoFar.{entry_of}
 use Rattle.sl_area.specs.Places.{delta_offset, request_offset}
 use Rattle.sl_due.specs.DueAnswers.{set_reply}
 use Rattle.sl_due.specs.DueCommands.{carry_decision, decided, reply_at_once}
@@ -36,10 +36,10 @@ use Rattle.sl_trace.specs.Jobs.{is_job_of_process, job_of_start}
 use Rattle.sl_trace.specs.LeaseWork.{lease_place}
 use Rattle.sl_trace.specs.Leases.{holdings_on, known, lver_written, spot_of_call}
 use Rattle.sl_trace.specs.declared.lease.LeaseNext.{LeaseNext}
-use Rattle.sl_due_facts.proofs.Parts.CallsGrow.{mine_more, others_stay}
-use Rattle.sl_plain.proofs.Lists.{find_inside, got_inside, kept_inside}
-use Rattle.sl_plain.proofs.Numbers.{number_itself}
-use Rattle.sl_plain.proofs.Options.{some_of}
+use Rattle.sl_due_facts.proofs.AddedEffects.CallsGrow.{mine_more, others_stay}
+use Rattle.sl_words.proofs.Lists.{find_inside, got_inside, kept_inside}
+use Rattle.sl_words.proofs.Numbers.{number_itself}
+use Rattle.sl_words.proofs.Options.{some_of}
 use Rattle.sl_due_facts.proofs.Sessions.DeltaActs.{DeltaDone, allows_done, delta_full, joining_delta, no_number, one_unfreed}
 use Rattle.sl_due_facts.proofs.Sessions.DeltaConditions.{active_unfreed, freed_before, freed_delta, heard_unfreed, holder_unfreed, lease_delta, part_of, plain_call, plain_reply, renewal_delta, renewed_delta, request_delta}
 use Rattle.sl_due_facts.proofs.Sessions.DeltaFactsAreKept.{allowed, begin_delta, frees_full, grants_none, grants_to, part, replied, seen_full, since_done, told_full, told_line, woken_line}
@@ -49,13 +49,13 @@ use Rattle.sl_due_facts.proofs.Sessions.DeltaLines.{OwnNumber, answered_full, de
 use Rattle.sl_due_facts.proofs.Sessions.HoldingsOfSessions.{HeldBy, held_delta, held_end, held_exit, held_itself, held_lease, held_refusal, held_refused, held_removal, held_sent, held_signals, held_stop}
 use Rattle.sl_due_facts.proofs.Sessions.JoinedNumbers.{HasNumbers, JoinsNot, joined_numbers, joins_or_not, wake_not}
 use Rattle.sl_due_facts.proofs.Sessions.NamesAtEnd.{running_unjoined}
-use Rattle.sl_due_facts.specs.Sessions.Promises.{DeltaFactsAreKept, HasDeltaFacts}
+use Rattle.sl_due_facts.specs.Sessions.SessionLaws.{DeltaFactsAreKept, HasDeltaFacts}
 use Rattle.sl_trace.specs.Deltas.{delta_known, delta_of_session, next_after_free, next_after_renewal, next_in_joining, next_on_wake, next_renewal}
 use Rattle.sl_trace.specs.Sessions.{calls_of, free_write, generation_in, generation_of, holders_of, holdings_of, is_active, is_call_of, is_free_purpose, is_joined, is_session_arg, joined_after, joining_session, last_renewal, last_seq, leaving_job, present_sessions, recovery_of, seq_in, session_numbered, sessions}
 use Rattle.sl_trace.specs.declared.delta.DeltaNext.{DeltaNext}
 use Rattle.sl_trace.specs.declared.session.Session.{Session}
 use Rattle.sl_due_facts.specs.Facts.SessionFacts.{DeltaFacts}
-use Rattle.sl_due_facts.specs.Facts.Whole.{Whole}
+use Rattle.sl_due_facts.specs.Facts.AllFacts.{Whole}
 use Rattle.sl_trace.specs.Connections.{is_registered}
 use Rattle.sl_trace.specs.Traces.{Answered, Job, Submitted, is_running, is_shared, job_numbered, job_of, line_in, new_call, next_call, next_child, next_job, running_jobs, submitted, unanswered}
 use Rattle.sl_trace.specs.declared.command.Command.{Command}
@@ -78,7 +78,7 @@ use Rattle.sl_trace.specs.declared.input.Answer.TheVariants.{Read}
 use Rattle.sl_trace.specs.declared.input.Input.TheVariants.{Answer as Told, Exit, Line, Number, Spawned, Wake}
 use Rattle.sl_trace.specs.declared.reply.Reply.{Reply}
 use Rattle.sl_trace.specs.declared.reply.Reply.TheVariants.{BadCommand as Misread, Done, IoFault, IoTimeout, NoProcess, Recovering, SpawnFault}
-use Rattle.sl_trace_law.proofs.Leases.NumberLaws.{number_is_place}
+use Rattle.sl_run_law.proofs.Leases.NumberLaws.{number_is_place}
 use Rattle.sl_words.proofs.CaseLaws.{false_is_true, none_some, some_value, true_is_false}
 use Rattle.sl_words.specs.Bounds.{is_number}
 use Rattle.std.proofs.Common.{ap, arith, inl, inr, refl, subst, sym, ◌∙◌}

@@ -1,12 +1,12 @@
 -- What is known of delta records, but for holdings, is kept by each allowed effect.
-use Rattle.sl_acts.specs.Acts.{Has}
-use Rattle.sl_acts.specs.SoFar.{entry_of}
+use Rattle.sl_due_facts.specs.Acts.Acts.{Has}
+use Rattle.sl_due_facts.specs.Acts.TraceSoFar.{entry_of}
 use Rattle.sl_due.specs.Steps.{Step, add_call_of, add_reply, seen}
 use Rattle.sl_due_facts.proofs.Jobs.CallsStay.{IsLate}
 use Rattle.sl_due_facts.proofs.Jobs.SessionsArePresent.{session_has}
-use Rattle.sl_due_facts.proofs.Parts.CallsGrow.{mine_more, others_stay, same_sessions}
-use Rattle.sl_due_facts.proofs.Parts.EffectsAreTold.{effects_are_told}
-use Rattle.sl_plain.proofs.Options.{some_of}
+use Rattle.sl_due_facts.proofs.AddedEffects.CallsGrow.{mine_more, others_stay, same_sessions}
+use Rattle.sl_due_facts.proofs.AddedEffects.EffectsAreTold.{effects_are_told}
+use Rattle.sl_words.proofs.Options.{some_of}
 use Rattle.sl_sector.specs.declared.sector.DeltaRec.{DeltaRec}
 use Rattle.sl_due_facts.proofs.Sessions.NameEffects.{joined_of, reply_kept_to}
 use Rattle.sl_trace.specs.Sessions.{calls_of, delta_of_record, free_write, generation_in, generation_of, given_number, is_free_purpose, is_join_call, is_join_done, is_joined, joined_after, last_delta, last_seq, leaving_in, leaving_job, seq_in, session_numbered, sessions}

@@ -1,13 +1,13 @@
 -- What each act allows of delta records.
-use Rattle.sl_acts.specs.SoFar.{entry_of}
+use Rattle.sl_due_facts.specs.Acts.TraceSoFar.{entry_of}
 use Rattle.sl_due.specs.Steps.{Step, add_move, add_reply, add_signal, add_start, seen, with_input}
 use Rattle.sl_due_facts.proofs.Jobs.CallsHaveFacts.{find_mapped, sessions_told}
 use Rattle.sl_due_facts.proofs.Jobs.CallsStay.{IsLate, calls_stay}
 use Rattle.sl_due_facts.proofs.Jobs.EffectsAreAllowed.{Allows}
 use Rattle.sl_due_facts.proofs.Jobs.NearlyPlainActs.{AnyMove, AnyStart}
 use Rattle.sl_due_facts.proofs.Jobs.SessionsStand.{joined_then, move_joined, no_members, reply_leaving}
-use Rattle.sl_plain.proofs.Lists.{contains_map, contains_none, find_fails, find_inside, in_map, kept, kept_inside}
-use Rattle.sl_plain.proofs.Options.{none_is, some_of, some_there}
+use Rattle.sl_words.proofs.Lists.{contains_map, contains_none, find_fails, find_inside, in_map, kept, kept_inside}
+use Rattle.sl_words.proofs.Options.{none_is, some_of, some_there}
 use Rattle.sl_sector.specs.declared.sector.DeltaRec.{DeltaRec}
 use Rattle.sl_due_facts.proofs.Sessions.DeltaGrow.{DeltaCall, DeltaPart, DeltaReply, DeltaSince, FreedBefore, GoodDelta, JoinsNone, call_delta, leaving_goes_on, reply_joins_none}
 use Rattle.sl_due_facts.proofs.Sessions.NameEffects.{reply_joins_more}
@@ -23,7 +23,7 @@ use Rattle.sl_trace.specs.declared.effects.Start.{Start}
 use Rattle.sl_trace.specs.declared.input.Input.{Input}
 use Rattle.sl_trace.specs.declared.input.Input.TheVariants.{Answer as Told, Wake}
 use Rattle.sl_trace.specs.declared.reply.Reply.{Reply}
-use Rattle.sl_trace_law.proofs.Sessions.Making.{SameCall, WasOpen, kept_by, same_answered, was_marked}
+use Rattle.sl_run_law.proofs.Sessions.CallsAreMade.{SameCall, WasOpen, kept_by, same_answered, was_marked}
 use Rattle.sl_words.proofs.CaseLaws.{none_some, not_both, one_value}
 use Rattle.sl_words.proofs.WordLaws.{and_true}
 use Rattle.sl_words.specs.Bounds.{is_number}

@@ -1,8 +1,8 @@
 -- Lines keep what is known of delta records.
 use Rattle.sl_due_facts.proofs.Jobs.JobsAreNumbered.{next_before}
-use Rattle.sl_acts.proofs.DecisionsAreTheirs.{Of}
-use Rattle.sl_acts.specs.Acts.{Has, next_of_conversion, next_of_release}
-use Rattle.sl_acts.specs.SoFar.{entry_of}
+use Rattle.sl_due_facts.proofs.Acts.DecisionsAreTheirs.{Of}
+use Rattle.sl_due_facts.specs.Acts.Acts.{Has, next_of_conversion, next_of_release}
+use Rattle.sl_due_facts.specs.Acts.TraceSoFar.{entry_of}
 use Rattle.sl_area.specs.Places.{area_sectors, value_offset}
 use Rattle.sl_due.specs.DueCommands.{after_end, carry_decision}
 use Rattle.sl_due.specs.DueLease.{carry_lease, grant_for}
@@ -23,7 +23,7 @@ use Rattle.sl_due_facts.proofs.Jobs.SessionsStand.{joined_then}
 use Rattle.sl_trace.specs.LeaseWork.{lease_place}
 use Rattle.sl_trace.specs.Leases.{holdings_on, known, spot_of}
 use Rattle.sl_trace.specs.declared.lease.LeaseNext.{LeaseNext}
-use Rattle.sl_plain.proofs.Lists.{got_inside}
+use Rattle.sl_words.proofs.Lists.{got_inside}
 use Rattle.sl_sector.specs.declared.sector.Rec.TheVariants.{ValueIs}
 use Rattle.sl_due_facts.proofs.Sessions.DeltaConditions.{active_unfreed, freed_before, grant_delta, lease_delta, plain_call, plain_reply}
 use Rattle.sl_due_facts.proofs.Sessions.DeltaFactsAreKept.{part, woken_line}
@@ -33,7 +33,7 @@ use Rattle.sl_due_facts.proofs.Sessions.HoldingsOfSessions.{HeldBy, end_held, he
 use Rattle.sl_trace.specs.Sessions.{calls_of, free_write, generation_in, is_active, is_call_of, is_joined, is_session_arg, joined_after, last_renewal, last_seq, leaving_job, removed_after, seq_in, sessions}
 use Rattle.sl_trace.specs.declared.session.Session.{Session}
 use Rattle.sl_due_facts.specs.Facts.SessionFacts.{DeltaFacts}
-use Rattle.sl_due_facts.specs.Facts.Whole.{Whole}
+use Rattle.sl_due_facts.specs.Facts.AllFacts.{Whole}
 use Rattle.sl_trace.specs.Traces.{Job, end_of, next_job, spot_of_grant, submitted}
 use Rattle.sl_trace.specs.declared.command.Command.{Command}
 use Rattle.sl_trace.specs.declared.command.Command.TheVariants.{RemLockspace}

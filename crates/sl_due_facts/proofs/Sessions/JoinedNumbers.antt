@@ -5,9 +5,9 @@ use Rattle.sl_due_facts.proofs.Jobs.RepliesComeAfter.{on_bool, on_option}
 use Rattle.sl_run.specs.Lawful.{Orderly}
 use Rattle.sl_run.specs.LawfulCalls.{LawfulCalls}
 use Rattle.sl_run.specs.LawfulDelta.{LawfulFirstRenewal}
-use Rattle.sl_plain.proofs.Lists.{contains_cases, contains_none, got_inside, kept}
-use Rattle.sl_plain.proofs.Numbers.{number_itself}
-use Rattle.sl_plain.proofs.Options.{then_value}
+use Rattle.sl_words.proofs.Lists.{contains_cases, contains_none, got_inside, kept}
+use Rattle.sl_words.proofs.Numbers.{number_itself}
+use Rattle.sl_words.proofs.Options.{then_value}
 use Rattle.sl_sector.specs.Bitmaps.{no_bits}
 use Rattle.sl_sector.specs.Records.{IsDelta, IsRecord}
 use Rattle.sl_sector.specs.Spelling.{delta_in}
@@ -19,7 +19,7 @@ use Rattle.sl_due_facts.proofs.Sessions.DeltaConditions.{nat_low}
 use Rattle.sl_due_facts.proofs.Sessions.JoiningsGoOn.{AtWork, law_of}
 use Rattle.sl_trace.specs.Deltas.{DeltaLease, claim_of, claim_on, delta_of_session, delta_record, id_held, id_lost, is_watched_out, join_step_of, next_after_deciding, next_after_first, next_after_join_read, next_after_verify, next_after_watch, next_by_time, next_in_joining, next_on_wake, watched}
 use Rattle.sl_trace.specs.Sessions.{calls_of, delta_of_record, generation_of, given_number, is_call_of, is_join_call, last_delta, last_seq}
-use Rattle.sl_trace.specs.Watching.{is_free_state}
+use Rattle.sl_trace.specs.Sightings.{is_free_state}
 use Rattle.sl_trace.specs.declared.delta.DeltaNext.{DeltaNext}
 use Rattle.sl_trace.specs.declared.delta.DeltaNext.TheVariants.{Join, Nothing, ReadOwn, RefuseJoin, RegisterAndRead, WriteClaim, WriteFirst}
 use Rattle.sl_trace.specs.declared.session.Session.{Session}
@@ -34,9 +34,9 @@ use Rattle.sl_trace.specs.declared.input.Answer.{Answer}
 use Rattle.sl_trace.specs.declared.input.Answer.TheVariants.{Failed, Read, Written}
 use Rattle.sl_trace.specs.declared.reply.Limited.TheVariants.{Gen as GenLimit, Seq as SeqLimit}
 use Rattle.sl_trace.specs.declared.reply.Reply.TheVariants.{IdLate, Limit as LimitReached, TornDelta, WrongDelta}
-use Rattle.sl_trace_law.proofs.Sessions.Making.{calls_are_made}
-use Rattle.sl_trace_law.proofs.Sessions.Ordering.{joinings_are_ordered}
-use Rattle.sl_trace_law.specs.Sessions.Promises.{IsMade, front_of, is_ordered, made_as, may_come, may_follow}
+use Rattle.sl_run_law.proofs.Sessions.CallsAreMade.{calls_are_made}
+use Rattle.sl_run_law.proofs.Sessions.JoiningsAreOrdered.{joinings_are_ordered}
+use Rattle.sl_run_law.specs.Sessions.SessionLaws.{IsMade, front_of, is_ordered, made_as, may_come, may_follow}
 use Rattle.sl_words.proofs.CaseLaws.{false_is_true, none_some, some_value}
 use Rattle.sl_words.proofs.WordLaws.{and_true}
 use Rattle.sl_words.specs.Bounds.{is_number}

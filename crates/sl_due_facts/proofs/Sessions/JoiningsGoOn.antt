@@ -1,7 +1,7 @@
 -- A joining that runs goes on: after an answer of it a call is made, or it waits for a wake by the step of its newest call.
-use Rattle.sl_acts.proofs.LoopsKeep.{when_keeps, with_some_keeps}
-use Rattle.sl_acts.specs.Acts.{Has}
-use Rattle.sl_acts.specs.SoFar.{SoFar, entry_of}
+use Rattle.sl_due_facts.proofs.Acts.LoopsKeep.{when_keeps, with_some_keeps}
+use Rattle.sl_due_facts.specs.Acts.Acts.{Has}
+use Rattle.sl_due_facts.specs.Acts.TraceSoFar.{SoFar, entry_of}
 use Rattle.sl_area.specs.Layouts.{record_in, sector_with}
 use Rattle.sl_due.specs.Due.{is_waiting_step}
 use Rattle.sl_due.specs.DueDelta.{carry_delta, for_joining, move_connection, survey, write_own_sector}
@@ -12,10 +12,10 @@ use Rattle.sl_due_facts.proofs.Jobs.RepliesComeAfter.{on_bool}
 use Rattle.sl_due_facts.proofs.Jobs.SessionsHaveJobs.{contains_only}
 use Rattle.sl_due_facts.proofs.Jobs.SessionsStand.{reply_stops}
 use Rattle.sl_run.specs.LawfulDelta.{LawfulClaim, LawfulDeciding, LawfulDeltaCall, LawfulFirstRenewal, LawfulJoinStep, LawfulVerify}
-use Rattle.sl_due_facts.proofs.Parts.CallsGrow.{mine_more}
-use Rattle.sl_plain.proofs.Lists.{contains_cases, contains_none, find_fails, find_inside, head_is, kept, kept_inside}
-use Rattle.sl_plain.proofs.Numbers.{number_itself}
-use Rattle.sl_plain.proofs.Options.{then_value}
+use Rattle.sl_due_facts.proofs.AddedEffects.CallsGrow.{mine_more}
+use Rattle.sl_words.proofs.Lists.{contains_cases, contains_none, find_fails, find_inside, head_is, kept, kept_inside}
+use Rattle.sl_words.proofs.Numbers.{number_itself}
+use Rattle.sl_words.proofs.Options.{then_value}
 use Rattle.sl_sector.specs.Bitmaps.{no_bits}
 use Rattle.sl_sector.specs.Spelling.{delta_in}
 use Rattle.sl_sector.specs.declared.sector.DeltaRec.{DeltaRec}
@@ -41,10 +41,10 @@ use Rattle.sl_trace.specs.declared.input.Answer.TheVariants.{Failed, Read, Writt
 use Rattle.sl_trace.specs.declared.reply.Limited.TheVariants.{Gen as GenLimit, Seq as SeqLimit}
 use Rattle.sl_trace.specs.declared.reply.Reply.{Reply}
 use Rattle.sl_trace.specs.declared.reply.Reply.TheVariants.{Generation, IoFault, Limit as LimitReached}
-use Rattle.sl_trace_law.proofs.Sessions.Fronts.{front_answers_stay}
-use Rattle.sl_trace_law.proofs.Sessions.Ordering.{joinings_are_ordered}
-use Rattle.sl_trace_law.proofs.Sessions.Owning.{calls_were_lawful}
-use Rattle.sl_trace_law.specs.Sessions.Promises.{IsMade, WasLawful, front_of, is_ordered, leads_to, made_as, may_come, may_follow}
+use Rattle.sl_run_law.proofs.Sessions.FrontAnswersStay.{front_answers_stay}
+use Rattle.sl_run_law.proofs.Sessions.JoiningsAreOrdered.{joinings_are_ordered}
+use Rattle.sl_run_law.proofs.Sessions.CallOwners.{calls_were_lawful}
+use Rattle.sl_run_law.specs.Sessions.SessionLaws.{IsMade, WasLawful, front_of, is_ordered, leads_to, made_as, may_come, may_follow}
 use Rattle.sl_words.proofs.CaseLaws.{false_is_true, none_some, not_both}
 use Rattle.sl_words.proofs.WordLaws.{and_true}
 use Rattle.sl_words.specs.Bounds.{is_number}

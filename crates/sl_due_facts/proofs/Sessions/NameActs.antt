@@ -1,8 +1,8 @@
 -- All acts keep what is known of names and joinings.
-use Rattle.sl_acts.proofs.Additions.{contains_at, contains_last}
-use Rattle.sl_acts.proofs.LoopsKeep.{with_some_keeps}
-use Rattle.sl_acts.specs.Acts.{Has}
-use Rattle.sl_acts.specs.SoFar.{entry_of}
+use Rattle.sl_due_facts.proofs.Acts.AddedAtEnd.{contains_at, contains_last}
+use Rattle.sl_due_facts.proofs.Acts.LoopsKeep.{with_some_keeps}
+use Rattle.sl_due_facts.specs.Acts.Acts.{Has}
+use Rattle.sl_due_facts.specs.Acts.TraceSoFar.{entry_of}
 use Rattle.sl_area.specs.Places.{delta_offset}
 use Rattle.sl_due.specs.Due.{is_waiting_step}
 use Rattle.sl_due.specs.DueCommands.{carry_decision}
@@ -16,23 +16,23 @@ use Rattle.sl_due_facts.proofs.Jobs.JobFactsAreKept.{begun_sessions}
 use Rattle.sl_due_facts.proofs.Jobs.NearlyPlainActs.{AnyMove, AnyStart}
 use Rattle.sl_due_facts.proofs.Jobs.RepliesComeAfter.{IsLateDelta}
 use Rattle.sl_due_facts.proofs.Jobs.SessionsArePresent.{present_inside, present_is}
-use Rattle.sl_due_facts.specs.Jobs.Promises.{HasCallFacts}
-use Rattle.sl_due_facts.proofs.Parts.CallsGrow.{mine_more, others_stay}
-use Rattle.sl_due_facts.proofs.Parts.EffectsAreTold.{effects_are_told}
-use Rattle.sl_plain.proofs.Lists.{contains_cases, head_is, kept_inside}
-use Rattle.sl_plain.proofs.Numbers.{number_itself}
-use Rattle.sl_plain.proofs.Options.{none_is, some_of}
+use Rattle.sl_due_facts.specs.Jobs.JobLaws.{HasCallFacts}
+use Rattle.sl_due_facts.proofs.AddedEffects.CallsGrow.{mine_more, others_stay}
+use Rattle.sl_due_facts.proofs.AddedEffects.EffectsAreTold.{effects_are_told}
+use Rattle.sl_words.proofs.Lists.{contains_cases, head_is, kept_inside}
+use Rattle.sl_words.proofs.Numbers.{number_itself}
+use Rattle.sl_words.proofs.Options.{none_is, some_of}
 use Rattle.sl_sector.specs.declared.sector.Rec.TheVariants.{DeltaIs}
 use Rattle.sl_due_facts.proofs.Sessions.NameEffects.{joined_of, present_by, refused_of}
 use Rattle.sl_due_facts.proofs.Sessions.NamesAreAllowed.{Holds, NameCall, NameReply, begin_at, joined_unrefused, names_allow}
 use Rattle.sl_due_facts.proofs.Sessions.NamesGrow.{call_names, input_names, input_present, move_names, reply_names}
-use Rattle.sl_due_facts.specs.Sessions.Promises.{HasNameFacts}
+use Rattle.sl_due_facts.specs.Sessions.SessionLaws.{HasNameFacts}
 use Rattle.sl_trace.specs.Deltas.{own_offset}
 use Rattle.sl_trace.specs.Sessions.{calls_of, is_call_of, is_join_done, is_present, joined_after, joining_session, present_sessions, refused_after, removed_after, session_named, session_numbered, sessions}
 use Rattle.sl_trace.specs.declared.delta.DeltaNext.{DeltaNext}
 use Rattle.sl_trace.specs.declared.delta.DeltaNext.TheVariants.{Disconnect, EndLeaving, Join, MoveConnection, Nothing, ReadOwn, RefuseJoin, RegisterAndRead, WriteClaim, WriteFirst, WriteFree, WriteRenewal}
 use Rattle.sl_trace.specs.declared.session.Session.{Session}
-use Rattle.sl_due_facts.specs.Facts.Heard.{heard_by}
+use Rattle.sl_due_facts.specs.Facts.HeardCall.{heard_by}
 use Rattle.sl_time.specs.Times.{fail}
 use Rattle.sl_trace.specs.Traces.{Answered, Replied, Submitted, Trace, is_ok_answer, is_running, is_write, new_call, next_call, next_job, reply_to, submitted, unanswered}
 use Rattle.sl_trace.specs.declared.command.Command.{Command}
@@ -46,8 +46,8 @@ use Rattle.sl_trace.specs.declared.effects.Purpose.TheVariants.{Joining, Renewal
 use Rattle.sl_trace.specs.declared.input.Input.TheVariants.{Line, Wake}
 use Rattle.sl_trace.specs.declared.reply.Reply.{Reply}
 use Rattle.sl_trace.specs.declared.reply.Reply.TheVariants.{Generation}
-use Rattle.sl_trace_law.proofs.Leases.NumberLaws.{number_is_place}
-use Rattle.sl_trace_law.proofs.Sessions.Naming.{absent}
+use Rattle.sl_run_law.proofs.Leases.NumberLaws.{number_is_place}
+use Rattle.sl_run_law.proofs.Sessions.SessionNames.{absent}
 use Rattle.sl_words.proofs.CaseLaws.{false_is_true, none_some, some_value}
 use Rattle.sl_words.specs.Words.{choose, is_empty}
 use Rattle.std.proofs.Common.{ap, arith, inl, inr, refl, subst, sym, ◌∙◌}

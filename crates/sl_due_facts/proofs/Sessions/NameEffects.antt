@@ -1,10 +1,10 @@
 -- What is known of names and joinings is kept by each effect, but by a call of a session that was refused.
-use Rattle.sl_acts.specs.SoFar.{entry_of}
+use Rattle.sl_due_facts.specs.Acts.TraceSoFar.{entry_of}
 use Rattle.sl_due.specs.Steps.{Step, add_call_of, add_move, add_reply, seen}
 use Rattle.sl_due_facts.proofs.Jobs.SessionsStand.{move_joined}
-use Rattle.sl_due_facts.proofs.Parts.CallsGrow.{others_stay}
-use Rattle.sl_plain.proofs.Options.{then_value}
-use Rattle.sl_plain.proofs.Truth.{or_false}
+use Rattle.sl_due_facts.proofs.AddedEffects.CallsGrow.{others_stay}
+use Rattle.sl_words.proofs.Options.{then_value}
+use Rattle.sl_words.proofs.Truth.{or_false}
 use Rattle.sl_trace.specs.Sessions.{calls_of, has_open_write, is_call_of, is_join_done, is_joined, is_present, joined_after, refused_after, removed_after}
 use Rattle.sl_trace.specs.declared.session.Session.{Session}
 use Rattle.sl_trace.specs.Traces.{Replied, Submitted, Trace, is_write, next_call, reply_in, reply_to, submitted, unanswered}
@@ -14,7 +14,7 @@ use Rattle.sl_trace.specs.declared.effects.Move.{Move}
 use Rattle.sl_trace.specs.declared.effects.Op.{Op}
 use Rattle.sl_trace.specs.declared.effects.Purpose.{Purpose}
 use Rattle.sl_trace.specs.declared.reply.Reply.{Reply}
-use Rattle.sl_trace_law.proofs.Sessions.Staying.{refused_apart}
+use Rattle.sl_run_law.proofs.Sessions.MarksStay.{refused_apart}
 use Rattle.sl_words.proofs.CaseLaws.{none_some}
 use Rattle.sl_words.proofs.WordLaws.{and_true}
 use Rattle.sl_words.specs.Words.{choose}

@@ -1,9 +1,9 @@
 -- What is known of names and joinings is kept by each act, and holds once a step has begun.
-use Rattle.sl_acts.proofs.DecisionsAreTheirs.{Of}
-use Rattle.sl_acts.proofs.InputsKeep.{has_heard}
-use Rattle.sl_acts.proofs.LoopsKeep.{for_each_keeps, when_keeps}
-use Rattle.sl_acts.proofs.PlainActs.{line_has}
-use Rattle.sl_acts.specs.Acts.{Has, next_of_settling}
+use Rattle.sl_due_facts.proofs.Acts.DecisionsAreTheirs.{Of}
+use Rattle.sl_due_facts.proofs.Acts.InputsKeep.{has_heard}
+use Rattle.sl_due_facts.proofs.Acts.LoopsKeep.{for_each_keeps, when_keeps}
+use Rattle.sl_due_facts.proofs.Acts.PlainActs.{line_has}
+use Rattle.sl_due_facts.specs.Acts.Acts.{Has, next_of_settling}
 use Rattle.sl_area.specs.Places.{request_offset}
 use Rattle.sl_due.specs.DueAnswers.{set_reply}
 use Rattle.sl_due.specs.DueCommands.{carry_decision, decided}
@@ -31,19 +31,19 @@ use Rattle.sl_trace.specs.Jobs.{job_of_start}
 use Rattle.sl_trace.specs.LeaseWork.{lease_place}
 use Rattle.sl_trace.specs.Leases.{holdings_on, known, lver_written, spot_of_call}
 use Rattle.sl_trace.specs.declared.lease.LeaseNext.{LeaseNext}
-use Rattle.sl_plain.proofs.Lists.{find_inside, kept_inside}
+use Rattle.sl_words.proofs.Lists.{find_inside, kept_inside}
 use Rattle.sl_due_facts.proofs.Sessions.NameActs.{begun_named, joining_named}
 use Rattle.sl_due_facts.proofs.Sessions.NameEffects.{present_by}
 use Rattle.sl_due_facts.proofs.Sessions.NamesAreAllowed.{Holds, NameCall, NameReply, active_joined, begin_at, decision_named, free_named, freed_named, heard_joined, joined_unrefused, lease_named, names_allow, renewal_named, renewed_named, request_named}
 use Rattle.sl_due_facts.proofs.Sessions.NamesGrow.{call_names, input_names, reply_names}
-use Rattle.sl_due_facts.specs.Sessions.Promises.{HasNameFacts, NameFactsAreKept, NameFactsBegin}
+use Rattle.sl_due_facts.specs.Sessions.SessionLaws.{HasNameFacts, NameFactsAreKept, NameFactsBegin}
 use Rattle.sl_trace.specs.Deltas.{delta_known, delta_of_session, next_after_free, next_after_renewal, next_free, next_in_joining, next_on_wake, next_renewal}
 use Rattle.sl_trace.specs.Sessions.{calls_of, generation_of, has_open_write, holdings_of, is_join_done, is_joined, is_present, joined_after, last_renewal, present_sessions, recovery_of, refused_after, removed_after, session_numbered, sessions}
 use Rattle.sl_trace.specs.declared.delta.DeltaNext.{DeltaNext}
 use Rattle.sl_trace.specs.declared.session.Session.{Session}
-use Rattle.sl_due_facts.specs.Facts.Heard.{heard_by}
+use Rattle.sl_due_facts.specs.Facts.HeardCall.{heard_by}
 use Rattle.sl_due_facts.specs.Facts.SessionFacts.{NameFacts}
-use Rattle.sl_due_facts.specs.Facts.Whole.{Whole}
+use Rattle.sl_due_facts.specs.Facts.AllFacts.{Whole}
 use Rattle.sl_trace.specs.Traces.{Replied, Setting, Submitted, Trace, holdings, is_shared, job_of, next_job, no_effects, reply_to, same_place, submitted}
 use Rattle.sl_trace.specs.declared.command.Command.{Command}
 use Rattle.sl_trace.specs.declared.command.LockspaceArg.{LockspaceArg}

@@ -1,8 +1,8 @@
 -- At the end of an answer's entry no joining waits for what the answer makes due.
-use Rattle.sl_acts.proofs.InputsKeep.{has_heard}
-use Rattle.sl_acts.proofs.LoopsKeep.{when_keeps}
-use Rattle.sl_acts.specs.Acts.{Has, Hears, IsIdle, lone_job}
-use Rattle.sl_acts.specs.SoFar.{entry_of}
+use Rattle.sl_due_facts.proofs.Acts.InputsKeep.{has_heard}
+use Rattle.sl_due_facts.proofs.Acts.LoopsKeep.{when_keeps}
+use Rattle.sl_due_facts.specs.Acts.Acts.{Has, Hears, IsIdle, lone_job}
+use Rattle.sl_due_facts.specs.Acts.TraceSoFar.{entry_of}
 use Rattle.sl_area.specs.Places.{request_offset}
 use Rattle.sl_due.specs.Due.{is_waiting_step}
 use Rattle.sl_due.specs.DueAnswers.{set_reply}
@@ -23,8 +23,8 @@ use Rattle.sl_due_facts.proofs.Jobs.SessionsStand.{joined_then}
 use Rattle.sl_trace.specs.LeaseWork.{lease_place}
 use Rattle.sl_trace.specs.Leases.{holdings_on, known, lver_written, spot_of_call}
 use Rattle.sl_trace.specs.declared.lease.LeaseNext.{LeaseNext}
-use Rattle.sl_plain.proofs.Lists.{any_found, contains_first, contains_map, find_inside, kept_inside}
-use Rattle.sl_plain.proofs.Options.{none_is, some_of}
+use Rattle.sl_words.proofs.Lists.{any_found, contains_first, contains_map, find_inside, kept_inside}
+use Rattle.sl_words.proofs.Options.{none_is, some_of}
 use Rattle.sl_sector.specs.Bitmaps.{no_bits}
 use Rattle.sl_sector.specs.declared.sector.DeltaRec.{DeltaRec}
 use Rattle.sl_sector.specs.declared.sector.DeltaState.TheVariants.{Free}
@@ -36,15 +36,15 @@ use Rattle.sl_due_facts.proofs.Sessions.NameFactsAreKept.{holder_joined, name_fa
 use Rattle.sl_due_facts.proofs.Sessions.NamesAreAllowed.{NameCall, NameReply, freed_named, heard_joined, is_joining, joined_unrefused, lease_named, renewed_named, request_named}
 use Rattle.sl_due_facts.proofs.Sessions.NamesAtEnd.{Growing, Grown, HeardJoining, below_of, growing_itself, grown, grows, grows_joining, grows_named, heard_is, plain_names, plain_other, running_unjoined}
 use Rattle.sl_due_facts.proofs.Sessions.NamesGrow.{call_names, move_names, reply_names}
-use Rattle.sl_due_facts.specs.Sessions.Promises.{HasNameFacts, HasNamesPlainly, NameFactsConclude}
+use Rattle.sl_due_facts.specs.Sessions.SessionLaws.{HasNameFacts, HasNamesPlainly, NameFactsConclude}
 use Rattle.sl_trace.specs.Deltas.{delta_known, delta_of_session, delta_record, next_after_free, next_after_renewal, next_free, next_in_joining, own_offset}
 use Rattle.sl_trace.specs.Sessions.{calls_of, generation_of, has_open_write, is_call_of, is_join_call, is_joined, is_present, joined_after, last_renewal, recovery_of, refused_after, removed_after, session_numbered}
 use Rattle.sl_trace.specs.declared.delta.DeltaKnown.{DeltaKnown}
 use Rattle.sl_trace.specs.declared.delta.DeltaNext.{DeltaNext}
 use Rattle.sl_trace.specs.declared.delta.DeltaNext.TheVariants.{Nothing, WriteFree}
 use Rattle.sl_trace.specs.declared.session.Session.{Session}
-use Rattle.sl_due_facts.specs.Facts.Heard.{heard_by}
-use Rattle.sl_due_facts.specs.Facts.Whole.{Whole}
+use Rattle.sl_due_facts.specs.Facts.HeardCall.{heard_by}
+use Rattle.sl_due_facts.specs.Facts.AllFacts.{Whole}
 use Rattle.sl_trace.specs.Connections.{is_registered}
 use Rattle.sl_trace.specs.Traces.{Answered, Submitted, answer_of, answered_in, call_numbered, is_answer_for, is_expected, is_ok_answer, is_running, is_shared, job_of, outstanding, submitted}
 use Rattle.sl_trace.specs.declared.effects.Call.{Call}
@@ -61,8 +61,8 @@ use Rattle.sl_trace.specs.declared.input.Answer.TheVariants.{Failed, Read, Writt
 use Rattle.sl_trace.specs.declared.input.Input.TheVariants.{Answer as Told, Wake}
 use Rattle.sl_trace.specs.declared.reply.Reply.{Reply}
 use Rattle.sl_trace.specs.declared.reply.Reply.TheVariants.{Done, IoFault, Recovering}
-use Rattle.sl_trace_law.proofs.Leases.NumberLaws.{number_is_place}
-use Rattle.sl_trace_law.proofs.Sessions.Making.{same_answered}
+use Rattle.sl_run_law.proofs.Leases.NumberLaws.{number_is_place}
+use Rattle.sl_run_law.proofs.Sessions.CallsAreMade.{same_answered}
 use Rattle.sl_words.proofs.CaseLaws.{false_is_true, none_some, not_both, one_value, some_value}
 use Rattle.sl_words.proofs.WordLaws.{and_true}
 use Rattle.std.proofs.Common.{ap, refl, subst, sym, ◌∙◌}

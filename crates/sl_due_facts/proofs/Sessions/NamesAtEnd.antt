@@ -1,6 +1,6 @@
 -- Where all that an answer makes due is done, a joining that runs has had no call refused, and where its newest call is answered it waits.
-use Rattle.sl_acts.specs.Acts.{Has, Hears}
-use Rattle.sl_acts.specs.SoFar.{entry_of}
+use Rattle.sl_due_facts.specs.Acts.Acts.{Has, Hears}
+use Rattle.sl_due_facts.specs.Acts.TraceSoFar.{entry_of}
 use Rattle.sl_due.specs.Due.{is_waiting_step}
 use Rattle.sl_due.specs.Steps.{Step, add_call_of, seen}
 use Rattle.sl_due_facts.proofs.Jobs.CallsStay.{IsLate, calls_stay, is_special, late_join}
@@ -9,20 +9,20 @@ use Rattle.sl_due_facts.proofs.Jobs.NearlyPlainActs.{AnyMove, AnyStart}
 use Rattle.sl_due_facts.proofs.Jobs.RepliesComeAfter.{IsLateDelta}
 use Rattle.sl_due_facts.proofs.Jobs.SessionsArePresent.{session_has}
 use Rattle.sl_due_facts.proofs.Jobs.SessionsStand.{running_before}
-use Rattle.sl_due_facts.specs.Jobs.Promises.{HasCallFacts}
-use Rattle.sl_due_facts.proofs.Parts.CallsGrow.{same_sessions}
-use Rattle.sl_plain.proofs.Lists.{contains_cases, contains_first, find_inside, kept, kept_inside}
-use Rattle.sl_plain.proofs.Numbers.{number_itself}
-use Rattle.sl_plain.proofs.Options.{none_is}
+use Rattle.sl_due_facts.specs.Jobs.JobLaws.{HasCallFacts}
+use Rattle.sl_due_facts.proofs.AddedEffects.CallsGrow.{same_sessions}
+use Rattle.sl_words.proofs.Lists.{contains_cases, contains_first, find_inside, kept, kept_inside}
+use Rattle.sl_words.proofs.Numbers.{number_itself}
+use Rattle.sl_words.proofs.Options.{none_is}
 use Rattle.sl_due_facts.proofs.Sessions.NameEffects.{joined_of}
 use Rattle.sl_due_facts.proofs.Sessions.NamesAreAllowed.{NameCall, NameReply, caller_joined, is_joining}
-use Rattle.sl_due_facts.specs.Sessions.Promises.{HasNameFacts, HasNamesPlainly}
+use Rattle.sl_due_facts.specs.Sessions.SessionLaws.{HasNameFacts, HasNamesPlainly}
 use Rattle.sl_trace.specs.Sessions.{calls_of, is_call_of, is_join_call, is_join_done, joined_after, sessions}
 use Rattle.sl_trace.specs.declared.delta.DeltaNext.{DeltaNext}
 use Rattle.sl_trace.specs.declared.delta.DeltaNext.TheVariants.{Disconnect, EndLeaving, Join, MoveConnection, Nothing, ReadOwn, RefuseJoin, RegisterAndRead, WriteClaim, WriteFirst, WriteFree, WriteRenewal}
 use Rattle.sl_trace.specs.declared.session.Session.{Session}
-use Rattle.sl_due_facts.specs.Facts.Heard.{heard_by}
-use Rattle.sl_due_facts.specs.Facts.Whole.{Whole}
+use Rattle.sl_due_facts.specs.Facts.HeardCall.{heard_by}
+use Rattle.sl_due_facts.specs.Facts.AllFacts.{Whole}
 use Rattle.sl_trace.proofs.TraceFacts.{submitted-push}
 use Rattle.sl_trace.specs.Traces.{Answered, Replied, Setting, Submitted, Trace, call_numbered, is_before_input, is_ok_answer, is_running, job_of, new_call, next_call, reply_to, submitted}
 use Rattle.sl_trace.specs.declared.effects.Call.{Call}

@@ -1,20 +1,20 @@
 -- What is known of names and joinings is kept by each allowed effect and by the input.
-use Rattle.sl_acts.specs.Acts.{Has}
-use Rattle.sl_acts.specs.SoFar.{entry_of}
+use Rattle.sl_due_facts.specs.Acts.Acts.{Has}
+use Rattle.sl_due_facts.specs.Acts.TraceSoFar.{entry_of}
 use Rattle.sl_due.specs.Due.{is_waiting_step}
 use Rattle.sl_due.specs.Steps.{Step, add_call_of, add_move, add_reply, seen, with_input}
 use Rattle.sl_due_facts.proofs.Jobs.CallsHaveFacts.{calls_before, calls_told, sessions_told}
 use Rattle.sl_due_facts.proofs.Jobs.CallsStay.{IsLate, calls_stay}
 use Rattle.sl_due_facts.proofs.Jobs.SessionsArePresent.{present_inside, present_is, session_has}
 use Rattle.sl_due_facts.proofs.Jobs.SessionsStand.{running_before}
-use Rattle.sl_due_facts.proofs.Parts.CallsGrow.{mine_more, others_stay, same_sessions}
-use Rattle.sl_plain.proofs.Lists.{any_found, any_of, contains_cases, contains_first, contains_none, head_is, in_map, kept, kept_inside}
-use Rattle.sl_plain.proofs.Options.{none_is}
+use Rattle.sl_due_facts.proofs.AddedEffects.CallsGrow.{mine_more, others_stay, same_sessions}
+use Rattle.sl_words.proofs.Lists.{any_found, any_of, contains_cases, contains_first, contains_none, head_is, in_map, kept, kept_inside}
+use Rattle.sl_words.proofs.Options.{none_is}
 use Rattle.sl_due_facts.proofs.Sessions.NameEffects.{call_present, move_present, present_by, reply_present}
-use Rattle.sl_due_facts.specs.Sessions.Promises.{HasNameFacts}
+use Rattle.sl_due_facts.specs.Sessions.SessionLaws.{HasNameFacts}
 use Rattle.sl_trace.specs.Sessions.{calls_of, has_open_write, is_call_of, is_join_call, is_present, joined_after, present_sessions, refused_after, removed_after, session_numbered, sessions}
 use Rattle.sl_trace.specs.declared.session.Session.{Session}
-use Rattle.sl_due_facts.specs.Facts.Heard.{heard_by}
+use Rattle.sl_due_facts.specs.Facts.HeardCall.{heard_by}
 use Rattle.sl_due_facts.specs.Facts.SessionFacts.{NameFacts}
 use Rattle.sl_trace.specs.Traces.{Answered, Submitted, Trace, answer_of, answered_in, is_ok_answer, is_running, is_write, mark, new_call, next_call, submitted, unanswered}
 use Rattle.sl_trace.specs.declared.effects.Call.{Call}
@@ -27,7 +27,7 @@ use Rattle.sl_trace.specs.declared.input.Answer.{Answer}
 use Rattle.sl_trace.specs.declared.input.Input.{Input}
 use Rattle.sl_trace.specs.declared.input.Input.TheVariants.{Answer as Told, Exit, Line, Number, Spawned, Wake}
 use Rattle.sl_trace.specs.declared.reply.Reply.{Reply}
-use Rattle.sl_trace_law.proofs.Sessions.Making.{WasOpen, same_answered, was_marked}
+use Rattle.sl_run_law.proofs.Sessions.CallsAreMade.{WasOpen, same_answered, was_marked}
 use Rattle.sl_words.proofs.CaseLaws.{false_is_true, none_some, one_value, true_is_false}
 use Rattle.sl_words.specs.Words.{is_empty}
 use Rattle.std.proofs.Common.{ap, inl, inr, refl, subst, sym, ◌∙◌}

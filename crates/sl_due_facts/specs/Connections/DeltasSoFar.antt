@@ -1,15 +1,15 @@
 -- What the calls of the entry so far keep to on delta sectors, and what is known where one more is made.
-use Rattle.sl_acts.specs.Acts.{Acts}
-use Rattle.sl_acts.specs.SoFar.{entry_of}
+use Rattle.sl_due_facts.specs.Acts.Acts.{Acts}
+use Rattle.sl_due_facts.specs.Acts.TraceSoFar.{entry_of}
 use Rattle.sl_due.specs.Steps.{Step}
-use Rattle.sl_due_facts.specs.Jobs.Promises.{BeginsWith}
+use Rattle.sl_due_facts.specs.Jobs.JobLaws.{BeginsWith}
 use Rattle.sl_run.specs.LawfulDelta.{LawfulDeltaCall, is_on_own_sector}
-use Rattle.sl_run.specs.Saying.{EachCall}
+use Rattle.sl_run.specs.LawForms.{EachCall}
 use Rattle.sl_due_facts.specs.Connections.WatchFacts.{HasWatchFacts}
 use Rattle.sl_trace.specs.Sessions.{has_open_delta, is_delta_purpose, is_join_call, is_survey_purpose, joined_after, recovery_of}
 use Rattle.sl_trace.specs.declared.session.Session.{Session}
 use Rattle.sl_due_facts.specs.Facts.SessionFacts.{ConnectionFacts, NameFacts}
-use Rattle.sl_due_facts.specs.Facts.Whole.{Whole}
+use Rattle.sl_due_facts.specs.Facts.AllFacts.{Whole}
 use Rattle.sl_trace.specs.Traces.{Setting, Submitted, Trace}
 use Rattle.sl_trace.specs.declared.effects.JoinStep.TheVariants.{FirstRead}
 use Rattle.std.specs.Prelude.{IsTrue, None, false, not, ◌&&◌, ◌≡◌}

@@ -7,7 +7,7 @@ use Rattle.sl_trace.specs.declared.lease.Aim.TheVariants.{Acquires, Converts}
 use Rattle.sl_sector.specs.declared.sector.Block.{Block}
 use Rattle.sl_trace.specs.Sessions.{generation_of, me, session_numbered}
 use Rattle.sl_trace.specs.declared.session.Session.{Session}
-use Rattle.sl_due_facts.specs.Facts.Heard.{newest_calls}
+use Rattle.sl_due_facts.specs.Facts.HeardCall.{newest_calls}
 use Rattle.sl_due_facts.specs.Facts.HoldingFacts.{StandsExclusive}
 use Rattle.sl_due_facts.specs.Facts.WorkFacts.{IsAtWork}
 use Rattle.sl_trace.specs.Traces.{Answered, Setting, Submitted, Trace}

@@ -3,7 +3,7 @@ use Rattle.sl_trace.specs.Jobs.{aim_of_command, command_numbered, resource_named
 use Rattle.sl_trace.specs.Leases.{spot_of, spot_of_call}
 use Rattle.sl_trace.specs.Sessions.{is_session_arg, joining_session, session_numbered, sessions}
 use Rattle.sl_trace.specs.declared.session.Session.{Session}
-use Rattle.sl_due_facts.specs.Facts.Heard.{IsOpen}
+use Rattle.sl_due_facts.specs.Facts.HeardCall.{IsOpen}
 use Rattle.sl_trace.specs.Traces.{Child, Setting, Submitted, Trace, children, is_running, job_numbered, job_of, submitted}
 use Rattle.sl_trace.specs.declared.command.Command.TheVariants.{AddLockspace, GetLvb, RemLockspace, Request, RunProgram, SetLvb}
 use Rattle.sl_trace.specs.declared.command.Command.{Command}

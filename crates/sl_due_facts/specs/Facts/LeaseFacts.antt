@@ -4,7 +4,7 @@ use Rattle.sl_trace.specs.Leases.{block_submitted, freed, is_lease_call, lease_c
 use Rattle.sl_sector.specs.declared.sector.Block.{Block}
 use Rattle.sl_trace.specs.Sessions.{session_numbered, sessions}
 use Rattle.sl_trace.specs.declared.session.Session.{Session}
-use Rattle.sl_due_facts.specs.Facts.Heard.{IsOpen}
+use Rattle.sl_due_facts.specs.Facts.HeardCall.{IsOpen}
 use Rattle.sl_due_facts.specs.Facts.WayFacts.{IsAligned}
 use Rattle.sl_trace.specs.Traces.{Setting, Submitted, Trace, submitted}
 use Rattle.sl_trace.specs.declared.effects.Spot.{Spot}

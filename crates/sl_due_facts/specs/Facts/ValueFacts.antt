@@ -4,7 +4,7 @@ use Rattle.sl_trace.specs.Jobs.{command_numbered}
 use Rattle.sl_trace.specs.Leases.{holdings_on, spot_of_call}
 use Rattle.sl_trace.specs.Sessions.{session_numbered}
 use Rattle.sl_trace.specs.declared.session.Session.{Session}
-use Rattle.sl_due_facts.specs.Facts.Heard.{IsOpen}
+use Rattle.sl_due_facts.specs.Facts.HeardCall.{IsOpen}
 use Rattle.sl_trace.specs.Traces.{Child, Setting, Submitted, Trace, child_numbered, children, first_child, is_running, submitted}
 use Rattle.sl_trace.specs.declared.command.Command.TheVariants.{GetLvb}
 use Rattle.sl_trace.specs.declared.command.ResourceArg.{ResourceArg}

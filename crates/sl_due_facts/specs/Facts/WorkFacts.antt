@@ -7,7 +7,7 @@ use Rattle.sl_trace.specs.declared.lease.Aim.TheVariants.{Acquires, Converts, Re
 use Rattle.sl_trace.specs.declared.lease.Aim.{Aim}
 use Rattle.sl_trace.specs.Sessions.{session_numbered}
 use Rattle.sl_trace.specs.declared.session.Session.{Session}
-use Rattle.sl_due_facts.specs.Facts.Heard.{newest_calls}
+use Rattle.sl_due_facts.specs.Facts.HeardCall.{newest_calls}
 use Rattle.sl_trace.specs.Traces.{Setting, Submitted, Trace, holdings, is_running, is_shared, next_child, same_place, submitted}
 use Rattle.sl_trace.specs.declared.command.Command.{Command}
 use Rattle.sl_trace.specs.declared.effects.Grant.{Grant}

@@ -5,9 +5,9 @@
 //! connection goes when its claim was answered, when it is refused with no write unanswered, and when it ends
 //! (`Connections::ConnectionsChange`). No two sessions of one name are present, so no act touches another's connection.
 
-ghost use Rattle.sl_due_facts.specs.Connections.DeltaPromises.{ClaimsAreLawful, FirstRenewalsAreLawful, FreeIsDecided, FreesAreLawful, JoinedSurveysAreLawful, JoinsAreLawful, JoinsBegin, LooksAreLawful, NothingWasRead, RenewalsAreLawful, RenewedSurveysAreLawful, VerifiesAreLawful, WatchFactsAreKept, WatchFactsBegin, WatchFactsConclude, WatchedIsDecided, WatchesAreLawful};
+ghost use Rattle.sl_due_facts.specs.Connections.DeltaLaws.{ClaimsAreLawful, FirstRenewalsAreLawful, FreeIsDecided, FreesAreLawful, JoinedSurveysAreLawful, JoinsAreLawful, JoinsBegin, LooksAreLawful, NothingWasRead, RenewalsAreLawful, RenewedSurveysAreLawful, VerifiesAreLawful, WatchFactsAreKept, WatchFactsBegin, WatchFactsConclude, WatchedIsDecided, WatchesAreLawful};
 ghost use Rattle.sl_due_facts.specs.Connections.DeltasSoFar.{CallsAreKept, CallsBegin};
-ghost use Rattle.sl_due_facts.specs.Connections.Promises.{ConnectionFactsAreKept, ConnectionFactsBegin, ConnectionFactsConclude, MovesAreKept, MovesBegin, WatchdogIsLawful};
+ghost use Rattle.sl_due_facts.specs.Connections.ConnectionLaws.{ConnectionFactsAreKept, ConnectionFactsBegin, ConnectionFactsConclude, MovesAreKept, MovesBegin, WatchdogIsLawful};
 
 /// After each act a name is registered just where a session of it is covered, and no connection outlasts what its session may do.
 pub fn connection_facts_are_kept()

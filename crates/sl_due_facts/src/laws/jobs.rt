@@ -7,7 +7,7 @@
 //! what each act allows: of an answer, since its call was the job's only one and is answered now; of a line, since its job is new; of a
 //! joining on a wake, since its calls come in turn; of a leaving's free, since no call of its session is unanswered.
 
-ghost use Rattle.sl_due_facts.specs.Jobs.Promises.{CallFactsAreKept, CallFactsBegin, EntriesBegin, EntriesFollow, JobFactsAreKept, JobFactsBegin, QuietFactsAreKept, QuietFactsBegin, QuietFactsConclude};
+ghost use Rattle.sl_due_facts.specs.Jobs.JobLaws.{CallFactsAreKept, CallFactsBegin, EntriesBegin, EntriesFollow, JobFactsAreKept, JobFactsBegin, QuietFactsAreKept, QuietFactsBegin, QuietFactsConclude};
 
 /// The entry so far follows the trace before it, after each act.
 pub fn entries_follow()

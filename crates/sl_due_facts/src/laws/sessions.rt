@@ -9,7 +9,7 @@
 //! for it from then on, and no grant is made in it (`Sessions::DeltaFactsHold`). What a joined session writes next to its delta record is what
 //! it wrote last and one more, and that is a number as long as it is a session (`Sessions::JoinedNumbers`).
 
-ghost use Rattle.sl_due_facts.specs.Sessions.Promises.{DeltaFactsAreKept, DeltaFactsBegin, NameFactsAreKept, NameFactsBegin, NameFactsConclude};
+ghost use Rattle.sl_due_facts.specs.Sessions.SessionLaws.{DeltaFactsAreKept, DeltaFactsBegin, NameFactsAreKept, NameFactsBegin, NameFactsConclude};
 
 /// No two sessions that are present have one name, and a joining that runs goes on, after each act.
 pub fn name_facts_are_kept()

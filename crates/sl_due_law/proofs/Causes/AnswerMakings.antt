@@ -1,6 +1,6 @@
 -- What an answer makes for the job of its call: calls of the lease, grants, the start of a program, the write of a request.
-use Rattle.sl_acts.specs.Acts.{Hears}
-use Rattle.sl_acts.specs.SoFar.{entry_of}
+use Rattle.sl_due_facts.specs.Acts.Acts.{Hears}
+use Rattle.sl_due_facts.specs.Acts.TraceSoFar.{entry_of}
 use Rattle.sl_area.specs.Layouts.{Layout}
 use Rattle.sl_area.specs.Places.{block_place, block_record, leader_of, leader_offset, leader_record, read_at}
 use Rattle.sl_due.specs.DueLease.{carry_lease, convert_for, convert_holding, grant_for, held_otherwise, name_on, next_of_lease, next_turn, with_command}
@@ -14,8 +14,8 @@ use Rattle.sl_due_facts.proofs.Connections.HeardCalls.{heard_before}
 use Rattle.sl_due_leases.proofs.Holdings.LeaseNexts.{IsFitNext, IsGrantOf, next_fits}
 use Rattle.sl_due_law.specs.Causes.CauseFacts.{ChildFacts, IsTold}
 use Rattle.sl_due_law.specs.Causes.Makings.{By_answer, By_line, FromJob, MadeSoFar}
-use Rattle.sl_due_facts.specs.Facts.Heard.{heard_by}
-use Rattle.sl_due_facts.specs.Facts.Whole.{Whole}
+use Rattle.sl_due_facts.specs.Facts.HeardCall.{heard_by}
+use Rattle.sl_due_facts.specs.Facts.AllFacts.{Whole}
 use Rattle.sl_due_leases.specs.Holdings.Moments.{Known}
 use Rattle.sl_run.specs.Caused.{IsAccepted}
 use Rattle.sl_trace.specs.Jobs.{aim_of, aim_of_command, command_numbered, command_of, process_named}
@@ -25,7 +25,7 @@ use Rattle.sl_trace.specs.declared.lease.Aim.{Aim}
 use Rattle.sl_trace.specs.declared.lease.Aim.TheVariants.{Acquires}
 use Rattle.sl_trace.specs.declared.lease.LeaseNext.{LeaseNext}
 use Rattle.sl_trace.specs.declared.lease.LeaseNext.TheVariants.{AnswerJob, BecomeExclusive, BecomeShared, GrantJob, Nothing as No_lease, ReadFor, WriteBlock, WriteLeader}
-use Rattle.sl_plain.proofs.Lists.{find_inside}
+use Rattle.sl_words.proofs.Lists.{find_inside}
 use Rattle.sl_request.specs.Requests.{check_request}
 use Rattle.sl_sector.specs.Spelling.{request_in}
 use Rattle.sl_sector.specs.declared.sector.Leader.{Leader}
@@ -52,7 +52,7 @@ use Rattle.sl_trace.specs.declared.input.Answer.TheVariants.{Read, Written}
 use Rattle.sl_trace.specs.declared.input.Input.TheVariants.{Answer as Told}
 use Rattle.sl_trace.specs.declared.reply.Reply.{Reply}
 use Rattle.sl_trace.specs.declared.reply.Reply.TheVariants.{RequestOld, TornLeader, WrongArea}
-use Rattle.sl_trace_law.proofs.Sessions.Making.{same_answered}
+use Rattle.sl_run_law.proofs.Sessions.CallsAreMade.{same_answered}
 use Rattle.sl_words.proofs.CaseLaws.{none_some, some_value, true_is_false}
 use Rattle.sl_words.proofs.OptionLaws.{choose_none}
 use Rattle.sl_words.proofs.WordLaws.{and_true}

@@ -1,7 +1,7 @@
 -- The job that is answered, and the call whose answer does it, at each later step of the entry.
 use Rattle.sl_words.proofs.CaseLaws.{false_is_true}
 use Rattle.sl_trace.specs.declared.effects.Entry.{Entry}
-use Rattle.sl_acts.specs.Acts.{Hears}
+use Rattle.sl_due_facts.specs.Acts.Acts.{Hears}
 use Rattle.sl_due_law.specs.Causes.CausedSoFar.{IsCarried, IsLater, answering}
 use Rattle.sl_due.specs.Steps.{Step, seen}
 use Rattle.sl_due_leases.proofs.Holdings.LeaseCallers.{heard_answered, heard_call}
@@ -9,11 +9,11 @@ use Rattle.sl_due_leases.specs.Holdings.Moments.{Known}
 use Rattle.sl_due_facts.proofs.Jobs.JobFactsGrow.{contains_right}
 use Rattle.sl_due_facts.proofs.Jobs.JobsAreNumbered.{command_read}
 use Rattle.sl_run.specs.Caused.{AnswersCall, Answering, WithSpot, job_command}
-use Rattle.sl_run.specs.Saying.{IsAnsweredAt}
+use Rattle.sl_run.specs.LawForms.{IsAnsweredAt}
 use Rattle.sl_trace.specs.Jobs.{command_numbered, command_of, resource_named}
 use Rattle.sl_trace.specs.Leases.{spot_of}
-use Rattle.sl_plain.proofs.Lists.{find_inside}
-use Rattle.sl_plain.proofs.Numbers.{number_itself}
+use Rattle.sl_words.proofs.Lists.{find_inside}
+use Rattle.sl_words.proofs.Numbers.{number_itself}
 use Rattle.sl_trace.specs.declared.session.Session.{Session}
 use Rattle.sl_trace.specs.Traces.{Job, Replied, Setting, Submitted, Trace, is_running, job_numbered, job_of, jobs, no_effects, reply_in, reply_to, submitted}
 use Rattle.sl_trace.specs.declared.command.Command.{Command}

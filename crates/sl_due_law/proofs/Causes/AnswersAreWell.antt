@@ -1,10 +1,10 @@
 -- Each reply of each entry that is due has its cause, so each trace of such entries is caused.
-use Rattle.sl_acts.proofs.ActsTogether.{both, from_more}
-use Rattle.sl_acts.proofs.InputsKeep.{other_acts}
-use Rattle.sl_acts.proofs.StepsKeep.{Fixed, due_is_of, head_keeps, step_keeps}
-use Rattle.sl_acts.proofs.TracesKeep.{due_is_seen}
-use Rattle.sl_acts.specs.Acts.{Acts}
-use Rattle.sl_acts.specs.SoFar.{entry_of}
+use Rattle.sl_due_facts.proofs.Acts.ActsTogether.{both, from_more}
+use Rattle.sl_due_facts.proofs.Acts.InputsKeep.{other_acts}
+use Rattle.sl_due_facts.proofs.Acts.StepsKeep.{Fixed, due_is_of, head_keeps, step_keeps}
+use Rattle.sl_due_facts.proofs.Acts.TracesKeep.{due_is_seen}
+use Rattle.sl_due_facts.specs.Acts.Acts.{Acts}
+use Rattle.sl_due_facts.specs.Acts.TraceSoFar.{entry_of}
 use Rattle.sl_due.specs.Due.{IsDue, before_input, due_step}
 use Rattle.sl_due.specs.DueFirst.{begin_recoveries}
 use Rattle.sl_due.specs.Steps.{Step, begin_step}
@@ -17,17 +17,17 @@ use Rattle.sl_due_law.proofs.Causes.GrantedAtLines.{granted_at_lines}
 use Rattle.sl_due_law.proofs.Causes.LaterSteps.{itself}
 use Rattle.sl_due_law.proofs.Causes.LeavingsRefuse.{refused_at_lines}
 use Rattle.sl_due_law.proofs.Causes.RepliesRun.{replies_run, replies_run_begin}
-use Rattle.sl_due_law.proofs.Whole.AllIsKept.{all_begins, all_is_kept}
-use Rattle.sl_due_law.proofs.Whole.TracesHold.{traces_hold}
+use Rattle.sl_due_law.proofs.LawfulTraces.AllIsKept.{all_begins, all_is_kept}
+use Rattle.sl_due_law.proofs.LawfulTraces.TracesHold.{traces_hold}
 use Rattle.sl_due_law.specs.Causes.CauseFacts.{CauseFacts}
 use Rattle.sl_due_law.specs.Causes.CausedSoFar.{CausedSoFar, IsAtOnce, RepliedSoFar, is_explained, is_line}
 use Rattle.sl_due_law.specs.Causes.LineCauses.{at_its_line}
-use Rattle.sl_due_law.specs.Causes.Promises.{TracesAreCaused}
+use Rattle.sl_due_law.specs.Causes.CauseLaws.{TracesAreCaused}
 use Rattle.sl_due_leases.specs.Holdings.Moments.{Known}
-use Rattle.sl_due_law.specs.Whole.Kept.{Holds, Kept}
+use Rattle.sl_due_law.specs.LawfulTraces.CarriedFacts.{Holds, Kept}
 use Rattle.sl_run.specs.Caused.{AnswersWell, CausedBy}
-use Rattle.sl_plain.proofs.Lists.{contains_first, contains_none, head_is}
-use Rattle.sl_plain.proofs.Numbers.{number_itself}
+use Rattle.sl_words.proofs.Lists.{contains_first, contains_none, head_is}
+use Rattle.sl_words.proofs.Numbers.{number_itself}
 use Rattle.sl_trace.specs.Traces.{FollowsTrace, Job, Setting, Trace, job_numbered, next_job}
 use Rattle.sl_trace.specs.declared.command.Command.{Command}
 use Rattle.sl_trace.specs.declared.effects.End.{End}

@@ -2,16 +2,16 @@
 use Rattle.sl_due_law.proofs.Causes.EntryMakings.{step_of}
 use Rattle.sl_due_facts.proofs.Jobs.JobsAreNumbered.{command_stays}
 use Rattle.sl_due_facts.proofs.Jobs.SessionsHaveJobs.{line_command}
-use Rattle.sl_due_law.proofs.Whole.CallsAreLawful.{new_inside}
+use Rattle.sl_due_law.proofs.LawfulTraces.CallsAreLawful.{new_inside}
 use Rattle.sl_due_law.specs.Causes.CauseFacts.{CauseFacts, StandsBehind, StandsBehindRequest}
 use Rattle.sl_due_law.specs.Causes.Makings.{AskedBy, LookedSoFar, MadeFor, MadeSoFar, SetBy}
-use Rattle.sl_due_facts.specs.Facts.Heard.{heard_by}
-use Rattle.sl_due_law.specs.Whole.Kept.{Holds}
+use Rattle.sl_due_facts.specs.Facts.HeardCall.{heard_by}
+use Rattle.sl_due_law.specs.LawfulTraces.CarriedFacts.{Holds}
 use Rattle.sl_trace.specs.Jobs.{command_numbered}
 use Rattle.sl_trace.specs.Leases.{value_of_record}
-use Rattle.sl_plain.proofs.Lists.{contains_map, got_inside, in_map, kept}
-use Rattle.sl_plain.proofs.Numbers.{number_itself}
-use Rattle.sl_plain.proofs.Options.{some_of, then_value}
+use Rattle.sl_words.proofs.Lists.{contains_map, got_inside, in_map, kept}
+use Rattle.sl_words.proofs.Numbers.{number_itself}
+use Rattle.sl_words.proofs.Options.{some_of, then_value}
 use Rattle.sl_trace.specs.Sessions.{calls_of, is_call_of, is_join_call, sessions}
 use Rattle.sl_trace.specs.declared.session.Session.{Session}
 use Rattle.sl_trace.specs.Traces.{Answered, Setting, Submitted, Trace, answer_of, answered_in, bytes_given, gave, job_of, mark, new_call, record_of, submitted}
@@ -25,7 +25,7 @@ use Rattle.sl_trace.specs.declared.effects.Purpose.TheVariants.{Joining, Lease, 
 use Rattle.sl_trace.specs.declared.input.Answer.TheVariants.{Read}
 use Rattle.sl_trace.specs.declared.input.Input.{Input}
 use Rattle.sl_trace.specs.declared.input.Input.TheVariants.{Answer as Told, Exit, Line, Number, Spawned, Wake}
-use Rattle.sl_trace_law.proofs.Sessions.Making.{IsNewCall, answers_stay, old_or_new, old_stays, same_answered, was_marked}
+use Rattle.sl_run_law.proofs.Sessions.CallsAreMade.{IsNewCall, answers_stay, old_or_new, old_stays, same_answered, was_marked}
 use Rattle.sl_words.proofs.CaseLaws.{false_is_true, none_some, one_value, some_value, true_is_false}
 use Rattle.std.proofs.Common.{ap, inl, inr, refl, subst, sym, ◌∙◌}
 use Rattle.std.specs.Option.{option_or}

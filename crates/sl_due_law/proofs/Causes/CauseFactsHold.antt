@@ -5,15 +5,15 @@ use Rattle.sl_due_law.proofs.Causes.CallsBehind.{behind_more, looked_more}
 use Rattle.sl_due_law.proofs.Causes.ChildrenHold.{children_hold}
 use Rattle.sl_due_law.proofs.Causes.EntryMakings.{MadeIn, entry_makes}
 use Rattle.sl_due_law.proofs.Causes.ReleasedAtLines.{release_ends}
-use Rattle.sl_due_facts.proofs.Connections.DeltaPromises.{nothing_was_read}
+use Rattle.sl_due_facts.proofs.Connections.DeltaLaws.{nothing_was_read}
 use Rattle.sl_due_facts.proofs.Jobs.JobsAreNumbered.{found_after, numbered_stays}
-use Rattle.sl_due_law.proofs.Whole.BusyKept.{traces_wait}
-use Rattle.sl_due_law.proofs.Whole.TracesHold.{traces_hold}
+use Rattle.sl_due_law.proofs.LawfulTraces.BusyKept.{traces_wait}
+use Rattle.sl_due_law.proofs.LawfulTraces.TracesHold.{traces_hold}
 use Rattle.sl_due_law.specs.Causes.CauseFacts.{CauseFacts, EndedAsAsked, HasEnded}
-use Rattle.sl_due_law.specs.Whole.JobLore.{AllSuit}
-use Rattle.sl_due_law.specs.Whole.Kept.{Holds}
+use Rattle.sl_due_law.specs.LawfulTraces.JobLore.{AllSuit}
+use Rattle.sl_due_law.specs.LawfulTraces.CarriedFacts.{Holds}
 use Rattle.sl_run.specs.Lawful.{IsSetting}
-use Rattle.sl_plain.proofs.Lists.{contains_none, in_map}
+use Rattle.sl_words.proofs.Lists.{contains_none, in_map}
 use Rattle.sl_trace.specs.Sessions.{given_session}
 use Rattle.sl_trace.specs.declared.session.Session.{Session}
 use Rattle.sl_trace.specs.Traces.{FollowsTrace, Job, Setting, Trace, entry_at, is_running, job_in, job_numbered, jobs, line_in, next_job, no_process}

@@ -12,13 +12,13 @@ use Rattle.sl_due_facts.proofs.Jobs.JobsAreNumbered.{command_stays, finds_none, 
 use Rattle.sl_due_facts.proofs.Jobs.SessionsHaveJobs.{line_command}
 use Rattle.sl_due_law.specs.Causes.CauseFacts.{CauseFacts, ChildFacts, HoldsAsAsked, IsTold, WaitsFor}
 use Rattle.sl_due_law.specs.Causes.Makings.{By_answer, By_line, FromJob, GivenTo, MadeFor, MadeSoFar, Says, StartedFor}
-use Rattle.sl_due_facts.specs.Facts.Heard.{heard_by}
-use Rattle.sl_due_law.specs.Whole.Kept.{Holds}
+use Rattle.sl_due_facts.specs.Facts.HeardCall.{heard_by}
+use Rattle.sl_due_law.specs.LawfulTraces.CarriedFacts.{Holds}
 use Rattle.sl_run.specs.LawfulEnd.{Converted, EndReason, Exited, Given_up, LawfulEnding, Not_started, Taken_over, gives_up, takes_over}
 use Rattle.sl_trace.specs.Jobs.{child_of_job, command_numbered, command_of, process_named}
-use Rattle.sl_plain.proofs.Lists.{any_found, contains_first, contains_none, find_fails, find_inside, head_is, in_map, kept_inside}
-use Rattle.sl_plain.proofs.Numbers.{number_itself}
-use Rattle.sl_plain.proofs.Options.{some_of, then_value}
+use Rattle.sl_words.proofs.Lists.{any_found, contains_first, contains_none, find_fails, find_inside, head_is, in_map, kept_inside}
+use Rattle.sl_words.proofs.Numbers.{number_itself}
+use Rattle.sl_words.proofs.Options.{some_of, then_value}
 use Rattle.sl_trace.specs.Traces.{Child, Job, Setting, Submitted, Trace, child_after, child_numbered, children, first_child, holdings, is_ended_by, is_orphan, is_running, job_numbered, job_of, line_in, new_child, next_child, next_job, no_process, same_place, submitted}
 use Rattle.sl_trace.specs.declared.command.Command.{Command}
 use Rattle.sl_trace.specs.declared.command.Command.TheVariants.{Release, ReleaseOrphan, RunProgram, TakeOver}

@@ -1,6 +1,6 @@
 -- A command at its line, in the entry that the line brings: its job, the session of its resource, what that holds, and the turn that its
 -- calls have shown it, which what is called in the entry leaves as it was.
-use Rattle.sl_acts.specs.SoFar.{entry_of}
+use Rattle.sl_due_facts.specs.Acts.TraceSoFar.{entry_of}
 use Rattle.sl_area.specs.Layouts.{Layout}
 use Rattle.sl_area.specs.Places.{pair_read}
 use Rattle.sl_due.specs.DueCommands.{carry_decision}
@@ -8,7 +8,7 @@ use Rattle.sl_due.specs.DueWake.{finish}
 use Rattle.sl_due.specs.Steps.{Step, add_end, seen, with_input}
 use Rattle.sl_due.specs.declared.decision.Decision.TheVariants.{GivesUp}
 use Rattle.sl_due_facts.proofs.Jobs.SessionsArePresent.{present_is}
-use Rattle.sl_due_facts.specs.Facts.Whole.{WholeTrace}
+use Rattle.sl_due_facts.specs.Facts.AllFacts.{WholeTrace}
 use Rattle.sl_due_law.proofs.Causes.HeadsAreEarly.{last_is_silent}
 use Rattle.sl_due_law.proofs.Causes.Leases.GrantCauses.{held_early, held_past}
 use Rattle.sl_due_law.proofs.Causes.Leases.Limits.{not_number}
@@ -20,7 +20,7 @@ use Rattle.sl_due_law.specs.Causes.LineCauses.{IsBeforeInput, at_its_line}
 use Rattle.sl_due_leases.proofs.Holdings.LeaseConversions.{spot_is}
 use Rattle.sl_due_leases.proofs.Holdings.PlainPlaces.{text_is}
 use Rattle.sl_due_leases.specs.Holdings.DecisionGrounds.{GiveUpGrounds, IsReady}
-use Rattle.sl_plain.proofs.Lists.{find_inside, kept_inside}
+use Rattle.sl_words.proofs.Lists.{find_inside, kept_inside}
 use Rattle.sl_run.specs.Caused.{before_entry, the_session}
 use Rattle.sl_sector.specs.declared.sector.PairBlock.{PairBlock}
 use Rattle.sl_trace.specs.Jobs.{lockspace_named}

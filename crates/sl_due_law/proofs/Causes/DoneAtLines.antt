@@ -1,5 +1,5 @@
 -- What a line is answered as done: a kill program that is set, or a holding that was given up beside others of the lease.
-use Rattle.sl_acts.proofs.Additions.{contains_last}
+use Rattle.sl_due_facts.proofs.Acts.AddedAtEnd.{contains_last}
 use Rattle.sl_due.specs.Due.{IsDue, before_input}
 use Rattle.sl_due.specs.DueCommands.{answer_line, carry_decision, carry_line, decided}
 use Rattle.sl_due.specs.DueFirst.{signal_holders}
@@ -22,7 +22,7 @@ use Rattle.sl_due_law.proofs.Causes.ReleasedAtLines.{None_remains, Others_remain
 use Rattle.sl_due_leases.proofs.Holdings.DecisionsHaveGrounds.{decisions_have_grounds}
 use Rattle.sl_due_facts.proofs.Jobs.JobsAreNumbered.{line_is}
 use Rattle.sl_due_law.specs.Causes.LineCauses.{DoneAtLines, IsBeforeInput, at_its_line}
-use Rattle.sl_due_facts.specs.Facts.Whole.{WholeTrace}
+use Rattle.sl_due_facts.specs.Facts.AllFacts.{WholeTrace}
 use Rattle.sl_due_leases.specs.Holdings.DecisionGrounds.{GiveUpGrounds, HasGrounds, Releases}
 use Rattle.sl_run.specs.Caused.{Answering, CausedBy, IsDoneFor, IsReleased, after_entry}
 use Rattle.sl_trace.specs.Jobs.{lockspace_named, resource_named}

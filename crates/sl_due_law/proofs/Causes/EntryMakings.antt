@@ -1,11 +1,11 @@
 -- What an entry that is due has made for jobs, after a trace of which it is known what stands behind its replies.
-use Rattle.sl_acts.proofs.ActsTogether.{both, from_more}
-use Rattle.sl_acts.proofs.PlainActs.{plain_acts}
-use Rattle.sl_acts.proofs.StepsKeep.{Fixed, due_is_of, step_keeps}
-use Rattle.sl_acts.proofs.TracesKeep.{due_is_seen}
-use Rattle.sl_acts.specs.Acts.{Acts}
-use Rattle.sl_acts.specs.Plainly.{ByEffects, Plainly}
-use Rattle.sl_acts.specs.SoFar.{entry_of}
+use Rattle.sl_due_facts.proofs.Acts.ActsTogether.{both, from_more}
+use Rattle.sl_due_facts.proofs.Acts.PlainActs.{plain_acts}
+use Rattle.sl_due_facts.proofs.Acts.StepsKeep.{Fixed, due_is_of, step_keeps}
+use Rattle.sl_due_facts.proofs.Acts.TracesKeep.{due_is_seen}
+use Rattle.sl_due_facts.specs.Acts.Acts.{Acts}
+use Rattle.sl_due_facts.specs.Acts.KeptByEffects.{ByEffects, Plainly}
+use Rattle.sl_due_facts.specs.Acts.TraceSoFar.{entry_of}
 use Rattle.sl_due.specs.Due.{IsDue, due_step}
 use Rattle.sl_due.specs.DueCommands.{carry_decision}
 use Rattle.sl_due.specs.DueFirst.{begin_recoveries}
@@ -14,11 +14,11 @@ use Rattle.sl_due_law.proofs.Causes.LooksAreKept.{KnowsLooks, looks_are_kept, lo
 use Rattle.sl_due_law.proofs.Causes.MakingsAreKept.{KnowsCauses, makings_are_kept, makings_begin}
 use Rattle.sl_due_facts.proofs.Jobs.LessIsKept.{to_less}
 use Rattle.sl_due_law.proofs.Recovery.StopsBegin.{begun_says}
-use Rattle.sl_due_law.proofs.Whole.AllIsKept.{all_begins, all_is_kept}
+use Rattle.sl_due_law.proofs.LawfulTraces.AllIsKept.{all_begins, all_is_kept}
 use Rattle.sl_due_law.specs.Causes.CauseFacts.{CauseFacts}
 use Rattle.sl_due_law.specs.Causes.Makings.{LookedSoFar, MadeSoFar}
-use Rattle.sl_due_law.specs.Whole.Kept.{Holds, Kept}
-use Rattle.sl_plain.proofs.Lists.{head_is}
+use Rattle.sl_due_law.specs.LawfulTraces.CarriedFacts.{Holds, Kept}
+use Rattle.sl_words.proofs.Lists.{head_is}
 use Rattle.sl_trace.specs.Traces.{FollowsTrace, Setting, Trace}
 use Rattle.sl_trace.specs.declared.effects.Entry.{Entry}
 use Rattle.std.proofs.Common.{subst, sym}

@@ -1,6 +1,6 @@
 -- The causes of what is refused as a process exits: its own jobs, and those that wait for it.
-use Rattle.sl_acts.proofs.LoopsKeep.{for_each_keeps}
-use Rattle.sl_acts.specs.SoFar.{entry_of}
+use Rattle.sl_due_facts.proofs.Acts.LoopsKeep.{for_each_keeps}
+use Rattle.sl_due_facts.specs.Acts.TraceSoFar.{entry_of}
 use Rattle.sl_due_law.proofs.Causes.LaterSteps.{by_effects}
 use Rattle.sl_due_law.proofs.Causes.RecoveryCauses.{jobs_past, numbered_is}
 use Rattle.sl_due_law.specs.Causes.CausedSoFar.{StaysCaused}
@@ -9,7 +9,7 @@ use Rattle.sl_due.specs.Steps.{Step, add_end, add_grant, seen, with_effects, wit
 use Rattle.sl_due_facts.proofs.Jobs.CallsHaveFacts.{find_mapped}
 use Rattle.sl_due_facts.proofs.Jobs.JobsAreNumbered.{finds_none, numbered_stays}
 use Rattle.sl_trace.specs.Jobs.{child_of_job, is_command_that, is_job_of_process, process_named}
-use Rattle.sl_plain.proofs.Lists.{in_map, kept_inside}
+use Rattle.sl_words.proofs.Lists.{in_map, kept_inside}
 use Rattle.sl_trace.specs.Traces.{Child, Job, Trace, line_in, child_after, children, end_of, holdings, is_running, job_numbered, jobs, new_child, orphans_left, running_jobs}
 use Rattle.sl_trace.specs.declared.effects.Effects.{Effects}
 use Rattle.sl_trace.specs.declared.effects.Start.{Start}

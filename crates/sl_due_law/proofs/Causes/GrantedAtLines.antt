@@ -1,6 +1,6 @@
 -- What a line is granted is granted with its cause: beside a holding of the session's own, or an orphan that the command's process takes over. Such
 -- a holding was there before the entry, and the entry grants what the command asks.
-use Rattle.sl_acts.proofs.Additions.{contains_last}
+use Rattle.sl_due_facts.proofs.Acts.AddedAtEnd.{contains_last}
 use Rattle.sl_due_law.proofs.Causes.AtOnceAreCaused.{Spares, at_once_is, converting}
 use Rattle.sl_due_law.proofs.Causes.CommandsHere.{CommandHere, held_here, job_at, session_here}
 use Rattle.sl_due_law.proofs.Causes.HeadsAreEarly.{heads_are_early, last_is_silent}
@@ -20,7 +20,7 @@ use Rattle.sl_run.specs.Caused.{Answering, CausedBy, GrantsTo, IsGrantedFor, bef
 use Rattle.sl_trace.specs.Jobs.{lockspace_named}
 use Rattle.sl_trace.specs.Counts.{holds_already}
 use Rattle.sl_trace.specs.Leases.{holdings_on, orphan_on, spot_of}
-use Rattle.sl_plain.proofs.Lists.{contains_first, find_inside}
+use Rattle.sl_words.proofs.Lists.{contains_first, find_inside}
 use Rattle.sl_trace.specs.Sessions.{session_named}
 use Rattle.sl_trace.specs.declared.session.Session.{Session}
 use Rattle.sl_trace.specs.Traces.{Job, Setting, Trace, end_of, is_orphan, is_shared, is_before_input, job_numbered, next_job, spot_of_grant}

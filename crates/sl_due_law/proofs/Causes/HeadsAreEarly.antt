@@ -1,7 +1,7 @@
 -- What a step does before its input: it starts kill programs, refuses jobs by recoveries and by time, and removes the connections of refused
 -- joinings alone, which no joined session has. And what it does last: it starts nothing and answers nobody.
-use Rattle.sl_acts.proofs.Additions.{contains_last}
-use Rattle.sl_acts.proofs.LoopsKeep.{for_each_keeps, when_keeps, with_some_keeps}
+use Rattle.sl_due_facts.proofs.Acts.AddedAtEnd.{contains_last}
+use Rattle.sl_due_facts.proofs.Acts.LoopsKeep.{for_each_keeps, when_keeps, with_some_keeps}
 use Rattle.sl_due_law.proofs.Causes.RepliesRun.{before_it}
 use Rattle.sl_due_law.proofs.Causes.WakeCauses.{sessions_wake}
 use Rattle.sl_due_law.specs.Causes.LineCauses.{HeadsAreEarly, IsBeforeInput, IsSilent, LastIsSilent}
@@ -14,10 +14,10 @@ use Rattle.sl_due_leases.proofs.Holdings.HoldersSpared.{IsJoining, joined_presen
 use Rattle.sl_due_leases.proofs.Holdings.PlainPlaces.{text_is}
 use Rattle.sl_due_facts.proofs.Jobs.JobsAreNumbered.{below, jobs_before}
 use Rattle.sl_due_facts.proofs.Jobs.SessionsArePresent.{present_inside}
-use Rattle.sl_due_facts.proofs.Parts.CallsGrow.{any_more}
+use Rattle.sl_due_facts.proofs.AddedEffects.CallsGrow.{any_more}
 use Rattle.sl_trace.specs.Counts.{stopper_of}
 use Rattle.sl_trace.specs.Jobs.{jobs_of_session}
-use Rattle.sl_plain.proofs.Lists.{contains_none, find_inside, kept_inside}
+use Rattle.sl_words.proofs.Lists.{contains_none, find_inside, kept_inside}
 use Rattle.sl_sector.specs.Bitmaps.{no_bits}
 use Rattle.sl_sector.specs.declared.sector.DeltaState.TheVariants.{Free}
 use Rattle.sl_trace.specs.Deltas.{delta_known, delta_of_session, delta_record, next_free}
@@ -26,7 +26,7 @@ use Rattle.sl_trace.specs.declared.delta.DeltaNext.TheVariants.{Nothing, WriteFr
 use Rattle.sl_trace.specs.declared.delta.DeltaNext.{DeltaNext}
 use Rattle.sl_trace.specs.Sessions.{has_open_write, holders_of, holdings_of, is_joined, last_renewal, open_calls_of, present_sessions, recovery_of, refused_after, session_of_job, sessions}
 use Rattle.sl_trace.specs.declared.session.Session.{Session}
-use Rattle.sl_due_facts.specs.Facts.Whole.{WholeTrace}
+use Rattle.sl_due_facts.specs.Facts.AllFacts.{WholeTrace}
 use Rattle.sl_trace.specs.Connections.{is_registered, unregisters}
 use Rattle.sl_trace.specs.Traces.{Job, Setting, Trace, is_before_input, is_running, jobs, next_child, next_job, running_jobs, waiting_call}
 use Rattle.sl_trace.specs.declared.effects.JobReply.{JobReply}

@@ -1,7 +1,7 @@
 -- The causes of what a joining's calls are answered with.
-use Rattle.sl_acts.proofs.InputsKeep.{has_heard}
-use Rattle.sl_acts.specs.Acts.{Hears}
-use Rattle.sl_acts.specs.SoFar.{entry_of}
+use Rattle.sl_due_facts.proofs.Acts.InputsKeep.{has_heard}
+use Rattle.sl_due_facts.specs.Acts.Acts.{Hears}
+use Rattle.sl_due_facts.specs.Acts.TraceSoFar.{entry_of}
 use Rattle.sl_area.specs.Layouts.{record_in, sector_with}
 use Rattle.sl_due.specs.Steps.{Step, seen, with_effects}
 use Rattle.sl_due_law.proofs.Causes.AnsweredJobs.{AnswersHere, answers_here, ran_past, told_not_waking}
@@ -24,12 +24,12 @@ use Rattle.sl_due_facts.proofs.Jobs.SessionsHaveJobs.{one_session}
 use Rattle.sl_due_facts.proofs.Sessions.NamesAreAllowed.{heard_mine}
 use Rattle.sl_due_law.specs.Causes.CauseFacts.{CauseFacts}
 use Rattle.sl_due_law.specs.Causes.CausedSoFar.{IsCarried, IsConcluded, StaysCaused, answering}
-use Rattle.sl_due_facts.specs.Facts.Whole.{WholeTrace}
+use Rattle.sl_due_facts.specs.Facts.AllFacts.{WholeTrace}
 use Rattle.sl_due_leases.specs.Holdings.Moments.{Known}
 use Rattle.sl_run.specs.Caused.{Answering, CausedBy, JoinRead}
 use Rattle.sl_trace.specs.Leases.{lease_step}
-use Rattle.sl_plain.proofs.Lists.{contains_cases, contains_none, find_fails, find_inside, got_inside, kept, kept_inside}
-use Rattle.sl_plain.proofs.Numbers.{number_itself}
+use Rattle.sl_words.proofs.Lists.{contains_cases, contains_none, find_fails, find_inside, got_inside, kept, kept_inside}
+use Rattle.sl_words.proofs.Numbers.{number_itself}
 use Rattle.sl_sector.specs.Bitmaps.{no_bits}
 use Rattle.sl_sector.specs.Spelling.{delta_in}
 use Rattle.sl_sector.specs.declared.sector.DeltaRec.{DeltaRec}
@@ -37,7 +37,7 @@ use Rattle.sl_sector.specs.declared.sector.DeltaState.TheVariants.{Claimed, Live
 use Rattle.sl_sector.specs.declared.sector.Rec.TheVariants.{DeltaIs}
 use Rattle.sl_trace.specs.Deltas.{DeltaLease, claim_of, claim_on, delta_of_session, delta_record, first_bytes, id_held, id_lost, is_watched_out, next_after_deciding, next_after_first, next_after_verify, next_after_watch, next_in_joining, version_in, version_of, watched, where_watched}
 use Rattle.sl_trace.specs.Sessions.{calls_of, delta_of_record, delta_written, generation_in, generation_of, given_number, is_call_of, is_join_call, join_call, joined_after, last_delta, same_join_step, session_numbered, session_of_job, sessions}
-use Rattle.sl_trace.specs.Watching.{is_free_state}
+use Rattle.sl_trace.specs.Sightings.{is_free_state}
 use Rattle.sl_trace.specs.declared.delta.DeltaNext.{DeltaNext}
 use Rattle.sl_trace.specs.declared.delta.DeltaNext.TheVariants.{Disconnect, EndLeaving, Join, MoveConnection, Nothing, ReadOwn, RefuseJoin, RegisterAndRead, WriteClaim, WriteFirst, WriteFree, WriteRenewal}
 use Rattle.sl_trace.specs.declared.session.Session.{Session}
@@ -57,11 +57,11 @@ use Rattle.sl_trace.specs.declared.input.Answer.TheVariants.{Failed, Read, Writt
 use Rattle.sl_trace.specs.declared.reply.Limited.TheVariants.{Gen as GenLimit, Seq as SeqLimit}
 use Rattle.sl_trace.specs.declared.reply.Reply.{Reply}
 use Rattle.sl_trace.specs.declared.reply.Reply.TheVariants.{Generation, IdHeld, Limit as LimitReached, TornDelta, WrongDelta}
-use Rattle.sl_trace_law.proofs.Sessions.Covering.{joinings_are_in_turn}
-use Rattle.sl_trace_law.proofs.Sessions.Making.{kept_by, same_answered}
-use Rattle.sl_trace_law.proofs.Sessions.Naming.{same_name}
-use Rattle.sl_trace_law.proofs.Sessions.Staying.{joined_more}
-use Rattle.sl_trace_law.specs.Sessions.Promises.{all_done, fits, fits_as, has_reply, is_in_turn}
+use Rattle.sl_run_law.proofs.Sessions.WritesAreCovered.{joinings_are_in_turn}
+use Rattle.sl_run_law.proofs.Sessions.CallsAreMade.{kept_by, same_answered}
+use Rattle.sl_run_law.proofs.Sessions.SessionNames.{same_name}
+use Rattle.sl_run_law.proofs.Sessions.MarksStay.{joined_more}
+use Rattle.sl_run_law.specs.Sessions.SessionLaws.{all_done, fits, fits_as, has_reply, is_in_turn}
 use Rattle.sl_words.proofs.CaseLaws.{false_is_true, none_some, not_both, one_value, some_value}
 use Rattle.sl_words.proofs.WordLaws.{and_true, some_is_true}
 use Rattle.sl_words.specs.Bounds.{is_number, record_numbers}

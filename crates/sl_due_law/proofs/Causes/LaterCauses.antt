@@ -1,7 +1,7 @@
 -- The causes of what is answered later than it was asked: that a request or a value is written, that a release is done, that a program was
 -- started. What stands behind each stood before the entry.
-use Rattle.sl_acts.specs.Acts.{Hears}
-use Rattle.sl_acts.specs.SoFar.{entry_of}
+use Rattle.sl_due_facts.specs.Acts.Acts.{Hears}
+use Rattle.sl_due_facts.specs.Acts.TraceSoFar.{entry_of}
 use Rattle.sl_area.specs.Places.{is_base}
 use Rattle.sl_due.specs.DueAnswers.{set_reply}
 use Rattle.sl_due.specs.DueInputs.{started_reply}
@@ -24,7 +24,7 @@ use Rattle.sl_due_facts.proofs.Jobs.JobsAreNumbered.{command_stays, numbered_sta
 use Rattle.sl_due_law.specs.Causes.CauseFacts.{CauseFacts, EndedAsAsked, HasEnded, HoldsAsAsked, StandsBehind, StandsBehindRequest}
 use Rattle.sl_due_law.specs.Causes.CausedSoFar.{IsLater, StaysCaused, answering}
 use Rattle.sl_due_facts.specs.Facts.JobFacts.{FitsCommand}
-use Rattle.sl_due_facts.specs.Facts.Whole.{Whole, WholeTrace}
+use Rattle.sl_due_facts.specs.Facts.AllFacts.{Whole, WholeTrace}
 use Rattle.sl_due_leases.specs.Holdings.Moments.{Known}
 use Rattle.sl_run.specs.Caused.{Answering, AnswersCall, AnswersWrite, CausedBy, IsDoneFor, IsReleased, before_entry}
 use Rattle.sl_run.specs.LawfulEnd.{Converted, EndReason, Exited, Given_up, Not_started, Taken_over}
@@ -34,9 +34,9 @@ use Rattle.sl_trace.specs.Leases.{Leader_freed, Mode_cleared, StepKind, holdings
 use Rattle.sl_trace.specs.declared.lease.Aim.{Aim}
 use Rattle.sl_trace.specs.declared.lease.Aim.TheVariants.{Acquires, Converts, Releases, Settles}
 use Rattle.sl_trace.specs.declared.lease.LeaseNext.TheVariants.{AnswerJob}
-use Rattle.sl_plain.proofs.Lists.{any_found, contains_none, find_inside, got_inside, kept}
-use Rattle.sl_plain.proofs.Numbers.{number_itself}
-use Rattle.sl_plain.proofs.Options.{some_of, then_value}
+use Rattle.sl_words.proofs.Lists.{any_found, contains_none, find_inside, got_inside, kept}
+use Rattle.sl_words.proofs.Numbers.{number_itself}
+use Rattle.sl_words.proofs.Options.{some_of, then_value}
 use Rattle.sl_sector.specs.declared.sector.ValueRec.{ValueRec}
 use Rattle.sl_trace.specs.Sessions.{holdings_of, is_joined, session_numbered, sessions}
 use Rattle.sl_trace.specs.declared.session.Session.{Session}
@@ -60,8 +60,8 @@ use Rattle.sl_trace.specs.declared.input.Answer.TheVariants.{Written}
 use Rattle.sl_trace.specs.declared.input.Input.{Input}
 use Rattle.sl_trace.specs.declared.input.Input.TheVariants.{Exit, Spawned, Wake}
 use Rattle.sl_trace.specs.declared.reply.Reply.TheVariants.{Done, Started, ValueSet}
-use Rattle.sl_trace_law.proofs.Leases.NumberLaws.{number_is_place}
-use Rattle.sl_trace_law.proofs.Sessions.Making.{same_answered}
+use Rattle.sl_run_law.proofs.Leases.NumberLaws.{number_is_place}
+use Rattle.sl_run_law.proofs.Sessions.CallsAreMade.{same_answered}
 use Rattle.sl_words.proofs.CaseLaws.{false_is_true, is_false, none_some, one_value, some_value}
 use Rattle.sl_words.specs.Words.{some_is}
 use Rattle.std.proofs.Common.{ap, inl, inr, refl, subst, sym, ◌∙◌}

@@ -1,18 +1,18 @@
 -- What comes later in an entry, and whose the replies are that an act adds.
-use Rattle.sl_acts.proofs.Additions.{contains_last}
-use Rattle.sl_acts.specs.SoFar.{entry_of}
+use Rattle.sl_due_facts.proofs.Acts.AddedAtEnd.{contains_last}
+use Rattle.sl_due_facts.specs.Acts.TraceSoFar.{entry_of}
 use Rattle.sl_area.specs.Layouts.{Layout}
 use Rattle.sl_area.specs.Places.{sector_of}
 use Rattle.sl_due_facts.proofs.Jobs.JobFactsGrow.{contains_left, contains_right}
 use Rattle.sl_due_facts.proofs.Jobs.SessionsStand.{running_before}
 use Rattle.sl_trace.specs.Leases.{is_on, lease_step}
-use Rattle.sl_due_facts.proofs.Parts.CallsGrow.{mine_more, others_stay}
+use Rattle.sl_due_facts.proofs.AddedEffects.CallsGrow.{mine_more, others_stay}
 use Rattle.sl_sector.specs.declared.sector.DeltaRec.{DeltaRec}
 use Rattle.sl_trace.specs.Sessions.{calls_of, delta_of_record, generation_in, generation_of, given_number, is_call_of, is_survey_purpose, last_delta, sessions}
-use Rattle.sl_trace.specs.Watching.{evidence, evidence_in, look_of, sightings}
+use Rattle.sl_trace.specs.Sightings.{evidence, evidence_in, look_of, sightings}
 use Rattle.sl_trace.specs.declared.sighting.Sighting.{Sighting}
-use Rattle.sl_due_facts.specs.Facts.Heard.{heard_by}
-use Rattle.sl_due_facts.specs.Facts.Whole.{WholeTrace}
+use Rattle.sl_due_facts.specs.Facts.HeardCall.{heard_by}
+use Rattle.sl_due_facts.specs.Facts.AllFacts.{WholeTrace}
 use Rattle.sl_words.proofs.CaseLaws.{false_is_true, is_false, not_both, true_or_false}
 use Rattle.std.specs.List.{cons_option}
 use Rattle.std.specs.Option.{option_map_or}
@@ -21,7 +21,7 @@ use Rattle.sl_due_law.specs.Causes.CausedSoFar.{CausedSoFar, HasCause, IsAtOnce,
 use Rattle.sl_due.specs.Steps.{Step, with_effects, add_call_of, add_end, add_grant, add_move, add_reply, add_signal, add_start, seen, with_input}
 use Rattle.sl_due_facts.proofs.Jobs.CallsStay.{IsLate, calls_stay}
 use Rattle.sl_due_facts.proofs.Jobs.EffectsAreAllowed.{Allows}
-use Rattle.sl_plain.proofs.Numbers.{number_itself}
+use Rattle.sl_words.proofs.Numbers.{number_itself}
 use Rattle.sl_trace.specs.declared.session.Session.{Session}
 use Rattle.sl_trace.proofs.TraceFacts.{submitted-push}
 use Rattle.sl_trace.specs.Traces.{Answered, Replied, Setting, Submitted, Trace, reply_to, bytes_given, is_running, new_call, next_call, record_of, submitted}

@@ -1,6 +1,6 @@
 pub mod NewestWays
 pub mod GivenBlocks
-pub mod Hearing
+pub mod HeardLeases
 pub mod Limits
 pub mod AreaCauses
 pub mod PhaseCauses

@@ -1,18 +1,18 @@
 -- Whom the step of a line refuses as in recovery is refused with its cause: by the head of the step, at once, or by the line as that of a leaving,
 -- which is unanswered at the entry's end.
-use Rattle.sl_acts.proofs.Additions.{contains_last}
-use Rattle.sl_acts.proofs.EffectsKeep.{signalled}
-use Rattle.sl_acts.proofs.LoopsKeep.{for_each_keeps}
-use Rattle.sl_acts.proofs.Pairs.Decisions.{release_is}
-use Rattle.sl_acts.specs.Plainly.{ByEffects}
+use Rattle.sl_due_facts.proofs.Acts.AddedAtEnd.{contains_last}
+use Rattle.sl_due_facts.proofs.Acts.EffectsKeep.{signalled}
+use Rattle.sl_due_facts.proofs.Acts.LoopsKeep.{for_each_keeps}
+use Rattle.sl_due_facts.proofs.Acts.Pairs.Decisions.{release_is}
+use Rattle.sl_due_facts.specs.Acts.KeptByEffects.{ByEffects}
 use Rattle.sl_due_law.proofs.Causes.AtOnceAreCaused.{Spares, at_once_is, converting, leaving, not_kept, told}
 use Rattle.sl_due_law.proofs.Causes.HeadsAreEarly.{heads_are_early, last_is_silent}
 use Rattle.sl_due_law.proofs.Causes.LaterSteps.{wake_no_line}
-use Rattle.sl_due_law.proofs.Causes.LineCauses.{off_last, unjoined_early}
+use Rattle.sl_due_law.proofs.Causes.RefusalsAreCaused.{off_last, unjoined_early}
 use Rattle.sl_due_law.proofs.Causes.LinesAreWell.{all_pass, line_done, lines_are_well}
 use Rattle.sl_due_law.proofs.Causes.NamesBefore.{early_entry, session_then, with_session}
 use Rattle.sl_due_law.proofs.Causes.RecoveryCauses.{Names, joined_before, last_stays, names_of, numbered_is, stands_at}
-use Rattle.sl_acts.specs.SoFar.{entry_of}
+use Rattle.sl_due_facts.specs.Acts.TraceSoFar.{entry_of}
 use Rattle.sl_due_law.proofs.Causes.WakeCauses.{sessions_wake}
 use Rattle.sl_due_law.specs.Causes.CausedSoFar.{IsLater, is_explained}
 use Rattle.sl_due_law.specs.Causes.LineCauses.{IsBeforeInput, RefusedAtLines, at_its_line}
@@ -33,11 +33,11 @@ use Rattle.sl_trace.specs.Jobs.{is_command_that, jobs_of_session, lockspace_name
 use Rattle.sl_trace.specs.LeaseWork.{LeasePlace, lease_place, release_next}
 use Rattle.sl_trace.specs.Leases.{LeaseKnown, holdings_on, known, spot_of}
 use Rattle.sl_trace.specs.declared.lease.LeaseNext.TheVariants.{Nothing, WriteBlock}
-use Rattle.sl_plain.proofs.Lists.{contains_first, contains_more, find_inside, kept_inside}
+use Rattle.sl_words.proofs.Lists.{contains_first, contains_more, find_inside, kept_inside}
 use Rattle.sl_sector.specs.declared.sector.Block.{Block}
 use Rattle.sl_trace.specs.Sessions.{holders_of, is_active, is_joined, joined_after, last_renewal, leaves, leaving_in, leaving_job, present_sessions, recovery_of, removed_after, renewing, sessions}
 use Rattle.sl_trace.specs.declared.session.Session.{Session}
-use Rattle.sl_due_facts.specs.Facts.Whole.{WholeTrace}
+use Rattle.sl_due_facts.specs.Facts.AllFacts.{WholeTrace}
 use Rattle.sl_trace.specs.Traces.{Job, Setting, Trace, end_of, is_before_input, is_running, job_numbered, jobs, line_in, next_job, running_jobs, spot_of_grant}
 use Rattle.sl_trace.specs.declared.command.Command.TheVariants.{Acquire, RunProgram, TakeOver}
 use Rattle.sl_trace.specs.declared.command.Command.{Command}
@@ -60,7 +60,7 @@ use Rattle.sl_words.proofs.CaseLaws.{false_is_true, is_false, one_value}
 use Rattle.sl_words.proofs.WordLaws.{and_true}
 use Rattle.sl_words.specs.Results.{◌>>=◌}
 use Rattle.sl_words.specs.Words.{choose, some_is}
-use Rattle.sl_acts.specs.Acts.{next_of_release}
+use Rattle.sl_due_facts.specs.Acts.Acts.{next_of_release}
 use Rattle.std.proofs.Common.{ap, ap₂, arith, inl, inr, refl, subst, sym, ◌∙◌}
 use Rattle.std.proofs.lemmas.Bool.{eqb-true}
 use Rattle.std.specs.List.{list_any}

@@ -1,8 +1,8 @@
 -- What a line is answered where the turn of its block would pass its limit: a conversion to shared, or where the last shared holding under a
 -- lease is given up. So whatever a line is answered at once has its cause.
-use Rattle.sl_acts.proofs.Additions.{contains_last}
-use Rattle.sl_acts.proofs.Pairs.Decisions.{conversion_is, writes_own_block}
-use Rattle.sl_acts.proofs.TracesKeep.{due_is_seen}
+use Rattle.sl_due_facts.proofs.Acts.AddedAtEnd.{contains_last}
+use Rattle.sl_due_facts.proofs.Acts.Pairs.Decisions.{conversion_is, writes_own_block}
+use Rattle.sl_due_facts.proofs.Acts.TracesKeep.{due_is_seen}
 use Rattle.sl_due.specs.DueCommands.{answer_line, carry_decision, decided}
 use Rattle.sl_due.specs.DueFirst.{signal_holders}
 use Rattle.sl_due.specs.DueLease.{carry_lease, grant_for, grant_of}
@@ -27,7 +27,7 @@ use Rattle.sl_due_leases.proofs.Holdings.DecisionsHaveGrounds.{decisions_have_gr
 use Rattle.sl_due_leases.proofs.Holdings.LeaseConversions.{spot_is}
 use Rattle.sl_due_leases.specs.Holdings.DecisionGrounds.{ConvertGrounds, GiveUpGrounds, HasGrounds, IsReady, Releases}
 use Rattle.sl_run.specs.Caused.{Answering, BlockIsNext, CausedBy, EndsLastShared, HeldBefore, WithSpot, after_entry, before_entry}
-use Rattle.sl_plain.proofs.Lists.{kept_inside}
+use Rattle.sl_words.proofs.Lists.{kept_inside}
 use Rattle.sl_sector.specs.declared.sector.Block.{Block}
 use Rattle.sl_trace.specs.Ballots.{moded_block}
 use Rattle.sl_trace.specs.Jobs.{resource_named, wanted_mode}

@@ -1,5 +1,6 @@
 -- What a line is answered at once has its cause in the entry that ends the step.
-use Rattle.sl_due_law.proofs.Causes.LineCauses.{inactive, lines_are_caused}
+use Rattle.sl_due_law.proofs.Causes.RefusalsAreCaused.{inactive}
+use Rattle.sl_due_law.proofs.Causes.LineCauses.{lines_are_caused}
 use Rattle.sl_due_law.proofs.Causes.NamesBefore.{early_entry, joined_then, session_then, with_session}
 use Rattle.sl_due_law.proofs.Causes.QuietMoves.{decisions_overlook}
 use Rattle.sl_due_law.specs.Causes.LineCauses.{AnswersAfter, AnswersAreCaused, AtLine, StoppedAreCaused, WellDecided, stirred_entry}
@@ -10,8 +11,8 @@ use Rattle.sl_due_leases.proofs.Holdings.PlainPlaces.{text_is}
 use Rattle.sl_due_facts.proofs.Jobs.SessionsArePresent.{present_is}
 use Rattle.sl_run.specs.Caused.{Answering, CausedBy, after_entry, before_entry, the_session}
 use Rattle.sl_trace.specs.Jobs.{lockspace_named}
-use Rattle.sl_plain.proofs.Lists.{find_inside}
-use Rattle.sl_plain.proofs.Options.{then_value}
+use Rattle.sl_words.proofs.Lists.{find_inside}
+use Rattle.sl_words.proofs.Options.{then_value}
 use Rattle.sl_trace.specs.Sessions.{is_active, is_joined, last_renewal, present_sessions, session_named, sessions}
 use Rattle.sl_trace.specs.declared.session.Session.{Session}
 use Rattle.sl_trace.specs.declared.command.Command.{Command}

@@ -1,5 +1,5 @@
 -- What the entry of a line does, by what its command came to; and what the entry of an exit does to the jobs of the process.
-use Rattle.sl_acts.specs.SoFar.{entry_of}
+use Rattle.sl_due_facts.specs.Acts.TraceSoFar.{entry_of}
 use Rattle.sl_due.specs.Due.{IsDue, after_input, before_input, due, due_step}
 use Rattle.sl_due.specs.DueCommands.{answer_line, carry_command, carry_decision, carry_line, decided, reply_at_once}
 use Rattle.sl_due.specs.DueInputs.{leave_holdings, on_exit, refuse_jobs_of, take_input}
@@ -22,10 +22,10 @@ use Rattle.sl_due_facts.proofs.Jobs.NearlyPlainActs.{AnyMove, Anything}
 use Rattle.sl_due_facts.proofs.Jobs.QuietFactsAreKept.{loop_stops}
 use Rattle.sl_due_law.specs.Causes.CauseFacts.{IsTold}
 use Rattle.sl_due_law.specs.Causes.LineCauses.{IsBeforeInput}
-use Rattle.sl_due_facts.specs.Facts.Whole.{WholeTrace}
+use Rattle.sl_due_facts.specs.Facts.AllFacts.{WholeTrace}
 use Rattle.sl_trace.specs.Jobs.{child_of_job, is_command_that, is_job_of_process, process_named}
-use Rattle.sl_plain.proofs.Lists.{contains_none, find_inside, kept}
-use Rattle.sl_plain.proofs.Numbers.{number_itself}
+use Rattle.sl_words.proofs.Lists.{contains_none, find_inside, kept}
+use Rattle.sl_words.proofs.Numbers.{number_itself}
 use Rattle.sl_trace.specs.Traces.{Child, Job, Setting, Trace, child_after, children, is_running, job_numbered, jobs, new_child, next_job, no_effects, no_process, running_jobs}
 use Rattle.sl_trace.specs.declared.command.Command.{Command}
 use Rattle.sl_trace.specs.declared.effects.Effects.{Effects}

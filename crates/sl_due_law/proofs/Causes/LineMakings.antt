@@ -1,5 +1,5 @@
 -- What a line makes for its job, and what an answer makes for the job of its call: calls of the lease, grants, the start of a program.
-use Rattle.sl_acts.proofs.Additions.{contains_last}
+use Rattle.sl_due_facts.proofs.Acts.AddedAtEnd.{contains_last}
 use Rattle.sl_due.specs.DueCommands.{after_end, carry_decision, decided, holding_of, pending_refusal, process_refusal, reply_at_once, session_refusal, setting_value, unless_refused, with_session}
 use Rattle.sl_due.specs.DueFirst.{signal_and_refuse}
 use Rattle.sl_due.specs.DueLease.{carry_lease, grant_for, grant_of, read_for}
@@ -22,7 +22,7 @@ use Rattle.sl_trace.specs.LeaseWork.{LeasePlace, convert_next, lease_place, refu
 use Rattle.sl_trace.specs.Leases.{LeaseKnown, holdings_on, known, spot_of}
 use Rattle.sl_trace.specs.declared.lease.LeaseNext.{LeaseNext}
 use Rattle.sl_trace.specs.declared.lease.LeaseNext.TheVariants.{AnswerJob, BecomeExclusive, BecomeShared, GrantJob, Nothing as No_lease, ReadFor, WriteBlock, WriteLeader}
-use Rattle.sl_plain.proofs.Lists.{contains_none}
+use Rattle.sl_words.proofs.Lists.{contains_none}
 use Rattle.sl_sector.specs.declared.sector.Rec.TheVariants.{ValueIs}
 use Rattle.sl_trace.specs.Sessions.{session_named}
 use Rattle.sl_trace.specs.declared.session.Session.{Session}
@@ -51,8 +51,8 @@ use Rattle.sl_trace.specs.declared.reply.Reply.TheVariants.{Done, Limit as Limit
 use Rattle.sl_words.proofs.CaseLaws.{none_some, some_value}
 use Rattle.sl_words.specs.Bounds.{is_number}
 use Rattle.sl_words.specs.Words.{choose}
-use Rattle.sl_acts.specs.Acts.{next_of_conversion, next_of_release}
-use Rattle.sl_acts.proofs.Pairs.Decisions.{within_cases}
+use Rattle.sl_due_facts.specs.Acts.Acts.{next_of_conversion, next_of_release}
+use Rattle.sl_due_facts.proofs.Acts.Pairs.Decisions.{within_cases}
 use Rattle.sl_trace.specs.declared.lease.Aim.TheVariants.{Acquires, Converts, Releases, Settles}
 use Rattle.sl_trace.specs.declared.lease.Aim.{Aim}
 use Rattle.sl_trace.specs.declared.effects.LeaseRead.TheVariants.{OfArea, OfBlock, OfFree, OfPhase1, OfPhase2}

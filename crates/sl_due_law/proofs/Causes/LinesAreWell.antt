@@ -12,7 +12,7 @@ use Rattle.sl_due.specs.Steps.{Step, begin_step, seen}
 use Rattle.sl_due.specs.declared.decision.Decision.TheVariants.{Replies}
 use Rattle.sl_due_facts.proofs.Jobs.JobsAreNumbered.{line_is}
 use Rattle.sl_run.specs.Caused.{Answering, CausedBy}
-use Rattle.sl_plain.proofs.Lists.{contains_first, contains_more}
+use Rattle.sl_words.proofs.Lists.{contains_first, contains_more}
 use Rattle.sl_words.proofs.CaseLaws.{one_value}
 use Rattle.sl_trace.specs.Traces.{Job, Setting, Trace, is_before_input, job_numbered, next_job}
 use Rattle.sl_trace.specs.declared.command.Command.{Command}

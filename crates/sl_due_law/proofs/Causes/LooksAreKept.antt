@@ -1,8 +1,8 @@
 -- Each session that a job began has looked at its sector: its line makes its first read.
-use Rattle.sl_acts.proofs.Additions.{contains_last}
-use Rattle.sl_acts.proofs.LoopsKeep.{for_each_keeps, when_keeps}
-use Rattle.sl_acts.specs.Acts.{Acts}
-use Rattle.sl_acts.specs.SoFar.{entry_of}
+use Rattle.sl_due_facts.proofs.Acts.AddedAtEnd.{contains_last}
+use Rattle.sl_due_facts.proofs.Acts.LoopsKeep.{for_each_keeps, when_keeps}
+use Rattle.sl_due_facts.specs.Acts.Acts.{Acts}
+use Rattle.sl_due_facts.specs.Acts.TraceSoFar.{entry_of}
 use Rattle.sl_area.specs.Places.{delta_offset}
 use Rattle.sl_due.specs.DueCommands.{carry_decision, decided}
 use Rattle.sl_due.specs.DueFirst.{begin_recoveries, begin_recovery, begins_now, signal_and_refuse}
@@ -15,10 +15,10 @@ use Rattle.sl_due_facts.proofs.Jobs.EffectsAreAllowed.{DecisionAllowed, decision
 use Rattle.sl_due_facts.proofs.Jobs.JobFactsAreKept.{begun_sessions}
 use Rattle.sl_due_facts.proofs.Jobs.LinesAreAllowed.{IsBegun}
 use Rattle.sl_due_facts.proofs.Jobs.NearlyPlainActs.{AnyMove, AnyStart, Anything, Nearly, NoLook, decision_plain, nearly_acts}
-use Rattle.sl_due_facts.proofs.Parts.CallsGrow.{same_sessions}
+use Rattle.sl_due_facts.proofs.AddedEffects.CallsGrow.{same_sessions}
 use Rattle.sl_due_law.specs.Causes.Makings.{LookedSoFar}
-use Rattle.sl_due_facts.specs.Facts.Whole.{Whole}
-use Rattle.sl_plain.proofs.Lists.{contains_first, kept_inside}
+use Rattle.sl_due_facts.specs.Facts.AllFacts.{Whole}
+use Rattle.sl_words.proofs.Lists.{contains_first, kept_inside}
 use Rattle.sl_trace.specs.Sessions.{calls_of, is_call_of, is_join_call, joining_session, present_sessions, recovery_of, sessions}
 use Rattle.sl_trace.specs.declared.session.Session.{Session}
 use Rattle.sl_trace.specs.Traces.{Setting, Submitted, Trace, next_call, next_job, submitted}

@@ -1,6 +1,6 @@
 -- What a step makes for a job is kept by each act, and so is that each session which a job began has looked at its sector.
-use Rattle.sl_acts.proofs.LoopsKeep.{for_each_keeps, when_keeps}
-use Rattle.sl_acts.specs.Acts.{Acts, Hears, next_of_settling}
+use Rattle.sl_due_facts.proofs.Acts.LoopsKeep.{for_each_keeps, when_keeps}
+use Rattle.sl_due_facts.specs.Acts.Acts.{Acts, Hears, next_of_settling}
 use Rattle.sl_due.specs.DueAnswers.{set_reply}
 use Rattle.sl_due.specs.DueCommands.{answer_line, decided, reply_at_once}
 use Rattle.sl_due.specs.DueDelta.{carry_delta, see_request}
@@ -21,12 +21,12 @@ use Rattle.sl_due_facts.proofs.Jobs.EffectsAreAllowed.{delta, ended, exited, lea
 use Rattle.sl_due_facts.proofs.Jobs.NearlyPlainActs.{AnyMove, Anything}
 use Rattle.sl_due_law.specs.Causes.CauseFacts.{CauseFacts}
 use Rattle.sl_due_law.specs.Causes.Makings.{GivenTo, MadeFor, MadeSoFar, StartedFor}
-use Rattle.sl_due_law.specs.Whole.Kept.{Kept}
+use Rattle.sl_due_law.specs.LawfulTraces.CarriedFacts.{Kept}
 use Rattle.sl_trace.specs.Jobs.{aim_of, job_of_start}
 use Rattle.sl_trace.specs.Leases.{spot_of_call}
 use Rattle.sl_trace.specs.declared.lease.Aim.{Aim}
 use Rattle.sl_trace.specs.declared.lease.LeaseNext.{LeaseNext}
-use Rattle.sl_plain.proofs.Lists.{contains_none}
+use Rattle.sl_words.proofs.Lists.{contains_none}
 use Rattle.sl_trace.specs.Deltas.{delta_known, delta_of_session, next_after_free, next_after_renewal, next_free, next_in_joining, next_on_wake, next_renewal}
 use Rattle.sl_trace.specs.Sessions.{calls_of, generation_of, present_sessions, recovery_of}
 use Rattle.sl_trace.specs.declared.delta.DeltaNext.{DeltaNext}

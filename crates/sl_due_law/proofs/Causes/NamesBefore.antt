@@ -3,18 +3,18 @@ use Rattle.sl_due_leases.proofs.Holdings.PlainPlaces.{text_is}
 use Rattle.sl_due_facts.proofs.Jobs.SessionsArePresent.{joined_present, present_inside, present_is}
 use Rattle.sl_run.specs.Caused.{Answering, WithSession, before_entry, the_session}
 use Rattle.sl_trace.specs.Jobs.{lockspace_named}
-use Rattle.sl_plain.proofs.Lists.{find_fails, find_inside}
+use Rattle.sl_words.proofs.Lists.{find_fails, find_inside}
 use Rattle.sl_trace.specs.Sessions.{has_open_write, is_joined, is_present, joined_after, present_sessions, refused_after, removed_after, session_named, sessions}
 use Rattle.sl_trace.specs.declared.session.Session.{Session}
-use Rattle.sl_due_facts.specs.Facts.Whole.{WholeTrace}
+use Rattle.sl_due_facts.specs.Facts.AllFacts.{WholeTrace}
 use Rattle.sl_trace.specs.Traces.{Setting, Trace, is_before_input, no_effects}
 use Rattle.sl_trace.specs.declared.command.Command.{Command}
 use Rattle.sl_trace.specs.declared.effects.Entry.{Entry}
 use Rattle.sl_trace.specs.declared.effects.JobReply.{JobReply}
 use Rattle.sl_trace.specs.declared.effects.Start.{Start}
 use Rattle.sl_trace.specs.declared.input.Input.TheVariants.{Wake}
-use Rattle.sl_trace_law.proofs.Sessions.Naming.{same_name}
-use Rattle.sl_trace_law.proofs.Sessions.Staying.{joined_more, refused_apart, refused_more}
+use Rattle.sl_run_law.proofs.Sessions.SessionNames.{same_name}
+use Rattle.sl_run_law.proofs.Sessions.MarksStay.{joined_more, refused_apart, refused_more}
 use Rattle.sl_words.proofs.CaseLaws.{false_is_true, none_some, not_both}
 use Rattle.sl_words.proofs.WordLaws.{and_true}
 use Rattle.sl_words.specs.Words.{choose}

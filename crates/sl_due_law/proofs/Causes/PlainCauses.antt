@@ -1,11 +1,11 @@
 -- The causes of what calls of requests, values and leavings are answered with, and of faults.
-use Rattle.sl_acts.specs.Acts.{Hears, lone_job}
+use Rattle.sl_due_facts.specs.Acts.Acts.{Hears, lone_job}
 use Rattle.sl_area.specs.Layouts.{record_in}
 use Rattle.sl_area.specs.Places.{leader_of, read_at}
 use Rattle.sl_due_law.proofs.Causes.AnsweredJobs.{AnswersHere, answers_here, number_is, its_command, with_command, with_spot}
 use Rattle.sl_due_law.proofs.Causes.LaterSteps.{AnyMove, MayAnswer, MayCall, by_effects}
 use Rattle.sl_due_law.proofs.Causes.Leases.GivenBlocks.{leader_spelled}
-use Rattle.sl_due_law.specs.Causes.Promises.{LeavingsAreCaused}
+use Rattle.sl_due_law.specs.Causes.CauseLaws.{LeavingsAreCaused}
 use Rattle.sl_due_law.specs.Causes.CausedSoFar.{StaysCaused, answering}
 use Rattle.sl_due.specs.DueRequests.{request_refusal, value_reply}
 use Rattle.sl_due.specs.Steps.{Step, seen, with_effects}
@@ -39,7 +39,7 @@ use Rattle.sl_trace.specs.declared.input.Input.{Input}
 use Rattle.sl_trace.specs.declared.reply.Reply.TheVariants.{Done, IoFault, RequestOld, SpawnFault, TornLeader, Value, ValueTorn, WrongArea}
 use Rattle.sl_trace.specs.declared.reply.Reply.{Reply}
 use Rattle.sl_words.proofs.CaseLaws.{none_some, not_both, some_value}
-use Rattle.sl_plain.proofs.Options.{some_of}
+use Rattle.sl_words.proofs.Options.{some_of}
 use Rattle.sl_words.proofs.WordLaws.{choose_some, some_is_true}
 use Rattle.sl_words.specs.Words.{choose, some_is}
 use Rattle.std.proofs.Common.{ap, inr, refl, subst, sym, ◌∙◌}

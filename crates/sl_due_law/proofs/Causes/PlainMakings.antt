@@ -1,16 +1,16 @@
 -- What all acts keep of what a step makes for a job, where they make no call of a job's lease, of a request or of a value, start no program
 -- for a job, and grant nothing.
-use Rattle.sl_acts.proofs.Additions.{contains_last}
+use Rattle.sl_due_facts.proofs.Acts.AddedAtEnd.{contains_last}
 use Rattle.sl_due.specs.DueLease.{grant_of}
 use Rattle.sl_due.specs.Steps.{Step, add_call_of, add_end, add_grant, add_move, add_reply, add_signal, add_start, seen, with_input}
 use Rattle.sl_due_law.proofs.Causes.LaterSteps.{wake_no_line}
 use Rattle.sl_due_facts.proofs.Jobs.EffectsAreAllowed.{Allows, DeltaAllowed, LeaseAllowed, ReadAllowed}
 use Rattle.sl_due_facts.proofs.Jobs.NearlyPlainActs.{AnyMove, Anything}
 use Rattle.sl_due_law.specs.Causes.Makings.{By_answer, By_line, FromJob, GivenTo, MadeFor, MadeSoFar, StartedFor}
-use Rattle.sl_due_facts.specs.Facts.Heard.{heard_by}
+use Rattle.sl_due_facts.specs.Facts.HeardCall.{heard_by}
 use Rattle.sl_trace.specs.declared.lease.LeaseNext.{LeaseNext}
 use Rattle.sl_trace.specs.declared.lease.LeaseNext.TheVariants.{AnswerJob, BecomeExclusive, BecomeShared, GrantJob, Nothing as No_lease, ReadFor, WriteBlock, WriteLeader}
-use Rattle.sl_plain.proofs.Lists.{contains_first, contains_none}
+use Rattle.sl_words.proofs.Lists.{contains_first, contains_none}
 use Rattle.sl_trace.specs.declared.delta.DeltaNext.{DeltaNext}
 use Rattle.sl_trace.specs.declared.delta.DeltaNext.TheVariants.{Disconnect, EndLeaving, Join, MoveConnection, Nothing, ReadOwn, RefuseJoin, RegisterAndRead, WriteClaim, WriteFirst, WriteFree, WriteRenewal}
 use Rattle.sl_trace.specs.declared.session.Session.{Session}

@@ -9,9 +9,9 @@ use Rattle.sl_due_facts.proofs.Jobs.SessionsArePresent.{present_is}
 use Rattle.sl_trace.specs.Counts.{child_count, holder_count, holds_already, next_value_seq, other_holder, resource_count}
 use Rattle.sl_trace.specs.Jobs.{wanted_mode}
 use Rattle.sl_trace.specs.Leases.{lease_spots, spot_of}
-use Rattle.sl_plain.proofs.Lists.{contains_first, contains_more, find_inside}
+use Rattle.sl_words.proofs.Lists.{contains_first, contains_more, find_inside}
 use Rattle.sl_trace.specs.Sessions.{generation_of, has_open_write, is_joined, is_present, is_session_arg, joined_after, last_renewal, leaving_job, present_sessions, recovery_of, refused_after, removed_after, session_named, sessions}
-use Rattle.sl_trace.specs.Watching.{states_seen}
+use Rattle.sl_trace.specs.Sightings.{states_seen}
 use Rattle.sl_trace.specs.declared.session.Session.{Session}
 use Rattle.sl_trace.specs.Connections.{unregisters}
 use Rattle.sl_trace.specs.Limits.{most_children, most_holders, most_lockspaces, most_resources}

@@ -1,5 +1,5 @@
 -- The causes of what is refused as recovery begins.
-use Rattle.sl_acts.specs.SoFar.{entry_of}
+use Rattle.sl_due_facts.specs.Acts.TraceSoFar.{entry_of}
 use Rattle.sl_due_law.proofs.Causes.LaterSteps.{Going, before_later}
 use Rattle.sl_due_law.proofs.Causes.NamesBefore.{session_then, with_session}
 use Rattle.sl_due_law.specs.Causes.CausedSoFar.{IsLater, StaysCaused, answering}
@@ -9,13 +9,13 @@ use Rattle.sl_due_facts.proofs.Jobs.JobsAreNumbered.{command_read, found_after, 
 use Rattle.sl_due_facts.proofs.Jobs.JobsAreNumbered.{next_is_new}
 use Rattle.sl_run.specs.Caused.{Answering, CausedBy, after_entry, before_entry}
 use Rattle.sl_trace.specs.Jobs.{command_of, is_command_that, jobs_of_session, lockspace_named}
-use Rattle.sl_plain.proofs.Lists.{contains_cases, contains_none, kept_inside}
-use Rattle.sl_plain.proofs.Numbers.{number_itself}
+use Rattle.sl_words.proofs.Lists.{contains_cases, contains_none, kept_inside}
+use Rattle.sl_words.proofs.Numbers.{number_itself}
 use Rattle.sl_trace.specs.Sessions.{has_open_write, is_active, is_joined, is_present, joined_after, refused_after, removed_after, removed_in, last_renewal, leaving_job, recovers, recovery_of, renewed_by, renewing, renewing_after, sessions, shows_other}
 use Rattle.sl_trace.specs.declared.session.Begun.{Begun}
 use Rattle.sl_trace.specs.declared.session.Renewing.{Renewing}
 use Rattle.sl_trace.specs.declared.session.Session.{Session}
-use Rattle.sl_due_facts.specs.Facts.Whole.{WholeTrace}
+use Rattle.sl_due_facts.specs.Facts.AllFacts.{WholeTrace}
 use Rattle.sl_time.specs.Times.{fail}
 use Rattle.sl_trace.specs.Traces.{Job, Setting, Trace, is_running, job_in, job_numbered, jobs, line_in, next_job, no_effects, running_jobs}
 use Rattle.sl_trace.specs.declared.command.Command.{Command}
@@ -24,7 +24,7 @@ use Rattle.sl_trace.specs.declared.input.Input.TheVariants.{Wake}
 use Rattle.sl_trace.specs.declared.input.Input.{Input}
 use Rattle.sl_trace.specs.declared.reply.Reply.TheVariants.{Recovering}
 use Rattle.sl_trace.specs.declared.reply.Reply.{Reply}
-use Rattle.sl_trace_law.proofs.Sessions.Staying.{joined_more}
+use Rattle.sl_run_law.proofs.Sessions.MarksStay.{joined_more}
 use Rattle.sl_words.proofs.CaseLaws.{false_is_true, one_value}
 use Rattle.sl_words.proofs.WordLaws.{and_true, some_is_true}
 use Rattle.sl_words.specs.Words.{some_is}

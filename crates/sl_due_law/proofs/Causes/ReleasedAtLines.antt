@@ -1,6 +1,6 @@
 -- What a line that gives a holding up ends, and the cause of its answer where others remain under the lease.
-use Rattle.sl_acts.proofs.Additions.{any_last}
-use Rattle.sl_acts.proofs.Pairs.Decisions.{release_is, writes_own_block}
+use Rattle.sl_due_facts.proofs.Acts.AddedAtEnd.{any_last}
+use Rattle.sl_due_facts.proofs.Acts.Pairs.Decisions.{release_is, writes_own_block}
 use Rattle.sl_due.specs.Due.{IsDue}
 use Rattle.sl_due.specs.DueCommands.{after_end, answer_line, carry_decision, decided, holding_of, pending_refusal, process_refusal, reply_at_once, serving_orphan, session_refusal, unless_refused, with_session}
 use Rattle.sl_due.specs.DueLease.{carry_lease}
@@ -16,14 +16,14 @@ use Rattle.sl_due_leases.proofs.Grants.Values.NothingIsTold.{replied_stops}
 use Rattle.sl_due_leases.proofs.Holdings.DecisionsHaveGrounds.{decisions_have_grounds}
 use Rattle.sl_due_facts.proofs.Jobs.JobFactsGrow.{contains_right}
 use Rattle.sl_due_law.specs.Causes.CauseFacts.{EndedAsAsked, HasEnded}
-use Rattle.sl_due_facts.specs.Facts.Whole.{WholeTrace}
+use Rattle.sl_due_facts.specs.Facts.AllFacts.{WholeTrace}
 use Rattle.sl_due_leases.specs.Holdings.DecisionGrounds.{GiveUpGrounds, HasGrounds, Releases}
 use Rattle.sl_trace.specs.Ballots.{moded_block}
 use Rattle.sl_trace.specs.LeaseWork.{LeasePlace, lease_place, release_next}
 use Rattle.sl_trace.specs.Leases.{LeaseKnown, holdings_on, known, spot_of}
 use Rattle.sl_trace.specs.declared.lease.LeaseNext.TheVariants.{Nothing as No_lease, WriteBlock}
-use Rattle.sl_plain.proofs.Lists.{contains_first, kept_inside}
-use Rattle.sl_plain.proofs.Numbers.{number_itself}
+use Rattle.sl_words.proofs.Lists.{contains_first, kept_inside}
+use Rattle.sl_words.proofs.Numbers.{number_itself}
 use Rattle.sl_sector.specs.declared.sector.Block.{Block}
 use Rattle.sl_trace.specs.Sessions.{holdings_of, session_named}
 use Rattle.sl_trace.specs.declared.session.Session.{Session}
@@ -48,7 +48,7 @@ use Rattle.sl_trace.specs.declared.reply.Reply.TheVariants.{Done, Limit as Limit
 use Rattle.sl_words.proofs.CaseLaws.{false_is_true, none_some, not_both, true_is_false}
 use Rattle.sl_words.specs.Bounds.{is_number}
 use Rattle.sl_words.specs.Words.{choose}
-use Rattle.sl_acts.specs.Acts.{next_of_release}
+use Rattle.sl_due_facts.specs.Acts.Acts.{next_of_release}
 use Rattle.std.proofs.Common.{ap, inl, inr, refl, subst, sym, ◌∙◌}
 use Rattle.std.proofs.lemmas.Bool.{eqb-true}
 use Rattle.std.specs.List.{list_any}

@@ -1,10 +1,10 @@
 -- Each reply is of a job that a line has brought and that ran until then; so no two of a step are of one job.
-use Rattle.sl_acts.proofs.LoopsKeep.{each_in_turn, for_each_keeps, when_keeps, with_some_keeps}
-use Rattle.sl_acts.proofs.ActsTogether.{from_more}
-use Rattle.sl_acts.specs.Acts.{Acts, Has, Hears, next_of_conversion, next_of_release, next_of_settling}
+use Rattle.sl_due_facts.proofs.Acts.LoopsKeep.{each_in_turn, for_each_keeps, when_keeps, with_some_keeps}
+use Rattle.sl_due_facts.proofs.Acts.ActsTogether.{from_more}
+use Rattle.sl_due_facts.specs.Acts.Acts.{Acts, Has, Hears, next_of_conversion, next_of_release, next_of_settling}
 use Rattle.sl_due_law.proofs.Causes.PlainCauses.{lone_of}
 use Rattle.sl_due_law.specs.Causes.CausedSoFar.{RepliedSoFar}
-use Rattle.sl_due_law.specs.Causes.Promises.{RepliesRun, RepliesRunBegin}
+use Rattle.sl_due_law.specs.Causes.CauseLaws.{RepliesRun, RepliesRunBegin}
 use Rattle.sl_due.specs.DueAnswers.{set_reply}
 use Rattle.sl_due.specs.DueCommands.{after_end, answer_line, carry_decision}
 use Rattle.sl_due.specs.DueDelta.{carry_delta, move_connection}
@@ -29,17 +29,17 @@ use Rattle.sl_trace.specs.Jobs.{command_numbered, is_command_that, is_job_of_pro
 use Rattle.sl_trace.specs.Leases.{holdings_on, spot_of, spot_of_call}
 use Rattle.sl_trace.specs.declared.lease.LeaseNext.TheVariants.{AnswerJob, BecomeExclusive, BecomeShared, GrantJob, Nothing as No_lease, ReadFor, WriteBlock, WriteLeader}
 use Rattle.sl_trace.specs.declared.lease.LeaseNext.{LeaseNext}
-use Rattle.sl_plain.proofs.Lists.{contains_first, contains_more, contains_none, find_fails, find_inside, got_index, got_inside, kept_inside, there_is}
-use Rattle.sl_plain.proofs.Numbers.{number_itself}
-use Rattle.sl_plain.proofs.Options.{some_of}
-use Rattle.sl_acts.proofs.Additions.{contains_last}
+use Rattle.sl_words.proofs.Lists.{contains_first, contains_more, contains_none, find_fails, find_inside, got_index, got_inside, kept_inside, there_is}
+use Rattle.sl_words.proofs.Numbers.{number_itself}
+use Rattle.sl_words.proofs.Options.{some_of}
+use Rattle.sl_due_facts.proofs.Acts.AddedAtEnd.{contains_last}
 use Rattle.sl_trace.specs.Deltas.{delta_record, is_renewal_due, delta_known, delta_of_session, next_after_free, next_after_renewal, next_free, next_in_joining, next_on_wake, next_renewal}
 use Rattle.sl_trace.specs.Sessions.{calls_of, generation_of, last_renewal, last_seq, present_sessions, recovery_of, session_of_job, sessions}
 use Rattle.sl_trace.specs.declared.delta.DeltaNext.TheVariants.{Disconnect, EndLeaving, Join, MoveConnection, Nothing, ReadOwn, RefuseJoin, RegisterAndRead, WriteClaim, WriteFirst, WriteFree, WriteRenewal}
 use Rattle.sl_trace.specs.declared.delta.DeltaNext.{DeltaNext}
 use Rattle.sl_trace.specs.Connections.{is_registered}
 use Rattle.sl_trace.specs.declared.session.Session.{Session}
-use Rattle.sl_due_facts.specs.Facts.Whole.{Whole}
+use Rattle.sl_due_facts.specs.Facts.AllFacts.{Whole}
 use Rattle.sl_trace.specs.Traces.{Job, Replied, is_of_job, outstanding, submitted, waiting_call, Setting, Submitted, Trace, end_of, holdings, is_running, job_numbered, job_of, jobs, line_in, next_job, reply_to, running_jobs, spot_of_grant, work_job}
 use Rattle.sl_trace.specs.declared.command.Command.TheVariants.{Acquire, AddLockspace, Convert, GetLvb, HostStatus, InqLockspace, Release, ReleaseOrphan, RemLockspace, Request, RunProgram, SetKillpath, SetLvb, Status, TakeOver}
 use Rattle.sl_trace.specs.declared.command.Command.{Command}

@@ -10,7 +10,7 @@ use Rattle.sl_due_law.specs.Causes.CauseFacts.{IsTold}
 use Rattle.sl_trace.specs.Counts.{holds_already, is_killpath_limit, may_act, next_value_seq, other_holder}
 use Rattle.sl_trace.specs.Jobs.{process_named, wanted_mode}
 use Rattle.sl_trace.specs.Leases.{spot_of}
-use Rattle.sl_plain.proofs.Lists.{find_inside, in_map}
+use Rattle.sl_words.proofs.Lists.{find_inside, in_map}
 use Rattle.sl_trace.specs.Sessions.{session_named}
 use Rattle.sl_trace.specs.declared.session.Session.{Session}
 use Rattle.sl_trace.specs.Limits.{most_processes}

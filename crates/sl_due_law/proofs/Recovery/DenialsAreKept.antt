@@ -1,6 +1,6 @@
 -- Before the input and on a wake no job is answered ok.
-use Rattle.sl_acts.proofs.Additions.{contains_last}
-use Rattle.sl_acts.specs.Acts.{Acts, next_of_settling}
+use Rattle.sl_due_facts.proofs.Acts.AddedAtEnd.{contains_last}
+use Rattle.sl_due_facts.specs.Acts.Acts.{Acts, next_of_settling}
 use Rattle.sl_due.specs.DueCommands.{carry_decision}
 use Rattle.sl_due.specs.DueFirst.{begin_recoveries}
 use Rattle.sl_due.specs.DueInputs.{end_holdings, leave_holdings, refuse_jobs_of, started_reply, when_running}
@@ -12,7 +12,7 @@ use Rattle.sl_due_facts.proofs.Jobs.EffectsAreAllowed.{Allows, DecisionAllowed, 
 use Rattle.sl_due_facts.proofs.Jobs.LinesAreAllowed.{IsBegun}
 use Rattle.sl_due_facts.proofs.Jobs.NearlyPlainActs.{AnyMove, AnyStart, Anything, Nearly, NoLook, decision_plain, nearly_acts}
 use Rattle.sl_due_facts.proofs.Jobs.RepliesComeAfter.{on_bool, on_option}
-use Rattle.sl_due_facts.specs.Jobs.Promises.{BeginsWith}
+use Rattle.sl_due_facts.specs.Jobs.JobLaws.{BeginsWith}
 use Rattle.sl_trace.specs.Jobs.{job_of_start}
 use Rattle.sl_trace.specs.declared.lease.LeaseNext.{LeaseNext}
 use Rattle.sl_trace.specs.declared.lease.LeaseNext.TheVariants.{AnswerJob, BecomeExclusive, BecomeShared, GrantJob, Nothing as No_lease, ReadFor, WriteBlock, WriteLeader}

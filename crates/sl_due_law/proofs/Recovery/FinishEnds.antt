@@ -1,8 +1,8 @@
 -- What comes last ends each session in recovery with nothing left.
-use Rattle.sl_acts.proofs.Additions.{any_last}
-use Rattle.sl_acts.proofs.LoopsKeep.{for_each_keeps, when_keeps}
-use Rattle.sl_acts.specs.Plainly.{Plainly}
-use Rattle.sl_acts.specs.SoFar.{entry_of}
+use Rattle.sl_due_facts.proofs.Acts.AddedAtEnd.{any_last}
+use Rattle.sl_due_facts.proofs.Acts.LoopsKeep.{for_each_keeps, when_keeps}
+use Rattle.sl_due_facts.specs.Acts.KeptByEffects.{Plainly}
+use Rattle.sl_due_facts.specs.Acts.TraceSoFar.{entry_of}
 use Rattle.sl_due.specs.DueCommands.{carry_decision}
 use Rattle.sl_due.specs.DueDelta.{carry_delta}
 use Rattle.sl_due.specs.DueFirst.{remove_connection}
@@ -13,10 +13,10 @@ use Rattle.sl_due_facts.proofs.Jobs.JobsAreNumbered.{found_before}
 use Rattle.sl_due_facts.proofs.Jobs.RepliesComeAfter.{on_bool, on_option}
 use Rattle.sl_due_facts.proofs.Jobs.SessionsArePresent.{joined_present, present_inside}
 use Rattle.sl_due_facts.proofs.Jobs.SessionsStand.{joined_then, move_joined, reply_joined}
-use Rattle.sl_due_facts.proofs.Parts.EffectsAreTold.{effects_are_told}
-use Rattle.sl_due_facts.proofs.Parts.JoinedCallsKeepOrder.{joined_is_covered}
-use Rattle.sl_plain.proofs.Lists.{contains_cases, contains_none, find_fails, find_inside, kept}
-use Rattle.sl_plain.proofs.Options.{some_there}
+use Rattle.sl_due_facts.proofs.AddedEffects.EffectsAreTold.{effects_are_told}
+use Rattle.sl_due_facts.proofs.AddedEffects.JoinedCallsKeepOrder.{joined_is_covered}
+use Rattle.sl_words.proofs.Lists.{contains_cases, contains_none, find_fails, find_inside, kept}
+use Rattle.sl_words.proofs.Options.{some_there}
 use Rattle.sl_due_law.proofs.Recovery.RecoveriesStart.{removed_is_not}
 use Rattle.sl_due_law.proofs.Recovery.StopsConclude.{old_session}
 use Rattle.sl_sector.specs.Bitmaps.{no_bits}

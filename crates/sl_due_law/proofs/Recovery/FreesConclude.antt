@@ -1,9 +1,9 @@
 -- Where all that a free's answer makes due is done its session has ended.
-use Rattle.sl_acts.proofs.Additions.{any_last}
-use Rattle.sl_acts.proofs.InputsKeep.{has_heard}
-use Rattle.sl_acts.proofs.LoopsKeep.{when_keeps}
-use Rattle.sl_acts.specs.Acts.{Hears, IsIdle, lone_job}
-use Rattle.sl_acts.specs.SoFar.{entry_of}
+use Rattle.sl_due_facts.proofs.Acts.AddedAtEnd.{any_last}
+use Rattle.sl_due_facts.proofs.Acts.InputsKeep.{has_heard}
+use Rattle.sl_due_facts.proofs.Acts.LoopsKeep.{when_keeps}
+use Rattle.sl_due_facts.specs.Acts.Acts.{Hears, IsIdle, lone_job}
+use Rattle.sl_due_facts.specs.Acts.TraceSoFar.{entry_of}
 use Rattle.sl_area.specs.Places.{request_offset}
 use Rattle.sl_due.specs.DueAnswers.{set_reply}
 use Rattle.sl_due.specs.DueDelta.{carry_delta, end_leaving}
@@ -20,8 +20,8 @@ use Rattle.sl_due_facts.proofs.Jobs.SessionsStand.{joined_then, reply_joined}
 use Rattle.sl_run.specs.LawfulDelta.{LawfulDeltaCall, LawfulFree}
 use Rattle.sl_trace.specs.Leases.{spot_of_call}
 use Rattle.sl_trace.specs.declared.lease.LeaseNext.{LeaseNext}
-use Rattle.sl_plain.proofs.Lists.{any_found, contains_map, find_inside, got_inside, kept_inside}
-use Rattle.sl_plain.proofs.Options.{some_of, then_value}
+use Rattle.sl_words.proofs.Lists.{any_found, contains_map, find_inside, got_inside, kept_inside}
+use Rattle.sl_words.proofs.Options.{some_of, then_value}
 use Rattle.sl_due_law.proofs.Recovery.FinishEnds.{gone_stays, joined_registered}
 use Rattle.sl_due_law.proofs.Recovery.PartingsAreKept.{leaver_joined, told_again}
 use Rattle.sl_due_law.proofs.Recovery.RecoveriesStart.{removed_is_not}
@@ -34,9 +34,9 @@ use Rattle.sl_trace.specs.Deltas.{delta_known, delta_of_session, delta_record, n
 use Rattle.sl_trace.specs.Sessions.{calls_of, delta_of_record, generation_of, is_call_of, is_free_purpose, is_joined, is_present, last_seq, recovery_of, session_numbered, sessions}
 use Rattle.sl_trace.specs.declared.delta.DeltaNext.{DeltaNext}
 use Rattle.sl_trace.specs.declared.session.Session.{Session}
-use Rattle.sl_due_facts.specs.Facts.Concluding.{Concludes}
-use Rattle.sl_due_facts.specs.Facts.Heard.{heard_by}
-use Rattle.sl_due_facts.specs.Facts.Whole.{Whole}
+use Rattle.sl_due_facts.specs.Facts.ConcludingActs.{Concludes}
+use Rattle.sl_due_facts.specs.Facts.HeardCall.{heard_by}
+use Rattle.sl_due_facts.specs.Facts.AllFacts.{Whole}
 use Rattle.sl_trace.specs.Connections.{is_registered, unregisters}
 use Rattle.sl_trace.specs.Traces.{Setting, Submitted, answered_in, call_numbered, is_answer_for, is_expected, is_running, mark, outstanding, record_of, submitted}
 use Rattle.sl_trace.specs.declared.effects.Call.{Call}
@@ -51,10 +51,10 @@ use Rattle.sl_trace.specs.declared.input.Answer.TheVariants.{Failed, Read, Writt
 use Rattle.sl_trace.specs.declared.input.Input.TheVariants.{Answer as Told, Wake}
 use Rattle.sl_trace.specs.declared.reply.Reply.{Reply}
 use Rattle.sl_trace.specs.declared.reply.Reply.TheVariants.{Done, IoFault}
-use Rattle.sl_trace_law.proofs.Leases.NumberLaws.{number_is_place}
-use Rattle.sl_trace_law.proofs.Sessions.Making.{old_stays, same_answered}
-use Rattle.sl_trace_law.proofs.Sessions.Owning.{calls_were_lawful}
-use Rattle.sl_trace_law.specs.Sessions.Promises.{WasLawful, front_of, made_as}
+use Rattle.sl_run_law.proofs.Leases.NumberLaws.{number_is_place}
+use Rattle.sl_run_law.proofs.Sessions.CallsAreMade.{old_stays, same_answered}
+use Rattle.sl_run_law.proofs.Sessions.CallOwners.{calls_were_lawful}
+use Rattle.sl_run_law.specs.Sessions.SessionLaws.{WasLawful, front_of, made_as}
 use Rattle.sl_words.proofs.CaseLaws.{false_is_true, is_false, none_some, not_both, one_value, some_value}
 use Rattle.sl_words.proofs.WordLaws.{and_true}
 use Rattle.std.proofs.Common.{ap, refl, subst, sym, ◌∙◌}

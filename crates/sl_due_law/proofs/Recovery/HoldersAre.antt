@@ -1,8 +1,8 @@
 -- The holders under a session are the processes of its holdings.
-use Rattle.sl_acts.proofs.Additions.{contains_last, not_is}
+use Rattle.sl_due_facts.proofs.Acts.AddedAtEnd.{contains_last, not_is}
 use Rattle.sl_due_facts.proofs.Jobs.JobFactsGrow.{contains_left, contains_right}
-use Rattle.sl_plain.proofs.Lists.{any_found, contains_cases, contains_first, contains_map, contains_more, contains_none, in_map, kept, kept_inside}
-use Rattle.sl_plain.proofs.Numbers.{number_itself}
+use Rattle.sl_words.proofs.Lists.{any_found, contains_cases, contains_first, contains_map, contains_more, contains_none, in_map, kept, kept_inside}
+use Rattle.sl_words.proofs.Numbers.{number_itself}
 use Rattle.sl_trace.specs.Sessions.{holders_of, holdings_of}
 use Rattle.sl_trace.specs.declared.session.Session.{Session}
 use Rattle.sl_trace.specs.Traces.{Trace, holdings, is_orphan}

@@ -1,13 +1,13 @@
 -- What a step must be for a stop to do all that is asked: nothing has ended, no job was answered ok, no kill program was set.
-use Rattle.sl_acts.specs.SoFar.{entry_of}
+use Rattle.sl_due_facts.specs.Acts.TraceSoFar.{entry_of}
 use Rattle.sl_due.specs.DueFirst.{signal_and_refuse}
 use Rattle.sl_due.specs.Steps.{Step, seen}
 use Rattle.sl_due_facts.proofs.Jobs.JobFactsGrow.{contains_left}
 use Rattle.sl_due_facts.proofs.Jobs.QuietEffects.{names_it}
 use Rattle.sl_run.specs.LawfulRecovery.{StopsSession}
 use Rattle.sl_trace.specs.Jobs.{is_command_that, jobs_of_session}
-use Rattle.sl_plain.proofs.Lists.{find_inside, kept, kept_inside}
-use Rattle.sl_plain.proofs.Options.{none_is}
+use Rattle.sl_words.proofs.Lists.{find_inside, kept, kept_inside}
+use Rattle.sl_words.proofs.Options.{none_is}
 use Rattle.sl_due_law.proofs.Recovery.HoldersAre.{holders_stay}
 use Rattle.sl_due_law.proofs.Recovery.StopsDone.{IsRefusedIn, KeepsPrograms, stopped_session}
 use Rattle.sl_trace.specs.declared.session.Session.{Session}

@@ -1,7 +1,7 @@
 -- What a session in recovery or leaving writes, and how a joined session ends: the law of parting follows from the laws of areas, of delta
 -- sectors and of the watchdog, and from whose connections were removed.
-use Rattle.sl_acts.proofs.Additions.{contains_at}
-use Rattle.sl_acts.specs.SoFar.{entry_of}
+use Rattle.sl_due_facts.proofs.Acts.AddedAtEnd.{contains_at}
+use Rattle.sl_due_facts.specs.Acts.TraceSoFar.{entry_of}
 use Rattle.sl_due.specs.Steps.{Step, seen}
 use Rattle.sl_due_facts.proofs.Jobs.CallsHaveFacts.{find_mapped}
 use Rattle.sl_due_facts.proofs.Jobs.QuietEffects.{is_recovering_parts}
@@ -12,9 +12,9 @@ use Rattle.sl_run.specs.LawfulArea.{LawfulArea, is_area_work, is_delta_record}
 use Rattle.sl_run.specs.LawfulDelta.{LawfulDelta, LawfulDeltaCall, LawfulJoinStep}
 use Rattle.sl_run.specs.LawfulParting.{LawfulParting, MayPart, is_leaving_write}
 use Rattle.sl_run.specs.LawfulWatchdog.{LawfulWatchdog}
-use Rattle.sl_run.specs.Saying.{IsAnsweredAt, cut_at}
-use Rattle.sl_plain.proofs.Lists.{any_found, contains_first, contains_map, contains_more, find_inside, kept_inside}
-use Rattle.sl_plain.proofs.Options.{none_is, some_there}
+use Rattle.sl_run.specs.LawForms.{IsAnsweredAt, cut_at}
+use Rattle.sl_words.proofs.Lists.{any_found, contains_first, contains_map, contains_more, find_inside, kept_inside}
+use Rattle.sl_words.proofs.Options.{none_is, some_there}
 use Rattle.sl_due_law.proofs.Recovery.PartingsAreKept.{PartsWell, find_kept}
 use Rattle.sl_due_law.proofs.Recovery.RecoveriesStart.{removed_if, removed_is_not}
 use Rattle.sl_due_law.proofs.Recovery.StopsConclude.{old_session}
@@ -36,8 +36,8 @@ use Rattle.sl_trace.specs.declared.effects.Purpose.{Purpose}
 use Rattle.sl_trace.specs.declared.effects.Purpose.TheVariants.{Joining, Lease, Leaving, Renewal, RequestRead, RequestWrite, SeeRequest, Survey, ValueRead, ValueWrite}
 use Rattle.sl_trace.specs.declared.input.Answer.{Answer}
 use Rattle.sl_trace.specs.declared.input.Input.TheVariants.{Answer as Told}
-use Rattle.sl_trace_law.proofs.Sessions.Making.{old_stays, same_answered}
-use Rattle.sl_trace_law.proofs.Sessions.Staying.{marks_stay}
+use Rattle.sl_run_law.proofs.Sessions.CallsAreMade.{old_stays, same_answered}
+use Rattle.sl_run_law.proofs.Sessions.MarksStay.{marks_stay}
 use Rattle.sl_words.proofs.CaseLaws.{false_is_true, is_false, not_both, one_value, true_is_false}
 use Rattle.sl_words.proofs.WordLaws.{and_true}
 use Rattle.std.proofs.Common.{ap, inl, inr, refl, subst, sym, ◌∙◌}

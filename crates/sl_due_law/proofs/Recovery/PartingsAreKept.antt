@@ -1,8 +1,8 @@
 -- The connection of a joined session is removed in recovery or at its free's answer alone: each act keeps it.
-use Rattle.sl_acts.proofs.InputsKeep.{has_heard}
-use Rattle.sl_acts.proofs.LoopsKeep.{when_keeps}
-use Rattle.sl_acts.specs.Acts.{Acts, Has, Hears, next_of_settling}
-use Rattle.sl_acts.specs.SoFar.{entry_of}
+use Rattle.sl_due_facts.proofs.Acts.InputsKeep.{has_heard}
+use Rattle.sl_due_facts.proofs.Acts.LoopsKeep.{when_keeps}
+use Rattle.sl_due_facts.specs.Acts.Acts.{Acts, Has, Hears, next_of_settling}
+use Rattle.sl_due_facts.specs.Acts.TraceSoFar.{entry_of}
 use Rattle.sl_area.specs.Places.{delta_offset, request_offset}
 use Rattle.sl_due.specs.DueAnswers.{set_reply}
 use Rattle.sl_due.specs.DueCommands.{carry_decision}
@@ -25,14 +25,14 @@ use Rattle.sl_due_facts.proofs.Jobs.LinesAreAllowed.{IsBegun}
 use Rattle.sl_due_facts.proofs.Jobs.NearlyPlainActs.{AnyStart, Anything, NoLook, decision_plain, lease_plain, request_plain}
 use Rattle.sl_due_facts.proofs.Jobs.RepliesComeAfter.{IsLateDelta, joining_late, on_bool, on_option, wake_late}
 use Rattle.sl_due_facts.proofs.Jobs.SessionsArePresent.{joined_present, present_inside}
-use Rattle.sl_due_facts.specs.Jobs.Promises.{BeginsWith}
+use Rattle.sl_due_facts.specs.Jobs.JobLaws.{BeginsWith}
 use Rattle.sl_trace.specs.Jobs.{job_of_start}
 use Rattle.sl_trace.specs.Leases.{spot_of_call}
 use Rattle.sl_trace.specs.declared.lease.LeaseNext.{LeaseNext}
-use Rattle.sl_plain.proofs.Lists.{find_fails, find_inside, got_inside, in_map, kept}
-use Rattle.sl_plain.proofs.Numbers.{number_itself}
-use Rattle.sl_plain.proofs.Options.{mapped_value, some_there}
-use Rattle.sl_plain.proofs.Truth.{or_false}
+use Rattle.sl_words.proofs.Lists.{find_fails, find_inside, got_inside, in_map, kept}
+use Rattle.sl_words.proofs.Numbers.{number_itself}
+use Rattle.sl_words.proofs.Options.{mapped_value, some_there}
+use Rattle.sl_words.proofs.Truth.{or_false}
 use Rattle.sl_due_law.proofs.Recovery.RecoveriesStart.{removed_if}
 use Rattle.sl_due_law.proofs.Recovery.StopsBegin.{IsDenial, Says, begun_says}
 use Rattle.sl_due_law.proofs.Recovery.StopsConclude.{old_session, unfreed_on_wake, wake_told}
@@ -47,7 +47,7 @@ use Rattle.sl_trace.specs.declared.delta.DeltaKnown.{DeltaKnown}
 use Rattle.sl_trace.specs.declared.delta.DeltaNext.{DeltaNext}
 use Rattle.sl_trace.specs.declared.delta.DeltaNext.TheVariants.{Disconnect, EndLeaving, Join, MoveConnection, Nothing, ReadOwn, RefuseJoin, RegisterAndRead, WriteClaim, WriteFirst, WriteFree, WriteRenewal}
 use Rattle.sl_trace.specs.declared.session.Session.{Session}
-use Rattle.sl_due_facts.specs.Facts.Whole.{Whole}
+use Rattle.sl_due_facts.specs.Facts.AllFacts.{Whole}
 use Rattle.sl_trace.specs.Connections.{unregisters}
 use Rattle.sl_trace.specs.Traces.{Answered, Submitted, answered_in, is_running, next_job, submitted}
 use Rattle.sl_trace.specs.declared.command.Command.{Command}
@@ -65,9 +65,9 @@ use Rattle.sl_trace.specs.declared.input.Answer.TheVariants.{Failed, Read, Writt
 use Rattle.sl_trace.specs.declared.input.Input.{Input}
 use Rattle.sl_trace.specs.declared.input.Input.TheVariants.{Answer as Told, Exit, Line, Number, Spawned, Wake}
 use Rattle.sl_trace.specs.declared.reply.Reply.TheVariants.{BadCommand as Misread, Done, IoFault, IoTimeout, SpawnFault}
-use Rattle.sl_trace_law.proofs.Leases.NumberLaws.{number_is_place}
-use Rattle.sl_trace_law.proofs.Sessions.Making.{same_answered}
-use Rattle.sl_trace_law.proofs.Sessions.Staying.{refused_apart}
+use Rattle.sl_run_law.proofs.Leases.NumberLaws.{number_is_place}
+use Rattle.sl_run_law.proofs.Sessions.CallsAreMade.{same_answered}
+use Rattle.sl_run_law.proofs.Sessions.MarksStay.{refused_apart}
 use Rattle.sl_words.proofs.CaseLaws.{false_is_true, not_both, some_value, true_is_false}
 use Rattle.sl_words.proofs.WordLaws.{and_true, some_is_true}
 use Rattle.sl_words.specs.Words.{some_is}

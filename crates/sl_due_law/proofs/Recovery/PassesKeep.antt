@@ -1,13 +1,13 @@
 -- What is done in a part of a step where nothing may be left out: kills, and the term for a kill program that was not started. It stays
 -- to the step's end.
-use Rattle.sl_acts.proofs.HeadsKeep.{AtHead, IsUnused, kills_keep, time_outs_keep}
-use Rattle.sl_acts.proofs.InputsKeep.{Arrives, answer_keeps, other_acts, others_keep}
-use Rattle.sl_acts.proofs.LoopsKeep.{for_each_keeps, when_keeps}
-use Rattle.sl_acts.proofs.PlainActs.{anything_is_kept, plain_acts}
-use Rattle.sl_acts.proofs.StepsKeep.{at_input, bare_at_input, begun_bare, head_keeps}
-use Rattle.sl_acts.proofs.WakesKeep.{last_keeps, wake_keeps}
-use Rattle.sl_acts.specs.Acts.{OtherActs}
-use Rattle.sl_acts.specs.Plainly.{Plainly}
+use Rattle.sl_due_facts.proofs.Acts.HeadsKeep.{AtHead, IsUnused, kills_keep, time_outs_keep}
+use Rattle.sl_due_facts.proofs.Acts.InputsKeep.{Arrives, answer_keeps, other_acts, others_keep}
+use Rattle.sl_due_facts.proofs.Acts.LoopsKeep.{for_each_keeps, when_keeps}
+use Rattle.sl_due_facts.proofs.Acts.PlainActs.{anything_is_kept, plain_acts}
+use Rattle.sl_due_facts.proofs.Acts.StepsKeep.{at_input, bare_at_input, begun_bare, head_keeps}
+use Rattle.sl_due_facts.proofs.Acts.WakesKeep.{last_keeps, wake_keeps}
+use Rattle.sl_due_facts.specs.Acts.Acts.{OtherActs}
+use Rattle.sl_due_facts.specs.Acts.KeptByEffects.{Plainly}
 use Rattle.sl_due.specs.Due.{after_input, before_input, due_step}
 use Rattle.sl_due.specs.DueCommands.{carry_decision}
 use Rattle.sl_due.specs.DueFirst.{begin_recoveries, kill_holders, kills, kills_holders, send, signal_holders}
@@ -18,8 +18,8 @@ use Rattle.sl_due_facts.proofs.Jobs.CallsHaveFacts.{find_mapped}
 use Rattle.sl_due_facts.proofs.Jobs.JobFactsGrow.{contains_left, contains_right}
 use Rattle.sl_due_facts.proofs.Jobs.JobsAreNumbered.{found_before}
 use Rattle.sl_trace.specs.Jobs.{job_of_start}
-use Rattle.sl_plain.proofs.Lists.{contains_cases, contains_first, contains_none}
-use Rattle.sl_plain.proofs.Options.{then_value}
+use Rattle.sl_words.proofs.Lists.{contains_cases, contains_first, contains_none}
+use Rattle.sl_words.proofs.Options.{then_value}
 use Rattle.sl_due_law.proofs.Recovery.StopsBegin.{begun_says}
 use Rattle.sl_trace.specs.Sessions.{holders_of, present_sessions}
 use Rattle.sl_trace.specs.declared.session.Session.{Session}

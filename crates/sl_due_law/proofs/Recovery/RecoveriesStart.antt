@@ -1,7 +1,7 @@
 -- Where a recovery and a leaving began: in an entry before, or in this one; a recovery by time or by a read.
 use Rattle.sl_due_facts.proofs.Jobs.SessionsHaveJobs.{left_in}
 use Rattle.sl_due_facts.proofs.Jobs.SessionsStand.{joined_then}
-use Rattle.sl_plain.proofs.Options.{none_is, some_there}
+use Rattle.sl_words.proofs.Options.{none_is, some_there}
 use Rattle.sl_trace.specs.Sessions.{is_joined, joined_after, leaving_in, leaving_job, recovers, recovery_of, removed_after, renewed_by, renewing, renewing_after, shows_other}
 use Rattle.sl_trace.specs.declared.session.Begun.{Begun}
 use Rattle.sl_trace.specs.declared.session.Renewing.{Renewing}
@@ -10,7 +10,7 @@ use Rattle.sl_time.specs.Times.{fail}
 use Rattle.sl_trace.specs.Connections.{unregisters}
 use Rattle.sl_trace.specs.Traces.{Job, Setting, Trace}
 use Rattle.sl_trace.specs.declared.effects.Entry.{Entry}
-use Rattle.sl_trace_law.proofs.Sessions.Staying.{marks_stay}
+use Rattle.sl_run_law.proofs.Sessions.MarksStay.{marks_stay}
 use Rattle.sl_words.proofs.CaseLaws.{none_some, not_both, some_value}
 use Rattle.sl_words.proofs.WordLaws.{and_true}
 use Rattle.sl_words.specs.Words.{choose}

@@ -1,10 +1,10 @@
 -- By an entry's end is done what recovery and leaving ask: who held is told and killed in time, jobs are refused, sessions end.
-use Rattle.sl_acts.proofs.InputsKeep.{other_acts}
-use Rattle.sl_acts.proofs.PlainActs.{plain_acts}
-use Rattle.sl_acts.proofs.StepsKeep.{Fixed, at_input, bare_at_input, due_is_of, head_keeps}
-use Rattle.sl_acts.proofs.TracesKeep.{due_is_seen}
-use Rattle.sl_acts.specs.Plainly.{Plainly}
-use Rattle.sl_acts.specs.SoFar.{entry_of}
+use Rattle.sl_due_facts.proofs.Acts.InputsKeep.{other_acts}
+use Rattle.sl_due_facts.proofs.Acts.PlainActs.{plain_acts}
+use Rattle.sl_due_facts.proofs.Acts.StepsKeep.{Fixed, at_input, bare_at_input, due_is_of, head_keeps}
+use Rattle.sl_due_facts.proofs.Acts.TracesKeep.{due_is_seen}
+use Rattle.sl_due_facts.specs.Acts.KeptByEffects.{Plainly}
+use Rattle.sl_due_facts.specs.Acts.TraceSoFar.{entry_of}
 use Rattle.sl_due.specs.Due.{IsDue, after_input, before_input, due, due_step}
 use Rattle.sl_due.specs.DueCommands.{carry_decision}
 use Rattle.sl_due.specs.DueFirst.{begin_recoveries, is_kill_due, kills}
@@ -18,10 +18,10 @@ use Rattle.sl_due_facts.proofs.Jobs.SessionsHaveJobs.{contains_either, left_in}
 use Rattle.sl_run.specs.LawfulGrant.{LawfulGrant}
 use Rattle.sl_run.specs.LawfulParting.{MayPart}
 use Rattle.sl_run.specs.LawfulRecovery.{IsSent, LawfulRecovery, StopsSession, was_killed}
-use Rattle.sl_run.specs.Saying.{IsAnsweredAt}
-use Rattle.sl_plain.proofs.Lists.{any_of, find_inside, got_before, got_inside, head_is, in_map, kept_inside}
-use Rattle.sl_plain.proofs.Numbers.{number_itself}
-use Rattle.sl_plain.proofs.Options.{mapped_value}
+use Rattle.sl_run.specs.LawForms.{IsAnsweredAt}
+use Rattle.sl_words.proofs.Lists.{any_of, find_inside, got_before, got_inside, head_is, in_map, kept_inside}
+use Rattle.sl_words.proofs.Numbers.{number_itself}
+use Rattle.sl_words.proofs.Options.{mapped_value}
 use Rattle.sl_due_law.proofs.Recovery.FinishEnds.{StaysRegistered, finish_ends, joined_registered, registered_plainly}
 use Rattle.sl_due_law.proofs.Recovery.HoldersAre.{HeldBy, held_by_one, holder_of_one, holders_stay}
 use Rattle.sl_due_law.proofs.Recovery.MayStop.{held_then}
@@ -36,7 +36,7 @@ use Rattle.sl_trace.specs.Sessions.{begun_in, calls_of, free_write, has_open_wri
 use Rattle.sl_trace.specs.declared.session.Begun.{Begun}
 use Rattle.sl_trace.specs.declared.session.Session.{Session}
 use Rattle.sl_due_facts.specs.Facts.HoldingFacts.{HoldingFacts}
-use Rattle.sl_due_facts.specs.Facts.Whole.{WholeTrace}
+use Rattle.sl_due_facts.specs.Facts.AllFacts.{WholeTrace}
 use Rattle.sl_trace.specs.Connections.{is_registered}
 use Rattle.sl_trace.specs.Traces.{Answered, Job, Setting, Submitted, Trace, answer_of, answered_in, holdings, is_ended_by, last_reading, mark, new_call, stands_for, submitted}
 use Rattle.sl_trace.specs.declared.effects.Call.{Call}
@@ -49,7 +49,7 @@ use Rattle.sl_trace.specs.declared.effects.Signal.TheVariants.{Kill, Term}
 use Rattle.sl_trace.specs.declared.input.Answer.{Answer}
 use Rattle.sl_trace.specs.declared.input.Input.{Input}
 use Rattle.sl_trace.specs.declared.input.Input.TheVariants.{Answer as Told, Exit, Line, Number, Spawned, Wake}
-use Rattle.sl_trace_law.proofs.Sessions.Making.{IsNewCall, old_or_new, same_answered}
+use Rattle.sl_run_law.proofs.Sessions.CallsAreMade.{IsNewCall, old_or_new, same_answered}
 use Rattle.sl_words.proofs.CaseLaws.{is_false, none_some, not_both, one_value, some_value}
 use Rattle.std.proofs.Common.{ap, ap₂, arith, inl, inr, refl, subst, sym, ◌∙◌}
 use Rattle.std.proofs.lemmas.Bool.{eqb-true}

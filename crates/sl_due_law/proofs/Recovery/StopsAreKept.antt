@@ -1,6 +1,6 @@
 -- Each act keeps that the sessions whose recovery or leaving began in the step have been stopped.
-use Rattle.sl_acts.specs.Acts.{Acts}
-use Rattle.sl_acts.specs.SoFar.{entry_of}
+use Rattle.sl_due_facts.specs.Acts.Acts.{Acts}
+use Rattle.sl_due_facts.specs.Acts.TraceSoFar.{entry_of}
 use Rattle.sl_area.specs.Places.{delta_offset}
 use Rattle.sl_due.specs.DueCommands.{carry_decision, decided, reply_at_once}
 use Rattle.sl_due.specs.DueDelta.{begins_by_read}
@@ -22,7 +22,7 @@ use Rattle.sl_due_facts.proofs.Jobs.QuietLines.{answered_leaving, new_leaving}
 use Rattle.sl_due_facts.proofs.Jobs.SessionsArePresent.{joined_present, present_inside, session_has}
 use Rattle.sl_run.specs.LawfulRecovery.{StopsSession}
 use Rattle.sl_trace.specs.Jobs.{is_command_that, jobs_of_session, lockspace_named}
-use Rattle.sl_plain.proofs.Lists.{find_inside, kept, kept_inside}
+use Rattle.sl_words.proofs.Lists.{find_inside, kept, kept_inside}
 use Rattle.sl_due_law.proofs.Recovery.HoldersAre.{HeldBy, held_by_one}
 use Rattle.sl_due_law.proofs.Recovery.MayStop.{MayStop, held_then, programs_when_left, stop_done}
 use Rattle.sl_due_law.proofs.Recovery.StopsBegin.{Says, stop_only_says, stopped_nearly}
@@ -31,7 +31,7 @@ use Rattle.sl_due_law.specs.Recovery.Stops.{Denies, Stops}
 use Rattle.sl_trace.specs.Sessions.{holders_of, is_joined, is_session_arg, leaving_job, present_sessions, session_named, session_numbered, sessions}
 use Rattle.sl_trace.specs.declared.session.Begun.{Begun}
 use Rattle.sl_trace.specs.declared.session.Session.{Session}
-use Rattle.sl_due_facts.specs.Facts.Heard.{heard_by}
+use Rattle.sl_due_facts.specs.Facts.HeardCall.{heard_by}
 use Rattle.sl_trace.specs.Traces.{Job, Setting, Trace, next_job, running_jobs}
 use Rattle.sl_trace.specs.declared.command.Command.{Command}
 use Rattle.sl_trace.specs.declared.command.Command.TheVariants.{RemLockspace}

@@ -1,7 +1,7 @@
 -- Once a step has begun each session whose recovery begins by time has been stopped.
-use Rattle.sl_acts.proofs.Additions.{contains_last}
-use Rattle.sl_acts.proofs.LoopsKeep.{for_each_keeps, when_keeps}
-use Rattle.sl_acts.specs.SoFar.{entry_of}
+use Rattle.sl_due_facts.proofs.Acts.AddedAtEnd.{contains_last}
+use Rattle.sl_due_facts.proofs.Acts.LoopsKeep.{for_each_keeps, when_keeps}
+use Rattle.sl_due_facts.specs.Acts.TraceSoFar.{entry_of}
 use Rattle.sl_due.specs.DueFirst.{begin_recoveries, begin_recovery, begins_now, send, signal_and_refuse, signal_holders}
 use Rattle.sl_due.specs.Steps.{Step, add_call_of, add_end, add_grant, add_move, add_reply, add_signal, add_start, begin_step, for_each, seen, when}
 use Rattle.sl_due_facts.proofs.Jobs.EffectsAreAllowed.{stopped}
@@ -9,12 +9,12 @@ use Rattle.sl_due_facts.proofs.Jobs.JobFactsBegin.{sessions_then}
 use Rattle.sl_due_facts.proofs.Jobs.NearlyPlainActs.{AnyMove, AnyStart, Anything, Nearly, NoLook}
 use Rattle.sl_due_facts.proofs.Jobs.QuietFactsBegin.{leaving_wake}
 use Rattle.sl_due_facts.proofs.Jobs.SessionsArePresent.{joined_present, present_inside}
-use Rattle.sl_due_facts.specs.Jobs.Promises.{BeginsWith}
+use Rattle.sl_due_facts.specs.Jobs.JobLaws.{BeginsWith}
 use Rattle.sl_run.specs.LawfulRecovery.{StopsSession}
 use Rattle.sl_trace.specs.Counts.{stopper_of}
 use Rattle.sl_trace.specs.Jobs.{jobs_of_session}
-use Rattle.sl_plain.proofs.Lists.{contains_cases, contains_none}
-use Rattle.sl_plain.proofs.Numbers.{number_itself}
+use Rattle.sl_words.proofs.Lists.{contains_cases, contains_none}
+use Rattle.sl_words.proofs.Numbers.{number_itself}
 use Rattle.sl_due_law.proofs.Recovery.MayStop.{MayStop, programs_on_wake, stop_done}
 use Rattle.sl_due_law.proofs.Recovery.RecoveriesStart.{joined_unless, leaving_before, starts_at}
 use Rattle.sl_due_law.proofs.Recovery.StopsGrow.{itself_grown, reply_grown, signal_grown, start_grown}
@@ -22,7 +22,7 @@ use Rattle.sl_due_law.specs.Recovery.Stops.{Stops}
 use Rattle.sl_trace.specs.Sessions.{holders_of, is_joined, last_renewal, present_sessions, recovery_of, sessions}
 use Rattle.sl_trace.specs.declared.session.Begun.{Begun}
 use Rattle.sl_trace.specs.declared.session.Session.{Session}
-use Rattle.sl_due_facts.specs.Facts.Heard.{heard_by}
+use Rattle.sl_due_facts.specs.Facts.HeardCall.{heard_by}
 use Rattle.sl_trace.specs.EffectTexts.{is_ok_reply}
 use Rattle.sl_trace.specs.Traces.{Job, Setting, Trace, next_child}
 use Rattle.sl_trace.specs.declared.effects.Effects.{Effects}

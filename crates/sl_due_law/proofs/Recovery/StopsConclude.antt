@@ -1,6 +1,6 @@
 -- Where all that an answer makes due is done, each session whose recovery or leaving began in the step has been stopped.
-use Rattle.sl_acts.specs.Acts.{Hears, IsIdle, lone_job}
-use Rattle.sl_acts.specs.SoFar.{entry_of}
+use Rattle.sl_due_facts.specs.Acts.Acts.{Hears, IsIdle, lone_job}
+use Rattle.sl_due_facts.specs.Acts.TraceSoFar.{entry_of}
 use Rattle.sl_area.specs.Places.{request_offset}
 use Rattle.sl_due.specs.DueAnswers.{set_reply}
 use Rattle.sl_due.specs.DueDelta.{begins_by_read}
@@ -17,9 +17,9 @@ use Rattle.sl_due_facts.proofs.Jobs.RepliesComeAfter.{joining_late}
 use Rattle.sl_due_facts.proofs.Jobs.SessionsArePresent.{joined_present, session_has}
 use Rattle.sl_run.specs.LawfulRecovery.{StopsSession}
 use Rattle.sl_trace.specs.Leases.{spot_of_call}
-use Rattle.sl_plain.proofs.Lists.{find_inside}
-use Rattle.sl_plain.proofs.Numbers.{number_itself}
-use Rattle.sl_plain.proofs.Options.{some_of, some_there}
+use Rattle.sl_words.proofs.Lists.{find_inside}
+use Rattle.sl_words.proofs.Numbers.{number_itself}
+use Rattle.sl_words.proofs.Options.{some_of, some_there}
 use Rattle.sl_due_law.proofs.Recovery.MayStop.{programs_when_told, stop_done}
 use Rattle.sl_due_law.proofs.Recovery.RecoveriesStart.{BegunBefore, By_read, By_time, StartReason, Starts, begun_before, joined_unless, recovery_starts}
 use Rattle.sl_due_law.proofs.Recovery.StopsAreKept.{HasStops, WithStops}
@@ -31,8 +31,8 @@ use Rattle.sl_trace.specs.Sessions.{begun_in, calls_of, generation_of, is_joined
 use Rattle.sl_trace.specs.declared.session.Begun.{Begun}
 use Rattle.sl_trace.specs.declared.session.Renewing.{Renewing}
 use Rattle.sl_trace.specs.declared.session.Session.{Session}
-use Rattle.sl_due_facts.specs.Facts.Concluding.{Concludes}
-use Rattle.sl_due_facts.specs.Facts.Heard.{heard_by}
+use Rattle.sl_due_facts.specs.Facts.ConcludingActs.{Concludes}
+use Rattle.sl_due_facts.specs.Facts.HeardCall.{heard_by}
 use Rattle.sl_time.specs.Times.{fail}
 use Rattle.sl_trace.specs.Connections.{unregisters}
 use Rattle.sl_trace.specs.Traces.{Job, Setting, Submitted, Trace, bytes_given, call_numbered, submitted}

@@ -1,6 +1,6 @@
 -- A stop tells each holder of its session to stop, and refuses its jobs.
-use Rattle.sl_acts.proofs.LoopsKeep.{for_each_keeps}
-use Rattle.sl_acts.specs.SoFar.{entry_of}
+use Rattle.sl_due_facts.proofs.Acts.LoopsKeep.{for_each_keeps}
+use Rattle.sl_due_facts.specs.Acts.TraceSoFar.{entry_of}
 use Rattle.sl_due.specs.DueFirst.{send, signal_and_refuse, signal_holders}
 use Rattle.sl_due.specs.Steps.{Step, add_reply, add_signal, add_start, for_each, seen}
 use Rattle.sl_due_facts.proofs.Jobs.EffectsAreAllowed.{stopped}
@@ -8,8 +8,8 @@ use Rattle.sl_due_facts.proofs.Jobs.JobFactsGrow.{contains_left, contains_right}
 use Rattle.sl_run.specs.LawfulRecovery.{IsToldToStop, StopsSession}
 use Rattle.sl_trace.specs.Counts.{child_count, stopper_of}
 use Rattle.sl_trace.specs.Jobs.{jobs_of_session}
-use Rattle.sl_plain.proofs.Lists.{contains_cases, contains_first, contains_none, kept}
-use Rattle.sl_plain.proofs.Options.{then_value}
+use Rattle.sl_words.proofs.Lists.{contains_cases, contains_first, contains_none, kept}
+use Rattle.sl_words.proofs.Options.{then_value}
 use Rattle.sl_trace.specs.Sessions.{holders_of, last_renewal}
 use Rattle.sl_trace.specs.declared.session.Session.{Session}
 use Rattle.sl_trace.specs.EffectTexts.{is_ok_reply}

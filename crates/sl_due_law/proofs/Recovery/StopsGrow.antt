@@ -1,5 +1,5 @@
 -- What was done to stop a session stays done as the step goes on.
-use Rattle.sl_acts.specs.SoFar.{entry_of}
+use Rattle.sl_due_facts.specs.Acts.TraceSoFar.{entry_of}
 use Rattle.sl_due.specs.Steps.{Step, add_call_of, add_end, add_grant, add_move, add_reply, add_signal, add_start}
 use Rattle.sl_due_facts.proofs.Jobs.JobFactsGrow.{contains_left}
 use Rattle.sl_due_facts.proofs.Jobs.NearlyPlainActs.{Nearly}

@@ -1,6 +1,6 @@
 -- What the causes of later replies stand on, of a trace at the end of an entry: what stands behind the calls of requests and values, what a
 -- release has ended, what a joining looked at first, and what a child to be started holds.
-use Rattle.sl_due_law.specs.Whole.JobLore.{AllSuit}
+use Rattle.sl_due_law.specs.LawfulTraces.JobLore.{AllSuit}
 use Rattle.sl_due_facts.specs.Connections.WatchFacts.{WatchFacts}
 use Rattle.sl_run.specs.Caused.{IsAccepted}
 use Rattle.sl_trace.specs.Jobs.{command_numbered, process_named}

@@ -1,14 +1,14 @@
 -- The causes of the replies of a step so far.
-use Rattle.sl_acts.specs.SoFar.{entry_of}
+use Rattle.sl_due_facts.specs.Acts.TraceSoFar.{entry_of}
 use Rattle.sl_due.specs.Steps.{Step, seen}
 use Rattle.sl_run.specs.Caused.{Answering, CausedBy}
 use Rattle.sl_trace.specs.Leases.{is_lease_call, is_on}
 use Rattle.sl_trace.specs.Sessions.{calls_of, generation_in, sessions}
-use Rattle.sl_trace.specs.Watching.{evidence_in}
+use Rattle.sl_trace.specs.Sightings.{evidence_in}
 use Rattle.sl_trace.specs.declared.session.Session.{Session}
 use Rattle.sl_due_law.specs.Causes.CauseFacts.{CauseFacts}
-use Rattle.sl_due_facts.specs.Facts.Heard.{heard_by}
-use Rattle.sl_due_facts.specs.Facts.Whole.{WholeTrace}
+use Rattle.sl_due_facts.specs.Facts.HeardCall.{heard_by}
+use Rattle.sl_due_facts.specs.Facts.AllFacts.{WholeTrace}
 use Rattle.sl_trace.specs.Traces.{Job, Setting, Submitted, is_running, job_numbered, next_job, reply_to, submitted}
 use Rattle.sl_trace.specs.declared.command.Command.{Command}
 use Rattle.sl_trace.specs.declared.effects.LeaseStep.{LeaseStep}

@@ -9,7 +9,7 @@ use Rattle.sl_due.specs.Steps.{Step, begin_step, seen}
 use Rattle.sl_run.specs.Caused.{Answering, CausedBy, IsAtCommand, before_entry}
 use Rattle.sl_trace.specs.Sessions.{is_joined, sessions}
 use Rattle.sl_trace.specs.declared.session.Session.{Session}
-use Rattle.sl_due_facts.specs.Facts.Whole.{WholeTrace}
+use Rattle.sl_due_facts.specs.Facts.AllFacts.{WholeTrace}
 use Rattle.sl_trace.specs.Connections.{unregisters}
 use Rattle.sl_trace.specs.Traces.{Job, Setting, Trace, is_before_input, job_numbered, next_job, no_effects}
 use Rattle.sl_trace.specs.declared.command.Command.{Command}

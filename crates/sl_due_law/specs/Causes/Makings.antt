@@ -3,7 +3,7 @@
 use Rattle.sl_due.specs.DueLease.{grant_of}
 use Rattle.sl_due.specs.Steps.{Step, seen}
 use Rattle.sl_due_law.specs.Causes.CauseFacts.{IsTold, WaitsFor}
-use Rattle.sl_due_facts.specs.Facts.Heard.{heard_by}
+use Rattle.sl_due_facts.specs.Facts.HeardCall.{heard_by}
 use Rattle.sl_run.specs.Caused.{IsAccepted}
 use Rattle.sl_trace.specs.Jobs.{command_numbered, process_named}
 use Rattle.sl_sector.specs.declared.sector.Rec.TheVariants.{RequestIs, ValueIs}

@@ -1,5 +1,5 @@
 -- What a step has done so far of what a recovery or a leaving asks, and how joined sessions ended in it.
-use Rattle.sl_acts.specs.SoFar.{entry_of}
+use Rattle.sl_due_facts.specs.Acts.TraceSoFar.{entry_of}
 use Rattle.sl_due.specs.DueDelta.{begins_by_read}
 use Rattle.sl_due.specs.Steps.{Step, seen}
 use Rattle.sl_run.specs.LawfulRecovery.{StopsSession}

@@ -9,7 +9,7 @@
 
 ghost use Rattle.sl_due_law.specs.Causes.CausedSoFar.{is_explained};
 ghost use Rattle.sl_due_law.specs.Causes.LineCauses.{AnswersAreCaused, AtOnceAreCaused, DecisionsOverlook, DoneAtLines, GrantedAtLines, HeadsAreEarly, LastIsSilent, LimitedAtLines, LinesAreCaused, LinesAreWell, RefusedAtLines, StoppedAreCaused};
-ghost use Rattle.sl_due_law.specs.Causes.Promises.{CausesAreKept, CausesBegin, CausesStand, LeavingsAreCaused, RepliesRun, RepliesRunBegin, TracesAreCaused};
+ghost use Rattle.sl_due_law.specs.Causes.CauseLaws.{CausesAreKept, CausesBegin, CausesStand, LeavingsAreCaused, RepliesRun, RepliesRunBegin, TracesAreCaused};
 
 /// Each act gives its replies with their causes, but for those of its line, and leaves those before it.
 pub fn causes_are_kept()

@@ -6,7 +6,7 @@
 //! What must be done, and is no act where nothing is due, is shown of the parts of a step themselves: that holders are killed once their
 //! grace has passed, that a term follows a kill program which was not started, that a session with nothing left ends (`Recovery::Passes`).
 
-ghost use Rattle.sl_due_law.specs.Recovery.Promises.{AnswersAreHeard, DenialsAreKept, DenialsBegin, FreesConclude, KillFactsGoOn, PartingIsLawful, PartingsAreKept, PartingsBegin, RecoveryIsLawful, StopsAreKept, StopsBegin, StopsConclude};
+ghost use Rattle.sl_due_law.specs.Recovery.RecoveryLaws.{AnswersAreHeard, DenialsAreKept, DenialsBegin, FreesConclude, KillFactsGoOn, PartingIsLawful, PartingsAreKept, PartingsBegin, RecoveryIsLawful, StopsAreKept, StopsBegin, StopsConclude};
 
 /// Before the input and on a wake each act leaves no job answered ok.
 pub fn denials_are_kept()

@@ -1,11 +1,11 @@
 -- The session of each process that is granted a resource is active, so the grants are lawful.
 use Rattle.sl_trace.specs.declared.effects.LeaseRead.TheVariants.{OfArea, OfFree}
-use Rattle.sl_acts.proofs.ActsTogether.{both}
-use Rattle.sl_acts.proofs.DecisionsAreTheirs.{Of}
-use Rattle.sl_acts.proofs.LoopsKeep.{for_each_keeps}
-use Rattle.sl_acts.proofs.PlainActs.{line_has}
-use Rattle.sl_acts.specs.Acts.{Has, Hears}
-use Rattle.sl_acts.specs.SoFar.{entry_of}
+use Rattle.sl_due_facts.proofs.Acts.ActsTogether.{both}
+use Rattle.sl_due_facts.proofs.Acts.DecisionsAreTheirs.{Of}
+use Rattle.sl_due_facts.proofs.Acts.LoopsKeep.{for_each_keeps}
+use Rattle.sl_due_facts.proofs.Acts.PlainActs.{line_has}
+use Rattle.sl_due_facts.specs.Acts.Acts.{Has, Hears}
+use Rattle.sl_due_facts.specs.Acts.TraceSoFar.{entry_of}
 use Rattle.sl_area.specs.Places.{block_place, block_record, leader_offset, leader_record, request_offset}
 use Rattle.sl_due.specs.DueCommands.{after_end, carry_decision}
 use Rattle.sl_due.specs.DueFirst.{begin_recoveries, remove_connection, send, signal_and_refuse}
@@ -21,7 +21,7 @@ use Rattle.sl_due_leases.proofs.Grants.GrantlessLines.{converting_grants, releas
 use Rattle.sl_due_leases.proofs.Grants.GrantsStand.{grants_are_lawful}
 use Rattle.sl_due_leases.proofs.Grants.NothingGranted.{GrantingActs, by_granting, none_begin, stopped_grants}
 use Rattle.sl_due_leases.proofs.Grants.OrphansAreLawful.{left_orphans, orphans_are_lawful, orphans_begin}
-use Rattle.sl_due_leases.specs.Grants.GrantPromises.{ActiveSoFar, ActivesAreKept, ActivesBegin, GrantingBegins, GrantingIsLawful, GrantingSoFar, OrphansSoFar}
+use Rattle.sl_due_leases.specs.Grants.GrantLaws.{ActiveSoFar, ActivesAreKept, ActivesBegin, GrantingBegins, GrantingIsLawful, GrantingSoFar, OrphansSoFar}
 use Rattle.sl_due_leases.proofs.Holdings.DecisionsHaveGrounds.{decisions_have_grounds}
 use Rattle.sl_due_leases.proofs.Holdings.HoldingFactsAreKept.{holding_facts_are_kept}
 use Rattle.sl_due_leases.proofs.Holdings.HoldingFactsBegin.{holding_facts_begin}
@@ -30,22 +30,22 @@ use Rattle.sl_due_leases.proofs.Holdings.LeaseConversions.{converted, otherwise}
 use Rattle.sl_due_leases.proofs.Holdings.MomentsAreKept.{same}
 use Rattle.sl_due_leases.specs.Holdings.DecisionGrounds.{AsksLease, HasGrounds}
 use Rattle.sl_due_leases.specs.Holdings.Moments.{Known}
-use Rattle.sl_due_leases.specs.Holdings.Promises.{HasHoldingFacts}
+use Rattle.sl_due_leases.specs.Holdings.HoldingLaws.{HasHoldingFacts}
 use Rattle.sl_due_facts.proofs.Jobs.QuietLines.{active_parts}
 use Rattle.sl_due_facts.proofs.Jobs.SessionsArePresent.{joined_present, present_inside}
 use Rattle.sl_run.specs.LawfulArea.{is_area_work}
 use Rattle.sl_due_leases.proofs.Leases.LawsStay.{joined_more, moves_carry, three}
 use Rattle.sl_due_leases.proofs.Leases.TurnsStay.{replied_active, turned_by}
 use Rattle.sl_due_leases.proofs.Leases.WorkIsActive.{work_is_active}
-use Rattle.sl_due_leases.proofs.Ways.Kept.EffectsLeave.{made_call, there_has}
-use Rattle.sl_due_leases.proofs.Ways.Kept.HeardStands.{heard_has}
+use Rattle.sl_due_leases.proofs.Ways.WayFactsHeld.EffectsLeave.{made_call, there_has}
+use Rattle.sl_due_leases.proofs.Ways.WayFactsHeld.HeardStands.{heard_has}
 use Rattle.sl_trace.specs.Jobs.{command_numbered}
 use Rattle.sl_trace.specs.Leases.{spot_of, spot_of_call}
 use Rattle.sl_trace.specs.declared.lease.LeaseNext.{LeaseNext}
 use Rattle.sl_trace.specs.declared.lease.LeaseNext.TheVariants.{AnswerJob, BecomeExclusive, BecomeShared, GrantJob, Nothing, ReadFor, WriteBlock, WriteLeader}
-use Rattle.sl_due_facts.proofs.Parts.CallsGrow.{same_sessions}
-use Rattle.sl_due_facts.specs.Parts.Parts.{with_reply}
-use Rattle.sl_plain.proofs.Lists.{contains_none}
+use Rattle.sl_due_facts.proofs.AddedEffects.CallsGrow.{same_sessions}
+use Rattle.sl_due_facts.specs.AddedEffects.OneMoreEffect.{with_reply}
+use Rattle.sl_words.proofs.Lists.{contains_none}
 use Rattle.sl_sector.specs.declared.sector.Rec.TheVariants.{DeltaIs}
 use Rattle.sl_trace.specs.Deltas.{own_offset}
 use Rattle.sl_trace.specs.Sessions.{holders_of, is_active, is_join_call, is_joined, joined_after, leaves, leaving_job, recovery_of, removed_after, session_numbered, sessions}

@@ -1,11 +1,11 @@
 -- What ends is lawful: only an exit, a failed start, a release, a take-over and a conversion end holdings, and each was held before.
-use Rattle.sl_acts.proofs.Pairs.Decisions.{release_is}
-use Rattle.sl_acts.specs.Acts.{next_of_conversion, next_of_release, next_of_settling}
+use Rattle.sl_due_facts.proofs.Acts.Pairs.Decisions.{release_is}
+use Rattle.sl_due_facts.specs.Acts.Acts.{next_of_conversion, next_of_release, next_of_settling}
 use Rattle.sl_trace.specs.declared.effects.LeaseRead.TheVariants.{OfArea, OfFree}
-use Rattle.sl_acts.proofs.EffectsKeep.{delta, removal, signalled}
-use Rattle.sl_acts.proofs.LoopsKeep.{for_each_keeps, when_keeps}
-use Rattle.sl_acts.specs.Plainly.{ByEffects}
-use Rattle.sl_acts.specs.SoFar.{entry_of}
+use Rattle.sl_due_facts.proofs.Acts.EffectsKeep.{delta, removal, signalled}
+use Rattle.sl_due_facts.proofs.Acts.LoopsKeep.{for_each_keeps, when_keeps}
+use Rattle.sl_due_facts.specs.Acts.KeptByEffects.{ByEffects}
+use Rattle.sl_due_facts.specs.Acts.TraceSoFar.{entry_of}
 use Rattle.sl_due.specs.DueAnswers.{set_reply}
 use Rattle.sl_due.specs.DueCommands.{after_end, answer_line, carry_decision, decided}
 use Rattle.sl_due.specs.DueDelta.{carry_delta, see_request}
@@ -16,7 +16,7 @@ use Rattle.sl_due.specs.DueRequests.{after_request_read, after_value_read, bits_
 use Rattle.sl_due.specs.Steps.{Step, add_end, add_grant, add_reply, add_signal, begin_step, seen, when, with_input, with_some}
 use Rattle.sl_due.specs.declared.decision.Decision.TheVariants.{ConvertsTo, GetsValue, GivesUp, Joins, Leaves, ReadsArea, Replies, Requests, SetsValue, Shares, TakesOver}
 use Rattle.sl_due.specs.declared.decision.Decision.{Decision}
-use Rattle.sl_due_leases.specs.Grants.GrantPromises.{EndsAreLawful, EndsBegin, EndsSoFar}
+use Rattle.sl_due_leases.specs.Grants.GrantLaws.{EndsAreLawful, EndsBegin, EndsSoFar}
 use Rattle.sl_due_leases.proofs.Holdings.DecisionsHaveGrounds.{decisions_have_grounds}
 use Rattle.sl_due_leases.proofs.Holdings.LeaseConversions.{converted, otherwise}
 use Rattle.sl_due_leases.proofs.Holdings.MomentsAreKept.{delta_ungranting, refused_alike, removal_alike, same, sent_alike, signalled_alike}
@@ -30,8 +30,8 @@ use Rattle.sl_trace.specs.LeaseWork.{lease_place, release_next}
 use Rattle.sl_trace.specs.Leases.{holdings_on, known, spot_of, spot_of_call}
 use Rattle.sl_trace.specs.declared.lease.LeaseNext.TheVariants.{AnswerJob, BecomeExclusive, BecomeShared, GrantJob, Nothing, ReadFor, WriteBlock, WriteLeader}
 use Rattle.sl_trace.specs.declared.lease.LeaseNext.{LeaseNext}
-use Rattle.sl_plain.proofs.Lists.{contains_cases, contains_first, contains_none, find_inside, kept_inside}
-use Rattle.sl_plain.proofs.Numbers.{number_itself}
+use Rattle.sl_words.proofs.Lists.{contains_cases, contains_first, contains_none, find_inside, kept_inside}
+use Rattle.sl_words.proofs.Numbers.{number_itself}
 use Rattle.sl_sector.specs.declared.sector.Block.{Block}
 use Rattle.sl_trace.specs.Deltas.{delta_known, delta_of_session, next_after_free, next_after_renewal, next_free, next_in_joining, next_on_wake, next_renewal}
 use Rattle.sl_trace.specs.Sessions.{calls_of, generation_of, holdings_of, last_renewal, present_sessions, recovery_of, refused_after, has_open_write}

@@ -1,9 +1,9 @@
 -- What an exit leaves is lawful: all holdings of the process have ended, and where a persistent one had no orphan yet it has one.
-use Rattle.sl_acts.proofs.EffectsKeep.{delta, lease, removal, signalled, stopped}
-use Rattle.sl_acts.proofs.LoopsKeep.{for_each_keeps, when_keeps}
-use Rattle.sl_acts.proofs.PlainActs.{ended, line_has}
-use Rattle.sl_acts.proofs.DecisionsAreTheirs.{Of}
-use Rattle.sl_acts.specs.Acts.{Has, next_of_settling}
+use Rattle.sl_due_facts.proofs.Acts.EffectsKeep.{delta, lease, removal, signalled, stopped}
+use Rattle.sl_due_facts.proofs.Acts.LoopsKeep.{for_each_keeps, when_keeps}
+use Rattle.sl_due_facts.proofs.Acts.PlainActs.{ended, line_has}
+use Rattle.sl_due_facts.proofs.Acts.DecisionsAreTheirs.{Of}
+use Rattle.sl_due_facts.specs.Acts.Acts.{Has, next_of_settling}
 use Rattle.sl_due.specs.DueAnswers.{set_reply}
 use Rattle.sl_due.specs.DueCommands.{answer_line}
 use Rattle.sl_due.specs.DueDelta.{carry_delta, see_request}
@@ -15,13 +15,13 @@ use Rattle.sl_due.specs.Steps.{Step, add_end, add_grant, add_reply, add_signal, 
 use Rattle.sl_due.specs.DueLease.{carry_lease, next_of_lease}
 use Rattle.sl_due_leases.proofs.Grants.EndsAreLawful.{Ending, Going, StandsAt, last_there, left_ending, more_granted, stand_effects, stands}
 use Rattle.sl_due_leases.proofs.Grants.WorksByLines.{held_before}
-use Rattle.sl_due_leases.specs.Grants.GrantPromises.{ExitsAreLawful, ExitsBegin, ExitsSoFar}
+use Rattle.sl_due_leases.specs.Grants.GrantLaws.{ExitsAreLawful, ExitsBegin, ExitsSoFar}
 use Rattle.sl_due_leases.proofs.Holdings.MomentsAreKept.{carried, delta_ungranting, input_effects, refused_alike, removal_alike, said_input, same, signalled_alike, told_acts}
 use Rattle.sl_due_leases.proofs.Holdings.PlainPlaces.{one_place}
 use Rattle.sl_trace.specs.Jobs.{is_job_of_process, job_of_start}
 use Rattle.sl_trace.specs.Leases.{spot_of_call}
-use Rattle.sl_plain.proofs.Lists.{any_found, any_of, contains_cases, contains_map, contains_none, kept}
-use Rattle.sl_plain.proofs.Numbers.{number_itself}
+use Rattle.sl_words.proofs.Lists.{any_found, any_of, contains_cases, contains_map, contains_none, kept}
+use Rattle.sl_words.proofs.Numbers.{number_itself}
 use Rattle.sl_trace.specs.Deltas.{delta_known, delta_of_session, next_after_free, next_after_renewal, next_free, next_in_joining, next_on_wake, next_renewal}
 use Rattle.sl_trace.specs.Sessions.{calls_of, generation_of, present_sessions, recovery_of}
 use Rattle.sl_trace.specs.declared.delta.DeltaNext.{DeltaNext}

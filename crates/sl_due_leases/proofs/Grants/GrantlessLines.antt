@@ -1,5 +1,5 @@
 -- What a release and the beginning of a conversion grant: nothing.
-use Rattle.sl_acts.specs.Acts.{next_of_conversion, next_of_release}
+use Rattle.sl_due_facts.specs.Acts.Acts.{next_of_conversion, next_of_release}
 use Rattle.sl_due.specs.DueCommands.{after_end}
 use Rattle.sl_due.specs.DueLease.{carry_lease}
 use Rattle.sl_due.specs.Steps.{Step, add_reply, seen}

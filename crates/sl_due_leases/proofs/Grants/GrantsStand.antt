@@ -1,9 +1,9 @@
 -- What the facts of holdings say of a grant: it is held, for what ends in an entry ends before its grants.
-use Rattle.sl_acts.specs.SoFar.{entry_of}
+use Rattle.sl_due_facts.specs.Acts.TraceSoFar.{entry_of}
 use Rattle.sl_trace.specs.Sessions.{session_numbered}
-use Rattle.sl_due_facts.specs.Facts.Heard.{heard_by}
+use Rattle.sl_due_facts.specs.Facts.HeardCall.{heard_by}
 use Rattle.sl_words.proofs.CaseLaws.{one_value}
-use Rattle.sl_due_leases.specs.Grants.GrantPromises.{GrantsAreLawful, GrantsStand, StandsGranted}
+use Rattle.sl_due_leases.specs.Grants.GrantLaws.{GrantsAreLawful, GrantsStand, StandsGranted}
 use Rattle.sl_trace.specs.Traces.{holdings, is_ended_by, is_shared, same_place}
 use Rattle.sl_due_leases.proofs.Holdings.PlainPlaces.{place_turned}
 use Rattle.sl_trace.specs.declared.effects.Grant.{Grant}

@@ -1,6 +1,6 @@
 -- What an act is to keep of each grant: only few acts grant, all others leave nothing granted.
-use Rattle.sl_acts.proofs.LoopsKeep.{for_each_keeps, when_keeps}
-use Rattle.sl_acts.specs.Acts.{Acts, Has, Hears, next_of_settling}
+use Rattle.sl_due_facts.proofs.Acts.LoopsKeep.{for_each_keeps, when_keeps}
+use Rattle.sl_due_facts.specs.Acts.Acts.{Acts, Has, Hears, next_of_settling}
 use Rattle.sl_due.specs.DueAnswers.{set_reply}
 use Rattle.sl_due.specs.DueCommands.{answer_line, carry_decision, decided, reply_at_once}
 use Rattle.sl_due.specs.DueDelta.{carry_delta, see_request}
@@ -13,13 +13,13 @@ use Rattle.sl_due.specs.declared.decision.Decision.{Decision}
 use Rattle.sl_due_leases.proofs.Holdings.LeaseNexts.{settling_fits}
 use Rattle.sl_due_leases.proofs.Holdings.MomentsAreKept.{delta_ungranting, no_grants, refused_alike, removal_alike, said_grants, same, sent_alike, settling_ungranting, signalled_alike}
 use Rattle.sl_due_leases.specs.Holdings.Moments.{Known}
-use Rattle.sl_due_leases.specs.Holdings.Promises.{Begins}
+use Rattle.sl_due_leases.specs.Holdings.HoldingLaws.{Begins}
 use Rattle.sl_trace.specs.Jobs.{aim_of, job_of_start, jobs_of_session}
 use Rattle.sl_trace.specs.LeaseWork.{lease_place}
 use Rattle.sl_trace.specs.Leases.{exclusive_on, known, spot_of_call}
 use Rattle.sl_trace.specs.declared.lease.Aim.{Aim}
 use Rattle.sl_trace.specs.declared.lease.LeaseNext.{LeaseNext}
-use Rattle.sl_plain.proofs.Lists.{kept}
+use Rattle.sl_words.proofs.Lists.{kept}
 use Rattle.sl_trace.specs.Deltas.{delta_known, delta_of_session, next_after_free, next_after_renewal, next_free, next_in_joining, next_on_wake, next_renewal}
 use Rattle.sl_trace.specs.Sessions.{calls_of, generation_of, has_open_write, holdings_of, is_joined, last_renewal, open_calls_of, present_sessions, recovery_of, refused_after}
 use Rattle.sl_trace.specs.declared.delta.DeltaNext.{DeltaNext}

@@ -1,10 +1,10 @@
 -- The orphans among the grants are lawful: an exit alone makes some, each of a persistent holding where there is none yet, and no process
 -- that is granted a resource is none.
-use Rattle.sl_acts.specs.Acts.{next_of_conversion, next_of_release}
+use Rattle.sl_due_facts.specs.Acts.Acts.{next_of_conversion, next_of_release}
 use Rattle.sl_trace.specs.declared.effects.LeaseRead.TheVariants.{OfArea, OfFree}
-use Rattle.sl_acts.proofs.EffectsKeep.{delta, removal, signalled}
-use Rattle.sl_acts.proofs.LoopsKeep.{for_each_keeps}
-use Rattle.sl_acts.specs.SoFar.{entry_of}
+use Rattle.sl_due_facts.proofs.Acts.EffectsKeep.{delta, removal, signalled}
+use Rattle.sl_due_facts.proofs.Acts.LoopsKeep.{for_each_keeps}
+use Rattle.sl_due_facts.specs.Acts.TraceSoFar.{entry_of}
 use Rattle.sl_due.specs.DueCommands.{after_end, carry_decision}
 use Rattle.sl_due.specs.DueDelta.{carry_delta, see_request}
 use Rattle.sl_due.specs.DueFirst.{remove_connection, signal_and_refuse, signal_holders}
@@ -16,7 +16,7 @@ use Rattle.sl_due.specs.declared.decision.Decision.{Decision}
 use Rattle.sl_due_leases.proofs.Grants.NothingGranted.{GrantingActs, by_granting, none_begin, stopped_grants}
 use Rattle.sl_due_leases.proofs.Grants.EndsAreLawful.{Going, StandsAt, last_or, stand_effects, stands}
 use Rattle.sl_due_leases.proofs.Grants.WorksByLines.{held_before}
-use Rattle.sl_due_leases.specs.Grants.GrantPromises.{OrphansAreLawful, OrphansBegin, OrphansSoFar}
+use Rattle.sl_due_leases.specs.Grants.GrantLaws.{OrphansAreLawful, OrphansBegin, OrphansSoFar}
 use Rattle.sl_due_leases.proofs.Holdings.LeaseCallers.{commands_fit}
 use Rattle.sl_due_leases.proofs.Holdings.LeaseConversions.{converted, otherwise}
 use Rattle.sl_due_leases.proofs.Holdings.MomentsAreKept.{delta_ungranting, removal_alike, same, signalled_alike}
@@ -27,7 +27,7 @@ use Rattle.sl_trace.specs.Jobs.{command_numbered, is_job_of_process, process_nam
 use Rattle.sl_trace.specs.Leases.{holdings_on, spot_of, spot_of_call}
 use Rattle.sl_trace.specs.declared.lease.LeaseNext.TheVariants.{AnswerJob, BecomeExclusive, BecomeShared, GrantJob, Nothing, ReadFor, WriteBlock, WriteLeader}
 use Rattle.sl_trace.specs.declared.lease.LeaseNext.{LeaseNext}
-use Rattle.sl_plain.proofs.Lists.{contains_none, in_map, kept_inside}
+use Rattle.sl_words.proofs.Lists.{contains_none, in_map, kept_inside}
 use Rattle.sl_sector.proofs.RuleLaws.{in_range}
 use Rattle.sl_trace.specs.Deltas.{delta_known, delta_of_session, next_free}
 use Rattle.sl_trace.specs.declared.delta.DeltaNext.{DeltaNext}

@@ -1,6 +1,6 @@
 -- What each effect keeps is kept by removals, refusals, signals, grants and delta leases.
-use Rattle.sl_acts.proofs.LoopsKeep.{for_each_keeps, when_keeps}
-use Rattle.sl_acts.specs.SoFar.{entry_of}
+use Rattle.sl_due_facts.proofs.Acts.LoopsKeep.{for_each_keeps, when_keeps}
+use Rattle.sl_due_facts.specs.Acts.TraceSoFar.{entry_of}
 use Rattle.sl_due.specs.DueDelta.{carry_delta, for_joining, move_connection, read_own_sector, register, survey, write_own_sector}
 use Rattle.sl_due.specs.DueFirst.{refuse, remove_connection, remove_of_refused, send, signal_and_refuse, signal_holders}
 use Rattle.sl_due.specs.DueInputs.{when_running}
@@ -9,7 +9,7 @@ use Rattle.sl_due.specs.Steps.{Step, add_call_of, add_grant, add_move, add_reply
 use Rattle.sl_due_leases.proofs.Holdings.HoldingsByEffects.{SameCalls, later_same}
 use Rattle.sl_due_leases.proofs.Holdings.HoldingsByLoops.{AnswersNoJob, jobless_same}
 use Rattle.sl_run.specs.LawfulArea.{is_area_work}
-use Rattle.sl_due_leases.proofs.Ways.Kept.PlainWalks.{DeltaFits}
+use Rattle.sl_due_leases.proofs.Ways.WayFactsHeld.PlainWalks.{DeltaFits}
 use Rattle.sl_trace.specs.Counts.{stopper_of}
 use Rattle.sl_trace.specs.Jobs.{jobs_of_session}
 use Rattle.sl_sector.specs.declared.sector.Rec.TheVariants.{DeltaIs}

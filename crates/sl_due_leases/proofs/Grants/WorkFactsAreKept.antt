@@ -1,6 +1,6 @@
 -- The facts of a job's work are kept by each act.
-use Rattle.sl_acts.specs.Acts.{next_of_settling}
-use Rattle.sl_acts.specs.SoFar.{entry_of}
+use Rattle.sl_due_facts.specs.Acts.Acts.{next_of_settling}
+use Rattle.sl_due_facts.specs.Acts.TraceSoFar.{entry_of}
 use Rattle.sl_area.specs.Places.{area_sectors, block_offset, block_place, block_record, block_sectors, leader_offset, leader_record, request_offset}
 use Rattle.sl_due.specs.DueAnswers.{set_reply}
 use Rattle.sl_due.specs.DueDelta.{carry_delta}
@@ -12,16 +12,16 @@ use Rattle.sl_due_leases.proofs.Grants.WorksByAnswers.{led_works, settling_no_jo
 use Rattle.sl_due_leases.proofs.Grants.DeltasKeep.{free_keeps, renewal_keeps}
 use Rattle.sl_due_leases.proofs.Grants.OthersGoOn.{fits_begin, refusal_on, removal_of_refused_on, removal_on, said_on, sent_on, signalled_on, stopped_on}
 use Rattle.sl_due_leases.proofs.Grants.WorksByDeltas.{delta_works, ended_works, other_call_works, plain_call_works, works_go_on}
-use Rattle.sl_due_leases.proofs.Ways.Kept.DeltasFit.{freed_fits, joining_fits, renewed_fits, wake_fits}
-use Rattle.sl_due_leases.proofs.Ways.Kept.HeardStands.{heard_has}
-use Rattle.sl_due_leases.proofs.Ways.Kept.LeaseNextsLeave.{IsLate}
-use Rattle.sl_due_leases.proofs.Ways.Kept.PlainWalks.{DeltaFits}
-use Rattle.sl_due_leases.proofs.Ways.Kept.UnjoinedHaveNone.{its_joining, joins_still}
+use Rattle.sl_due_leases.proofs.Ways.WayFactsHeld.DeltasFit.{freed_fits, joining_fits, renewed_fits, wake_fits}
+use Rattle.sl_due_leases.proofs.Ways.WayFactsHeld.HeardStands.{heard_has}
+use Rattle.sl_due_leases.proofs.Ways.WayFactsHeld.LeaseNextsLeave.{IsLate}
+use Rattle.sl_due_leases.proofs.Ways.WayFactsHeld.PlainWalks.{DeltaFits}
+use Rattle.sl_due_leases.proofs.Ways.WayFactsHeld.UnjoinedHaveNone.{its_joining, joins_still}
 use Rattle.sl_due_leases.proofs.Grants.WorksByEffects.{CallsOwned, WorksAt, call_works, not_work, reply_works, signal_works}
 use Rattle.sl_due_leases.proofs.Grants.WorksByExits.{exit_works}
 use Rattle.sl_due_leases.proofs.Grants.WorksByInputs.{answer_works, input_works}
 use Rattle.sl_due_leases.proofs.Grants.WorksByLines.{lines_work}
-use Rattle.sl_due_leases.specs.Grants.GrantPromises.{WorkFactsAreKept}
+use Rattle.sl_due_leases.specs.Grants.GrantLaws.{WorkFactsAreKept}
 use Rattle.sl_due_leases.proofs.Holdings.HoldingFactsAreKept.{plainly_late, surveys_no_job}
 use Rattle.sl_due_leases.proofs.Holdings.HoldingsByCalls.{call_added}
 use Rattle.sl_due_leases.proofs.Holdings.HoldingsByEffects.{later_same, unanswered_same, waking_same}

@@ -1,13 +1,13 @@
 -- The facts of a job's work hold once a step has begun: where one works its session has held nothing shared up to the step.
-use Rattle.sl_acts.proofs.EffectsKeep.{stopped}
-use Rattle.sl_acts.proofs.LoopsKeep.{for_each_keeps, when_keeps}
+use Rattle.sl_due_facts.proofs.Acts.EffectsKeep.{stopped}
+use Rattle.sl_due_facts.proofs.Acts.LoopsKeep.{for_each_keeps, when_keeps}
 use Rattle.sl_due.specs.DueFirst.{begin_recoveries, begin_recovery, begins_now, signal_and_refuse}
 use Rattle.sl_due.specs.Steps.{begin_step, seen}
 use Rattle.sl_due_leases.proofs.Grants.OthersGoOn.{stopped_on}
 use Rattle.sl_due_leases.proofs.Grants.WorksByDeltas.{works_go_on}
 use Rattle.sl_due_leases.proofs.Grants.WorksByEffects.{WorksAt}
 use Rattle.sl_due_leases.proofs.Grants.WorksByLines.{none_shared_on}
-use Rattle.sl_due_leases.specs.Grants.GrantPromises.{WorkFactsBegin}
+use Rattle.sl_due_leases.specs.Grants.GrantLaws.{WorkFactsBegin}
 use Rattle.sl_due_leases.proofs.Holdings.HoldingFactsBegin.{children_fresh, fresh, held_fresh, wake_effects, waking_answers_none}
 use Rattle.sl_due_facts.proofs.Jobs.JobFactsBegin.{running_then}
 use Rattle.sl_due_facts.proofs.Jobs.JobsAreNumbered.{numbered_before}
@@ -15,7 +15,7 @@ use Rattle.sl_run.specs.LawfulModes.{shared_since}
 use Rattle.sl_trace.specs.Jobs.{command_of}
 use Rattle.sl_trace.specs.Leases.{has_shared_on, spot_of_call}
 use Rattle.sl_trace.specs.declared.lease.Aim.TheVariants.{Acquires}
-use Rattle.sl_plain.proofs.Options.{some_of}
+use Rattle.sl_words.proofs.Options.{some_of}
 use Rattle.sl_trace.specs.Sessions.{present_sessions, recovery_of, session_numbered}
 use Rattle.sl_trace.specs.declared.session.Session.{Session}
 use Rattle.sl_due_facts.specs.Facts.CallFacts.{CallFacts}
@@ -25,8 +25,8 @@ use Rattle.sl_trace.specs.declared.command.Command.{Command}
 use Rattle.sl_trace.specs.declared.effects.LeaseStep.{LeaseStep}
 use Rattle.sl_trace.specs.declared.effects.Spot.{Spot}
 use Rattle.sl_trace.specs.declared.input.Input.TheVariants.{Wake}
-use Rattle.sl_trace_law.proofs.Leases.NumberLaws.{number_is_place}
-use Rattle.sl_trace_law.proofs.Sessions.Owning.{session_more}
+use Rattle.sl_run_law.proofs.Leases.NumberLaws.{number_is_place}
+use Rattle.sl_run_law.proofs.Sessions.CallOwners.{session_more}
 use Rattle.sl_words.proofs.CaseLaws.{none_some, one_value}
 use Rattle.std.proofs.Common.{ap, inl, inr, refl, subst, sym, ◌∙◌}
 use Rattle.std.specs.Prelude.{Bool, Contains, IsSome, None, Some, false, length, nat_le, option_and_then, true, ℕ, ◌&&◌, ◌+◌, ◌<◌, ◌||◌, ◌≡◌}

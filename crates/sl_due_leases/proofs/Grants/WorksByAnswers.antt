@@ -1,8 +1,8 @@
 -- The answer of a lease's call keeps the facts of a job's work: the next call is of the same work, and where it is granted nobody else
 -- works there.
-use Rattle.sl_acts.proofs.InputsKeep.{has_heard}
-use Rattle.sl_acts.proofs.Pairs.Decisions.{asked_is, bytes_are, next_is}
-use Rattle.sl_acts.specs.SoFar.{entry_of}
+use Rattle.sl_due_facts.proofs.Acts.InputsKeep.{has_heard}
+use Rattle.sl_due_facts.proofs.Acts.Pairs.Decisions.{asked_is, bytes_are, next_is}
+use Rattle.sl_due_facts.specs.Acts.TraceSoFar.{entry_of}
 use Rattle.sl_area.specs.Places.{area_sectors, block_offset, block_place, block_record, block_sectors, leader_offset, leader_record}
 use Rattle.sl_due.specs.DueLease.{carry_lease, convert_for, convert_holding, for_work, grant_for, grant_of, held_otherwise, lease_call, name_on, next_of_lease, next_turn, read_for, with_command}
 use Rattle.sl_due.specs.Steps.{Step, add_end, add_grant, add_reply, seen, with_some}
@@ -15,7 +15,7 @@ use Rattle.sl_due_leases.proofs.Holdings.LeaseCallers.{heard_answered, heard_cal
 use Rattle.sl_due_leases.proofs.Holdings.LeaseConversions.{converted, otherwise, spot_is}
 use Rattle.sl_due_leases.proofs.Holdings.LeaseNexts.{IsFitNext, next_fits}
 use Rattle.sl_due_leases.proofs.Holdings.LeasePlaces.{base_on, blocks_on, one_area, own_on}
-use Rattle.sl_due_leases.proofs.Ways.Kept.PlacesStand.{id_in_range}
+use Rattle.sl_due_leases.proofs.Ways.WayFactsHeld.PlacesStand.{id_in_range}
 use Rattle.sl_run.specs.Lawful.{IsSetting}
 use Rattle.sl_run.specs.LawfulArea.{is_area_work}
 use Rattle.sl_run.specs.LawfulModes.{shared_since}
@@ -26,8 +26,8 @@ use Rattle.sl_trace.specs.declared.lease.Aim.TheVariants.{Acquires, Converts, Re
 use Rattle.sl_trace.specs.declared.lease.Aim.{Aim}
 use Rattle.sl_trace.specs.declared.lease.LeaseNext.TheVariants.{AnswerJob, BecomeExclusive, BecomeShared, GrantJob, Nothing, ReadFor, WriteBlock, WriteLeader}
 use Rattle.sl_trace.specs.declared.lease.LeaseNext.{LeaseNext}
-use Rattle.sl_plain.proofs.Lists.{got_inside}
-use Rattle.sl_plain.proofs.Numbers.{below_suc, trans_le}
+use Rattle.sl_words.proofs.Lists.{got_inside}
+use Rattle.sl_words.proofs.Numbers.{below_suc, trans_le}
 use Rattle.sl_sector.specs.declared.sector.Block.{Block}
 use Rattle.sl_trace.specs.Sessions.{session_numbered, sessions}
 use Rattle.sl_trace.specs.declared.session.Session.{Session}

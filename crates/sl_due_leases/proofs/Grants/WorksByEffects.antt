@@ -1,6 +1,6 @@
 -- What single effects leave of the facts of a job's work.
-use Rattle.sl_acts.proofs.SessionsStay.{numbered_more}
-use Rattle.sl_acts.specs.SoFar.{entry_of}
+use Rattle.sl_due_facts.proofs.Acts.SessionsStay.{numbered_more}
+use Rattle.sl_due_facts.specs.Acts.TraceSoFar.{entry_of}
 use Rattle.sl_due.specs.Steps.{Step, add_call_of, add_end, add_move, add_reply, add_signal, add_start, seen}
 use Rattle.sl_due_leases.proofs.Holdings.HoldingsByCalls.{call_added, not_last}
 use Rattle.sl_due_leases.proofs.Holdings.HoldingsByEffects.{SameCalls, end_inside, next_less, reply_stays}
@@ -9,13 +9,13 @@ use Rattle.sl_trace.specs.Jobs.{aim_of_command, command_numbered, process_named}
 use Rattle.sl_trace.specs.Leases.{spot_of_call}
 use Rattle.sl_trace.specs.declared.lease.Aim.TheVariants.{Acquires, Converts, Releases, Settles}
 use Rattle.sl_trace.specs.declared.lease.Aim.{Aim}
-use Rattle.sl_due_facts.specs.Parts.Parts.{with_reply}
-use Rattle.sl_plain.proofs.Lists.{contains_cases}
-use Rattle.sl_plain.proofs.Numbers.{less_is_most, lt_then_le, refl_le}
-use Rattle.sl_plain.proofs.Options.{none_is, some_of}
+use Rattle.sl_due_facts.specs.AddedEffects.OneMoreEffect.{with_reply}
+use Rattle.sl_words.proofs.Lists.{contains_cases}
+use Rattle.sl_words.proofs.Numbers.{less_is_most, lt_then_le, refl_le}
+use Rattle.sl_words.proofs.Options.{none_is, some_of}
 use Rattle.sl_trace.specs.Sessions.{session_numbered}
 use Rattle.sl_trace.specs.declared.session.Session.{Session}
-use Rattle.sl_due_facts.specs.Facts.Heard.{heard_by}
+use Rattle.sl_due_facts.specs.Facts.HeardCall.{heard_by}
 use Rattle.sl_due_facts.specs.Facts.WorkFacts.{IsAtWork, IsWaiting, MayBeHeld, WorkFacts}
 use Rattle.sl_trace.proofs.TraceFacts.{submitted-push}
 use Rattle.sl_trace.specs.TraceLaws.{with_call}

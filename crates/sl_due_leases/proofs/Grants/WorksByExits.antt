@@ -1,6 +1,6 @@
 -- The exit of a process keeps the facts of a job's work: what it held is held as before, by nobody, and its own jobs are refused.
-use Rattle.sl_acts.proofs.LoopsKeep.{for_each_keeps}
-use Rattle.sl_acts.specs.SoFar.{entry_of}
+use Rattle.sl_due_facts.proofs.Acts.LoopsKeep.{for_each_keeps}
+use Rattle.sl_due_facts.specs.Acts.TraceSoFar.{entry_of}
 use Rattle.sl_due.specs.DueInputs.{end_holdings, leave_holdings, refuse_jobs_of}
 use Rattle.sl_due.specs.Steps.{Step, add_end, add_grant, add_reply, seen}
 use Rattle.sl_due_leases.proofs.Grants.WorksByEffects.{WorksAt, ran_before}
@@ -14,13 +14,13 @@ use Rattle.sl_trace.specs.Jobs.{aim_of_command, child_of_job, command_numbered, 
 use Rattle.sl_trace.specs.Leases.{spot_of_call}
 use Rattle.sl_trace.specs.declared.lease.Aim.TheVariants.{Acquires, Converts, Releases, Settles}
 use Rattle.sl_trace.specs.declared.lease.Aim.{Aim}
-use Rattle.sl_plain.proofs.Lists.{find_inside, in_map, kept, kept_inside}
-use Rattle.sl_plain.proofs.Numbers.{lt_then_le, number_itself, refl_le}
-use Rattle.sl_plain.proofs.Options.{then_value}
+use Rattle.sl_words.proofs.Lists.{find_inside, in_map, kept, kept_inside}
+use Rattle.sl_words.proofs.Numbers.{lt_then_le, number_itself, refl_le}
+use Rattle.sl_words.proofs.Options.{then_value}
 use Rattle.sl_sector.proofs.RuleLaws.{in_range}
 use Rattle.sl_trace.specs.Sessions.{session_numbered}
 use Rattle.sl_trace.specs.declared.session.Session.{Session}
-use Rattle.sl_due_facts.specs.Facts.Heard.{heard_by}
+use Rattle.sl_due_facts.specs.Facts.HeardCall.{heard_by}
 use Rattle.sl_due_facts.specs.Facts.WorkFacts.{IsAtWork, IsWaiting, MayBeHeld, WorkFacts}
 use Rattle.sl_trace.specs.Commands.{IsCommand}
 use Rattle.sl_trace.specs.Limits.{most_children, most_processes}

@@ -6,7 +6,7 @@ use Rattle.sl_due_leases.proofs.Holdings.HoldingsByGrants.{old_or_granted}
 use Rattle.sl_trace.specs.Jobs.{aim_of_command}
 use Rattle.sl_trace.specs.Leases.{spot_of_call}
 use Rattle.sl_trace.specs.declared.lease.Aim.{Aim}
-use Rattle.sl_due_facts.specs.Facts.Heard.{heard_by}
+use Rattle.sl_due_facts.specs.Facts.HeardCall.{heard_by}
 use Rattle.sl_due_facts.specs.Facts.WorkFacts.{IsAtWork, IsWaiting, MayBeHeld}
 use Rattle.sl_trace.specs.Traces.{Submitted, holdings, same_place, submitted}
 use Rattle.sl_trace.specs.declared.command.Command.{Command}

@@ -1,15 +1,15 @@
 -- The facts of a job's work go on when the input is seen, and once a step has begun.
-use Rattle.sl_acts.specs.Acts.{Expects}
-use Rattle.sl_acts.specs.SoFar.{entry_of}
+use Rattle.sl_due_facts.specs.Acts.Acts.{Expects}
+use Rattle.sl_due_facts.specs.Acts.TraceSoFar.{entry_of}
 use Rattle.sl_due.specs.Steps.{Step, seen, with_input}
 use Rattle.sl_due_leases.proofs.Grants.WorksByEffects.{WorksAt, works_on}
 use Rattle.sl_due_leases.proofs.Holdings.HoldingsByInputs.{answers_open, calls_stay, calls_told, children_seen, is_no_answer, sessions_seen_still}
 use Rattle.sl_due_facts.proofs.Jobs.JobsAreNumbered.{numbered_seen}
 use Rattle.sl_trace.specs.Jobs.{command_numbered, command_of}
-use Rattle.sl_plain.proofs.Lists.{in_map}
-use Rattle.sl_plain.proofs.Options.{some_of, then_value}
+use Rattle.sl_words.proofs.Lists.{in_map}
+use Rattle.sl_words.proofs.Options.{some_of, then_value}
 use Rattle.sl_due_facts.specs.Facts.CallFacts.{CallFacts}
-use Rattle.sl_due_facts.specs.Facts.Heard.{heard_by}
+use Rattle.sl_due_facts.specs.Facts.HeardCall.{heard_by}
 use Rattle.sl_due_facts.specs.Facts.JobFacts.{JobFacts}
 use Rattle.sl_due_facts.specs.Facts.WorkFacts.{IsWaiting}
 use Rattle.sl_trace.specs.Traces.{Answered, Submitted, Trace, answer_of, answered_in, job_numbered, job_of, submitted}
@@ -21,7 +21,7 @@ use Rattle.sl_trace.specs.declared.effects.Work.TheVariants.{ForJob}
 use Rattle.sl_trace.specs.declared.input.Answer.{Answer}
 use Rattle.sl_trace.specs.declared.input.Input.TheVariants.{Answer as Told, Exit, Line, Number, Spawned, Wake}
 use Rattle.sl_trace.specs.declared.input.Input.{Input}
-use Rattle.sl_trace_law.proofs.Sessions.Making.{same_answered}
+use Rattle.sl_run_law.proofs.Sessions.CallsAreMade.{same_answered}
 use Rattle.sl_words.proofs.CaseLaws.{no_value, one_value, some_value, true_is_false}
 use Rattle.std.proofs.Common.{ap, inl, inr, refl, subst, sym, ◌∙◌}
 use Rattle.std.specs.Option.{option_or}

@@ -1,9 +1,9 @@
 -- What a command comes to keeps the facts of a job's work: its first call has nothing in its way, and is the first of its job.
-use Rattle.sl_acts.proofs.DecisionsAreTheirs.{Of}
-use Rattle.sl_acts.proofs.Pairs.Decisions.{conversion_is, release_is}
-use Rattle.sl_acts.proofs.PlainActs.{line_has}
-use Rattle.sl_acts.specs.Acts.{Has, next_of_conversion, next_of_release}
-use Rattle.sl_acts.specs.SoFar.{entry_of}
+use Rattle.sl_due_facts.proofs.Acts.DecisionsAreTheirs.{Of}
+use Rattle.sl_due_facts.proofs.Acts.Pairs.Decisions.{conversion_is, release_is}
+use Rattle.sl_due_facts.proofs.Acts.PlainActs.{line_has}
+use Rattle.sl_due_facts.specs.Acts.Acts.{Has, next_of_conversion, next_of_release}
+use Rattle.sl_due_facts.specs.Acts.TraceSoFar.{entry_of}
 use Rattle.sl_area.specs.Places.{area_sectors, block_place, block_record, delta_offset, leader_offset, leader_record, value_offset}
 use Rattle.sl_due.specs.DueCommands.{after_end, carry_decision, decided}
 use Rattle.sl_due.specs.DueLease.{carry_lease, grant_of, name_on, next_turn}
@@ -27,7 +27,7 @@ use Rattle.sl_due_leases.proofs.Holdings.LeaseCallers.{on_own_area}
 use Rattle.sl_due_leases.proofs.Holdings.LeaseConversions.{spot_is}
 use Rattle.sl_due_leases.proofs.Holdings.LeasePlaces.{base_on, own_on}
 use Rattle.sl_due_leases.proofs.Holdings.PlainPlaces.{one_place}
-use Rattle.sl_due_leases.proofs.Ways.Kept.PlacesStand.{id_in_range}
+use Rattle.sl_due_leases.proofs.Ways.WayFactsHeld.PlacesStand.{id_in_range}
 use Rattle.sl_due_leases.specs.Holdings.DecisionGrounds.{AsksLease, ConvertGrounds, GiveUpGrounds, HasGrounds, IsReady, ReadGrounds, Releases as ReleasesIt}
 use Rattle.sl_due_leases.specs.Holdings.Moments.{Known}
 use Rattle.sl_due_facts.proofs.Jobs.JobsAreNumbered.{next_is_new}
@@ -41,15 +41,15 @@ use Rattle.sl_trace.specs.Leases.{has_shared_on, holdings_on, is_on, known, shar
 use Rattle.sl_trace.specs.declared.lease.Aim.TheVariants.{Acquires, Converts, Releases}
 use Rattle.sl_trace.specs.declared.lease.Aim.{Aim}
 use Rattle.sl_trace.specs.declared.lease.LeaseNext.TheVariants.{Nothing, ReadFor, WriteBlock}
-use Rattle.sl_plain.proofs.Lists.{contains_cases, contains_none, find_fails, find_inside, got_inside, kept, kept_inside}
-use Rattle.sl_plain.proofs.Numbers.{lt_then_le, number_itself, refl_le}
-use Rattle.sl_plain.proofs.Options.{some_of, then_value}
+use Rattle.sl_words.proofs.Lists.{contains_cases, contains_none, find_fails, find_inside, got_inside, kept, kept_inside}
+use Rattle.sl_words.proofs.Numbers.{lt_then_le, number_itself, refl_le}
+use Rattle.sl_words.proofs.Options.{some_of, then_value}
 use Rattle.sl_sector.specs.declared.sector.Block.{Block}
 use Rattle.sl_sector.specs.declared.sector.Rec.TheVariants.{ValueIs}
 use Rattle.sl_trace.specs.Sessions.{holdings_of, session_numbered, sessions}
 use Rattle.sl_trace.specs.declared.reply.Limited.TheVariants.{Turn as TurnLimit}
 use Rattle.sl_trace.specs.declared.session.Session.{Session}
-use Rattle.sl_due_facts.specs.Facts.Heard.{heard_by}
+use Rattle.sl_due_facts.specs.Facts.HeardCall.{heard_by}
 use Rattle.sl_due_facts.specs.Facts.JobFacts.{JobFacts}
 use Rattle.sl_due_facts.specs.Facts.WorkFacts.{MayBeHeld}
 use Rattle.sl_trace.specs.Commands.{IsCommand}

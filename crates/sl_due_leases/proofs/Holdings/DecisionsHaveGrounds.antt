@@ -6,11 +6,11 @@ use Rattle.sl_due_leases.specs.Holdings.DecisionGrounds.{AcquireGrounds, AsksLea
 use Rattle.sl_trace.specs.Counts.{busy_process, held_here, holds_already, is_killpath_limit, may_act, next_value_seq, other_holder, pending_call}
 use Rattle.sl_trace.specs.Jobs.{process_named, wanted_mode, wants_shared}
 use Rattle.sl_trace.specs.Leases.{holdings_on, open_on, orphan_on, shared_on, spot_of}
-use Rattle.sl_plain.proofs.Lists.{any_of, contains_none, find_inside, kept}
-use Rattle.sl_plain.proofs.Numbers.{number_itself}
-use Rattle.sl_plain.proofs.Options.{then_value}
+use Rattle.sl_words.proofs.Lists.{any_of, contains_none, find_inside, kept}
+use Rattle.sl_words.proofs.Numbers.{number_itself}
+use Rattle.sl_words.proofs.Options.{then_value}
 use Rattle.sl_trace.specs.Sessions.{generation_of, holdings_of, is_active, is_joined, last_renewal, present_sessions, session_named, sessions}
-use Rattle.sl_trace.specs.Watching.{states_seen}
+use Rattle.sl_trace.specs.Sightings.{states_seen}
 use Rattle.sl_trace.specs.declared.session.Session.{Session}
 use Rattle.sl_trace.specs.Limits.{most_lockspaces}
 use Rattle.sl_trace.specs.Traces.{Setting, Submitted, Trace, is_orphan, is_shared}

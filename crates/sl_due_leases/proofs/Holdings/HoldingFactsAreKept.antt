@@ -1,8 +1,8 @@
 -- The facts of holdings are kept by each act, and hold once a step has begun.
-use Rattle.sl_acts.proofs.InputsKeep.{has_heard}
-use Rattle.sl_acts.proofs.Pairs.Decisions.{settling_is}
-use Rattle.sl_acts.specs.Acts.{Has, Hears, next_of_settling}
-use Rattle.sl_acts.specs.SoFar.{entry_of}
+use Rattle.sl_due_facts.proofs.Acts.InputsKeep.{has_heard}
+use Rattle.sl_due_facts.proofs.Acts.Pairs.Decisions.{settling_is}
+use Rattle.sl_due_facts.specs.Acts.Acts.{Has, Hears, next_of_settling}
+use Rattle.sl_due_facts.specs.Acts.TraceSoFar.{entry_of}
 use Rattle.sl_area.specs.Places.{request_offset}
 use Rattle.sl_due.specs.DueAnswers.{set_reply}
 use Rattle.sl_due.specs.DueDelta.{carry_delta, see_request}
@@ -25,7 +25,7 @@ use Rattle.sl_due_leases.proofs.Holdings.LeaseBeside.{DoesBeside, settles_beside
 use Rattle.sl_due_leases.proofs.Holdings.LeaseCallers.{heard_call, in_turn_fits, mine_heard}
 use Rattle.sl_due_leases.proofs.Holdings.LeaseNexts.{IsPlainNext, settling_fits}
 use Rattle.sl_due_leases.specs.Holdings.Moments.{Known}
-use Rattle.sl_due_leases.specs.Holdings.Promises.{HoldingFactsAreKept}
+use Rattle.sl_due_leases.specs.Holdings.HoldingLaws.{HoldingFactsAreKept}
 use Rattle.sl_due_facts.proofs.Jobs.CallsStay.{is_special}
 use Rattle.sl_due_facts.proofs.Jobs.RepliesComeAfter.{IsLateDelta, joining_late, request_late, set_late, value_late, wake_late}
 use Rattle.sl_run.specs.Lawful.{Orderly}
@@ -34,10 +34,10 @@ use Rattle.sl_trace.specs.LeaseWork.{lease_place, settle_next}
 use Rattle.sl_trace.specs.Leases.{known}
 use Rattle.sl_trace.specs.declared.lease.LeaseNext.TheVariants.{AnswerJob, BecomeExclusive, BecomeShared, GrantJob, Nothing, ReadFor, WriteBlock, WriteLeader}
 use Rattle.sl_trace.specs.declared.lease.LeaseNext.{LeaseNext}
-use Rattle.sl_plain.proofs.Lists.{any_found, contains_map, contains_none, find_fails, got_inside, kept, kept_inside}
-use Rattle.sl_plain.proofs.Numbers.{number_itself}
-use Rattle.sl_plain.proofs.Options.{none_is, some_of}
-use Rattle.sl_plain.proofs.Truth.{left_is_false, or_false}
+use Rattle.sl_words.proofs.Lists.{any_found, contains_map, contains_none, find_fails, got_inside, kept, kept_inside}
+use Rattle.sl_words.proofs.Numbers.{number_itself}
+use Rattle.sl_words.proofs.Options.{none_is, some_of}
+use Rattle.sl_words.proofs.Truth.{left_is_false, or_false}
 use Rattle.sl_sector.specs.declared.sector.Rec.TheVariants.{RequestIs}
 use Rattle.sl_trace.specs.Deltas.{delta_of_session, next_after_free, next_in_joining, next_on_wake}
 use Rattle.sl_trace.specs.Sessions.{calls_of, free_write, generation_of, has_open_write, holdings_of, is_call_of, is_free_purpose, is_join_done, is_joined, joined_after, open_calls_of, recovery_of, refused_after, removed_after, sessions}
@@ -45,7 +45,7 @@ use Rattle.sl_trace.specs.declared.delta.DeltaNext.TheVariants.{RefuseJoin}
 use Rattle.sl_trace.specs.declared.delta.DeltaNext.{DeltaNext}
 use Rattle.sl_trace.specs.declared.session.Session.{Session}
 use Rattle.sl_due_facts.specs.Facts.CallFacts.{CallFacts}
-use Rattle.sl_due_facts.specs.Facts.Heard.{IsOpen, heard_by}
+use Rattle.sl_due_facts.specs.Facts.HeardCall.{IsOpen, heard_by}
 use Rattle.sl_due_facts.specs.Facts.JobFacts.{FitsCommand}
 use Rattle.sl_trace.specs.Traces.{Submitted, answer_of, answered_in, call_numbered, holdings, is_before_input, is_running, is_write, job_of, mark, next_job, submitted}
 use Rattle.sl_trace.specs.declared.command.Command.TheVariants.{Acquire, AddLockspace, Convert, GetLvb, HostStatus, InqLockspace, Release, ReleaseOrphan, RemLockspace, Request, RunProgram, SetKillpath, SetLvb, Status, TakeOver}
@@ -63,10 +63,10 @@ use Rattle.sl_trace.specs.declared.input.Answer.{Answer}
 use Rattle.sl_trace.specs.declared.input.Input.TheVariants.{Exit, Line, Number, Spawned, Wake}
 use Rattle.sl_trace.specs.declared.reply.Reply.TheVariants.{BadCommand as Misread, Done, IoFault, IoTimeout, SpawnFault}
 use Rattle.sl_trace.specs.declared.reply.Reply.{Reply}
-use Rattle.sl_trace_law.proofs.Sessions.Covering.{joinings_are_in_turn}
-use Rattle.sl_trace_law.proofs.Sessions.Making.{same_answered}
-use Rattle.sl_trace_law.proofs.Sessions.Staying.{refused_apart}
-use Rattle.sl_trace_law.specs.Sessions.Promises.{fits, fits_as}
+use Rattle.sl_run_law.proofs.Sessions.WritesAreCovered.{joinings_are_in_turn}
+use Rattle.sl_run_law.proofs.Sessions.CallsAreMade.{same_answered}
+use Rattle.sl_run_law.proofs.Sessions.MarksStay.{refused_apart}
+use Rattle.sl_run_law.specs.Sessions.SessionLaws.{fits, fits_as}
 use Rattle.sl_words.proofs.CaseLaws.{false_is_true, none_some, not_both, one_value, some_value}
 use Rattle.std.proofs.Common.{ap, inl, inr, refl, subst, sym, ◌∙◌}
 use Rattle.std.proofs.lemmas.Bool.{eqb-true}

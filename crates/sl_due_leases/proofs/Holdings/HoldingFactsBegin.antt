@@ -1,31 +1,31 @@
 -- The facts of holdings hold once a step has begun: by time alone nothing is held, granted or ended, and what is told to stop holds on.
-use Rattle.sl_acts.proofs.EffectsKeep.{stopped}
-use Rattle.sl_acts.proofs.LoopsKeep.{for_each_keeps, when_keeps}
-use Rattle.sl_acts.specs.Plainly.{ByEffects}
+use Rattle.sl_due_facts.proofs.Acts.EffectsKeep.{stopped}
+use Rattle.sl_due_facts.proofs.Acts.LoopsKeep.{for_each_keeps, when_keeps}
+use Rattle.sl_due_facts.specs.Acts.KeptByEffects.{ByEffects}
 use Rattle.sl_due.specs.DueFirst.{begin_recoveries, begin_recovery, begins_now, signal_and_refuse}
 use Rattle.sl_due.specs.Steps.{begin_step, seen}
 use Rattle.sl_due_leases.proofs.Holdings.HoldingsByEffects.{HoldsAt, upheld}
 use Rattle.sl_due_leases.proofs.Holdings.HoldingsByLoops.{AnswersNoJob, stopped_held}
 use Rattle.sl_due_leases.proofs.Holdings.StandsGrow.{stands_same}
-use Rattle.sl_due_leases.specs.Holdings.Promises.{HoldingFactsBegin}
-use Rattle.sl_plain.proofs.Numbers.{refl_le}
+use Rattle.sl_due_leases.specs.Holdings.HoldingLaws.{HoldingFactsBegin}
+use Rattle.sl_words.proofs.Numbers.{refl_le}
 use Rattle.sl_trace.specs.Sessions.{is_joined, joined_after, present_sessions, recovery_of, removed_after}
-use Rattle.sl_trace.specs.Watching.{counted_over, counts_over}
+use Rattle.sl_trace.specs.Sightings.{counted_over, counts_over}
 use Rattle.sl_trace.specs.declared.session.Session.{Session}
-use Rattle.sl_due_facts.specs.Facts.Heard.{IsOpen}
+use Rattle.sl_due_facts.specs.Facts.HeardCall.{IsOpen}
 use Rattle.sl_due_facts.specs.Facts.HoldingFacts.{HoldingFacts}
 use Rattle.sl_trace.specs.Traces.{Child, Setting, Submitted, Trace, child_after, children, first_child, held_by, holdings, is_ended_by, next_child, no_effects, spot_of_grant}
 use Rattle.sl_trace.specs.declared.effects.Entry.{Entry}
 use Rattle.sl_trace.specs.declared.effects.Grant.{Grant}
 use Rattle.sl_trace.specs.declared.input.Input.TheVariants.{Wake}
 use Rattle.sl_trace.specs.declared.input.Input.{Input}
-use Rattle.sl_trace_law.proofs.Sessions.Owning.{session_more}
-use Rattle.sl_trace_law.proofs.Sessions.Staying.{joined_more}
+use Rattle.sl_run_law.proofs.Sessions.CallOwners.{session_more}
+use Rattle.sl_run_law.proofs.Sessions.MarksStay.{joined_more}
 use Rattle.sl_words.proofs.CaseLaws.{none_some, true_is_false}
 use Rattle.sl_words.proofs.WordLaws.{and_true}
 use Rattle.sl_words.specs.Words.{choose}
 use Rattle.std.proofs.Common.{ap, append-nil, inl, inr, refl, subst, sym, ◌∙◌}
-use Rattle.sl_plain.proofs.Options.{none_is, some_there}
+use Rattle.sl_words.proofs.Options.{none_is, some_there}
 use Rattle.std.specs.Prelude.{Bool, Contains, List, None, Option, Some, [], false, filter, is_none, is_some, length, map, not, true, ℕ, ◌&&◌, ◌+◌, ◌<◌, ◌∷◌, ◌≡◌, ◌≤◌}
 
 -- ---- a step that has done nothing

@@ -1,7 +1,7 @@
 -- The answer of a lease's call keeps the facts of holdings.
-use Rattle.sl_acts.proofs.InputsKeep.{has_heard}
-use Rattle.sl_acts.proofs.Pairs.Decisions.{asked_is, bytes_are, next_is}
-use Rattle.sl_acts.specs.Acts.{Has, Hears}
+use Rattle.sl_due_facts.proofs.Acts.InputsKeep.{has_heard}
+use Rattle.sl_due_facts.proofs.Acts.Pairs.Decisions.{asked_is, bytes_are, next_is}
+use Rattle.sl_due_facts.specs.Acts.Acts.{Has, Hears}
 use Rattle.sl_area.specs.Places.{is_base}
 use Rattle.sl_due.specs.DueLease.{carry_lease, goes_on, grant_for, next_of_lease}
 use Rattle.sl_due.specs.Steps.{Step, seen, with_some}
@@ -22,14 +22,14 @@ use Rattle.sl_trace.specs.declared.lease.Aim.TheVariants.{Acquires, Converts, Re
 use Rattle.sl_trace.specs.declared.lease.Aim.{Aim}
 use Rattle.sl_trace.specs.declared.lease.LeaseNext.TheVariants.{AnswerJob, BecomeExclusive, BecomeShared, GrantJob, Nothing, ReadFor, WriteBlock, WriteLeader}
 use Rattle.sl_trace.specs.declared.lease.LeaseNext.{LeaseNext}
-use Rattle.sl_plain.proofs.Lists.{find_inside, kept_inside}
-use Rattle.sl_plain.proofs.Options.{mapped_value, then_value}
+use Rattle.sl_words.proofs.Lists.{find_inside, kept_inside}
+use Rattle.sl_words.proofs.Options.{mapped_value, then_value}
 use Rattle.sl_sector.specs.declared.sector.Block.{Block}
 use Rattle.sl_sector.specs.declared.sector.Leader.{Leader}
 use Rattle.sl_trace.specs.Sessions.{holdings_of}
 use Rattle.sl_trace.specs.declared.session.Session.{Session}
 use Rattle.sl_due_facts.specs.Facts.GrantGrounds.{IsDoneWork}
-use Rattle.sl_due_facts.specs.Facts.Heard.{heard_by}
+use Rattle.sl_due_facts.specs.Facts.HeardCall.{heard_by}
 use Rattle.sl_due_facts.specs.Facts.HoldingFacts.{StandsExclusive}
 use Rattle.sl_due_facts.specs.Facts.JobFacts.{FitsCommand}
 use Rattle.sl_due_facts.specs.Facts.WorkFacts.{IsAtWork, MayBeHeld}

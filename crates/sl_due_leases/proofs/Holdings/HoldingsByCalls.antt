@@ -2,19 +2,19 @@
 -- holding that could take away what stands behind it.
 use Rattle.sl_area.specs.Layouts.{Layout}
 use Rattle.sl_area.specs.Places.{sector_of}
-use Rattle.sl_acts.proofs.SessionsStay.{numbered_more}
-use Rattle.sl_acts.specs.SoFar.{entry_of}
+use Rattle.sl_due_facts.proofs.Acts.SessionsStay.{numbered_more}
+use Rattle.sl_due_facts.specs.Acts.TraceSoFar.{entry_of}
 use Rattle.sl_due.specs.Steps.{Step, add_call_of, seen}
 use Rattle.sl_due_leases.proofs.Holdings.HoldingsByEffects.{HoldsAt, counted_now, counted_on, upheld}
 use Rattle.sl_due_leases.proofs.Holdings.StandsGrow.{IsBeside, stands_more, stands_same}
 use Rattle.sl_trace.specs.Leases.{is_lease_call, is_on, lease_calls}
-use Rattle.sl_due_facts.proofs.Parts.CallsGrow.{mine_more, others_stay}
-use Rattle.sl_plain.proofs.Numbers.{refl_le}
+use Rattle.sl_due_facts.proofs.AddedEffects.CallsGrow.{mine_more, others_stay}
+use Rattle.sl_words.proofs.Numbers.{refl_le}
 use Rattle.sl_trace.specs.Sessions.{calls_of, generation_in, generation_of, is_survey_purpose, joined_after, session_numbered}
-use Rattle.sl_trace.specs.Watching.{counted_over, counts_over, evidence, evidence_in, look_of, sightings}
+use Rattle.sl_trace.specs.Sightings.{counted_over, counts_over, evidence, evidence_in, look_of, sightings}
 use Rattle.sl_trace.specs.declared.session.Session.{Session}
 use Rattle.sl_trace.specs.declared.sighting.Sighting.{Sighting}
-use Rattle.sl_due_facts.specs.Facts.Heard.{IsOpen, heard_by}
+use Rattle.sl_due_facts.specs.Facts.HeardCall.{IsOpen, heard_by}
 use Rattle.sl_due_facts.specs.Facts.HoldingFacts.{StandsExclusive}
 use Rattle.sl_trace.specs.TraceLaws.{with_call}
 use Rattle.sl_trace.specs.declared.reply.Evidence.{Evidence}

@@ -1,7 +1,7 @@
 -- What sessions do for their delta leases keeps the facts of holdings: a joining holds nothing, a renewal and a free keep the generation,
 -- and who leaves holds nothing any more.
-use Rattle.sl_acts.specs.Acts.{Has}
-use Rattle.sl_acts.specs.SoFar.{entry_of}
+use Rattle.sl_due_facts.specs.Acts.Acts.{Has}
+use Rattle.sl_due_facts.specs.Acts.TraceSoFar.{entry_of}
 use Rattle.sl_due.specs.DueDelta.{carry_delta, for_joining, move_connection, read_own_sector, register, survey, write_own_sector}
 use Rattle.sl_due.specs.DueFirst.{refuse, remove_connection, remove_of_refused}
 use Rattle.sl_due.specs.Steps.{Step, add_move, add_reply, seen, when, with_some}
@@ -10,7 +10,7 @@ use Rattle.sl_due_leases.proofs.Holdings.HoldingsByCalls.{CallSpares, call_added
 use Rattle.sl_due_leases.proofs.Holdings.HoldingsByEffects.{HoldsAt, SameCalls, later_same, move_held, reply_held}
 use Rattle.sl_due_facts.proofs.Jobs.RepliesComeAfter.{IsLateDelta}
 use Rattle.sl_trace.specs.Leases.{is_lease_call, is_on}
-use Rattle.sl_plain.proofs.Lists.{find_inside, got_inside}
+use Rattle.sl_words.proofs.Lists.{find_inside, got_inside}
 use Rattle.sl_sector.specs.Bitmaps.{no_bits}
 use Rattle.sl_sector.specs.declared.sector.DeltaRec.{DeltaRec}
 use Rattle.sl_sector.specs.declared.sector.DeltaState.TheVariants.{Free, Live}
@@ -20,7 +20,7 @@ use Rattle.sl_trace.specs.Sessions.{calls_of, delta_written, free_write, generat
 use Rattle.sl_trace.specs.declared.delta.DeltaNext.TheVariants.{Disconnect, EndLeaving, Join, MoveConnection, Nothing, ReadOwn, RefuseJoin, RegisterAndRead, WriteClaim, WriteFirst, WriteFree, WriteRenewal}
 use Rattle.sl_trace.specs.declared.delta.DeltaNext.{DeltaNext}
 use Rattle.sl_trace.specs.declared.session.Session.{Session}
-use Rattle.sl_due_facts.specs.Facts.Heard.{heard_by}
+use Rattle.sl_due_facts.specs.Facts.HeardCall.{heard_by}
 use Rattle.sl_due_facts.specs.Facts.SessionFacts.{NameFacts}
 use Rattle.sl_time.specs.Times.{fail}
 use Rattle.sl_trace.specs.Traces.{Job, holdings, is_before_input, is_running, new_call, spot_of_grant}
@@ -34,7 +34,7 @@ use Rattle.sl_trace.specs.declared.input.Answer.TheVariants.{Failed, Read, Writt
 use Rattle.sl_trace.specs.declared.input.Answer.{Answer}
 use Rattle.sl_trace.specs.declared.reply.Reply.TheVariants.{Done, Generation, IoFault}
 use Rattle.sl_trace.specs.declared.reply.Reply.{Reply}
-use Rattle.sl_trace_law.proofs.Leases.NumberLaws.{number_is_place}
+use Rattle.sl_run_law.proofs.Leases.NumberLaws.{number_is_place}
 use Rattle.sl_words.proofs.CaseLaws.{not_both, one_value}
 use Rattle.sl_words.proofs.WordLaws.{some_is_true}
 use Rattle.sl_words.specs.Words.{some_is}

@@ -1,19 +1,19 @@
 -- What single effects leave of the facts of holdings: signals, starts, replies and ends all of them, a move where it removes no
 -- holder's connection.
-use Rattle.sl_acts.specs.SoFar.{entry_of}
+use Rattle.sl_due_facts.specs.Acts.TraceSoFar.{entry_of}
 use Rattle.sl_due.specs.Steps.{Step, add_end, add_move, add_reply, add_signal, add_start, seen}
 use Rattle.sl_due_leases.proofs.Holdings.StandsGrow.{stands_same}
 use Rattle.sl_due_leases.proofs.Holdings.PlainPlaces.{fewer_kept, kept_counted, one_place}
-use Rattle.sl_due_facts.proofs.Parts.EffectsAreTold.{effects_are_told}
-use Rattle.sl_due_facts.specs.Parts.Parts.{with_end, with_move, with_reply, with_start}
+use Rattle.sl_due_facts.proofs.AddedEffects.EffectsAreTold.{effects_are_told}
+use Rattle.sl_due_facts.specs.AddedEffects.OneMoreEffect.{with_end, with_move, with_reply, with_start}
 use Rattle.sl_trace.specs.Leases.{is_lease_call, is_on}
-use Rattle.sl_plain.proofs.Lists.{contains_cases, contains_none, kept_inside}
-use Rattle.sl_plain.proofs.Numbers.{number_itself, refl_le, lt_then_le}
-use Rattle.sl_plain.proofs.Options.{mapped_value, some_there, then_value}
+use Rattle.sl_words.proofs.Lists.{contains_cases, contains_none, kept_inside}
+use Rattle.sl_words.proofs.Numbers.{number_itself, refl_le, lt_then_le}
+use Rattle.sl_words.proofs.Options.{mapped_value, some_there, then_value}
 use Rattle.sl_trace.specs.Sessions.{calls_of, generation_in, generation_of, is_call_of, is_join_done, is_joined, joined_after, removed_after, session_numbered}
-use Rattle.sl_trace.specs.Watching.{counted_over, counts_over, evidence_in}
+use Rattle.sl_trace.specs.Sightings.{counted_over, counts_over, evidence_in}
 use Rattle.sl_trace.specs.declared.session.Session.{Session}
-use Rattle.sl_due_facts.specs.Facts.Heard.{heard_by}
+use Rattle.sl_due_facts.specs.Facts.HeardCall.{heard_by}
 use Rattle.sl_due_facts.specs.Facts.HoldingFacts.{HoldingFacts, StandsExclusive}
 use Rattle.sl_trace.specs.Connections.{unregisters}
 use Rattle.sl_trace.specs.Traces.{Child, Replied, Setting, Submitted, Trace, answered_in, children, first_child, held_by, holdings, is_before_input, is_ended_by, is_going_on, is_running, is_shared, job_of, mark, new_call, new_child, next_child, reply_to, same_place, spot_of_grant, submitted}

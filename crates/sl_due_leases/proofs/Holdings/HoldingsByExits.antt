@@ -1,6 +1,6 @@
 -- The exit of a process keeps the facts of holdings: its own end, and the orphans that are left of them stand where they stood.
-use Rattle.sl_acts.proofs.LoopsKeep.{each_in_turn, for_each_keeps}
-use Rattle.sl_acts.specs.SoFar.{entry_of}
+use Rattle.sl_due_facts.proofs.Acts.LoopsKeep.{each_in_turn, for_each_keeps}
+use Rattle.sl_due_facts.specs.Acts.TraceSoFar.{entry_of}
 use Rattle.sl_area.specs.Places.{is_base}
 use Rattle.sl_due.specs.DueInputs.{end_holdings, leave_holdings}
 use Rattle.sl_due.specs.Steps.{Step, add_end, add_grant, seen}
@@ -9,13 +9,13 @@ use Rattle.sl_due_leases.proofs.Holdings.HoldingsByGrants.{grant_held, old_or_gr
 use Rattle.sl_due_leases.proofs.Holdings.HoldingsByLoops.{ended_held}
 use Rattle.sl_due_leases.proofs.Holdings.PlainPlaces.{fewer_kept, kept_counted, one_place, place_turned}
 use Rattle.sl_due_leases.proofs.Holdings.StandsGrow.{stands_same}
-use Rattle.sl_due_facts.proofs.Parts.EffectsAreTold.{effects_are_told}
-use Rattle.sl_due_facts.specs.Parts.Parts.{with_end}
-use Rattle.sl_plain.proofs.Lists.{any_of, contains_cases, contains_first, contains_more, contains_none, in_map, kept, kept_inside}
-use Rattle.sl_plain.proofs.Numbers.{above_zero, number_itself}
+use Rattle.sl_due_facts.proofs.AddedEffects.EffectsAreTold.{effects_are_told}
+use Rattle.sl_due_facts.specs.AddedEffects.OneMoreEffect.{with_end}
+use Rattle.sl_words.proofs.Lists.{any_of, contains_cases, contains_first, contains_more, contains_none, in_map, kept, kept_inside}
+use Rattle.sl_words.proofs.Numbers.{above_zero, number_itself}
 use Rattle.sl_trace.specs.Sessions.{is_joined, session_numbered}
 use Rattle.sl_trace.specs.declared.session.Session.{Session}
-use Rattle.sl_due_facts.specs.Facts.Heard.{heard_by}
+use Rattle.sl_due_facts.specs.Facts.HeardCall.{heard_by}
 use Rattle.sl_due_facts.specs.Facts.HoldingFacts.{StandsExclusive}
 use Rattle.sl_trace.specs.Traces.{Trace, end_of, has_orphan_of, held_by, holdings, is_ended_by, is_orphan, is_shared, leaves_orphan, next_child, no_process, orphan_of, orphans_left, same_place, spot_of_grant}
 use Rattle.sl_trace.specs.declared.effects.End.{End}

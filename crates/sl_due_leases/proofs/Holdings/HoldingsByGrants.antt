@@ -1,16 +1,16 @@
 -- A grant keeps the facts of holdings where nothing at its place is in its way.
-use Rattle.sl_acts.specs.SoFar.{entry_of}
+use Rattle.sl_due_facts.specs.Acts.TraceSoFar.{entry_of}
 use Rattle.sl_area.specs.Places.{is_base}
 use Rattle.sl_due.specs.Steps.{Step, add_grant, seen}
 use Rattle.sl_due_leases.proofs.Holdings.HoldingsByEffects.{HoldsAt}
 use Rattle.sl_due_leases.proofs.Holdings.PlainPlaces.{none_counted, one_place, place_turned}
 use Rattle.sl_due_leases.proofs.Holdings.StandsGrow.{stands_same}
-use Rattle.sl_due_facts.proofs.Parts.EffectsAreTold.{effects_are_told}
-use Rattle.sl_plain.proofs.Lists.{contains_cases, contains_none}
-use Rattle.sl_plain.proofs.Numbers.{number_itself}
+use Rattle.sl_due_facts.proofs.AddedEffects.EffectsAreTold.{effects_are_told}
+use Rattle.sl_words.proofs.Lists.{contains_cases, contains_none}
+use Rattle.sl_words.proofs.Numbers.{number_itself}
 use Rattle.sl_trace.specs.Sessions.{is_joined, session_numbered}
 use Rattle.sl_trace.specs.declared.session.Session.{Session}
-use Rattle.sl_due_facts.specs.Facts.Heard.{heard_by}
+use Rattle.sl_due_facts.specs.Facts.HeardCall.{heard_by}
 use Rattle.sl_due_facts.specs.Facts.HoldingFacts.{StandsExclusive}
 use Rattle.sl_trace.specs.Traces.{held_by, holdings, is_shared, next_child, same_place, spot_of_grant}
 use Rattle.sl_trace.specs.declared.effects.Grant.{Grant}

@@ -1,21 +1,21 @@
 -- Facts of holdings go on when the input is seen: an answer may end no ballot of a holder, for none of its calls that are open is a step
 -- of one.
-use Rattle.sl_acts.proofs.Additions.{begun_by}
-use Rattle.sl_acts.specs.Acts.{Expects}
-use Rattle.sl_acts.specs.SoFar.{entry_of}
+use Rattle.sl_due_facts.proofs.Acts.AddedAtEnd.{begun_by}
+use Rattle.sl_due_facts.specs.Acts.Acts.{Expects}
+use Rattle.sl_due_facts.specs.Acts.TraceSoFar.{entry_of}
 use Rattle.sl_due.specs.Steps.{Step, seen, with_input}
 use Rattle.sl_due_leases.proofs.Holdings.HoldingsByEffects.{HoldsAt, counted_now, counted_on, upheld}
 use Rattle.sl_due_leases.proofs.Holdings.StandsGrow.{InTurn, in_turn, stands_marked, stands_same}
 use Rattle.sl_trace.specs.Leases.{is_lease_call, is_on, lease_calls}
-use Rattle.sl_plain.proofs.Lists.{any_found, contains_map, got_inside, in_map, kept_inside}
-use Rattle.sl_plain.proofs.Numbers.{lt_then_le, refl_le}
-use Rattle.sl_plain.proofs.Options.{none_is}
+use Rattle.sl_words.proofs.Lists.{any_found, contains_map, got_inside, in_map, kept_inside}
+use Rattle.sl_words.proofs.Numbers.{lt_then_le, refl_le}
+use Rattle.sl_words.proofs.Options.{none_is}
 use Rattle.sl_sector.specs.declared.sector.DeltaRec.{DeltaRec}
 use Rattle.sl_trace.specs.Sessions.{calls_of, delta_written, generation_in, generation_of, given_number, is_call_of, is_join_call, joined_after, last_delta, session_numbered, sessions}
-use Rattle.sl_trace.specs.Watching.{counted_over, counts_over, evidence_in}
+use Rattle.sl_trace.specs.Sightings.{counted_over, counts_over, evidence_in}
 use Rattle.sl_trace.specs.declared.session.Session.{Session}
 use Rattle.sl_due_facts.specs.Facts.CallFacts.{CallFacts}
-use Rattle.sl_due_facts.specs.Facts.Heard.{IsOpen, heard_by}
+use Rattle.sl_due_facts.specs.Facts.HeardCall.{IsOpen, heard_by}
 use Rattle.sl_due_facts.specs.Facts.HoldingFacts.{StandsExclusive}
 use Rattle.sl_due_facts.specs.Facts.WayFacts.{WayFacts, way_context}
 use Rattle.sl_trace.specs.Traces.{Answered, Child, Setting, Submitted, Trace, answer_of, answered_in, call_numbered, child_after, children, first_child, held_by, holdings, is_answer_for, mark, new_call, new_child, next_child, outstanding, spot_of_grant, submitted}
@@ -27,7 +27,7 @@ use Rattle.sl_trace.specs.declared.effects.Spot.{Spot}
 use Rattle.sl_trace.specs.declared.input.Answer.{Answer}
 use Rattle.sl_trace.specs.declared.input.Input.TheVariants.{Answer as Told, Exit, Line, Number, Spawned, Wake}
 use Rattle.sl_trace.specs.declared.input.Input.{Input}
-use Rattle.sl_trace_law.proofs.Sessions.Making.{same_answered}
+use Rattle.sl_run_law.proofs.Sessions.CallsAreMade.{same_answered}
 use Rattle.sl_words.proofs.CaseLaws.{no_value, one_value, some_value, true_is_false}
 use Rattle.sl_words.proofs.WordLaws.{and_true}
 use Rattle.std.proofs.Common.{ap, inl, inr, refl, subst, sym, ◌∙◌}

@@ -1,8 +1,8 @@
 -- What a lease does that neither grants nor converts keeps the facts of holdings, where it does no more than it may beside an exclusive
 -- holding of its session.
-use Rattle.sl_acts.specs.Acts.{Has}
-use Rattle.sl_acts.specs.SoFar.{entry_of}
-use Rattle.sl_acts.proofs.Pairs.Records.{written_block, written_leader, written_no_block, written_no_leader}
+use Rattle.sl_due_facts.specs.Acts.Acts.{Has}
+use Rattle.sl_due_facts.specs.Acts.TraceSoFar.{entry_of}
+use Rattle.sl_due_facts.proofs.Acts.Pairs.Records.{written_block, written_leader, written_no_block, written_no_leader}
 use Rattle.sl_area.specs.Layouts.{Layout}
 use Rattle.sl_area.specs.Places.{area_sectors, block_offset, block_place, block_record, block_sectors, is_base, leader_offset, leader_record}
 use Rattle.sl_due.specs.DueLease.{carry_lease, lease_call, name_on, next_turn}
@@ -13,20 +13,20 @@ use Rattle.sl_due_leases.proofs.Holdings.HoldingsByEffects.{HoldsAt, later_same,
 use Rattle.sl_due_leases.proofs.Holdings.LeaseBeside.{DoesBeside, is_ballot_step}
 use Rattle.sl_due_leases.proofs.Holdings.LeasePlaces.{base_on, blocks_on, one_area, own_on}
 use Rattle.sl_due_leases.proofs.Holdings.StandsGrow.{IsBeside}
-use Rattle.sl_due_leases.proofs.Ways.Kept.PlacesStand.{id_in_range}
+use Rattle.sl_due_leases.proofs.Ways.WayFactsHeld.PlacesStand.{id_in_range}
 use Rattle.sl_due_leases.proofs.Ways.WrittenRecords.{block_no_delta, leader_no_delta}
 use Rattle.sl_run.specs.Lawful.{IsSetting}
 use Rattle.sl_trace.specs.Leases.{block_written, freed, freed_by, is_lease_call, is_on, leader_written, lease_calls}
 use Rattle.sl_trace.specs.declared.lease.LeaseNext.TheVariants.{AnswerJob, BecomeExclusive, BecomeShared, GrantJob, Nothing, ReadFor, WriteBlock, WriteLeader}
 use Rattle.sl_trace.specs.declared.lease.LeaseNext.{LeaseNext}
-use Rattle.sl_plain.proofs.Lists.{got_inside}
-use Rattle.sl_plain.proofs.Numbers.{above_zero}
+use Rattle.sl_words.proofs.Lists.{got_inside}
+use Rattle.sl_words.proofs.Numbers.{above_zero}
 use Rattle.sl_sector.specs.declared.sector.Block.{Block}
 use Rattle.sl_sector.specs.declared.sector.DeltaRec.{DeltaRec}
 use Rattle.sl_sector.specs.declared.sector.Leader.{Leader}
 use Rattle.sl_trace.specs.Sessions.{calls_of, delta_written, given_number, last_delta, session_numbered, sessions}
 use Rattle.sl_trace.specs.declared.session.Session.{Session}
-use Rattle.sl_due_facts.specs.Facts.Heard.{heard_by}
+use Rattle.sl_due_facts.specs.Facts.HeardCall.{heard_by}
 use Rattle.sl_due_facts.specs.Facts.HoldingFacts.{StandsExclusive, is_ballot_call}
 use Rattle.sl_trace.specs.Traces.{Submitted, holdings, is_before_input, is_shared, new_call, spot_of_grant, work_job}
 use Rattle.sl_trace.specs.declared.effects.Call.{Call}
@@ -40,7 +40,7 @@ use Rattle.sl_trace.specs.declared.effects.Purpose.TheVariants.{Lease, Renewal}
 use Rattle.sl_trace.specs.declared.effects.Purpose.{Purpose}
 use Rattle.sl_trace.specs.declared.effects.Spot.{Spot}
 use Rattle.sl_trace.specs.declared.effects.Work.{Work}
-use Rattle.sl_trace_law.proofs.Leases.NumberLaws.{number_is_place}
+use Rattle.sl_run_law.proofs.Leases.NumberLaws.{number_is_place}
 use Rattle.sl_words.proofs.CaseLaws.{none_some, some_value}
 use Rattle.sl_words.proofs.WordLaws.{and_true}
 use Rattle.std.proofs.Common.{ap, refl, subst, sym, ◌∙◌}

@@ -1,10 +1,10 @@
 -- What a command comes to keeps the facts of holdings.
-use Rattle.sl_acts.proofs.DecisionsAreTheirs.{Of, decisions_are_theirs}
-use Rattle.sl_acts.proofs.Pairs.Decisions.{conversion_is, release_is}
-use Rattle.sl_acts.proofs.PlainActs.{line_has}
-use Rattle.sl_acts.specs.Acts.{Has, next_of_conversion, next_of_release}
-use Rattle.sl_acts.specs.Promises.{IsDecidedFor}
-use Rattle.sl_acts.specs.SoFar.{entry_of}
+use Rattle.sl_due_facts.proofs.Acts.DecisionsAreTheirs.{Of, decisions_are_theirs}
+use Rattle.sl_due_facts.proofs.Acts.Pairs.Decisions.{conversion_is, release_is}
+use Rattle.sl_due_facts.proofs.Acts.PlainActs.{line_has}
+use Rattle.sl_due_facts.specs.Acts.Acts.{Has, next_of_conversion, next_of_release}
+use Rattle.sl_due_facts.specs.Acts.DueDaemons.{IsDecidedFor}
+use Rattle.sl_due_facts.specs.Acts.TraceSoFar.{entry_of}
 use Rattle.sl_area.specs.Places.{delta_offset, is_base, value_offset}
 use Rattle.sl_due.specs.DueCommands.{after_end, carry_decision, decided}
 use Rattle.sl_due.specs.DueLease.{carry_lease, grant_for}
@@ -32,13 +32,13 @@ use Rattle.sl_trace.specs.Jobs.{process_named, resource_named, wants_shared}
 use Rattle.sl_trace.specs.LeaseWork.{LeasePlace, convert_next, lease_place, release_next}
 use Rattle.sl_trace.specs.Leases.{LeaseKnown, block_submitted, holdings_on, known, lease_calls, spot_of}
 use Rattle.sl_trace.specs.declared.lease.LeaseNext.TheVariants.{Nothing, ReadFor, WriteBlock}
-use Rattle.sl_plain.proofs.Lists.{any_of, contains_none, find_inside, kept, kept_inside}
-use Rattle.sl_plain.proofs.Numbers.{lt_then_le, number_itself}
+use Rattle.sl_words.proofs.Lists.{any_of, contains_none, find_inside, kept, kept_inside}
+use Rattle.sl_words.proofs.Numbers.{lt_then_le, number_itself}
 use Rattle.sl_sector.specs.declared.sector.Block.{Block}
 use Rattle.sl_sector.specs.declared.sector.Rec.TheVariants.{ValueIs}
 use Rattle.sl_trace.specs.Sessions.{holdings_of, is_active, is_joined, leaving_job, present_sessions, recovery_of, session_named, session_numbered, sessions}
 use Rattle.sl_trace.specs.declared.session.Session.{Session}
-use Rattle.sl_due_facts.specs.Facts.Heard.{heard_by}
+use Rattle.sl_due_facts.specs.Facts.HeardCall.{heard_by}
 use Rattle.sl_due_facts.specs.Facts.HoldingFacts.{StandsExclusive}
 use Rattle.sl_trace.specs.Commands.{IsCommand, IsResourceArg}
 use Rattle.sl_trace.specs.Limits.{most_children, most_processes}
@@ -58,7 +58,7 @@ use Rattle.sl_trace.specs.declared.effects.Spot.{Spot}
 use Rattle.sl_trace.specs.declared.effects.Work.TheVariants.{ForJob}
 use Rattle.sl_trace.specs.declared.input.Input.TheVariants.{Line, Wake}
 use Rattle.sl_trace.specs.declared.reply.Reply.TheVariants.{Done}
-use Rattle.sl_trace_law.proofs.Leases.NumberLaws.{number_is_place}
+use Rattle.sl_run_law.proofs.Leases.NumberLaws.{number_is_place}
 use Rattle.sl_words.proofs.CaseLaws.{none_some, not_both, one_value, some_value, true_is_false}
 use Rattle.sl_words.proofs.OptionLaws.{choose_none}
 use Rattle.sl_words.proofs.WordLaws.{and_true, or_true, some_is_true}

@@ -1,5 +1,5 @@
 -- What a settling does beside an exclusive holding: it clears a mode, or frees an instance below.
-use Rattle.sl_acts.proofs.Pairs.Decisions.{asked_is, bytes_are}
+use Rattle.sl_due_facts.proofs.Acts.Pairs.Decisions.{asked_is, bytes_are}
 use Rattle.sl_area.specs.Layouts.{Layout}
 use Rattle.sl_area.specs.Places.{blocks_of, leader_read}
 use Rattle.sl_due_leases.proofs.Holdings.HoldingsByEffects.{HoldsAt}
@@ -13,15 +13,15 @@ use Rattle.sl_trace.specs.declared.lease.LeaseNext.TheVariants.{BecomeExclusive,
 use Rattle.sl_trace.specs.declared.lease.LeaseNext.{LeaseNext}
 use Rattle.sl_trace.specs.declared.lease.Owed.TheVariants.{BallotOwed, FreeOwed, ModeOwed}
 use Rattle.sl_trace.specs.declared.lease.Owed.{Owed}
-use Rattle.sl_plain.proofs.Lists.{contains_first, contains_more, find_fails, find_inside, kept, kept_inside}
-use Rattle.sl_plain.proofs.Numbers.{number_itself}
-use Rattle.sl_plain.proofs.Options.{then_value}
+use Rattle.sl_words.proofs.Lists.{contains_first, contains_more, find_fails, find_inside, kept, kept_inside}
+use Rattle.sl_words.proofs.Numbers.{number_itself}
+use Rattle.sl_words.proofs.Options.{then_value}
 use Rattle.sl_sector.specs.declared.sector.Block.{Block}
 use Rattle.sl_sector.specs.declared.sector.Leader.{Leader}
 use Rattle.sl_sector.specs.declared.sector.Owner.{Owner}
 use Rattle.sl_trace.specs.Sessions.{holdings_of, me}
 use Rattle.sl_trace.specs.declared.session.Session.{Session}
-use Rattle.sl_due_facts.specs.Facts.Heard.{heard_by}
+use Rattle.sl_due_facts.specs.Facts.HeardCall.{heard_by}
 use Rattle.sl_due_facts.specs.Facts.HoldingFacts.{StandsExclusive}
 use Rattle.sl_due.specs.Steps.{Step, seen}
 use Rattle.sl_trace.specs.Traces.{Submitted, holdings, is_heeded, is_shared, same_place, spot_of_grant}

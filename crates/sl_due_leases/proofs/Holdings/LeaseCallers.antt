@@ -1,23 +1,23 @@
 -- What is known where a lease's call is answered: the call is the session's on the area, the session is joined, its job's command is one
 -- of the layout.
-use Rattle.sl_acts.specs.Acts.{Has, Hears}
-use Rattle.sl_acts.specs.SoFar.{entry_of}
+use Rattle.sl_due_facts.specs.Acts.Acts.{Has, Hears}
+use Rattle.sl_due_facts.specs.Acts.TraceSoFar.{entry_of}
 use Rattle.sl_area.specs.Layouts.{Layout}
 use Rattle.sl_area.specs.Places.{in_area}
 use Rattle.sl_due.specs.Steps.{Step, seen, with_input}
 use Rattle.sl_due_leases.proofs.Holdings.HoldingsByInputs.{calls_marked}
 use Rattle.sl_due_leases.proofs.Holdings.LeasePlaces.{area_is}
 use Rattle.sl_run.specs.Lawful.{IsSetting, Orderly}
-use Rattle.sl_run.specs.Saying.{IsAnsweredAt}
+use Rattle.sl_run.specs.LawForms.{IsAnsweredAt}
 use Rattle.sl_trace.specs.Jobs.{command_numbered, command_of}
 use Rattle.sl_trace.specs.Leases.{is_lease_call, is_on, lease_calls, lease_step, spot_of_call}
-use Rattle.sl_plain.proofs.Lists.{any_found, contains_cases, contains_map, contains_none, find_inside, kept, kept_inside}
-use Rattle.sl_plain.proofs.Numbers.{number_itself}
-use Rattle.sl_plain.proofs.Options.{none_is, then_value}
+use Rattle.sl_words.proofs.Lists.{any_found, contains_cases, contains_map, contains_none, find_inside, kept, kept_inside}
+use Rattle.sl_words.proofs.Numbers.{number_itself}
+use Rattle.sl_words.proofs.Options.{none_is, then_value}
 use Rattle.sl_trace.specs.Sessions.{calls_of, has_open_write, is_call_of, is_joined, is_present, joined_after, refused_after, removed_after}
 use Rattle.sl_trace.specs.declared.session.Session.{Session}
 use Rattle.sl_due_facts.specs.Facts.CallFacts.{CallFacts}
-use Rattle.sl_due_facts.specs.Facts.Heard.{IsOpen, heard_by}
+use Rattle.sl_due_facts.specs.Facts.HeardCall.{IsOpen, heard_by}
 use Rattle.sl_due_facts.specs.Facts.WorkFacts.{IsWaiting}
 use Rattle.sl_trace.specs.Commands.{IsCommand}
 use Rattle.sl_trace.specs.Traces.{Job, Setting, Submitted, Trace, answer_of, answered_in, call_numbered, is_answer_for, is_expected, mark, outstanding, job_in, is_write, job_numbered, jobs, line_in, next_job, submitted}
@@ -28,10 +28,10 @@ use Rattle.sl_trace.specs.declared.effects.Purpose.TheVariants.{Lease}
 use Rattle.sl_trace.specs.declared.effects.Work.{Work}
 use Rattle.sl_trace.specs.declared.input.Answer.{Answer}
 use Rattle.sl_trace.specs.declared.input.Input.TheVariants.{Answer as Told, Wake}
-use Rattle.sl_trace_law.proofs.Leases.NumberLaws.{number_is_place}
-use Rattle.sl_trace_law.proofs.Sessions.Covering.{joinings_are_in_turn}
-use Rattle.sl_trace_law.specs.Sessions.Promises.{all_done, fits, fits_as, has_reply, is_in_turn}
-use Rattle.sl_trace_law.proofs.Sessions.Making.{same_answered}
+use Rattle.sl_run_law.proofs.Leases.NumberLaws.{number_is_place}
+use Rattle.sl_run_law.proofs.Sessions.WritesAreCovered.{joinings_are_in_turn}
+use Rattle.sl_run_law.specs.Sessions.SessionLaws.{all_done, fits, fits_as, has_reply, is_in_turn}
+use Rattle.sl_run_law.proofs.Sessions.CallsAreMade.{same_answered}
 use Rattle.sl_words.proofs.CaseLaws.{none_some, one_value, not_both, some_value}
 use Rattle.sl_words.proofs.WordLaws.{and_true}
 use Rattle.std.proofs.Common.{ap, arith, inl, inr, refl, subst, sym, ◌∙◌}

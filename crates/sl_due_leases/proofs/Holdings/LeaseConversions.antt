@@ -1,6 +1,6 @@
 -- A conversion keeps the facts of holdings: what ends and what begins are one process's, at one place.
-use Rattle.sl_acts.specs.Acts.{Has}
-use Rattle.sl_acts.specs.SoFar.{entry_of}
+use Rattle.sl_due_facts.specs.Acts.Acts.{Has}
+use Rattle.sl_due_facts.specs.Acts.TraceSoFar.{entry_of}
 use Rattle.sl_due.specs.DueLease.{carry_lease, convert_for, convert_holding, for_work, held_otherwise, with_command}
 use Rattle.sl_due.specs.Steps.{Step, add_end, add_grant, seen, with_some}
 use Rattle.sl_due_leases.proofs.Holdings.HoldingsByEffects.{HoldsAt, end_held, end_inside, later_same, reply_held}
@@ -14,13 +14,13 @@ use Rattle.sl_trace.specs.Ballots.{moded_block}
 use Rattle.sl_trace.specs.Jobs.{command_numbered, process_named}
 use Rattle.sl_trace.specs.Leases.{block_submitted, exclusive_on, holdings_on, is_lease_call, is_on, lease_calls}
 use Rattle.sl_trace.specs.declared.lease.LeaseNext.TheVariants.{BecomeExclusive, BecomeShared, WriteBlock, WriteLeader}
-use Rattle.sl_plain.proofs.Lists.{find_fails, find_inside, kept_inside}
-use Rattle.sl_plain.proofs.Numbers.{number_itself}
+use Rattle.sl_words.proofs.Lists.{find_fails, find_inside, kept_inside}
+use Rattle.sl_words.proofs.Numbers.{number_itself}
 use Rattle.sl_sector.specs.declared.sector.Block.{Block}
 use Rattle.sl_sector.specs.declared.sector.Leader.{Leader}
 use Rattle.sl_trace.specs.Sessions.{holdings_of, is_call_of, is_joined, session_numbered}
 use Rattle.sl_trace.specs.declared.session.Session.{Session}
-use Rattle.sl_due_facts.specs.Facts.Heard.{heard_by}
+use Rattle.sl_due_facts.specs.Facts.HeardCall.{heard_by}
 use Rattle.sl_due_facts.specs.Facts.HoldingFacts.{StandsExclusive}
 use Rattle.sl_trace.specs.Traces.{end_of, holdings, is_ended_by, is_shared, same_place, spot_of_grant, submitted}
 use Rattle.sl_trace.specs.declared.command.Command.{Command}

@@ -1,6 +1,6 @@
 -- Where the answer of a lease's call grants a job, or converts its holding, the facts of holdings are kept.
-use Rattle.sl_acts.specs.Acts.{Has}
-use Rattle.sl_acts.specs.SoFar.{entry_of}
+use Rattle.sl_due_facts.specs.Acts.Acts.{Has}
+use Rattle.sl_due_facts.specs.Acts.TraceSoFar.{entry_of}
 use Rattle.sl_area.specs.Places.{is_base}
 use Rattle.sl_due.specs.DueLease.{grant_for, grant_of}
 use Rattle.sl_due.specs.Steps.{Step, add_grant, add_reply, add_start, seen}
@@ -11,7 +11,7 @@ use Rattle.sl_trace.specs.Jobs.{process_named, resource_named}
 use Rattle.sl_trace.specs.Leases.{spot_of}
 use Rattle.sl_trace.specs.Sessions.{is_joined}
 use Rattle.sl_trace.specs.declared.session.Session.{Session}
-use Rattle.sl_due_facts.specs.Facts.Heard.{heard_by}
+use Rattle.sl_due_facts.specs.Facts.HeardCall.{heard_by}
 use Rattle.sl_due_facts.specs.Facts.HoldingFacts.{StandsExclusive}
 use Rattle.sl_trace.specs.Traces.{holdings, is_shared, next_child, same_place}
 use Rattle.sl_trace.specs.declared.command.Command.TheVariants.{Acquire, AddLockspace, Convert, GetLvb, HostStatus, InqLockspace, Release, ReleaseOrphan, RemLockspace, Request, RunProgram, SetKillpath, SetLvb, Status, TakeOver}

@@ -3,16 +3,16 @@ use Rattle.sl_area.proofs.SizeLaws.{HasRoom, has_room}
 use Rattle.sl_area.specs.Layouts.{Layout}
 use Rattle.sl_area.specs.Places.{block_offset, block_place, in_area}
 use Rattle.sl_area.specs.Roles.{leader}
-use Rattle.sl_due_leases.proofs.Ways.Kept.PlacesStand.{block_is_on, first_is_on, place_is_on, placed_on}
+use Rattle.sl_due_leases.proofs.Ways.WayFactsHeld.PlacesStand.{block_is_on, first_is_on, place_is_on, placed_on}
 use Rattle.sl_run.specs.Lawful.{IsSetting}
 use Rattle.sl_trace.specs.Leases.{is_on, spot_of_call}
-use Rattle.sl_plain.proofs.Numbers.{none_off}
+use Rattle.sl_words.proofs.Numbers.{none_off}
 use Rattle.sl_trace.specs.Traces.{Setting, Submitted, new_call}
 use Rattle.sl_trace.specs.declared.effects.Call.{Call}
 use Rattle.sl_trace.specs.declared.effects.Op.TheVariants.{ReadSectors}
 use Rattle.sl_trace.specs.declared.effects.Purpose.TheVariants.{Renewal}
 use Rattle.sl_trace.specs.declared.effects.Spot.{Spot}
-use Rattle.sl_trace_law.proofs.Leases.SpotLaws.{areas_are_apart}
+use Rattle.sl_run_law.proofs.Leases.SpotLaws.{areas_are_apart}
 use Rattle.std.proofs.Common.{ap, arith, subst, sym, ◌∙◌}
 use Rattle.std.specs.Prelude.{List, true, ℕ, ◌%◌, ◌*◌, ◌+◌, ◌<◌, ◌≡◌, ◌≤◌}
 

@@ -1,10 +1,10 @@
 -- How far a step has come: on a wake nothing is granted or ended, and after the answer to a start the only calls are frees of leavings.
 use Rattle.sl_trace.specs.declared.effects.LeaseRead.TheVariants.{OfArea, OfFree}
-use Rattle.sl_acts.proofs.EffectsKeep.{delta, lease}
-use Rattle.sl_acts.proofs.LoopsKeep.{for_each_keeps, when_keeps}
-use Rattle.sl_acts.proofs.PlainActs.{decision_kept, ended, exited, left, line_has, plain_acts}
-use Rattle.sl_acts.specs.Acts.{Acts, Has, next_of_settling}
-use Rattle.sl_acts.specs.Plainly.{ByEffects}
+use Rattle.sl_due_facts.proofs.Acts.EffectsKeep.{delta, lease}
+use Rattle.sl_due_facts.proofs.Acts.LoopsKeep.{for_each_keeps, when_keeps}
+use Rattle.sl_due_facts.proofs.Acts.PlainActs.{decision_kept, ended, exited, left, line_has, plain_acts}
+use Rattle.sl_due_facts.specs.Acts.Acts.{Acts, Has, next_of_settling}
+use Rattle.sl_due_facts.specs.Acts.KeptByEffects.{ByEffects}
 use Rattle.sl_due.specs.DueCommands.{answer_line, carry_decision}
 use Rattle.sl_due.specs.DueDelta.{carry_delta, for_joining}
 use Rattle.sl_due.specs.DueFirst.{refuse, remove_connection, remove_of_refused, send, signal_holders}
@@ -13,18 +13,18 @@ use Rattle.sl_due.specs.DueRequests.{after_value_read, bits_due}
 use Rattle.sl_due.specs.DueLease.{carry_lease}
 use Rattle.sl_due.specs.Steps.{Step, add_end, add_move, add_reply, add_signal, add_start, seen, when, with_input, with_some}
 use Rattle.sl_due.specs.declared.decision.Decision.{Decision}
-use Rattle.sl_acts.proofs.DecisionsAreTheirs.{Of}
+use Rattle.sl_due_facts.proofs.Acts.DecisionsAreTheirs.{Of}
 use Rattle.sl_due_leases.proofs.Holdings.HoldingsByCalls.{call_added}
 use Rattle.sl_due_leases.proofs.Holdings.LeaseNexts.{IsPlainNext, settling_fits}
 use Rattle.sl_due_leases.specs.Holdings.Moments.{Moment}
-use Rattle.sl_due_leases.specs.Holdings.Promises.{MomentsAreKept}
+use Rattle.sl_due_leases.specs.Holdings.HoldingLaws.{MomentsAreKept}
 use Rattle.sl_trace.specs.Counts.{stopper_of}
 use Rattle.sl_trace.specs.Jobs.{job_of_start}
 use Rattle.sl_trace.specs.LeaseWork.{lease_place}
 use Rattle.sl_trace.specs.Leases.{LeaseKnown, known}
 use Rattle.sl_trace.specs.declared.lease.LeaseNext.TheVariants.{AnswerJob, BecomeExclusive, BecomeShared, GrantJob, Nothing as No_lease, ReadFor, WriteBlock, WriteLeader}
 use Rattle.sl_trace.specs.declared.lease.LeaseNext.{LeaseNext}
-use Rattle.sl_plain.proofs.Lists.{contains_cases, contains_none}
+use Rattle.sl_words.proofs.Lists.{contains_cases, contains_none}
 use Rattle.sl_sector.specs.Bitmaps.{no_bits}
 use Rattle.sl_sector.specs.declared.sector.DeltaRec.{DeltaRec}
 use Rattle.sl_sector.specs.declared.sector.DeltaState.TheVariants.{Free}

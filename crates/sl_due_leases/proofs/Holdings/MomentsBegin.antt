@@ -1,14 +1,14 @@
 -- A step has granted and ended nothing when it has begun.
-use Rattle.sl_acts.proofs.LoopsKeep.{for_each_keeps, when_keeps}
+use Rattle.sl_due_facts.proofs.Acts.LoopsKeep.{for_each_keeps, when_keeps}
 use Rattle.sl_due.specs.DueFirst.{begin_recoveries, begin_recovery, begins_now, signal_and_refuse, signal_holders}
 use Rattle.sl_due.specs.Steps.{Step, add_reply, begin_step, seen}
 use Rattle.sl_due_leases.proofs.Holdings.MomentsAreKept.{alike, signalled_alike}
 use Rattle.sl_due_leases.specs.Holdings.Moments.{Moment}
-use Rattle.sl_due_leases.specs.Holdings.Promises.{MomentsBegin}
+use Rattle.sl_due_leases.specs.Holdings.HoldingLaws.{MomentsBegin}
 use Rattle.sl_trace.specs.Jobs.{jobs_of_session}
 use Rattle.sl_trace.specs.Sessions.{last_renewal, present_sessions, recovery_of}
 use Rattle.sl_trace.specs.declared.session.Session.{Session}
-use Rattle.sl_plain.proofs.Lists.{contains_none}
+use Rattle.sl_words.proofs.Lists.{contains_none}
 use Rattle.sl_trace.specs.Traces.{Job}
 use Rattle.sl_trace.specs.declared.effects.Signal.TheVariants.{Term}
 use Rattle.sl_trace.specs.declared.reply.Reply.TheVariants.{Recovering}

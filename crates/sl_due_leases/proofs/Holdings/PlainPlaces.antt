@@ -1,6 +1,6 @@
 -- Of places and of what is counted at one.
-use Rattle.sl_plain.proofs.Lists.{contains_first, contains_more, contains_none, kept}
-use Rattle.sl_plain.proofs.Numbers.{number_itself}
+use Rattle.sl_words.proofs.Lists.{contains_first, contains_more, contains_none, kept}
+use Rattle.sl_words.proofs.Numbers.{number_itself}
 use Rattle.sl_trace.specs.Traces.{same_place}
 use Rattle.sl_words.proofs.WordLaws.{and_true}
 use Rattle.std.proofs.Common.{ap, arith, refl, subst, ◌∙◌}

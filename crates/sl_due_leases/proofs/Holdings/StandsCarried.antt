@@ -6,14 +6,14 @@ use Rattle.sl_trace.specs.Leases.{block_submitted, block_written, ended_ballots,
 use Rattle.sl_sector.specs.declared.sector.Block.{Block}
 use Rattle.sl_sector.specs.declared.sector.Owner.{Owner}
 use Rattle.sl_trace.specs.Sessions.{generation_of, me}
-use Rattle.sl_trace.specs.Watching.{counted_over}
+use Rattle.sl_trace.specs.Sightings.{counted_over}
 use Rattle.sl_trace.specs.declared.session.Session.{Session}
-use Rattle.sl_due_facts.specs.Facts.Heard.{IsOpen}
+use Rattle.sl_due_facts.specs.Facts.HeardCall.{IsOpen}
 use Rattle.sl_due_facts.specs.Facts.HoldingFacts.{StandsExclusive, is_ballot_call}
 use Rattle.sl_trace.specs.Traces.{Answered, Setting, Submitted, Trace, is_ok_answer, new_call}
 use Rattle.sl_trace.specs.declared.effects.Spot.{Spot}
-use Rattle.sl_trace_law.proofs.Leases.AgeLaws.{BecameAmong, after_stays, among, blocks_stay, first_stays}
-use Rattle.sl_trace_law.proofs.Leases.FrontLaws.{aged_itself}
+use Rattle.sl_run_law.proofs.Leases.AgeLaws.{BecameAmong, after_stays, among, blocks_stay, first_stays}
+use Rattle.sl_run_law.proofs.Leases.FrontLaws.{aged_itself}
 use Rattle.sl_words.proofs.CaseLaws.{one_value}
 use Rattle.sl_words.proofs.WordLaws.{some_is_true}
 use Rattle.std.proofs.Common.{ap, inl, inr, subst, sym, ◌∙◌}

@@ -4,24 +4,24 @@ use Rattle.sl_due_leases.proofs.Holdings.StandsCarried.{WasWritten, stands_on}
 use Rattle.sl_trace.specs.Ballots.{is_ahead, stop_of}
 use Rattle.sl_trace.specs.declared.lease.Stop.{Stop}
 use Rattle.sl_trace.specs.Leases.{StepKind, Area_read, Phase1_read, Phase1_write, Phase2_read, Phase2_write, ballot_after, block_submitted, block_written, blocks_given, concludes, ended_ballot, ended_ballots, freed, freed_by, is_at, is_phase_read, lease_calls, open_ballot, stop_in, value_in_end}
-use Rattle.sl_plain.proofs.Lists.{contains_cases, contains_first, contains_map, contains_more, in_map}
-use Rattle.sl_plain.proofs.Options.{some_there}
+use Rattle.sl_words.proofs.Lists.{contains_cases, contains_first, contains_map, contains_more, in_map}
+use Rattle.sl_words.proofs.Options.{some_there}
 use Rattle.sl_sector.specs.declared.sector.Block.{Block}
 use Rattle.sl_sector.specs.declared.sector.Owner.{Owner}
 use Rattle.sl_trace.specs.Sessions.{generation_of}
-use Rattle.sl_trace.specs.Watching.{counted_over}
+use Rattle.sl_trace.specs.Sightings.{counted_over}
 use Rattle.sl_trace.specs.declared.session.Session.{Session}
-use Rattle.sl_due_facts.specs.Facts.Heard.{IsOpen}
+use Rattle.sl_due_facts.specs.Facts.HeardCall.{IsOpen}
 use Rattle.sl_due_facts.specs.Facts.HoldingFacts.{StandsExclusive, is_ballot_call}
 use Rattle.sl_due_facts.specs.Facts.WayFacts.{WayContext, Ways}
 use Rattle.sl_trace.specs.Traces.{Answered, Setting, Submitted, Trace, answer_of, answered_in, is_heeded}
 use Rattle.sl_trace.specs.declared.effects.Entry.{Entry}
 use Rattle.sl_trace.specs.declared.effects.Spot.{Spot}
 use Rattle.sl_trace.specs.declared.input.Answer.{Answer}
-use Rattle.sl_trace_law.proofs.Leases.AgeLaws.{became_among}
-use Rattle.sl_trace_law.proofs.Leases.FrontLaws.{aged_itself, all_aged_itself}
-use Rattle.sl_trace_law.proofs.Sessions.Making.{kept_by, same_answered}
-use Rattle.sl_trace_law.specs.Leases.Fronts.{Aged, AllAged}
+use Rattle.sl_run_law.proofs.Leases.AgeLaws.{became_among}
+use Rattle.sl_run_law.proofs.Leases.FrontLaws.{aged_itself, all_aged_itself}
+use Rattle.sl_run_law.proofs.Sessions.CallsAreMade.{kept_by, same_answered}
+use Rattle.sl_run_law.specs.Leases.CallFronts.{Aged, AllAged}
 use Rattle.sl_words.proofs.CaseLaws.{not_both, true_or_false}
 use Rattle.sl_words.specs.Words.{choose}
 use Rattle.std.proofs.Common.{ap, arith, inl, inr, refl, subst, sym, ◌∙◌}

@@ -11,7 +11,7 @@ use Rattle.sl_sector.specs.declared.sector.Block.{Block}
 use Rattle.sl_sector.specs.declared.sector.Leader.{Leader}
 use Rattle.sl_sector.specs.declared.sector.Owner.{Owner}
 use Rattle.sl_trace.specs.Sessions.{calls_of, generation_in, is_active, joined_after, me}
-use Rattle.sl_trace.specs.Watching.{counted_over}
+use Rattle.sl_trace.specs.Sightings.{counted_over}
 use Rattle.sl_trace.specs.declared.session.Session.{Session}
 use Rattle.sl_trace.specs.Traces.{Setting, Submitted, Trace, gave, is_write, unanswered}
 use Rattle.sl_trace.specs.declared.effects.LeaseStep.TheVariants.{ClearMode, FreeLeader, Phase1Read, Phase1Write, Phase2Read, Phase2Write, ReadAgain, ReadArea, ReadBeforeBlock, ReadBeforeFree, SetMode, TakeLeader}

@@ -1,5 +1,5 @@
 -- Each call that a lease makes keeps the laws of areas, blocks and leaders where it is made.
-use Rattle.sl_acts.proofs.Pairs.Records.{IsPairOf, leader_no_turn, pair_recorded, written_no_turn}
+use Rattle.sl_due_facts.proofs.Acts.Pairs.Records.{IsPairOf, leader_no_turn, pair_recorded, written_no_turn}
 use Rattle.sl_area.specs.Places.{area_sectors, block_offset, block_sectors, leader_offset, leader_record, pair_offset}
 use Rattle.sl_due.specs.DueLease.{name_on, next_turn}
 use Rattle.sl_run.specs.LawfulArea.{HasVerified, IsAreaRead, IsBlockRead, IsRightRead, LawfulAgain, LawfulAreaWrite, is_area_work, is_same_read, open_block_work, record_offset}
@@ -7,8 +7,8 @@ use Rattle.sl_run.specs.LawfulBlock.{LawfulBlockStep, LawfulBlockWrite, LawfulPh
 use Rattle.sl_run.specs.LawfulLeader.{LawfulFreeLeader, LawfulLeaderWrite, LawfulTake, holds_under}
 use Rattle.sl_due_leases.proofs.Leases.NamesVerified.{ended_wrote, has_verified}
 use Rattle.sl_due_leases.specs.Leases.LeaseLawful.{LeaseLawful}
-use Rattle.sl_due_leases.specs.Leases.Made.{IsCallAt, MayCall, read_place}
-use Rattle.sl_due_leases.proofs.Ways.Lawful.BallotLaws.{clear_mode_is_lawful, own_is, phase2_is_lawful, phase2_read_is_lawful, read_after, set_mode_is_lawful, take_freed, take_won}
+use Rattle.sl_due_leases.specs.Leases.LeaseCalls.{IsCallAt, MayCall, read_place}
+use Rattle.sl_due_leases.proofs.Ways.WaysAreLawful.BallotLaws.{clear_mode_is_lawful, own_is, phase2_is_lawful, phase2_read_is_lawful, read_after, set_mode_is_lawful, take_freed, take_won}
 use Rattle.sl_due_leases.proofs.Ways.NewestCall.{block_is, block_is_no_leader, leader_is, leader_is_no_block, read_writes_no_block, read_writes_no_leader}
 use Rattle.sl_due_leases.proofs.Ways.WayNumbers.{is_verified}
 use Rattle.sl_due_leases.proofs.Ways.TurnsShown.{turn_is_lawful}
@@ -36,7 +36,7 @@ use Rattle.sl_trace.specs.declared.effects.Op.TheVariants.{ReadSectors, WriteRec
 use Rattle.sl_trace.specs.declared.effects.Op.{Op}
 use Rattle.sl_trace.specs.declared.effects.Purpose.TheVariants.{Lease, SeeRequest}
 use Rattle.sl_trace.specs.declared.effects.Work.{Work}
-use Rattle.sl_plain.proofs.Numbers.{number_itself}
+use Rattle.sl_words.proofs.Numbers.{number_itself}
 use Rattle.sl_words.proofs.CaseLaws.{false_is_true, no_value, none_some, some_value, true_is_false}
 use Rattle.std.proofs.lemmas.Bool.{and_from}
 use Rattle.sl_sector.specs.declared.sector.Owner.{Owner}

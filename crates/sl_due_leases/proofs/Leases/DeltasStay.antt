@@ -1,19 +1,19 @@
 -- What a delta lease decides leaves what the laws of areas, blocks and leaders ask of the calls before.
-use Rattle.sl_acts.proofs.Additions.{contains_at}
-use Rattle.sl_acts.proofs.LoopsKeep.{when_keeps, with_some_keeps}
-use Rattle.sl_acts.specs.Acts.{Has}
-use Rattle.sl_acts.specs.SoFar.{entry_of}
+use Rattle.sl_due_facts.proofs.Acts.AddedAtEnd.{contains_at}
+use Rattle.sl_due_facts.proofs.Acts.LoopsKeep.{when_keeps, with_some_keeps}
+use Rattle.sl_due_facts.specs.Acts.Acts.{Has}
+use Rattle.sl_due_facts.specs.Acts.TraceSoFar.{entry_of}
 use Rattle.sl_due.specs.DueDelta.{carry_delta, for_joining, move_connection, read_own_sector, register, survey, write_own_sector}
 use Rattle.sl_due.specs.DueFirst.{refuse, remove_connection, remove_of_refused}
 use Rattle.sl_due.specs.Steps.{Step, add_call_of, add_move, add_reply, seen}
 use Rattle.sl_run.specs.LawfulArea.{is_area_work, is_delta_record}
-use Rattle.sl_run.specs.Saying.{cut_at}
+use Rattle.sl_run.specs.LawForms.{cut_at}
 use Rattle.sl_due_leases.proofs.Leases.LawsStay.{A_wake, Spares, calls_stay, moves_stay, replies_stay}
 use Rattle.sl_due_leases.proofs.Leases.OthersKeep.{IsOther, LawfulSoFar, Others, other_is_lawful, other_more}
-use Rattle.sl_due_leases.proofs.Ways.Kept.EffectsLeave.{made_call, there_has}
-use Rattle.sl_due_leases.proofs.Ways.Kept.LeaseNextsLeave.{IsLate}
-use Rattle.sl_due_leases.proofs.Ways.Kept.PlainWalks.{DeltaFits}
-use Rattle.sl_due_facts.proofs.Parts.CallsGrow.{same_sessions}
+use Rattle.sl_due_leases.proofs.Ways.WayFactsHeld.EffectsLeave.{made_call, there_has}
+use Rattle.sl_due_leases.proofs.Ways.WayFactsHeld.LeaseNextsLeave.{IsLate}
+use Rattle.sl_due_leases.proofs.Ways.WayFactsHeld.PlainWalks.{DeltaFits}
+use Rattle.sl_due_facts.proofs.AddedEffects.CallsGrow.{same_sessions}
 use Rattle.sl_sector.specs.declared.sector.DeltaRec.{DeltaRec}
 use Rattle.sl_sector.specs.declared.sector.Rec.TheVariants.{DeltaIs}
 use Rattle.sl_sector.specs.declared.sector.Rec.{Rec}
@@ -26,7 +26,7 @@ use Rattle.sl_trace.specs.declared.session.Begun.{Begun}
 use Rattle.sl_trace.specs.declared.session.Session.{Session}
 use Rattle.sl_trace.specs.declared.delta.DeltaKnown.{DeltaKnown}
 use Rattle.sl_due_facts.specs.Facts.SessionFacts.{NameFacts}
-use Rattle.sl_due_facts.specs.Facts.Heard.{heard_by}
+use Rattle.sl_due_facts.specs.Facts.HeardCall.{heard_by}
 use Rattle.sl_time.specs.Times.{fail}
 use Rattle.sl_trace.specs.Connections.{is_registered, unregisters}
 use Rattle.sl_trace.specs.Traces.{Replied, Setting, Trace, is_running, reply_to}
@@ -41,10 +41,10 @@ use Rattle.sl_trace.specs.declared.effects.Purpose.{Purpose}
 use Rattle.sl_trace.specs.declared.input.Input.TheVariants.{Wake}
 use Rattle.sl_trace.specs.declared.reply.Reply.TheVariants.{Generation}
 use Rattle.sl_trace.specs.declared.reply.Reply.{Reply}
-use Rattle.sl_plain.proofs.Lists.{contains_cases, contains_first, contains_more, contains_none, find_inside, kept}
+use Rattle.sl_words.proofs.Lists.{contains_cases, contains_first, contains_more, contains_none, find_inside, kept}
 use Rattle.sl_words.proofs.CaseLaws.{false_is_true, is_false, none_some, some_value, true_is_false}
 use Rattle.sl_words.specs.Orders.{is_text_before, put_in}
-use Rattle.sl_plain.proofs.Options.{none_is}
+use Rattle.sl_words.proofs.Options.{none_is}
 use Rattle.sl_words.specs.Words.{choose, some_is}
 use Rattle.sl_sector.specs.declared.sector.DeltaState.TheVariants.{Free, Live}
 use Rattle.std.proofs.Common.{ap, eqb-true, inl, inr, refl, subst, sym, ◌∙◌}

@@ -1,6 +1,6 @@
 -- Each act keeps the laws of areas, blocks and leaders.
-use Rattle.sl_acts.proofs.LoopsKeep.{for_each_keeps}
-use Rattle.sl_acts.specs.Acts.{Acts, Has, Hears}
+use Rattle.sl_due_facts.proofs.Acts.LoopsKeep.{for_each_keeps}
+use Rattle.sl_due_facts.specs.Acts.Acts.{Acts, Has, Hears}
 use Rattle.sl_due.specs.DueAnswers.{set_reply}
 use Rattle.sl_due.specs.DueDelta.{see_request}
 use Rattle.sl_due.specs.DueInputs.{end_holdings, leave_holdings, started_reply}
@@ -17,14 +17,14 @@ use Rattle.sl_due_leases.proofs.Leases.OthersKeep.{Any, LawfulSoFar, Others, by_
 use Rattle.sl_due_leases.proofs.Leases.TurnsStay.{exclusive_turns, shared_turns}
 use Rattle.sl_due_leases.specs.Leases.LeaseLawful.{LeaseLaws}
 use Rattle.sl_due_leases.proofs.Leases.WorkIsActive.{WorkIsActive, work_is_active}
-use Rattle.sl_due_leases.proofs.Ways.Kept.ActsKeep.{stand}
-use Rattle.sl_due_leases.proofs.Ways.Kept.DeltasFit.{freed_fits, joining_fits, renewed_fits, wake_fits}
-use Rattle.sl_due_leases.proofs.Ways.Kept.HeardStands.{heard_has, lease_heard, lease_ready}
-use Rattle.sl_due_leases.proofs.Ways.Kept.LeaseNextsLeave.{IsLate, moment_of}
-use Rattle.sl_due_leases.proofs.Ways.Kept.PlainWalks.{exited, left, refusal, removal_of_refused, sent, stopped}
-use Rattle.sl_due_leases.proofs.Ways.Kept.UnjoinedHaveNone.{its_joining, joins_still}
-use Rattle.sl_acts.proofs.Pairs.Decisions.{next_is}
-use Rattle.sl_due_leases.proofs.Ways.Kept.DecidedFits.{heard_fits}
+use Rattle.sl_due_leases.proofs.Ways.WayFactsHeld.ActsKeep.{stand}
+use Rattle.sl_due_leases.proofs.Ways.WayFactsHeld.DeltasFit.{freed_fits, joining_fits, renewed_fits, wake_fits}
+use Rattle.sl_due_leases.proofs.Ways.WayFactsHeld.HeardStands.{heard_has, lease_heard, lease_ready}
+use Rattle.sl_due_leases.proofs.Ways.WayFactsHeld.LeaseNextsLeave.{IsLate, moment_of}
+use Rattle.sl_due_leases.proofs.Ways.WayFactsHeld.PlainWalks.{exited, left, refusal, removal_of_refused, sent, stopped}
+use Rattle.sl_due_leases.proofs.Ways.WayFactsHeld.UnjoinedHaveNone.{its_joining, joins_still}
+use Rattle.sl_due_facts.proofs.Acts.Pairs.Decisions.{next_is}
+use Rattle.sl_due_leases.proofs.Ways.WayFactsHeld.DecidedFits.{heard_fits}
 use Rattle.sl_due_leases.specs.Ways.Nexts.{NextIs}
 use Rattle.sl_trace.specs.Jobs.{aim_of, aim_of_command, command_numbered, job_of_start, process_named}
 use Rattle.sl_trace.specs.LeaseWork.{lease_place}
@@ -36,7 +36,7 @@ use Rattle.sl_trace.specs.declared.lease.LeaseNext.{LeaseNext}
 use Rattle.sl_trace.specs.Deltas.{delta_known, delta_of_session}
 use Rattle.sl_trace.specs.Sessions.{calls_of, generation_of, holdings_of, is_active, is_joined, joined_after, recovery_of, removed_after, session_numbered}
 use Rattle.sl_trace.specs.declared.session.Session.{Session}
-use Rattle.sl_due_facts.specs.Facts.Whole.{Whole}
+use Rattle.sl_due_facts.specs.Facts.AllFacts.{Whole}
 use Rattle.sl_trace.specs.Traces.{Submitted, end_of, holdings, is_running, is_shared, job_of, next_job, same_place}
 use Rattle.sl_trace.specs.declared.command.Command.{Command}
 use Rattle.sl_trace.specs.declared.effects.Grant.{Grant}
@@ -49,8 +49,8 @@ use Rattle.sl_trace.specs.declared.effects.Work.{Work}
 use Rattle.sl_trace.specs.declared.input.Answer.{Answer}
 use Rattle.sl_trace.specs.declared.input.Input.TheVariants.{Answer as Told, Exit, Line, Number, Spawned}
 use Rattle.sl_trace.specs.declared.reply.Reply.TheVariants.{BadCommand as Misread, Done, IoFault, IoTimeout, SpawnFault}
-use Rattle.sl_plain.proofs.Lists.{find_inside, kept_inside}
-use Rattle.sl_trace_law.proofs.Leases.NumberLaws.{number_is_place}
+use Rattle.sl_words.proofs.Lists.{find_inside, kept_inside}
+use Rattle.sl_run_law.proofs.Leases.NumberLaws.{number_is_place}
 use Rattle.sl_words.proofs.CaseLaws.{false_is_true, none_some, one_value, some_value, true_is_false}
 use Rattle.sl_words.proofs.WordLaws.{and_true}
 use Rattle.std.proofs.Common.{ap, eqb-true, refl, subst, sym, ◌∙◌}

@@ -1,26 +1,26 @@
 -- What an effect that comes after calls of the entry leaves of what the laws ask of them.
-use Rattle.sl_acts.proofs.LoopsKeep.{for_each_keeps, when_keeps}
-use Rattle.sl_acts.proofs.Additions.{any_stays}
-use Rattle.sl_acts.specs.Acts.{Has}
-use Rattle.sl_acts.specs.SoFar.{entry_of}
+use Rattle.sl_due_facts.proofs.Acts.LoopsKeep.{for_each_keeps, when_keeps}
+use Rattle.sl_due_facts.proofs.Acts.AddedAtEnd.{any_stays}
+use Rattle.sl_due_facts.specs.Acts.Acts.{Has}
+use Rattle.sl_due_facts.specs.Acts.TraceSoFar.{entry_of}
 use Rattle.sl_due.specs.DueFirst.{send, signal_holders}
 use Rattle.sl_due.specs.DueInputs.{end_holdings, when_running}
 use Rattle.sl_due.specs.Steps.{Step, add_call_of, add_end, add_move, add_reply, add_signal, seen}
 use Rattle.sl_run.specs.LawfulArea.{is_area_work, is_block_work, is_delta_record}
 use Rattle.sl_run.specs.LawfulLeader.{holds_under}
-use Rattle.sl_run.specs.Saying.{cut_at}
+use Rattle.sl_run.specs.LawForms.{cut_at}
 use Rattle.sl_due_leases.proofs.Leases.CallsCarried.{Carried, lawful_carried}
 use Rattle.sl_due_leases.proofs.Leases.OthersKeep.{LawfulSoFar, plain_again, plain_at}
 use Rattle.sl_due_leases.specs.Leases.LeaseLawful.{LeaseLawful}
-use Rattle.sl_due_leases.proofs.Ways.Kept.CallsSame.{counted_more, counts_more, joined_stays, reply_stays}
-use Rattle.sl_due_leases.proofs.Ways.Kept.EffectsLeave.{made_call}
-use Rattle.sl_due_leases.proofs.Ways.Kept.PlacesStand.{either_list}
+use Rattle.sl_due_leases.proofs.Ways.WayFactsHeld.CallsSame.{counted_more, counts_more, joined_stays, reply_stays}
+use Rattle.sl_due_leases.proofs.Ways.WayFactsHeld.EffectsLeave.{made_call}
+use Rattle.sl_due_leases.proofs.Ways.WayFactsHeld.PlacesStand.{either_list}
 use Rattle.sl_sector.specs.declared.sector.Rec.TheVariants.{BlockIs, DeltaIs, LeaderIs, PairIs, PairLeaderIs, RequestIs, ValueIs}
 use Rattle.sl_sector.specs.declared.sector.Rec.{Rec}
 use Rattle.sl_trace.specs.Leases.{holdings_on, leader_of_record, lease_step, spot_of_call, turn_of_record}
 use Rattle.sl_run.specs.LawfulBlock.{LawfulBlockStep}
-use Rattle.sl_due_facts.proofs.Parts.CallsGrow.{any_more, each_more}
-use Rattle.sl_due_facts.specs.Parts.Parts.{with_end, with_move, with_reply}
+use Rattle.sl_due_facts.proofs.AddedEffects.CallsGrow.{any_more, each_more}
+use Rattle.sl_due_facts.specs.AddedEffects.OneMoreEffect.{with_end, with_move, with_reply}
 use Rattle.sl_sector.specs.declared.sector.Block.{Block}
 use Rattle.sl_sector.specs.declared.sector.Leader.{Leader}
 use Rattle.sl_trace.specs.Sessions.{holders_of, holdings_of, is_join_call, joined_after, leaving_job, recovery_of, removed_after, session_numbered}
@@ -43,7 +43,7 @@ use Rattle.sl_trace.specs.declared.effects.Spot.{Spot}
 use Rattle.sl_trace.specs.declared.input.Input.TheVariants.{Spawned, Wake}
 use Rattle.sl_trace.specs.declared.input.Input.{Input}
 use Rattle.sl_trace.specs.declared.reply.Reply.{Reply}
-use Rattle.sl_plain.proofs.Lists.{any_found, any_of, contains_cases, contains_first, contains_more, contains_none, got_inside, kept, kept_inside}
+use Rattle.sl_words.proofs.Lists.{any_found, any_of, contains_cases, contains_first, contains_more, contains_none, got_inside, kept, kept_inside}
 use Rattle.sl_words.proofs.CaseLaws.{false_is_true, is_false, none_some, one_value, true_is_false}
 use Rattle.sl_words.proofs.WordLaws.{and_true}
 use Rattle.sl_words.specs.Words.{choose}

@@ -7,10 +7,10 @@ use Rattle.sl_run.specs.LawfulLeader.{holds_under, open_writes_on}
 use Rattle.sl_due_leases.proofs.Leases.CallsMade.{blocks_are_lawful, leaders_are_lawful, reads_are_lawful}
 use Rattle.sl_due_leases.proofs.Leases.LawsStay.{calls_stay}
 use Rattle.sl_due_leases.proofs.Leases.OthersKeep.{LawfulSoFar}
-use Rattle.sl_due_leases.specs.Leases.Made.{IsCallAt, MayCall, read_place}
-use Rattle.sl_due_leases.proofs.Ways.Kept.EffectsLeave.{made_call, there_has}
-use Rattle.sl_due_leases.proofs.Ways.Kept.LeaseNextsLeave.{LeaseReady, first_inside, leader_inside, moment_of, own_inside}
-use Rattle.sl_due_leases.proofs.Ways.Kept.PlacesStand.{id_in_range, placed_on, spot_is}
+use Rattle.sl_due_leases.specs.Leases.LeaseCalls.{IsCallAt, MayCall, read_place}
+use Rattle.sl_due_leases.proofs.Ways.WayFactsHeld.EffectsLeave.{made_call, there_has}
+use Rattle.sl_due_leases.proofs.Ways.WayFactsHeld.LeaseNextsLeave.{LeaseReady, first_inside, leader_inside, moment_of, own_inside}
+use Rattle.sl_due_leases.proofs.Ways.WayFactsHeld.PlacesStand.{id_in_range, placed_on, spot_is}
 use Rattle.sl_due_leases.specs.Ways.Nexts.{NextIs, next_place, next_record, read_op}
 use Rattle.sl_trace.specs.Leases.{is_on, lease_calls}
 use Rattle.sl_trace.specs.declared.lease.LeaseNext.TheVariants.{ReadFor, WriteBlock, WriteLeader}
@@ -28,8 +28,8 @@ use Rattle.sl_trace.specs.declared.effects.Op.{Op}
 use Rattle.sl_trace.specs.declared.effects.Purpose.TheVariants.{Lease}
 use Rattle.sl_trace.specs.declared.effects.Spot.{Spot}
 use Rattle.sl_trace.specs.declared.effects.Work.{Work}
-use Rattle.sl_plain.proofs.Lists.{contains_first, contains_more, kept_inside}
-use Rattle.sl_plain.proofs.Options.{none_is}
+use Rattle.sl_words.proofs.Lists.{contains_first, contains_more, kept_inside}
+use Rattle.sl_words.proofs.Options.{none_is}
 use Rattle.sl_words.proofs.WordLaws.{and_true}
 use Rattle.std.proofs.Common.{refl}
 use Rattle.std.specs.Prelude.{Bool, Contains, List, [], cond, false, filter, is_none, length, true, ℕ, ◌&&◌, ◌∷◌, ◌≡◌}

@@ -1,9 +1,9 @@
 -- What a command came to keeps the laws of areas, blocks and leaders; so does the request that is written after its read.
-use Rattle.sl_acts.proofs.DecisionsAreTheirs.{Of, decisions_are_theirs}
-use Rattle.sl_acts.proofs.PlainActs.{line_has}
-use Rattle.sl_acts.specs.Acts.{Has, Hears, next_of_conversion, next_of_release}
-use Rattle.sl_acts.specs.Promises.{IsDecidedFor}
-use Rattle.sl_acts.specs.SoFar.{entry_of}
+use Rattle.sl_due_facts.proofs.Acts.DecisionsAreTheirs.{Of, decisions_are_theirs}
+use Rattle.sl_due_facts.proofs.Acts.PlainActs.{line_has}
+use Rattle.sl_due_facts.specs.Acts.Acts.{Has, Hears, next_of_conversion, next_of_release}
+use Rattle.sl_due_facts.specs.Acts.DueDaemons.{IsDecidedFor}
+use Rattle.sl_due_facts.specs.Acts.TraceSoFar.{entry_of}
 use Rattle.sl_area.specs.Places.{in_area, leader_of, read_at, request_offset, value_offset}
 use Rattle.sl_area.specs.Roles.{leader, request, value}
 use Rattle.sl_due.specs.DueCommands.{after_end, carry_decision, decided, reply_at_once}
@@ -19,20 +19,20 @@ use Rattle.sl_due_leases.proofs.Leases.LeaseCallsStay.{LeaseMay, reads_stay, wor
 use Rattle.sl_due_leases.proofs.Leases.NamesVerified.{has_verified, mapped_inside}
 use Rattle.sl_due_leases.proofs.Leases.NextsStay.{bare_lawful, held_there, is_leader_next, next_stays, turns}
 use Rattle.sl_due_leases.proofs.Leases.OthersKeep.{Any, LawfulSoFar, Others, by_others, no_others, other_more, others_are_lawful}
-use Rattle.sl_due_leases.proofs.Ways.Kept.ActsKeep.{asked_of, stand}
+use Rattle.sl_due_leases.proofs.Ways.WayFactsHeld.ActsKeep.{asked_of, stand}
 use Rattle.sl_request.specs.Requests.{check_request}
 use Rattle.sl_sector.specs.Spelling.{request_in}
-use Rattle.sl_due_leases.proofs.Ways.Kept.DecisionsAreClear.{DecidedOn, IsAsked, decisions_are_clear}
-use Rattle.sl_due_leases.proofs.Ways.Kept.EffectsLeave.{made_call, there_has}
-use Rattle.sl_due_leases.proofs.Ways.Kept.HeardStands.{HeardCall, heard_call, lease_ready, spot_same}
-use Rattle.sl_due_leases.proofs.Ways.Kept.InputsLeave.{input_sessions, quiet_inputs_leave, quiet_same}
-use Rattle.sl_due_leases.proofs.Ways.Kept.LeaseNextsLeave.{HasEnded, LeaseReady}
-use Rattle.sl_due_leases.proofs.Ways.Kept.LinesKeep.{ended_ready, ended_still, held_ended, line_command}
-use Rattle.sl_due_leases.proofs.Ways.Kept.LinesReady.{line_ready, on_own}
-use Rattle.sl_due_leases.proofs.Ways.Kept.PlacesStand.{place_is_on, placed_on, spot_is}
-use Rattle.sl_due_leases.proofs.Ways.Kept.PlainWalks.{granting, stopped}
-use Rattle.sl_acts.proofs.Pairs.Decisions.{conversion_is, release_is}
-use Rattle.sl_due_leases.proofs.Ways.Kept.DecidedFits.{conversion_fits, release_fits}
+use Rattle.sl_due_leases.proofs.Ways.WayFactsHeld.DecisionsAreClear.{DecidedOn, IsAsked, decisions_are_clear}
+use Rattle.sl_due_leases.proofs.Ways.WayFactsHeld.EffectsLeave.{made_call, there_has}
+use Rattle.sl_due_leases.proofs.Ways.WayFactsHeld.HeardStands.{HeardCall, heard_call, lease_ready, spot_same}
+use Rattle.sl_due_leases.proofs.Ways.WayFactsHeld.InputsLeave.{input_sessions, quiet_inputs_leave, quiet_same}
+use Rattle.sl_due_leases.proofs.Ways.WayFactsHeld.LeaseNextsLeave.{HasEnded, LeaseReady}
+use Rattle.sl_due_leases.proofs.Ways.WayFactsHeld.LinesKeep.{ended_ready, ended_still, held_ended, line_command}
+use Rattle.sl_due_leases.proofs.Ways.WayFactsHeld.LinesReady.{line_ready, on_own}
+use Rattle.sl_due_leases.proofs.Ways.WayFactsHeld.PlacesStand.{place_is_on, placed_on, spot_is}
+use Rattle.sl_due_leases.proofs.Ways.WayFactsHeld.PlainWalks.{granting, stopped}
+use Rattle.sl_due_facts.proofs.Acts.Pairs.Decisions.{conversion_is, release_is}
+use Rattle.sl_due_leases.proofs.Ways.WayFactsHeld.DecidedFits.{conversion_fits, release_fits}
 use Rattle.sl_due_leases.proofs.Ways.WayNumbers.{is_verified}
 use Rattle.sl_due_leases.proofs.Ways.WayStages.{is_at_in}
 use Rattle.sl_trace.specs.Ballots.{moded_block}
@@ -48,10 +48,10 @@ use Rattle.sl_sector.specs.declared.sector.Rec.TheVariants.{ValueIs}
 use Rattle.sl_sector.specs.declared.sector.Rec.{Rec}
 use Rattle.sl_trace.specs.Sessions.{calls_of, is_active, is_call_of, is_join_call, is_joined, joined_after, leaves, leaving_in, leaving_job, recovery_of, removed_after, session_numbered}
 use Rattle.sl_trace.specs.declared.session.Session.{Session}
-use Rattle.sl_due_facts.specs.Facts.Heard.{heard_by}
+use Rattle.sl_due_facts.specs.Facts.HeardCall.{heard_by}
 use Rattle.sl_due_facts.specs.Facts.HoldingFacts.{StandsExclusive}
 use Rattle.sl_due_facts.specs.Facts.WayFacts.{way_context}
-use Rattle.sl_due_facts.specs.Facts.Whole.{Whole}
+use Rattle.sl_due_facts.specs.Facts.AllFacts.{Whole}
 use Rattle.sl_trace.specs.Traces.{Answered, Job, Setting, bytes_given, Submitted, Trace, end_of, gave, is_shared, new_call, next_job, record_of, spot_of_grant, submitted}
 use Rattle.sl_trace.specs.declared.command.Command.TheVariants.{Acquire, AddLockspace, Convert, GetLvb, HostStatus, InqLockspace, Release, ReleaseOrphan, RemLockspace, Request, RunProgram, SetKillpath, SetLvb, Status, TakeOver}
 use Rattle.sl_trace.specs.declared.command.Command.{Command}
@@ -76,9 +76,9 @@ use Rattle.sl_trace.specs.declared.input.Input.TheVariants.{Line, Wake}
 use Rattle.sl_trace.specs.declared.input.Input.{Input}
 use Rattle.sl_trace.specs.declared.reply.Reply.TheVariants.{Done, RequestOld, TornLeader, WrongArea}
 use Rattle.sl_trace.specs.declared.reply.Reply.{Reply}
-use Rattle.sl_plain.proofs.Lists.{kept}
-use Rattle.sl_plain.proofs.Numbers.{number_itself}
-use Rattle.sl_trace_law.proofs.Leases.NumberLaws.{number_is_place}
+use Rattle.sl_words.proofs.Lists.{kept}
+use Rattle.sl_words.proofs.Numbers.{number_itself}
+use Rattle.sl_run_law.proofs.Leases.NumberLaws.{number_is_place}
 use Rattle.sl_words.proofs.CaseLaws.{false_is_true, no_value, none_some, some_value, true_is_false}
 use Rattle.sl_words.specs.Words.{choose, some_is}
 use Rattle.std.proofs.Common.{ap, inl, refl, subst, sym, ◌∙◌}

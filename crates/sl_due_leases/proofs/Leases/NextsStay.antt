@@ -1,6 +1,6 @@
 -- What a lease decides keeps the laws: where a leader is freed, its session doesn't hold under the instance.
-use Rattle.sl_acts.proofs.LoopsKeep.{with_some_keeps}
-use Rattle.sl_acts.specs.Acts.{Has, Hears, next_of_settling}
+use Rattle.sl_due_facts.proofs.Acts.LoopsKeep.{with_some_keeps}
+use Rattle.sl_due_facts.specs.Acts.Acts.{Has, Hears, next_of_settling}
 use Rattle.sl_area.specs.Places.{blocks_of, leader_read}
 use Rattle.sl_due.specs.DueLease.{carry_lease, goes_on, next_of_lease}
 use Rattle.sl_due.specs.Steps.{Step, add_reply, seen}
@@ -8,13 +8,13 @@ use Rattle.sl_run.specs.LawfulArea.{is_area_work}
 use Rattle.sl_run.specs.LawfulLeader.{holds_under}
 use Rattle.sl_due_leases.proofs.Leases.LeaseCallsStay.{LeaseMay, blocks_stay, leaders_stay, reads_stay}
 use Rattle.sl_due_leases.proofs.Leases.OthersKeep.{Any, LawfulSoFar, no_others, others_are_lawful}
-use Rattle.sl_due_leases.proofs.Ways.Kept.EffectsLeave.{there_has}
-use Rattle.sl_due_leases.proofs.Ways.Kept.HeardStands.{HeardCall, heard_call, heard_has, heard_number, heard_open, lease_heard, lease_ready, spot_same}
-use Rattle.sl_due_leases.proofs.Ways.Kept.LeaseNextsLeave.{LeaseReady, moment_of}
-use Rattle.sl_due_leases.proofs.Ways.Kept.LinesReady.{none_open}
-use Rattle.sl_due_leases.proofs.Ways.Kept.PlainWalks.{ByPlain, granted}
-use Rattle.sl_acts.proofs.Pairs.Decisions.{next_is, settling_is}
-use Rattle.sl_due_leases.proofs.Ways.Kept.DecidedFits.{heard_fits, settling_fits}
+use Rattle.sl_due_leases.proofs.Ways.WayFactsHeld.EffectsLeave.{there_has}
+use Rattle.sl_due_leases.proofs.Ways.WayFactsHeld.HeardStands.{HeardCall, heard_call, heard_has, heard_number, heard_open, lease_heard, lease_ready, spot_same}
+use Rattle.sl_due_leases.proofs.Ways.WayFactsHeld.LeaseNextsLeave.{LeaseReady, moment_of}
+use Rattle.sl_due_leases.proofs.Ways.WayFactsHeld.LinesReady.{none_open}
+use Rattle.sl_due_leases.proofs.Ways.WayFactsHeld.PlainWalks.{ByPlain, granted}
+use Rattle.sl_due_facts.proofs.Acts.Pairs.Decisions.{next_is, settling_is}
+use Rattle.sl_due_leases.proofs.Ways.WayFactsHeld.DecidedFits.{heard_fits, settling_fits}
 use Rattle.sl_due_leases.specs.Ways.Nexts.{NextIs}
 use Rattle.sl_trace.specs.Ballots.{is_ahead, moded_block, phase1_block, same_owner, stop_of, value_of}
 use Rattle.sl_trace.specs.Jobs.{aim_of, aim_of_command, command_numbered}
@@ -33,9 +33,9 @@ use Rattle.sl_sector.specs.declared.sector.Block.{Block}
 use Rattle.sl_sector.specs.declared.sector.Leader.{Leader}
 use Rattle.sl_trace.specs.Sessions.{holdings_of, me, is_active, session_numbered}
 use Rattle.sl_trace.specs.declared.session.Session.{Session}
-use Rattle.sl_due_facts.specs.Facts.Heard.{heard_by}
+use Rattle.sl_due_facts.specs.Facts.HeardCall.{heard_by}
 use Rattle.sl_due_facts.specs.Facts.HoldingFacts.{HoldingFacts, StandsExclusive}
-use Rattle.sl_due_facts.specs.Facts.Whole.{Whole}
+use Rattle.sl_due_facts.specs.Facts.AllFacts.{Whole}
 use Rattle.sl_due_facts.specs.Facts.WorkFacts.{IsAtWork}
 use Rattle.sl_trace.specs.Traces.{Submitted, Trace, holdings, is_running, is_shared, same_place, spot_of_grant, work_job}
 use Rattle.sl_trace.specs.declared.command.Command.{Command}
@@ -48,7 +48,7 @@ use Rattle.sl_trace.specs.declared.effects.Mode.{Mode}
 use Rattle.sl_trace.specs.declared.effects.Purpose.TheVariants.{Lease}
 use Rattle.sl_trace.specs.declared.effects.Purpose.{Purpose}
 use Rattle.sl_due_leases.proofs.Ways.WayStages.{first_kind, is_at_in}
-use Rattle.sl_plain.proofs.Numbers.{number_itself}
+use Rattle.sl_words.proofs.Numbers.{number_itself}
 use Rattle.sl_trace.specs.declared.effects.Spot.{Spot}
 use Rattle.sl_trace.specs.declared.effects.Work.TheVariants.{ForJob, Settling}
 use Rattle.sl_trace.specs.declared.effects.Work.{Work}
@@ -57,8 +57,8 @@ use Rattle.sl_trace.specs.declared.input.Answer.{Answer}
 use Rattle.sl_trace.specs.declared.reply.Limited.TheVariants.{Lver as LverLimit, Mbal as MbalLimit, Turn as TurnLimit}
 use Rattle.sl_trace.specs.declared.reply.Reply.TheVariants.{IoFault, Limit as LimitReached, Shared as SharedBy, TornBlock, TornLeader, WrongArea}
 use Rattle.sl_trace.specs.declared.reply.Reply.{Reply}
-use Rattle.sl_plain.proofs.Lists.{any_found, contains_first, find_fails, find_inside, kept_inside}
-use Rattle.sl_trace_law.proofs.Leases.NumberLaws.{number_is_place}
+use Rattle.sl_words.proofs.Lists.{any_found, contains_first, find_fails, find_inside, kept_inside}
+use Rattle.sl_run_law.proofs.Leases.NumberLaws.{number_is_place}
 use Rattle.sl_words.proofs.CaseLaws.{false_is_true, is_false, none_some, some_value, true_is_false}
 use Rattle.sl_words.proofs.WordLaws.{and_true, choose_some}
 use Rattle.sl_words.specs.Bounds.{is_number}

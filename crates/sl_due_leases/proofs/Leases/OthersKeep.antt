@@ -1,12 +1,12 @@
 -- Calls that are no work on an area keep the laws of areas, blocks and leaders wherever they are made; a step that makes no other keeps them.
-use Rattle.sl_acts.specs.SoFar.{entry_of}
+use Rattle.sl_due_facts.specs.Acts.TraceSoFar.{entry_of}
 use Rattle.sl_due.specs.Steps.{Step, add_call_of}
 use Rattle.sl_run.specs.LawfulArea.{IsRightRead, is_area_work, is_block_work, is_delta_record}
-use Rattle.sl_run.specs.Saying.{EachCall}
+use Rattle.sl_run.specs.LawForms.{EachCall}
 use Rattle.sl_due_leases.specs.Leases.LeaseLawful.{LeaseLaws, LeaseLawful}
-use Rattle.sl_due_leases.proofs.Ways.Kept.EffectsLeave.{made_call}
-use Rattle.sl_due_leases.proofs.Ways.Kept.PlacesStand.{either_list}
-use Rattle.sl_due_leases.proofs.Ways.Kept.PlainWalks.{ByPlain}
+use Rattle.sl_due_leases.proofs.Ways.WayFactsHeld.EffectsLeave.{made_call}
+use Rattle.sl_due_leases.proofs.Ways.WayFactsHeld.PlacesStand.{either_list}
+use Rattle.sl_due_leases.proofs.Ways.WayFactsHeld.PlainWalks.{ByPlain}
 use Rattle.sl_due_leases.proofs.Ways.WayStages.{is_at_in}
 use Rattle.sl_trace.specs.Leases.{Phase2_read, block_of_record, block_written, is_second, leader_of_record, leader_written, lease_step, spot_of_call, turn_of_record, turn_written}
 use Rattle.sl_sector.specs.declared.sector.Rec.TheVariants.{BlockIs, DeltaIs, LeaderIs, PairIs, PairLeaderIs, RequestIs, ValueIs}
@@ -19,7 +19,7 @@ use Rattle.sl_trace.specs.declared.effects.Purpose.TheVariants.{Joining, Lease, 
 use Rattle.sl_trace.specs.declared.effects.Purpose.{Purpose}
 use Rattle.sl_trace.specs.declared.effects.Spot.{Spot}
 use Rattle.sl_trace.specs.declared.reply.Reply.{Reply}
-use Rattle.sl_plain.proofs.Lists.{contains_cases, contains_none, got_inside}
+use Rattle.sl_words.proofs.Lists.{contains_cases, contains_none, got_inside}
 use Rattle.sl_words.proofs.CaseLaws.{false_is_true, no_value, true_is_false}
 use Rattle.sl_words.proofs.WordLaws.{and_true}
 use Rattle.sl_words.specs.Words.{some_is}

@@ -1,16 +1,16 @@
 -- No recovery begins by an answer to work on an area..
-use Rattle.sl_acts.specs.Acts.{Hears}
-use Rattle.sl_acts.specs.SoFar.{entry_of}
+use Rattle.sl_due_facts.specs.Acts.Acts.{Hears}
+use Rattle.sl_due_facts.specs.Acts.TraceSoFar.{entry_of}
 use Rattle.sl_due.specs.DueDelta.{begins_by_read}
 use Rattle.sl_due.specs.Steps.{Step, seen}
-use Rattle.sl_due_leases.proofs.Ways.Kept.HeardStands.{heard_calls}
-use Rattle.sl_due_leases.proofs.Ways.Kept.InputsLeave.{same_call}
-use Rattle.sl_plain.proofs.Lists.{contains_map, find_inside}
+use Rattle.sl_due_leases.proofs.Ways.WayFactsHeld.HeardStands.{heard_calls}
+use Rattle.sl_due_leases.proofs.Ways.WayFactsHeld.InputsLeave.{same_call}
+use Rattle.sl_words.proofs.Lists.{contains_map, find_inside}
 use Rattle.sl_trace.specs.Sessions.{generation_of, is_call_of, is_joined, is_survey_purpose, recovers, recovery_of, renewed_by, renewing, renewing_after, shows_other, shows_other_in}
 use Rattle.sl_trace.specs.declared.session.Begun.{Begun}
 use Rattle.sl_trace.specs.declared.session.Renewing.{Renewing}
 use Rattle.sl_trace.specs.declared.session.Session.{Session}
-use Rattle.sl_due_facts.specs.Facts.Whole.{Whole}
+use Rattle.sl_due_facts.specs.Facts.AllFacts.{Whole}
 use Rattle.sl_time.specs.Times.{fail}
 use Rattle.sl_trace.specs.Traces.{Setting, Submitted, Trace, answered_in, call_numbered, submitted}
 use Rattle.sl_trace.specs.declared.effects.Call.{Call}

@@ -1,5 +1,5 @@
 -- A conversion that has come to its end keeps the laws: what it frees is no longer held exclusive.
-use Rattle.sl_acts.specs.SoFar.{entry_of}
+use Rattle.sl_due_facts.specs.Acts.TraceSoFar.{entry_of}
 use Rattle.sl_due.specs.DueLease.{carry_lease, convert_for, convert_holding, for_work, held_otherwise, with_command, write_block, write_leader}
 use Rattle.sl_due.specs.Steps.{Step, add_end, add_grant, seen, with_some}
 use Rattle.sl_run.specs.LawfulLeader.{holds_under}
@@ -7,12 +7,12 @@ use Rattle.sl_due_leases.proofs.Leases.LawsStay.{joined_more, three}
 use Rattle.sl_due_leases.proofs.Leases.LeaseCallsStay.{LeaseMay, blocks_stay, leaders_stay}
 use Rattle.sl_due_leases.proofs.Leases.NextsStay.{HeldThere, bare_lawful, held_there, not_true, unheld_if}
 use Rattle.sl_due_leases.proofs.Leases.OthersKeep.{LawfulSoFar}
-use Rattle.sl_due_leases.proofs.Ways.Kept.CallsSame.{reply_leaves}
-use Rattle.sl_due_leases.proofs.Ways.Kept.EffectsLeave.{ends_leave, grants_leave, replies_leave, there_has}
-use Rattle.sl_due_leases.proofs.Ways.Kept.HeardStands.{exclusive_stands, spot_same}
-use Rattle.sl_due_leases.proofs.Ways.Kept.LeaseNextsLeave.{HasEnded, moment_of}
-use Rattle.sl_due_leases.proofs.Ways.Kept.PlacesStand.{either_list}
-use Rattle.sl_due_leases.specs.Ways.Kept.{LeasesStand}
+use Rattle.sl_due_leases.proofs.Ways.WayFactsHeld.CallsSame.{reply_leaves}
+use Rattle.sl_due_leases.proofs.Ways.WayFactsHeld.EffectsLeave.{ends_leave, grants_leave, replies_leave, there_has}
+use Rattle.sl_due_leases.proofs.Ways.WayFactsHeld.HeardStands.{exclusive_stands, spot_same}
+use Rattle.sl_due_leases.proofs.Ways.WayFactsHeld.LeaseNextsLeave.{HasEnded, moment_of}
+use Rattle.sl_due_leases.proofs.Ways.WayFactsHeld.PlacesStand.{either_list}
+use Rattle.sl_due_leases.specs.Ways.WayFactsHeld.{LeasesStand}
 use Rattle.sl_due_leases.specs.Ways.Nexts.{next_record, LeaderIsOwn, NextIs}
 use Rattle.sl_trace.specs.Ballots.{moded_block}
 use Rattle.sl_trace.specs.Jobs.{command_numbered, process_named}
@@ -22,16 +22,16 @@ use Rattle.sl_sector.specs.declared.sector.Block.{Block}
 use Rattle.sl_sector.specs.declared.sector.Leader.{Leader}
 use Rattle.sl_trace.specs.Sessions.{generation_in, is_active, is_call_of, joined_after, leaving_job, me, recovery_of, removed_after}
 use Rattle.sl_trace.specs.declared.session.Session.{Session}
-use Rattle.sl_due_facts.specs.Facts.Heard.{heard_by}
+use Rattle.sl_due_facts.specs.Facts.HeardCall.{heard_by}
 use Rattle.sl_due_facts.specs.Facts.HoldingFacts.{HoldingFacts}
 use Rattle.sl_due_facts.specs.Facts.WayFacts.{In_settling}
 use Rattle.sl_trace.specs.declared.effects.Op.TheVariants.{WriteRecord}
 use Rattle.std.proofs.lemmas.Bool.{and_from}
 use Rattle.std.proofs.lemmas.List.Elements.{Contains-append_left, Contains-push, Contains-push_cases}
 use Rattle.std.proofs.lemmas.Slice.Eq.{bytes_eq-Decides}
-use Rattle.sl_plain.proofs.Lists.{any_of, contains_none, find_fails, find_inside, kept, kept_inside}
-use Rattle.sl_plain.proofs.Numbers.{number_itself}
-use Rattle.sl_plain.proofs.Options.{mapped_value}
+use Rattle.sl_words.proofs.Lists.{any_of, contains_none, find_fails, find_inside, kept, kept_inside}
+use Rattle.sl_words.proofs.Numbers.{number_itself}
+use Rattle.sl_words.proofs.Options.{mapped_value}
 use Rattle.sl_words.proofs.WordLaws.{and_true}
 use Rattle.sl_trace.specs.Traces.{Setting, Submitted, Trace, end_of, holdings, is_ended_by, is_shared, same_place, submitted}
 use Rattle.sl_trace.specs.declared.command.Command.{Command}
@@ -39,7 +39,7 @@ use Rattle.sl_trace.specs.declared.effects.End.{End}
 use Rattle.sl_trace.specs.declared.effects.Entry.{Entry}
 use Rattle.sl_trace.specs.declared.effects.Grant.{Grant}
 use Rattle.sl_trace.specs.declared.effects.JobReply.{JobReply}
-use Rattle.sl_due_facts.specs.Parts.Parts.{with_reply}
+use Rattle.sl_due_facts.specs.AddedEffects.OneMoreEffect.{with_reply}
 use Rattle.sl_trace.specs.declared.effects.LeaseStep.TheVariants.{ClearMode, FreeLeader}
 use Rattle.sl_trace.specs.declared.effects.Mode.TheVariants.{Exclusive, Shared}
 use Rattle.sl_trace.specs.declared.effects.Mode.{Mode}

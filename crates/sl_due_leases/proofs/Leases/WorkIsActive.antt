@@ -1,20 +1,20 @@
 -- Work of a running job on an area, whose answer is heard, is of an active session.
-use Rattle.sl_acts.specs.Acts.{Hears}
+use Rattle.sl_due_facts.specs.Acts.Acts.{Hears}
 use Rattle.sl_due.specs.Steps.{Step, seen, with_input}
 use Rattle.sl_run.specs.LawfulArea.{is_area_work}
 use Rattle.sl_due.specs.DueDelta.{begins_by_read}
 use Rattle.sl_due_leases.proofs.Leases.RecoveriesBegin.{not_by_read}
-use Rattle.sl_due_facts.specs.Facts.Heard.{heard_by}
-use Rattle.sl_due_leases.proofs.Ways.Kept.EffectsLeave.{there_has}
-use Rattle.sl_due_leases.proofs.Ways.Kept.HeardStands.{heard_call, heard_has}
-use Rattle.sl_due_leases.proofs.Ways.Kept.LinesKeep.{find_last, jobs_below}
-use Rattle.sl_due_leases.proofs.Ways.Kept.UnjoinedHaveNone.{no_area_work}
+use Rattle.sl_due_facts.specs.Facts.HeardCall.{heard_by}
+use Rattle.sl_due_leases.proofs.Ways.WayFactsHeld.EffectsLeave.{there_has}
+use Rattle.sl_due_leases.proofs.Ways.WayFactsHeld.HeardStands.{heard_call, heard_has}
+use Rattle.sl_due_leases.proofs.Ways.WayFactsHeld.LinesKeep.{find_last, jobs_below}
+use Rattle.sl_due_leases.proofs.Ways.WayFactsHeld.UnjoinedHaveNone.{no_area_work}
 use Rattle.sl_trace.specs.Jobs.{command_numbered, command_of, is_command_that, jobs_of_session, lockspace_named, resource_named}
 use Rattle.sl_trace.specs.Sessions.{has_open_write, is_active, is_call_of, is_joined, is_survey_purpose, joined_after, leaves, leaving_in, leaving_job, recovery_of, refused_after, removed_after, sessions}
 use Rattle.sl_trace.specs.declared.session.Begun.{Begun}
 use Rattle.sl_trace.specs.declared.session.Session.{Session}
 use Rattle.sl_due_facts.specs.Facts.JobFacts.{FitsCommand}
-use Rattle.sl_due_facts.specs.Facts.Whole.{Whole}
+use Rattle.sl_due_facts.specs.Facts.AllFacts.{Whole}
 use Rattle.sl_trace.specs.Traces.{Job, Setting, Submitted, Trace, is_running, job_in, job_numbered, job_of, jobs, line_in, next_job, running_jobs, submitted}
 use Rattle.sl_trace.specs.declared.command.Command.TheVariants.{Acquire, AddLockspace, Convert, GetLvb, HostStatus, InqLockspace, Release, ReleaseOrphan, RemLockspace, Request, RunProgram, SetKillpath, SetLvb, Status, TakeOver}
 use Rattle.sl_trace.specs.declared.command.Command.{Command}
@@ -25,10 +25,10 @@ use Rattle.sl_trace.specs.declared.effects.Purpose.TheVariants.{Joining, Lease, 
 use Rattle.sl_trace.specs.declared.effects.Purpose.{Purpose}
 use Rattle.sl_trace.specs.declared.input.Answer.{Answer}
 use Rattle.sl_trace.specs.declared.input.Input.TheVariants.{Wake}
-use Rattle.sl_plain.proofs.Lists.{contains_none, find_inside, kept}
-use Rattle.sl_plain.proofs.Numbers.{less_is_other, number_itself}
-use Rattle.sl_plain.proofs.Options.{then_value}
-use Rattle.sl_trace_law.proofs.Leases.NumberLaws.{number_is_place}
+use Rattle.sl_words.proofs.Lists.{contains_none, find_inside, kept}
+use Rattle.sl_words.proofs.Numbers.{less_is_other, number_itself}
+use Rattle.sl_words.proofs.Options.{then_value}
+use Rattle.sl_run_law.proofs.Leases.NumberLaws.{number_is_place}
 use Rattle.sl_words.proofs.CaseLaws.{false_is_true, none_some, some_value, true_is_false}
 use Rattle.sl_words.proofs.WordLaws.{choose_some}
 use Rattle.sl_words.specs.Words.{choose, some_is}

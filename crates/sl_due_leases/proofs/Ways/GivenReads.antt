@@ -1,10 +1,10 @@
 -- What a read of a lease gives: what its bytes spell, with pairs beside what is kept of the first answer where it is the second.
-use Rattle.sl_acts.proofs.Pairs.Given.{bytes_at}
+use Rattle.sl_due_facts.proofs.Acts.Pairs.GivenByReads.{bytes_at}
 use Rattle.sl_area.specs.Layouts.{Layout}
 use Rattle.sl_area.specs.Places.{BlocksRead, blocks_of, blocks_part, leader_of, leader_read, needs_again, pairs_kept, read_once}
 use Rattle.sl_due_facts.specs.Facts.WayFacts.{AgainWay, CallWay, PurposeWay, StepWay, WayContext, Ways}
 use Rattle.sl_due_leases.proofs.Ways.WayStages.{is_at_in, is_first, step_way}
-use Rattle.sl_plain.proofs.Lists.{contains_cases, contains_none}
+use Rattle.sl_words.proofs.Lists.{contains_cases, contains_none}
 use Rattle.sl_sector.specs.declared.sector.Leader.{Leader}
 use Rattle.sl_sector.specs.declared.sector.PairBlock.{PairBlock}
 use Rattle.sl_trace.proofs.PlainReads.{leader_plain}

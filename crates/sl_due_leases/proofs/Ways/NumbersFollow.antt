@@ -1,7 +1,7 @@
 -- The numbers of leases follow from the ways of their calls.
-use Rattle.sl_due_leases.proofs.Ways.Lawful.BallotLaws.{own_is}
+use Rattle.sl_due_leases.proofs.Ways.WaysAreLawful.BallotLaws.{own_is}
 use Rattle.sl_due_leases.proofs.Ways.WayNumbers.{IsOpened, freed_below, is_opened, lver_of, own_lver}
-use Rattle.sl_due_leases.specs.Ways.Promises.{NumbersFollow}
+use Rattle.sl_due_leases.specs.Ways.WayLaws.{NumbersFollow}
 use Rattle.sl_trace.specs.Leases.{block_submitted, freed, lease_calls, own_block}
 use Rattle.sl_sector.specs.declared.sector.Block.{Block}
 use Rattle.sl_trace.specs.declared.session.Session.{Session}

@@ -1,7 +1,7 @@
 -- What stands behind each step of a ballot, by the ways of the calls before it.
 use Rattle.sl_due_facts.specs.Facts.WayFacts.{AgainWay, CallWay, Comes, ComesBy, IsWrittenBy, Phase1ReadWay, Phase1Way, Phase2ReadWay, Phase2Way, PurposeWay, StepWay, WayContext, Ways, sectors_of_read}
 use Rattle.sl_due_leases.proofs.Ways.NewestCall.{block_is, block_is_no_leader, freed_passed, last_here, last_passed, last_write_of, read_writes_no_block, read_writes_no_leader, submitted_here, submitted_passed}
-use Rattle.sl_plain.proofs.Lists.{contains_first, contains_more}
+use Rattle.sl_words.proofs.Lists.{contains_first, contains_more}
 use Rattle.sl_sector.specs.declared.sector.Block.{Block}
 use Rattle.sl_trace.specs.Ballots.{ballot_blocks, moded_block, phase2_block}
 use Rattle.sl_trace.specs.LeaseWork.{first_step, read_of_step, step_of_read}

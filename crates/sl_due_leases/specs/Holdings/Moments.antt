@@ -1,6 +1,6 @@
 -- How far a step has come, by what it has granted and ended.
 use Rattle.sl_due.specs.Steps.{Step}
-use Rattle.sl_due_facts.specs.Facts.Whole.{Whole}
+use Rattle.sl_due_facts.specs.Facts.AllFacts.{Whole}
 use Rattle.sl_trace.specs.declared.effects.Call.{Call}
 use Rattle.sl_trace.specs.declared.effects.Purpose.TheVariants.{Leaving}
 use Rattle.sl_trace.specs.declared.input.Input.TheVariants.{Spawned, Wake}

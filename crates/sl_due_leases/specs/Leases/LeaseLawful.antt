@@ -1,5 +1,5 @@
 -- What the laws of areas, blocks and leaders ask of one call, at the trace as it stood where the call was made.
-use Rattle.sl_acts.specs.SoFar.{entry_of}
+use Rattle.sl_due_facts.specs.Acts.TraceSoFar.{entry_of}
 use Rattle.sl_due.specs.Steps.{Step}
 use Rattle.sl_run.specs.LawfulArea.{LawfulAgain, LawfulArea, LawfulAreaWrite, LawfulLeaseRead, is_area_work, is_block_work, is_delta_record, open_block_work}
 use Rattle.sl_run.specs.LawfulBlock.{LawfulBlock, LawfulBlockWrite, LawfulPhase2Read, LawfulTurn}

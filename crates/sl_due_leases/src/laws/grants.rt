@@ -20,9 +20,9 @@
 //! an exit would refuse its job, and its start was told (`Grants::Values::ReadsBack`). So the value that is told then is the last
 //! (`Grants::Values::ValuesAreTold`); nothing else tells one (`Grants::Values::NothingIsTold`).
 
-ghost use Rattle.sl_due_leases.specs.Grants.GrantPromises.{ActivesAreKept, ActivesBegin, EndsAreLawful, EndsBegin, ExitsAreLawful, ExitsBegin, GrantingBegins, GrantingIsLawful, GrantsAreLawful, GrantsStand, OrphansAreLawful, OrphansBegin, WorkFactsAreKept, WorkFactsBegin};
-ghost use Rattle.sl_due_leases.specs.Grants.ModePromises.{ModesAreLawful, ModesBegin};
-ghost use Rattle.sl_due_leases.specs.Grants.ValuePromises.{ValueFactsAreKept, ValueFactsBegin, ValuesAreLawful, ValuesBegin};
+ghost use Rattle.sl_due_leases.specs.Grants.GrantLaws.{ActivesAreKept, ActivesBegin, EndsAreLawful, EndsBegin, ExitsAreLawful, ExitsBegin, GrantingBegins, GrantingIsLawful, GrantsAreLawful, GrantsStand, OrphansAreLawful, OrphansBegin, WorkFactsAreKept, WorkFactsBegin};
+ghost use Rattle.sl_due_leases.specs.Grants.ModeLaws.{ModesAreLawful, ModesBegin};
+ghost use Rattle.sl_due_leases.specs.Grants.ValueLaws.{ValueFactsAreKept, ValueFactsBegin, ValuesAreLawful, ValuesBegin};
 
 /// Each act keeps what is known of a job's work.
 pub fn work_facts_are_kept()

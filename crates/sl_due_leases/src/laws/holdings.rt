@@ -9,7 +9,7 @@
 //! (`Holdings::HoldingsByGrants`), the input (`Holdings::HoldingsByInputs`); then act by act.
 
 ghost use Rattle.sl_due_leases.specs.Holdings.DecisionGrounds.{DecisionsHaveGrounds};
-ghost use Rattle.sl_due_leases.specs.Holdings.Promises.{HoldingFactsAreKept, HoldingFactsBegin, MomentsAreKept, MomentsBegin};
+ghost use Rattle.sl_due_leases.specs.Holdings.HoldingLaws.{HoldingFactsAreKept, HoldingFactsBegin, MomentsAreKept, MomentsBegin};
 
 /// What a command came to has its grounds: none of its refusals held.
 pub fn decisions_have_grounds()

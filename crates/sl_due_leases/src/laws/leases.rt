@@ -1,6 +1,6 @@
 //! Where a daemon does what is due, its calls on areas keep the laws of areas, blocks and leaders.
 
-ghost use Rattle.sl_due_leases.specs.Leases.Promises.{BlocksAreLawful, LeadersAreLawful, LeaseLawsAreKept, ReadsAreLawful};
+ghost use Rattle.sl_due_leases.specs.Leases.LeaseLaws.{BlocksAreLawful, LeadersAreLawful, LeaseLawsAreKept, ReadsAreLawful};
 
 /// A read that a lease makes is lawful.
 pub fn reads_are_lawful()

@@ -1,6 +1,6 @@
 //! The ways of leases: why each call of a lease was made, and what follows.
 
-ghost use Rattle.sl_due_leases.specs.Ways.Promises.{AnswersFit, ConversionsFit, GrantGroundsAreKept, GrantGroundsBegin, GrantsFollow, NumberFactsAreKept, NumberFactsBegin, NumbersFollow, ReleasesFit, SettlingsFit, TurnFactsAreKept, TurnFactsBegin, TurnsRest, WayFactsAreKept, WayFactsBegin, WaysAreLawful};
+ghost use Rattle.sl_due_leases.specs.Ways.WayLaws.{AnswersFit, ConversionsFit, GrantGroundsAreKept, GrantGroundsBegin, GrantsFollow, NumberFactsAreKept, NumberFactsBegin, NumbersFollow, ReleasesFit, SettlingsFit, TurnFactsAreKept, TurnFactsBegin, TurnsRest, WayFactsAreKept, WayFactsBegin, WaysAreLawful};
 
 /// What a lease decides after an answer fits the calls before it.
 pub fn answers_fit()

@@ -1,21 +1,21 @@
 -- The whole of an answer to a renewal and to a free is followed by the state that it makes.
 use Rattle.sl_host_law.proofs.Answers.AnswersSetFree.{answers_set_free}
 use Rattle.sl_host_law.proofs.Answers.DecisionsAreCarried.{decisions_are_carried}
-use Rattle.sl_host_law.specs.Answers.Answering.{AnswersFollow, IsAnswerTo}
-use Rattle.sl_host_law.specs.Answers.Carrying.{MayCarry, MaySurvey, carrying, connecting}
+use Rattle.sl_host_law.specs.Answers.AnswersFollow.{AnswersFollow, IsAnswerTo}
+use Rattle.sl_host_law.specs.Answers.CarriedDecisions.{MayCarry, MaySurvey, carrying, connecting}
 use Rattle.sl_due.specs.DueAnswers.{after_answer, after_answer_of}
 use Rattle.sl_due.specs.Steps.{Step, seen, with_input}
-use Rattle.sl_host_law.proofs.Plain.PlainLists.{any_as, any_mapped, at_some}
-use Rattle.sl_host_state.specs.Hears.{heard_answer, hearing, job_hearing, member_hearing, renewing_hearing, still_busy}
-use Rattle.sl_host_state.specs.Kept.{HostState, MemberState}
-use Rattle.sl_host_state.specs.Makes.{is_ended_by_move}
-use Rattle.sl_host_state.specs.Stands.{Stands, is_kept_of, kept_call}
-use Rattle.sl_host_law.specs.Calls.Calls.{is_idle_job}
-use Rattle.sl_host_state.specs.declared.kept.JobState.{JobState}
-use Rattle.sl_host_state.specs.declared.kept.OpenCall.{OpenCall}
-use Rattle.sl_host_state.specs.declared.kept.WaitingCall.{WaitingCall}
+use Rattle.sl_host_law.proofs.SharedFacts.PlainLists.{any_as, any_mapped, at_some}
+use Rattle.sl_host_state.specs.HeardInputs.{heard_answer, hearing, job_hearing, member_hearing, renewing_hearing, still_busy}
+use Rattle.sl_host_state.specs.KeptState.{HostState, MemberState}
+use Rattle.sl_host_state.specs.MadeEffects.{is_ended_by_move}
+use Rattle.sl_host_state.specs.HostStands.{Stands, is_kept_of, kept_call}
+use Rattle.sl_host_law.specs.Calls.MemberCalls.{is_idle_job}
+use Rattle.sl_host_state.specs.declared.kept_parts.JobState.{JobState}
+use Rattle.sl_host_state.specs.declared.kept_parts.OpenCall.{OpenCall}
+use Rattle.sl_host_state.specs.declared.kept_parts.WaitingCall.{WaitingCall}
 use Rattle.sl_host_law.specs.Replies.Answers.{IsOpen}
-use Rattle.sl_plain.proofs.Lists.{find_inside, got_inside, kept}
+use Rattle.sl_words.proofs.Lists.{find_inside, got_inside, kept}
 use Rattle.sl_host_law.proofs.Questions.AnswersAreTheirs.{answers_are_theirs}
 use Rattle.sl_host_law.proofs.Questions.AnswersDecide.{answers_decide}
 use Rattle.sl_host_law.proofs.Questions.JobsAnswer.{jobs_answer}
@@ -24,7 +24,7 @@ use Rattle.sl_host_law.specs.Questions.Jobs.{running_in}
 use Rattle.sl_host_law.proofs.Replies.Answers.AnswersAreHeard.{answers_are_heard}
 use Rattle.sl_host_law.proofs.Replies.PlainNumbers.{same_number}
 use Rattle.sl_host_law.specs.Replies.Moves.{EndsBegun}
-use Rattle.sl_host_law.specs.Replies.Replies.{MayReply}
+use Rattle.sl_host_law.specs.Replies.RepliesAreTaken.{MayReply}
 use Rattle.sl_time.specs.Times.{fail}
 use Rattle.sl_trace.specs.Deltas.{next_after_free, next_after_renewal}
 use Rattle.sl_trace.specs.Sessions.{is_delta_purpose, is_present}

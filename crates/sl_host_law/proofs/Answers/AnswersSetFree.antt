@@ -1,18 +1,18 @@
 -- An answer sets free what waited for it: a session's id sector, a job; and its member is there still.
-use Rattle.sl_host_law.specs.Answers.Answering.{AnswersSetFree, IsAnswerTo}
-use Rattle.sl_host_law.specs.Calls.Calls.{is_idle_job}
+use Rattle.sl_host_law.specs.Answers.AnswersFollow.{AnswersSetFree, IsAnswerTo}
+use Rattle.sl_host_law.specs.Calls.MemberCalls.{is_idle_job}
 use Rattle.sl_due.specs.Steps.{Step, seen}
-use Rattle.sl_host_law.proofs.Plain.PlainLists.{at_some, each_of}
-use Rattle.sl_host_state.specs.Hears.{heard_answer, hearing, is_over_with, job_hearing, member_hearing, others, still_busy}
-use Rattle.sl_host_state.specs.Kept.{HostState, MemberState}
-use Rattle.sl_host_state.specs.Makes.{has_write_open}
-use Rattle.sl_host_state.specs.Stands.{AreInTurn, AreSingle, Keeps, is_kept_of, kept_call, kept_job, kept_waiting}
-use Rattle.sl_host_state.specs.declared.kept.JobState.{JobState}
-use Rattle.sl_host_state.specs.declared.kept.OpenCall.{OpenCall}
-use Rattle.sl_host_state.specs.declared.kept.WaitingCall.{WaitingCall}
-use Rattle.sl_plain.proofs.Lists.{any_found, any_of, contains_cases, contains_map, contains_none, find_inside, got_inside, in_map, kept, kept_inside}
-use Rattle.sl_plain.proofs.Numbers.{number_itself}
-use Rattle.sl_plain.proofs.Options.{mapped_value, none_is}
+use Rattle.sl_host_law.proofs.SharedFacts.PlainLists.{at_some, each_of}
+use Rattle.sl_host_state.specs.HeardInputs.{heard_answer, hearing, is_over_with, job_hearing, member_hearing, others, still_busy}
+use Rattle.sl_host_state.specs.KeptState.{HostState, MemberState}
+use Rattle.sl_host_state.specs.MadeEffects.{has_write_open}
+use Rattle.sl_host_state.specs.HostStands.{AreInTurn, AreSingle, Keeps, is_kept_of, kept_call, kept_job, kept_waiting}
+use Rattle.sl_host_state.specs.declared.kept_parts.JobState.{JobState}
+use Rattle.sl_host_state.specs.declared.kept_parts.OpenCall.{OpenCall}
+use Rattle.sl_host_state.specs.declared.kept_parts.WaitingCall.{WaitingCall}
+use Rattle.sl_words.proofs.Lists.{any_found, any_of, contains_cases, contains_map, contains_none, find_inside, got_inside, in_map, kept, kept_inside}
+use Rattle.sl_words.proofs.Numbers.{number_itself}
+use Rattle.sl_words.proofs.Options.{mapped_value, none_is}
 use Rattle.sl_host_law.specs.Questions.Jobs.{running_in}
 use Rattle.sl_host_law.proofs.Replies.Answers.AnswerFindsItsCall.{in_reversed}
 use Rattle.sl_host_law.proofs.Replies.Answers.JobsHearAnswer.{IsOneOrNone, one_of_job}

@@ -1,18 +1,18 @@
 -- The block that a member writes is that of its calls: the next turn and the resource's name that its lease keeps are theirs.
-use Rattle.sl_host_law.proofs.Calls.Calls.LeasesMore.{calls_on, nothing_here}
-use Rattle.sl_host_law.proofs.Plain.PlainLists.{any_mapped}
+use Rattle.sl_host_law.proofs.Calls.MemberCalls.LeasesMore.{calls_on, nothing_here}
+use Rattle.sl_host_law.proofs.SharedFacts.PlainLists.{any_mapped}
 use Rattle.sl_host_law.proofs.Steps.LeasesAreKnown.{stands}
-use Rattle.sl_host_law.specs.Answers.Leasing.{turn_next}
+use Rattle.sl_host_law.specs.Answers.LeaseDecisions.{turn_next}
 use Rattle.sl_host_law.specs.Questions.Members.{IsMemberAt, me_in}
 use Rattle.sl_host_law.specs.Steps.Leases.{lease_at}
 use Rattle.sl_area.specs.Layouts.{Layout}
 use Rattle.sl_due.specs.DueLease.{name_on, next_turn}
 use Rattle.sl_due.specs.Steps.{Step, seen}
-use Rattle.sl_host_state.proofs.Resting.{new_lease_stands}
-use Rattle.sl_host_state.specs.Kept.{Config, HostState, LeaseState, MemberState}
-use Rattle.sl_host_state.specs.Makes.{is_lease_on, new_lease}
-use Rattle.sl_host_state.specs.Stands.{LeaseStands, turn_kept}
-use Rattle.sl_plain.proofs.Lists.{any_found, find_fails}
+use Rattle.sl_host_state.proofs.StepsAreOver.{new_lease_stands}
+use Rattle.sl_host_state.specs.KeptState.{Config, HostState, LeaseState, MemberState}
+use Rattle.sl_host_state.specs.MadeEffects.{is_lease_on, new_lease}
+use Rattle.sl_host_state.specs.HostStands.{LeaseStands, turn_kept}
+use Rattle.sl_words.proofs.Lists.{any_found, find_fails}
 use Rattle.sl_trace.specs.Leases.{base_turn, lease_calls, spots_in, verified_name}
 use Rattle.sl_trace.specs.Sessions.{calls_of}
 use Rattle.sl_trace.specs.Traces.{Submitted, same_spot}

@@ -1,24 +1,24 @@
 -- The state after what a delta lease decided stands for the step with it.
 use Rattle.sl_host_law.proofs.Answers.RefusalsFollow.{refusals_follow}
-use Rattle.sl_host_law.specs.Answers.Carrying.{DecisionsAreCarried, MayCall, MayRead, MaySurvey, MayWrite, connecting, for_job_of, own_sector, reading_own, registering, surveying, writing_own}
-use Rattle.sl_host_law.specs.Answers.Refusing.{refusing}
-use Rattle.sl_host_law.proofs.Parts.EndsAreTaken.{ends_are_taken}
-use Rattle.sl_host_law.specs.Parts.Ends.{removing}
+use Rattle.sl_host_law.specs.Answers.CarriedDecisions.{DecisionsAreCarried, MayCall, MayRead, MaySurvey, MayWrite, connecting, for_job_of, own_sector, reading_own, registering, surveying, writing_own}
+use Rattle.sl_host_law.specs.Answers.RefusalsFollow.{refusing}
+use Rattle.sl_host_law.proofs.StepParts.EndsAreTaken.{ends_are_taken}
+use Rattle.sl_host_law.specs.StepParts.Ends.{removing}
 use Rattle.sl_area.specs.Layouts.{Layout}
 use Rattle.sl_area.specs.Places.{delta_offset}
 use Rattle.sl_host_law.proofs.Calls.CallsAreTaken.{calls_are_taken}
-use Rattle.sl_host_law.specs.Calls.Calls.{CallFits}
+use Rattle.sl_host_law.specs.Calls.MemberCalls.{CallFits}
 use Rattle.sl_due.specs.DueDelta.{carry_delta, end_leaving, move_connection, read_own_sector, register, survey, write_own_sector}
 use Rattle.sl_due.specs.DueFirst.{refuse, remove_connection}
 use Rattle.sl_due.specs.Steps.{Step, add_call_of, add_move, add_reply, seen, when, with_some}
-use Rattle.sl_host_state.specs.Kept.{Config, HostState}
-use Rattle.sl_host_state.specs.Makes.{next_submitted, with_call, with_move, with_reply}
-use Rattle.sl_host_state.specs.Stands.{Stands}
+use Rattle.sl_host_state.specs.KeptState.{Config, HostState}
+use Rattle.sl_host_state.specs.MadeEffects.{next_submitted, with_call, with_move, with_reply}
+use Rattle.sl_host_state.specs.HostStands.{Stands}
 use Rattle.sl_host_law.specs.Questions.Jobs.{running_in}
 use Rattle.sl_host_law.proofs.Replies.MovesAreTaken.{moves_are_taken}
-use Rattle.sl_host_law.proofs.Replies.Replies.RepliesAreTaken.{replies_are_taken}
+use Rattle.sl_host_law.proofs.Replies.RepliesAreTaken.RepliesKeepHosts.{replies_are_taken}
 use Rattle.sl_host_law.specs.Replies.Moves.{EndsBegun}
-use Rattle.sl_host_law.specs.Replies.Replies.{LeavesHeed, LeavesLine, MayReply}
+use Rattle.sl_host_law.specs.Replies.RepliesAreTaken.{LeavesHeed, LeavesLine, MayReply}
 use Rattle.sl_sector.specs.declared.sector.DeltaRec.{DeltaRec}
 use Rattle.sl_sector.specs.declared.sector.Rec.TheVariants.{DeltaIs}
 use Rattle.sl_trace.specs.declared.delta.DeltaNext.TheVariants.{Disconnect, Join, EndLeaving, MoveConnection, ReadOwn, RegisterAndRead, RefuseJoin, Nothing, WriteClaim, WriteFirst, WriteFree, WriteRenewal}

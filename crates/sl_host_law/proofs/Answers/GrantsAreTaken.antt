@@ -1,35 +1,35 @@
 -- Lines that give or take a holding at once.
 use Rattle.sl_host_law.proofs.Answers.LeasesAreCarried.{leases_are_carried}
-use Rattle.sl_host_law.specs.Answers.Leasing.{MayCarryLease, carrying_lease, granting_for}
-use Rattle.sl_host_law.specs.Decisions.Deciding.{held_on}
+use Rattle.sl_host_law.specs.Answers.LeaseDecisions.{MayCarryLease, carrying_lease, granting_for}
+use Rattle.sl_host_law.specs.Decisions.CommandDecisions.{held_on}
 use Rattle.sl_due.specs.DueCommands.{after_end, carry_decision, on_line}
 use Rattle.sl_due.specs.DueLease.{carry_lease, grant_for}
 use Rattle.sl_due.specs.Steps.{Step, add_reply, seen, with_input, with_some}
 use Rattle.sl_due.specs.declared.decision.Decision.TheVariants.{ConvertsTo, GivesUp, Shares, TakesOver}
 use Rattle.sl_due.specs.declared.decision.Decision.{Decision}
-use Rattle.sl_host_law.proofs.Plain.KeptJobs.{kept_numbered}
-use Rattle.sl_host_law.proofs.Plain.SessionNumbers.{numbered_below}
-use Rattle.sl_host_state.proofs.Others.{effects_are_taken}
-use Rattle.sl_host_state.specs.Hears.{heard_line, new_job}
-use Rattle.sl_host_state.specs.Kept.{Config, HostState, MemberState}
-use Rattle.sl_host_state.specs.Makes.{with_reply}
-use Rattle.sl_host_state.specs.Stands.{Stands}
-use Rattle.sl_host_state.specs.declared.kept.JobState.{JobState}
+use Rattle.sl_host_law.proofs.SharedFacts.KeptJobs.{kept_numbered}
+use Rattle.sl_host_law.proofs.SharedFacts.SessionNumbers.{numbered_below}
+use Rattle.sl_host_state.proofs.EffectsAreTaken.{effects_are_taken}
+use Rattle.sl_host_state.specs.HeardInputs.{heard_line, new_job}
+use Rattle.sl_host_state.specs.KeptState.{Config, HostState, MemberState}
+use Rattle.sl_host_state.specs.MadeEffects.{with_reply}
+use Rattle.sl_host_state.specs.HostStands.{Stands}
+use Rattle.sl_host_state.specs.declared.kept_parts.JobState.{JobState}
 use Rattle.sl_trace.specs.LeaseWork.{LeasePlace, convert_next, lease_place, release_next, within_turn}
 use Rattle.sl_trace.specs.Leases.{LeaseKnown, holdings_on, known, spot_of}
 use Rattle.sl_trace.specs.declared.lease.LeaseNext.TheVariants.{GrantJob}
 use Rattle.sl_trace.specs.declared.lease.LeaseNext.{LeaseNext}
-use Rattle.sl_host_law.proofs.Parts.LinesAreTaken.{carried, heard, member_at}
+use Rattle.sl_host_law.proofs.StepParts.LinesAreTaken.{carried, heard, member_at}
 use Rattle.sl_host_law.specs.Answers.Grants.{GrantsAreTaken, after_giving, ended, given_up}
-use Rattle.sl_host_law.specs.Parts.Lines.{HeardBy, LineComes}
-use Rattle.sl_plain.proofs.Lists.{any_of, find_inside}
+use Rattle.sl_host_law.specs.StepParts.Lines.{HeardBy, LineComes}
+use Rattle.sl_words.proofs.Lists.{any_of, find_inside}
 use Rattle.sl_host_law.proofs.Questions.JobsAnswer.{jobs_answer}
 use Rattle.sl_host_law.proofs.Questions.MembersAnswer.{members_answer}
 use Rattle.sl_host_law.specs.Questions.Answers.{converting_in, place_in, releasing_in}
 use Rattle.sl_host_law.specs.Questions.Jobs.{command_in, running_in}
 use Rattle.sl_host_law.specs.Questions.Members.{IsMemberAt, MemberAnswers}
-use Rattle.sl_host_law.proofs.Replies.Replies.RepliesAreTaken.{replies_are_taken}
-use Rattle.sl_host_law.specs.Replies.Replies.{MayReply, is_plain_line}
+use Rattle.sl_host_law.proofs.Replies.RepliesAreTaken.RepliesKeepHosts.{replies_are_taken}
+use Rattle.sl_host_law.specs.Replies.RepliesAreTaken.{MayReply, is_plain_line}
 use Rattle.sl_trace.specs.declared.session.Session.{Session}
 use Rattle.sl_trace.specs.Traces.{end_of, spot_of_grant}
 use Rattle.sl_trace.specs.declared.command.Command.{Command}
@@ -44,7 +44,7 @@ use Rattle.sl_trace.specs.declared.input.Input.{Input}
 use Rattle.sl_trace.specs.declared.reply.Reply.TheVariants.{Done, Granted}
 use Rattle.sl_trace.specs.declared.reply.Reply.{Reply}
 use Rattle.sl_words.proofs.CaseLaws.{some_value}
-use Rattle.sl_acts.specs.Acts.{next_of_conversion, next_of_release}
+use Rattle.sl_due_facts.specs.Acts.Acts.{next_of_conversion, next_of_release}
 use Rattle.sl_trace.specs.declared.lease.Aim.TheVariants.{Converts, Releases}
 use Rattle.std.proofs.Common.{ap, arith, inr, refl, subst, sym, ◌∙◌}
 use Rattle.std.proofs.lemmas.Bool.Decides.{Decides-eqb}

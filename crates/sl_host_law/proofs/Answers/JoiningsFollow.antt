@@ -3,26 +3,26 @@ use Rattle.sl_host_law.proofs.Answers.AnswersFollow.{call, idle, idle_job, place
 use Rattle.sl_host_law.proofs.Answers.DecisionsAreCarried.{decisions_are_carried}
 use Rattle.sl_host_law.proofs.Answers.JoinDecisions.{IsJoinDecision, join_decides}
 use Rattle.sl_host_law.proofs.Answers.RequestsFollow.{follows, may}
-use Rattle.sl_host_law.specs.Answers.Answering.{IsAnswerTo}
-use Rattle.sl_host_law.specs.Answers.Carrying.{MayCarry, MayRead, MaySurvey, MayWrite, carrying, connecting, registering}
+use Rattle.sl_host_law.specs.Answers.AnswersFollow.{IsAnswerTo}
+use Rattle.sl_host_law.specs.Answers.CarriedDecisions.{MayCarry, MayRead, MaySurvey, MayWrite, carrying, connecting, registering}
 use Rattle.sl_host_law.specs.Answers.Joinings.{IsDecided, JoiningsFollow}
-use Rattle.sl_host_law.specs.Answers.Refusing.{IsAlone}
+use Rattle.sl_host_law.specs.Answers.RefusalsFollow.{IsAlone}
 use Rattle.sl_host_law.specs.Answers.Requests.{Follows}
-use Rattle.sl_host_law.specs.Calls.Calls.{is_idle_job, is_leaving_alone}
+use Rattle.sl_host_law.specs.Calls.MemberCalls.{is_idle_job, is_leaving_alone}
 use Rattle.sl_due.specs.DueAnswers.{after_answer_of}
 use Rattle.sl_due.specs.DueDelta.{after_join_answer, carry_delta}
 use Rattle.sl_due.specs.DueFirst.{remove_connection, remove_of_refused}
 use Rattle.sl_due.specs.Steps.{Step, seen, when, with_input}
-use Rattle.sl_host_law.proofs.Plain.PlainLists.{at_some, flat_has}
-use Rattle.sl_host_state.specs.Hears.{heard_answer, is_heeded_by, lease_told, member_hearing}
-use Rattle.sl_host_state.specs.Kept.{HostState, MemberState}
-use Rattle.sl_host_state.specs.Makes.{has_write_open, is_ended_by_move, member_replying, with_reply}
-use Rattle.sl_host_state.specs.Stands.{Stands, is_joining}
-use Rattle.sl_host_state.specs.declared.kept.OpenCall.{OpenCall}
-use Rattle.sl_host_law.proofs.Parts.EndsAreTaken.{ends_are_taken}
-use Rattle.sl_host_law.specs.Parts.Ends.{removing}
-use Rattle.sl_plain.proofs.Lists.{contains_first, got_inside, kept}
-use Rattle.sl_plain.proofs.Numbers.{number_itself}
+use Rattle.sl_host_law.proofs.SharedFacts.PlainLists.{at_some, flat_has}
+use Rattle.sl_host_state.specs.HeardInputs.{heard_answer, is_heeded_by, lease_told, member_hearing}
+use Rattle.sl_host_state.specs.KeptState.{HostState, MemberState}
+use Rattle.sl_host_state.specs.MadeEffects.{has_write_open, is_ended_by_move, member_replying, with_reply}
+use Rattle.sl_host_state.specs.HostStands.{Stands, is_joining}
+use Rattle.sl_host_state.specs.declared.kept_parts.OpenCall.{OpenCall}
+use Rattle.sl_host_law.proofs.StepParts.EndsAreTaken.{ends_are_taken}
+use Rattle.sl_host_law.specs.StepParts.Ends.{removing}
+use Rattle.sl_words.proofs.Lists.{contains_first, got_inside, kept}
+use Rattle.sl_words.proofs.Numbers.{number_itself}
 use Rattle.sl_host_law.proofs.Questions.AnswersAreTheirs.{answers_are_theirs}
 use Rattle.sl_host_law.proofs.Questions.AnswersDecide.{answers_decide}
 use Rattle.sl_host_law.proofs.Questions.JobsAnswer.{jobs_answer}
@@ -31,7 +31,7 @@ use Rattle.sl_host_law.specs.Questions.Jobs.{running_in}
 use Rattle.sl_host_law.proofs.Replies.Answers.AnswersAreHeard.{answers_are_heard}
 use Rattle.sl_host_law.proofs.Replies.PlainNumbers.{same_number}
 use Rattle.sl_host_law.specs.Replies.Moves.{EndsBegun}
-use Rattle.sl_host_law.specs.Replies.Replies.{MayReply}
+use Rattle.sl_host_law.specs.Replies.RepliesAreTaken.{MayReply}
 use Rattle.sl_sector.specs.declared.sector.DeltaRec.{DeltaRec}
 use Rattle.sl_trace.specs.Deltas.{delta_of_session, next_in_joining}
 use Rattle.sl_trace.specs.Sessions.{calls_of, generation_of, is_delta_purpose, is_join_done, same_join_step}

@@ -2,17 +2,17 @@
 use Rattle.sl_host_law.proofs.Answers.AnswersFollow.{call, place, stands, theirs}
 use Rattle.sl_host_law.proofs.Answers.LeasesAreCarried.{leases_are_carried}
 use Rattle.sl_host_law.proofs.Answers.RequestsFollow.{follows}
-use Rattle.sl_host_law.specs.Answers.Answering.{IsAnswerTo}
+use Rattle.sl_host_law.specs.Answers.AnswersFollow.{IsAnswerTo}
 use Rattle.sl_host_law.specs.Answers.LeaseAnswers.{LeaseAnswersFollow, area_of}
-use Rattle.sl_host_law.specs.Answers.Leasing.{MayCarryLease, carrying_lease}
+use Rattle.sl_host_law.specs.Answers.LeaseDecisions.{MayCarryLease, carrying_lease}
 use Rattle.sl_host_law.specs.Answers.Requests.{Follows}
 use Rattle.sl_due.specs.DueAnswers.{after_answer_of}
 use Rattle.sl_due.specs.DueLease.{after_lease_answer, carry_lease}
 use Rattle.sl_due.specs.Steps.{Step, with_input, with_some}
-use Rattle.sl_host_state.specs.Hears.{heard_answer, member_hearing}
-use Rattle.sl_host_state.specs.Kept.{HostState, MemberState}
-use Rattle.sl_host_state.specs.Stands.{Stands}
-use Rattle.sl_host_state.specs.declared.kept.OpenCall.{OpenCall}
+use Rattle.sl_host_state.specs.HeardInputs.{heard_answer, member_hearing}
+use Rattle.sl_host_state.specs.KeptState.{HostState, MemberState}
+use Rattle.sl_host_state.specs.HostStands.{Stands}
+use Rattle.sl_host_state.specs.declared.kept_parts.OpenCall.{OpenCall}
 use Rattle.sl_trace.specs.Leases.{lease_step}
 use Rattle.sl_trace.specs.declared.lease.Aim.{Aim}
 use Rattle.sl_trace.specs.declared.lease.LeaseNext.{LeaseNext}

@@ -1,23 +1,23 @@
 -- The state after what a lease decided stands for the step with it.
 use Rattle.sl_host_law.proofs.Answers.DecisionsAreCarried.{called, layout_is}
-use Rattle.sl_host_law.specs.Answers.Leasing.{BeginsArea, LeasesAreCarried, MayAnswer, MayWork, block_at, converted, converting, converting_for, for_command_of, for_work_of, granting_for, read_from, reading, record_at, sectors_read, starting, turn_next, writing_block, writing_leader}
+use Rattle.sl_host_law.specs.Answers.LeaseDecisions.{BeginsArea, LeasesAreCarried, MayAnswer, MayWork, block_at, converted, converting, converting_for, for_command_of, for_work_of, granting_for, read_from, reading, record_at, sectors_read, starting, turn_next, writing_block, writing_leader}
 use Rattle.sl_area.specs.Layouts.{Layout}
 use Rattle.sl_area.specs.Places.{area_sectors, block_offset, block_sectors, leader_offset, leader_record, pair_offset}
 use Rattle.sl_host_law.proofs.Calls.StartsAreTaken.{starts_are_taken}
 use Rattle.sl_due.specs.DueLease.{carry_lease, convert_for, convert_holding, for_work, grant_for, grant_of, held_otherwise, name_on, next_turn, read_area, read_blocks, read_for, start_for, with_command, write_block, write_leader}
 use Rattle.sl_due.specs.Steps.{Step, add_call_of, add_end, add_grant, add_reply, seen, with_some}
-use Rattle.sl_host_state.proofs.Others.{effects_are_taken}
-use Rattle.sl_host_state.specs.Kept.{Config, HostState, MemberState}
-use Rattle.sl_host_state.specs.Makes.{has_write_open, member_answered, member_replying, with_end, with_grant, with_reply}
-use Rattle.sl_host_state.specs.Stands.{Stands, is_joining}
+use Rattle.sl_host_state.proofs.EffectsAreTaken.{effects_are_taken}
+use Rattle.sl_host_state.specs.KeptState.{Config, HostState, MemberState}
+use Rattle.sl_host_state.specs.MadeEffects.{has_write_open, member_answered, member_replying, with_end, with_grant, with_reply}
+use Rattle.sl_host_state.specs.HostStands.{Stands, is_joining}
 use Rattle.sl_trace.specs.Jobs.{process_named}
 use Rattle.sl_trace.specs.declared.lease.LeaseNext.TheVariants.{AnswerJob, BecomeExclusive, BecomeShared, GrantJob, Nothing, ReadFor, WriteBlock, WriteLeader}
 use Rattle.sl_host_law.proofs.Questions.JobsAnswer.{jobs_answer}
 use Rattle.sl_host_law.proofs.Questions.MembersAnswer.{members_answer}
 use Rattle.sl_host_law.specs.Questions.Jobs.{command_in, running_in}
 use Rattle.sl_host_law.specs.Questions.Members.{IsMemberAt, otherwise_at}
-use Rattle.sl_host_law.proofs.Replies.Replies.RepliesAreTaken.{replies_are_taken}
-use Rattle.sl_host_law.specs.Replies.Replies.{LeavesLine, MayReply}
+use Rattle.sl_host_law.proofs.Replies.RepliesAreTaken.RepliesKeepHosts.{replies_are_taken}
+use Rattle.sl_host_law.specs.Replies.RepliesAreTaken.{LeavesLine, MayReply}
 use Rattle.sl_sector.specs.declared.sector.Block.{Block}
 use Rattle.sl_sector.specs.Spelling.{is_first_turn}
 use Rattle.sl_sector.specs.declared.sector.Leader.{Leader}
@@ -44,9 +44,9 @@ use Rattle.sl_trace.specs.declared.input.Input.{Input}
 use Rattle.sl_trace.specs.declared.reply.Reply.TheVariants.{Granted}
 use Rattle.sl_trace.specs.declared.reply.Reply.{Reply}
 use Rattle.sl_host_law.proofs.Answers.BlocksAreWritten.{WritesTheSame, writes_as_before, writes_the_same}
-use Rattle.sl_host_law.proofs.Plain.MembersAreSessions.{numbers_are_apart}
-use Rattle.sl_host_law.proofs.Plain.PlainLists.{at_some, in_flat, one_there}
-use Rattle.sl_plain.proofs.Lists.{contains_cases, contains_none, got_inside}
+use Rattle.sl_host_law.proofs.SharedFacts.MembersAreSessions.{numbers_are_apart}
+use Rattle.sl_host_law.proofs.SharedFacts.PlainLists.{at_some, in_flat, one_there}
+use Rattle.sl_words.proofs.Lists.{contains_cases, contains_none, got_inside}
 use Rattle.sl_trace.specs.Sessions.{is_join_done}
 use Rattle.sl_host_law.specs.Steps.Leases.{lease_at}
 use Rattle.sl_trace.specs.declared.effects.LeaseRead.TheVariants.{OfArea, OfBlock, OfFree, OfPhase1, OfPhase2}

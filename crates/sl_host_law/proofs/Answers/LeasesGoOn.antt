@@ -4,30 +4,30 @@ use Rattle.sl_host_law.proofs.Answers.DecisionsAreCarried.{layout_is}
 use Rattle.sl_host_law.proofs.Answers.LeaseAnswersFollow.{lease_answers_follow}
 use Rattle.sl_host_law.proofs.Answers.LeasesSetFree.{call_told, leases_set_free, told_first, told_spot, told_top}
 use Rattle.sl_host_law.proofs.Answers.PhaseTwoFollows.{phase_two_follows, within_block, within_late, within_once}
-use Rattle.sl_host_law.proofs.Plain.RecordsOfKinds.{block_cases, leader_cases}
-use Rattle.sl_host_law.specs.Answers.Answering.{IsAnswerTo}
+use Rattle.sl_host_law.proofs.SharedFacts.RecordsOfKinds.{block_cases, leader_cases}
+use Rattle.sl_host_law.specs.Answers.AnswersFollow.{IsAnswerTo}
 use Rattle.sl_host_law.specs.Answers.LeaseAnswers.{area_of}
-use Rattle.sl_host_law.specs.Answers.Leasing.{MayAnswer, MayCarryLease, block_at, read_from, record_at, sectors_read, turn_next}
+use Rattle.sl_host_law.specs.Answers.LeaseDecisions.{MayAnswer, MayCarryLease, block_at, read_from, record_at, sectors_read, turn_next}
 use Rattle.sl_host_law.specs.Answers.LeasesGoOn.{IfConverted, IsPlaced, LeasesGoOn}
 use Rattle.sl_host_law.specs.Answers.LeasesSetFree.{GoesOn, is_lease_op}
 use Rattle.sl_host_law.specs.Answers.PhaseTwo.{IsAfterRead, IsOnceFor}
 use Rattle.sl_area.specs.Layouts.{Layout}
 use Rattle.sl_area.specs.Places.{leader_offset, leader_record}
-use Rattle.sl_host_law.proofs.Calls.Calls.SpotsMore.{one_spot}
-use Rattle.sl_host_law.specs.Calls.Calls.{follows_read}
+use Rattle.sl_host_law.proofs.Calls.MemberCalls.SpotsMore.{one_spot}
+use Rattle.sl_host_law.specs.Calls.MemberCalls.{follows_read}
 use Rattle.sl_due.specs.Steps.{Step, seen, with_input}
-use Rattle.sl_host_law.proofs.Plain.PlainLists.{at_some}
-use Rattle.sl_host_state.specs.Hears.{heard_answer, is_heeded_by, kept_heard, lease_told, member_hearing}
-use Rattle.sl_host_state.specs.Kept.{HostState, LeaseState, MemberState}
-use Rattle.sl_host_state.specs.Makes.{is_lease_on, next_submitted}
-use Rattle.sl_host_state.specs.Stands.{LeaseStands}
-use Rattle.sl_host_state.specs.declared.kept.OpenCall.{OpenCall}
+use Rattle.sl_host_law.proofs.SharedFacts.PlainLists.{at_some}
+use Rattle.sl_host_state.specs.HeardInputs.{heard_answer, is_heeded_by, kept_heard, lease_told, member_hearing}
+use Rattle.sl_host_state.specs.KeptState.{HostState, LeaseState, MemberState}
+use Rattle.sl_host_state.specs.MadeEffects.{is_lease_on, next_submitted}
+use Rattle.sl_host_state.specs.HostStands.{LeaseStands}
+use Rattle.sl_host_state.specs.declared.kept_parts.OpenCall.{OpenCall}
 use Rattle.sl_trace.specs.LeaseWork.{LeasePlace, asked_again, lease_next, within_turn}
 use Rattle.sl_trace.specs.Leases.{LeaseKnown, Phase2_write, block_of_record, block_submitted, block_written, is_at, is_second, lease_calls, spot_of_call}
 use Rattle.sl_trace.specs.declared.lease.Aim.{Aim}
 use Rattle.sl_trace.specs.declared.lease.LeaseNext.TheVariants.{AnswerJob, BecomeExclusive, BecomeShared, GrantJob, Nothing, ReadFor, WriteBlock, WriteLeader}
 use Rattle.sl_trace.specs.declared.lease.LeaseNext.{LeaseNext}
-use Rattle.sl_plain.proofs.Lists.{find_inside, in_map}
+use Rattle.sl_words.proofs.Lists.{find_inside, in_map}
 use Rattle.sl_host_law.specs.Questions.Answers.{known_in, place_in, spot_in}
 use Rattle.sl_host_law.specs.Questions.Jobs.{goes_on_in}
 use Rattle.sl_host_law.specs.Steps.Leases.{lease_at}

@@ -2,28 +2,28 @@
 use Rattle.sl_host_law.proofs.Answers.AnswersFollow.{idle_job, place, stands}
 use Rattle.sl_host_law.proofs.Answers.AnswersSetFree.{of_trace}
 use Rattle.sl_host_law.proofs.Answers.DecisionsAreCarried.{layout_is}
-use Rattle.sl_host_law.specs.Answers.Answering.{IsAnswerTo}
+use Rattle.sl_host_law.specs.Answers.AnswersFollow.{IsAnswerTo}
 use Rattle.sl_host_law.specs.Answers.LeaseAnswers.{area_of}
-use Rattle.sl_host_law.specs.Answers.Leasing.{MayWork}
+use Rattle.sl_host_law.specs.Answers.LeaseDecisions.{MayWork}
 use Rattle.sl_host_law.specs.Answers.LeasesSetFree.{GoesOn, LeasesSetFree, is_lease_op}
 use Rattle.sl_area.specs.Layouts.{Layout}
 use Rattle.sl_area.specs.Places.{blocks_of, needs_again, pairs_kept, read_once}
-use Rattle.sl_host_law.proofs.Calls.Calls.SpotsMore.{on_own, one_spot, spot_there}
-use Rattle.sl_host_law.specs.Calls.Calls.{fits_again, fits_generation, fits_lease, fits_value, follows_read, is_idle_job, is_leaving_alone}
+use Rattle.sl_host_law.proofs.Calls.MemberCalls.SpotsMore.{on_own, one_spot, spot_there}
+use Rattle.sl_host_law.specs.Calls.MemberCalls.{fits_again, fits_generation, fits_lease, fits_value, follows_read, is_idle_job, is_leaving_alone}
 use Rattle.sl_due.specs.Steps.{Step, seen, with_input}
-use Rattle.sl_host_law.proofs.Plain.PlainLists.{any_mapped, at_some, each_of, found_some}
+use Rattle.sl_host_law.proofs.SharedFacts.PlainLists.{any_mapped, at_some, each_of, found_some}
 use Rattle.sl_host_state.proofs.Pairs.{again_is}
-use Rattle.sl_host_state.specs.Hears.{blocks_heard, blocks_shown, heard_answer, is_heeded_by, kept_heard, lease_hearing, lease_told, member_hearing, top_hearing}
-use Rattle.sl_host_state.specs.Kept.{Config, HostState, LeaseState, MemberState, PairState}
-use Rattle.sl_host_state.specs.Makes.{is_lease_on, next_submitted}
-use Rattle.sl_host_state.specs.Stands.{IsKeptCall, IsWaiting, Keeps, LeaseStands, is_again_newest, kept_call, top_mbal}
-use Rattle.sl_host_state.specs.declared.kept.LeaseCall.{LeaseCall}
-use Rattle.sl_host_state.specs.declared.kept.OpenCall.{OpenCall}
-use Rattle.sl_host_state.specs.declared.kept.TopNumber.{TopNumber}
+use Rattle.sl_host_state.specs.HeardInputs.{blocks_heard, blocks_shown, heard_answer, is_heeded_by, kept_heard, lease_hearing, lease_told, member_hearing, top_hearing}
+use Rattle.sl_host_state.specs.KeptState.{Config, HostState, LeaseState, MemberState, PairState}
+use Rattle.sl_host_state.specs.MadeEffects.{is_lease_on, next_submitted}
+use Rattle.sl_host_state.specs.HostStands.{IsKeptCall, IsWaiting, Keeps, LeaseStands, is_again_newest, kept_call, top_mbal}
+use Rattle.sl_host_state.specs.declared.kept_parts.LeaseCall.{LeaseCall}
+use Rattle.sl_host_state.specs.declared.kept_parts.OpenCall.{OpenCall}
+use Rattle.sl_host_state.specs.declared.kept_parts.TopNumber.{TopNumber}
 use Rattle.sl_trace.specs.Leases.{Phase2_write, given_with, is_at, is_lease_call, is_on, is_second, lease_calls, lease_step, spot_of_call}
-use Rattle.sl_plain.proofs.Lists.{any_found, contains_cases, contains_map, find_inside, in_map, kept, kept_inside}
-use Rattle.sl_plain.proofs.Numbers.{number_itself}
-use Rattle.sl_plain.proofs.Options.{none_is}
+use Rattle.sl_words.proofs.Lists.{any_found, contains_cases, contains_map, find_inside, in_map, kept, kept_inside}
+use Rattle.sl_words.proofs.Numbers.{number_itself}
+use Rattle.sl_words.proofs.Options.{none_is}
 use Rattle.sl_host_law.specs.Questions.Answers.{spot_in}
 use Rattle.sl_host_law.specs.Questions.Jobs.{goes_on_in}
 use Rattle.sl_host_law.specs.Questions.Members.{me_in}

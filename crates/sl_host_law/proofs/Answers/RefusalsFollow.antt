@@ -1,24 +1,24 @@
 -- The state after a refusal stands for the step with it.
-use Rattle.sl_host_law.specs.Answers.Refusing.{IsAlone, RefusalsFollow, refusing, timing_out}
-use Rattle.sl_host_law.proofs.Parts.EndsAreTaken.{ends_are_taken}
-use Rattle.sl_host_law.specs.Parts.Ends.{removing}
+use Rattle.sl_host_law.specs.Answers.RefusalsFollow.{IsAlone, RefusalsFollow, refusing, timing_out}
+use Rattle.sl_host_law.proofs.StepParts.EndsAreTaken.{ends_are_taken}
+use Rattle.sl_host_law.specs.StepParts.Ends.{removing}
 use Rattle.sl_due.specs.DueFirst.{refuse, remove_connection}
 use Rattle.sl_due.specs.Steps.{Step, add_reply, when, with_some}
-use Rattle.sl_host_law.proofs.Plain.PlainLists.{at_some, in_flat}
-use Rattle.sl_host_state.specs.Kept.{HostState, MemberState}
-use Rattle.sl_host_state.specs.Makes.{has_write_open, is_ended_by_move, member_answered, member_replying, with_reply}
-use Rattle.sl_host_state.specs.Stands.{Stands, is_joining}
-use Rattle.sl_host_state.specs.declared.kept.JobState.{JobState}
-use Rattle.sl_host_state.specs.declared.kept.WaitingCall.{WaitingCall}
-use Rattle.sl_plain.proofs.Lists.{any_of, contains_cases, contains_none, got_inside}
-use Rattle.sl_plain.proofs.Numbers.{number_itself}
+use Rattle.sl_host_law.proofs.SharedFacts.PlainLists.{at_some, in_flat}
+use Rattle.sl_host_state.specs.KeptState.{HostState, MemberState}
+use Rattle.sl_host_state.specs.MadeEffects.{has_write_open, is_ended_by_move, member_answered, member_replying, with_reply}
+use Rattle.sl_host_state.specs.HostStands.{Stands, is_joining}
+use Rattle.sl_host_state.specs.declared.kept_parts.JobState.{JobState}
+use Rattle.sl_host_state.specs.declared.kept_parts.WaitingCall.{WaitingCall}
+use Rattle.sl_words.proofs.Lists.{any_of, contains_cases, contains_none, got_inside}
+use Rattle.sl_words.proofs.Numbers.{number_itself}
 use Rattle.sl_host_law.proofs.Questions.PartsAreTold.{hosts_part}
 use Rattle.sl_host_law.proofs.Questions.RefusalsAreTold.{refusals_are_told}
 use Rattle.sl_host_law.specs.Questions.Jobs.{is_overdue_in, joining_in}
-use Rattle.sl_host_law.specs.Questions.Parts.{time_out_of}
-use Rattle.sl_host_law.proofs.Replies.Replies.RepliesAreTaken.{replies_are_taken}
+use Rattle.sl_host_law.specs.Questions.PartQuestions.{time_out_of}
+use Rattle.sl_host_law.proofs.Replies.RepliesAreTaken.RepliesKeepHosts.{replies_are_taken}
 use Rattle.sl_host_law.specs.Replies.Moves.{EndsBegun}
-use Rattle.sl_host_law.specs.Replies.Replies.{MayReply}
+use Rattle.sl_host_law.specs.Replies.RepliesAreTaken.{MayReply}
 use Rattle.sl_trace.specs.Sessions.{is_join_done}
 use Rattle.sl_trace.specs.declared.effects.Move.TheVariants.{Register, Renew, Unregister}
 use Rattle.sl_trace.specs.declared.effects.Move.{Move}

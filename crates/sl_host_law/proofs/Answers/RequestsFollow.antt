@@ -1,31 +1,31 @@
 -- The whole of an answer to a call on a request or a value is followed by the state that it makes.
 use Rattle.sl_host_law.proofs.Answers.AnswersFollow.{call, idle_job, place, stands, theirs}
 use Rattle.sl_host_law.proofs.Answers.DecisionsAreCarried.{called, layout_is}
-use Rattle.sl_host_law.specs.Answers.Answering.{IsAnswerTo}
+use Rattle.sl_host_law.specs.Answers.AnswersFollow.{IsAnswerTo}
 use Rattle.sl_host_law.specs.Answers.Requests.{Follows, RequestsFollow, answering_job, on_given, requesting, requesting_for, seeing_request, writing_request}
 use Rattle.sl_area.specs.Layouts.{Layout, record_in}
 use Rattle.sl_area.specs.Places.{leader_of, read_at, request_offset}
-use Rattle.sl_host_law.specs.Calls.Calls.{is_leaving_alone}
+use Rattle.sl_host_law.specs.Calls.MemberCalls.{is_leaving_alone}
 use Rattle.sl_due.specs.DueAnswers.{after_answer_of}
 use Rattle.sl_due.specs.DueRequests.{after_request_read, after_see_request, after_value_read, owner_read, request_refusal, signal_of_request, value_reply, write_request}
 use Rattle.sl_due.specs.DueFirst.{send}
 use Rattle.sl_due.specs.Steps.{Step, add_call_of, add_reply, when, with_input, with_some}
-use Rattle.sl_host_state.specs.Hears.{heard_answer, member_hearing}
-use Rattle.sl_host_state.specs.Kept.{HostState, MemberState}
-use Rattle.sl_host_state.specs.Makes.{with_reply}
-use Rattle.sl_host_state.specs.Stands.{Stands}
-use Rattle.sl_host_state.specs.declared.kept.OpenCall.{OpenCall}
-use Rattle.sl_host_state.specs.declared.kept.ValuePair.{ValuePair}
+use Rattle.sl_host_state.specs.HeardInputs.{heard_answer, member_hearing}
+use Rattle.sl_host_state.specs.KeptState.{HostState, MemberState}
+use Rattle.sl_host_state.specs.MadeEffects.{with_reply}
+use Rattle.sl_host_state.specs.HostStands.{Stands}
+use Rattle.sl_host_state.specs.declared.kept_parts.OpenCall.{OpenCall}
+use Rattle.sl_host_state.specs.declared.kept_parts.ValuePair.{ValuePair}
 use Rattle.sl_trace.specs.Leases.{is_leader_of}
-use Rattle.sl_host_law.proofs.Parts.SignalsAreTaken.{signals_are_taken}
-use Rattle.sl_host_law.specs.Parts.Signals.{sending}
-use Rattle.sl_plain.proofs.Numbers.{number_itself}
+use Rattle.sl_host_law.proofs.StepParts.SignalsAreTaken.{signals_are_taken}
+use Rattle.sl_host_law.specs.StepParts.Signals.{sending}
+use Rattle.sl_words.proofs.Numbers.{number_itself}
 use Rattle.sl_host_law.proofs.Questions.AnswersDecide.{answers_decide}
 use Rattle.sl_host_law.specs.Questions.Answers.{AnswerDecides, for_job_in, seen_request_in, set_reply_in, spot_in}
 use Rattle.sl_host_law.specs.Questions.Jobs.{command_in, running_in}
 use Rattle.sl_host_law.specs.Questions.Members.{exclusive_at}
-use Rattle.sl_host_law.proofs.Replies.Replies.RepliesAreTaken.{replies_are_taken}
-use Rattle.sl_host_law.specs.Replies.Replies.{MayReply}
+use Rattle.sl_host_law.proofs.Replies.RepliesAreTaken.RepliesKeepHosts.{replies_are_taken}
+use Rattle.sl_host_law.specs.Replies.RepliesAreTaken.{MayReply}
 use Rattle.sl_request.specs.Requests.{check_request}
 use Rattle.sl_sector.specs.Spelling.{request_in, value_in}
 use Rattle.sl_sector.specs.declared.sector.Leader.{Leader}

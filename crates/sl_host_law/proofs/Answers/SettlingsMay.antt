@@ -1,16 +1,16 @@
 -- A settling on a free area reads or writes, never the second phase first, and its lease waits for nothing.
-use Rattle.sl_host_law.specs.Answers.Leasing.{MayCarryLease, MayWork, block_at, read_from, record_at, sectors_read, turn_next}
+use Rattle.sl_host_law.specs.Answers.LeaseDecisions.{MayCarryLease, MayWork, block_at, read_from, record_at, sectors_read, turn_next}
 use Rattle.sl_host_law.specs.Answers.LeasesGoOn.{IsPlacedAt, SettlingsMay}
 use Rattle.sl_host_law.proofs.Answers.PhaseTwoFollows.{within_cases}
-use Rattle.sl_host_law.proofs.Plain.RecordsOfKinds.{block_cases}
+use Rattle.sl_host_law.proofs.SharedFacts.RecordsOfKinds.{block_cases}
 use Rattle.sl_host_law.specs.Steps.Leases.{lease_at}
-use Rattle.sl_host_law.specs.Calls.Calls.{follows_read}
-use Rattle.sl_host_law.specs.Decisions.Deciding.{is_open_on, open_at}
+use Rattle.sl_host_law.specs.Calls.MemberCalls.{follows_read}
+use Rattle.sl_host_law.specs.Decisions.CommandDecisions.{is_open_on, open_at}
 use Rattle.sl_due.specs.Steps.{Step}
-use Rattle.sl_host_law.proofs.Plain.PlainLists.{filter_none, none_any}
-use Rattle.sl_host_state.specs.Kept.{HostState, LeaseState, MemberState}
-use Rattle.sl_host_state.specs.Makes.{is_lease_on, next_submitted}
-use Rattle.sl_host_state.specs.declared.kept.OpenCall.{OpenCall}
+use Rattle.sl_host_law.proofs.SharedFacts.PlainLists.{filter_none, none_any}
+use Rattle.sl_host_state.specs.KeptState.{HostState, LeaseState, MemberState}
+use Rattle.sl_host_state.specs.MadeEffects.{is_lease_on, next_submitted}
+use Rattle.sl_host_state.specs.declared.kept_parts.OpenCall.{OpenCall}
 use Rattle.sl_trace.specs.Ballots.{moded_block, phase1_block}
 use Rattle.sl_trace.specs.LeaseWork.{LeasePlace, begin_next, owes_block, phase1_next, settle_begin, settle_next, settle_owed, within_turn}
 use Rattle.sl_trace.specs.Leases.{LeaseKnown, Phase2_write, is_at, mode_gen_of, owed, own_known, value_of_record}
@@ -19,8 +19,8 @@ use Rattle.sl_trace.specs.declared.lease.LeaseNext.TheVariants.{Nothing, ReadFor
 use Rattle.sl_trace.specs.declared.lease.LeaseNext.{LeaseNext}
 use Rattle.sl_trace.specs.declared.lease.Owed.TheVariants.{BallotOwed, FreeOwed, ModeOwed}
 use Rattle.sl_trace.specs.declared.lease.Owed.{Owed}
-use Rattle.sl_host_law.proofs.Parts.LinesAreTaken.{lines_are_taken}
-use Rattle.sl_host_law.specs.Parts.Wakes.{is_free_at}
+use Rattle.sl_host_law.proofs.StepParts.LinesAreTaken.{lines_are_taken}
+use Rattle.sl_host_law.specs.StepParts.Wakes.{is_free_at}
 use Rattle.sl_host_law.specs.Questions.Answers.{known_in, place_in}
 use Rattle.sl_host_law.specs.Questions.Members.{IsMemberAt}
 use Rattle.sl_sector.specs.declared.sector.Block.{Block}

@@ -3,7 +3,7 @@ use Rattle.sl_host_law.proofs.Answers.AnswersFollow.{place}
 use Rattle.sl_host_law.proofs.Answers.AnswersFollow.{call, stands, theirs}
 use Rattle.sl_host_law.proofs.Answers.DecisionsAreCarried.{layout_is}
 use Rattle.sl_host_law.proofs.Answers.RequestsFollow.{follows}
-use Rattle.sl_host_law.specs.Answers.Answering.{IsAnswerTo}
+use Rattle.sl_host_law.specs.Answers.AnswersFollow.{IsAnswerTo}
 use Rattle.sl_host_law.specs.Answers.Requests.{Follows, on_given}
 use Rattle.sl_host_law.specs.Answers.Surveys.{SurveysFollow, exclusive_of, is_asked_by, reading_request, reading_request_on, reading_requests, recovering_by_read, surveyed_in}
 use Rattle.sl_area.specs.Layouts.{Layout}
@@ -13,17 +13,17 @@ use Rattle.sl_due.specs.DueAnswers.{after_answer_of}
 use Rattle.sl_due.specs.DueDelta.{after_survey, see_request, see_request_on, see_requests}
 use Rattle.sl_due.specs.DueFirst.{signal_and_refuse}
 use Rattle.sl_due.specs.Steps.{Step, add_call_of, for_each, when, with_input, with_some}
-use Rattle.sl_host_law.proofs.Plain.PlainLists.{at_some, flat_has, mapped_at}
-use Rattle.sl_host_state.specs.Hears.{heard_answer, member_hearing}
-use Rattle.sl_host_state.specs.Kept.{HostState, MemberState}
-use Rattle.sl_host_state.specs.Makes.{joining_calling, known_calling, leases_calling, member_answered, member_calling, member_replying, next_submitted, with_reply}
-use Rattle.sl_host_state.specs.Stands.{Stands, is_kept_of}
-use Rattle.sl_host_state.specs.declared.kept.OpenCall.{OpenCall}
-use Rattle.sl_host_law.proofs.Parts.RefusalsAreTaken.{refusals_are_taken}
-use Rattle.sl_host_law.proofs.Parts.SignalsAreTaken.{signalling_same}
-use Rattle.sl_host_law.specs.Parts.Refusals.{jobs_but, numbers_of, replying_to, signalling_and_refusing}
-use Rattle.sl_host_law.specs.Parts.Signals.{over, signalling}
-use Rattle.sl_plain.proofs.Lists.{contains_first, got_inside}
+use Rattle.sl_host_law.proofs.SharedFacts.PlainLists.{at_some, flat_has, mapped_at}
+use Rattle.sl_host_state.specs.HeardInputs.{heard_answer, member_hearing}
+use Rattle.sl_host_state.specs.KeptState.{HostState, MemberState}
+use Rattle.sl_host_state.specs.MadeEffects.{joining_calling, known_calling, leases_calling, member_answered, member_calling, member_replying, next_submitted, with_reply}
+use Rattle.sl_host_state.specs.HostStands.{Stands, is_kept_of}
+use Rattle.sl_host_state.specs.declared.kept_parts.OpenCall.{OpenCall}
+use Rattle.sl_host_law.proofs.StepParts.RefusalsAreTaken.{refusals_are_taken}
+use Rattle.sl_host_law.proofs.StepParts.SignalsAreTaken.{signalling_same}
+use Rattle.sl_host_law.specs.StepParts.Refusals.{jobs_but, numbers_of, replying_to, signalling_and_refusing}
+use Rattle.sl_host_law.specs.StepParts.Signals.{over, signalling}
+use Rattle.sl_words.proofs.Lists.{contains_first, got_inside}
 use Rattle.sl_host_law.proofs.Questions.AnswersDecide.{answers_decide}
 use Rattle.sl_host_law.proofs.Questions.MembersAnswer.{members_answer}
 use Rattle.sl_host_law.specs.Questions.Answers.{AnswerDecides, survey_in_step}

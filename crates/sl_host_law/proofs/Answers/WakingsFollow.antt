@@ -1,28 +1,28 @@
 -- What a wake makes due by time is followed by the state that it makes.
 use Rattle.sl_host_law.proofs.Answers.DecisionsAreCarried.{decisions_are_carried}
 use Rattle.sl_host_law.proofs.Answers.LeasesAreCarried.{leases_are_carried}
-use Rattle.sl_host_law.specs.Answers.Carrying.{MayCarry, MayRead, carrying, registering}
-use Rattle.sl_host_law.specs.Answers.Leasing.{MayCarryLease, carrying_lease}
-use Rattle.sl_host_law.specs.Answers.Refusing.{IsAlone}
-use Rattle.sl_host_law.specs.Answers.Wakings.{IsIdle, MayGoOn, WakingsFollow, joining_by_time, settling_at}
-use Rattle.sl_host_law.specs.Calls.Calls.{is_leaving_alone}
+use Rattle.sl_host_law.specs.Answers.CarriedDecisions.{MayCarry, MayRead, carrying, registering}
+use Rattle.sl_host_law.specs.Answers.LeaseDecisions.{MayCarryLease, carrying_lease}
+use Rattle.sl_host_law.specs.Answers.RefusalsFollow.{IsAlone}
+use Rattle.sl_host_law.specs.Answers.WakingsFollow.{IsIdle, MayGoOn, WakingsFollow, joining_by_time, settling_at}
+use Rattle.sl_host_law.specs.Calls.MemberCalls.{is_leaving_alone}
 use Rattle.sl_due.specs.DueDelta.{carry_delta}
 use Rattle.sl_due.specs.DueLease.{carry_lease}
 use Rattle.sl_due.specs.DueWake.{join_on_wake, settle_on_wake}
 use Rattle.sl_due.specs.Steps.{Step, when, with_some}
-use Rattle.sl_host_law.proofs.Plain.PlainLists.{at_some}
-use Rattle.sl_host_state.specs.Kept.{HostState, MemberState}
-use Rattle.sl_host_state.specs.Makes.{is_ended_by_move}
-use Rattle.sl_host_state.specs.Stands.{Stands}
-use Rattle.sl_host_state.specs.declared.kept.JoinCall.{JoinCall}
+use Rattle.sl_host_law.proofs.SharedFacts.PlainLists.{at_some}
+use Rattle.sl_host_state.specs.KeptState.{HostState, MemberState}
+use Rattle.sl_host_state.specs.MadeEffects.{is_ended_by_move}
+use Rattle.sl_host_state.specs.HostStands.{Stands}
+use Rattle.sl_host_state.specs.declared.kept_parts.JoinCall.{JoinCall}
 use Rattle.sl_trace.specs.declared.lease.LeaseNext.{LeaseNext}
-use Rattle.sl_host_law.proofs.Parts.MembersWake.{members_wake}
-use Rattle.sl_host_law.specs.Parts.Wakes.{delta_in, is_free_at, next_by_newest}
-use Rattle.sl_plain.proofs.Lists.{got_inside, kept}
+use Rattle.sl_host_law.proofs.StepParts.MembersWake.{members_wake}
+use Rattle.sl_host_law.specs.StepParts.Wakes.{delta_in, is_free_at, next_by_newest}
+use Rattle.sl_words.proofs.Lists.{got_inside, kept}
 use Rattle.sl_host_law.specs.Questions.Answers.{settling_in}
 use Rattle.sl_host_law.specs.Questions.Jobs.{running_in}
 use Rattle.sl_host_law.specs.Questions.Members.{IsMemberAt}
-use Rattle.sl_host_law.specs.Replies.Replies.{MayReply}
+use Rattle.sl_host_law.specs.Replies.RepliesAreTaken.{MayReply}
 use Rattle.sl_trace.specs.Deltas.{DeltaLease, next_by_time}
 use Rattle.sl_trace.specs.Sessions.{is_join_done, same_join_step}
 use Rattle.sl_trace.specs.declared.delta.DeltaNext.TheVariants.{Disconnect, Join, EndLeaving, MoveConnection, ReadOwn, RegisterAndRead, RefuseJoin, Nothing, WriteClaim, WriteFirst, WriteFree, WriteRenewal}

@@ -1,21 +1,21 @@
 -- A call that a member may make is taken.
 use Rattle.sl_area.specs.Layouts.{Layout}
-use Rattle.sl_host_law.proofs.Calls.Calls.KeepsMore.{is_alone, keeps_more}
-use Rattle.sl_host_law.proofs.Calls.Calls.MemberMore.{MemberFits, called, more, newest, own_stands, stays_by_calls, others_stay}
-use Rattle.sl_host_law.proofs.Calls.Calls.PresentMore.{present_stay, sessions_stay}
-use Rattle.sl_host_law.specs.Calls.Calls.{CallFits, CallsAreTaken, fits_again, fits_job, fits_lease, fits_value, is_idle_job, is_leaving_alone}
+use Rattle.sl_host_law.proofs.Calls.MemberCalls.KeepsMore.{is_alone, keeps_more}
+use Rattle.sl_host_law.proofs.Calls.MemberCalls.MemberMore.{MemberFits, called, more, newest, own_stands, stays_by_calls, others_stay}
+use Rattle.sl_host_law.proofs.Calls.MemberCalls.PresentMore.{present_stay, sessions_stay}
+use Rattle.sl_host_law.specs.Calls.MemberCalls.{CallFits, CallsAreTaken, fits_again, fits_job, fits_lease, fits_value, is_idle_job, is_leaving_alone}
 use Rattle.sl_due.specs.Steps.{Step, seen}
-use Rattle.sl_host_law.proofs.Plain.IdleJobs.{idle_is_alone}
-use Rattle.sl_host_law.proofs.Plain.KeptJobs.{kept_numbered, leaving_numbered}
-use Rattle.sl_host_law.proofs.Plain.MembersAreSessions.{members_are_sessions, numbers_are_apart}
-use Rattle.sl_host_law.proofs.Plain.PlainLists.{at_mapped, one_there}
-use Rattle.sl_host_law.proofs.Plain.Quiet.{job_quiet, lowered_most, lowered_reaches, member_quiet, quiet_by}
-use Rattle.sl_host_state.specs.Kept.{Config, HostState, MemberState}
-use Rattle.sl_host_state.specs.Makes.{calling, job_calling, member_calling, next_submitted}
-use Rattle.sl_host_state.specs.Stands.{IsQuiet, Keeps, MemberStands, Stands, is_kept_of, job_moments, kept_waiting, member_moments}
-use Rattle.sl_host_state.specs.declared.kept.JobState.{JobState}
-use Rattle.sl_plain.proofs.Lists.{any_found, any_of, contains_cases, contains_none, in_map}
-use Rattle.sl_plain.proofs.Numbers.{equal_is_most, trans_le}
+use Rattle.sl_host_law.proofs.SharedFacts.IdleJobs.{idle_is_alone}
+use Rattle.sl_host_law.proofs.SharedFacts.KeptJobs.{kept_numbered, leaving_numbered}
+use Rattle.sl_host_law.proofs.SharedFacts.MembersAreSessions.{members_are_sessions, numbers_are_apart}
+use Rattle.sl_host_law.proofs.SharedFacts.PlainLists.{at_mapped, one_there}
+use Rattle.sl_host_law.proofs.SharedFacts.QuietMoments.{job_quiet, lowered_most, lowered_reaches, member_quiet, quiet_by}
+use Rattle.sl_host_state.specs.KeptState.{Config, HostState, MemberState}
+use Rattle.sl_host_state.specs.MadeEffects.{calling, job_calling, member_calling, next_submitted}
+use Rattle.sl_host_state.specs.HostStands.{IsQuiet, Keeps, MemberStands, Stands, is_kept_of, job_moments, kept_waiting, member_moments}
+use Rattle.sl_host_state.specs.declared.kept_parts.JobState.{JobState}
+use Rattle.sl_words.proofs.Lists.{any_found, any_of, contains_cases, contains_none, in_map}
+use Rattle.sl_words.proofs.Numbers.{equal_is_most, trans_le}
 use Rattle.sl_trace.specs.Traces.{Submitted, is_of_job, job_numbered, job_of, new_call, next_call}
 use Rattle.sl_trace.specs.declared.effects.Call.{Call}
 use Rattle.sl_trace.specs.declared.effects.Effects.{Effects}

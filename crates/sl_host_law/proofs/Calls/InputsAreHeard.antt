@@ -6,14 +6,14 @@ use Rattle.sl_host_law.proofs.Calls.Inputs.LineHeard.{line_keeps, quiet_line}
 use Rattle.sl_host_law.specs.Calls.Inputs.{InputsAreHeard}
 use Rattle.sl_due.specs.DueCommands.{answer_line}
 use Rattle.sl_due.specs.Steps.{Step, seen, with_input}
-use Rattle.sl_host_law.proofs.Plain.PlainLists.{filter_whole}
-use Rattle.sl_host_law.specs.Plain.AtInput.{IsAtInput}
-use Rattle.sl_host_state.specs.Hears.{answered_line, children_after, heard_exit, heard_line, heard_number, heard_start, is_started_now}
-use Rattle.sl_host_state.specs.Kept.{HostState}
-use Rattle.sl_host_state.specs.Stands.{Keeps, Stands, is_there, kept_waiting}
-use Rattle.sl_host_state.specs.declared.kept.JobState.{JobState}
+use Rattle.sl_host_law.proofs.SharedFacts.PlainLists.{filter_whole}
+use Rattle.sl_host_law.specs.SharedFacts.AtInput.{IsAtInput}
+use Rattle.sl_host_state.specs.HeardInputs.{answered_line, children_after, heard_exit, heard_line, heard_number, heard_start, is_started_now}
+use Rattle.sl_host_state.specs.KeptState.{HostState}
+use Rattle.sl_host_state.specs.HostStands.{Keeps, Stands, is_there, kept_waiting}
+use Rattle.sl_host_state.specs.declared.kept_parts.JobState.{JobState}
 use Rattle.sl_trace.specs.Jobs.{command_of}
-use Rattle.sl_plain.proofs.Numbers.{refl_le}
+use Rattle.sl_words.proofs.Numbers.{refl_le}
 use Rattle.sl_trace.specs.Traces.{Child, Job, KillProgram, Setting, Trace, child_after, children, first_child, is_before_input, kill_programs, new_child, next_job, numbers_taken, running_jobs, waiting_call, without_program}
 use Rattle.sl_trace.specs.declared.command.Command.{Command}
 use Rattle.sl_trace.specs.declared.effects.Effects.{Effects}

@@ -1,26 +1,26 @@
 -- The first read of a joining is taken: its session begins with it.
 use Rattle.sl_area.specs.Layouts.{Layout}
-use Rattle.sl_host_law.proofs.Calls.Calls.KeepsMore.{keeps_more}
-use Rattle.sl_host_law.proofs.Calls.Calls.MemberMore.{MemberFits, called, more, newest, others_stay, own_stands, stays_by_calls}
-use Rattle.sl_host_law.proofs.Calls.Calls.PresentMore.{others_present}
+use Rattle.sl_host_law.proofs.Calls.MemberCalls.KeepsMore.{keeps_more}
+use Rattle.sl_host_law.proofs.Calls.MemberCalls.MemberMore.{MemberFits, called, more, newest, others_stay, own_stands, stays_by_calls}
+use Rattle.sl_host_law.proofs.Calls.MemberCalls.PresentMore.{others_present}
 use Rattle.sl_host_law.proofs.Calls.CallsAreTaken.{idle_fits, is_next, layout_is, made, quiet_more, runs_too, whos_stay}
 use Rattle.sl_host_law.proofs.Calls.Joinings.CallsBelow.{owned_so_far}
 use Rattle.sl_host_law.proofs.Calls.Joinings.NewSession.{IsToCome, new_stands, not_joined_yet, not_refused_yet}
 use Rattle.sl_host_law.specs.Calls.Joinings.{JoiningFits, JoiningsAreTaken}
 use Rattle.sl_due.specs.Steps.{Step, seen}
-use Rattle.sl_host_law.proofs.Plain.KeptJobs.{running_there}
-use Rattle.sl_host_law.proofs.Plain.MembersAreSessions.{member_inside}
-use Rattle.sl_host_law.proofs.Plain.PlainLists.{at_mapped, at_some, filter_where}
-use Rattle.sl_host_law.proofs.Plain.PlainOrders.{put_inside, put_mapped}
-use Rattle.sl_host_law.proofs.Plain.Quiet.{job_quiet, member_quiet, quiet_by}
-use Rattle.sl_host_law.proofs.Plain.SessionNumbers.{below_count}
-use Rattle.sl_host_state.specs.Kept.{Config, HostState, MemberState}
-use Rattle.sl_host_state.specs.Makes.{calling, member_calling, with_member}
-use Rattle.sl_host_state.specs.New.{IsOfProgram, new_member}
-use Rattle.sl_host_state.specs.Stands.{IsQuiet, Keeps, MemberStands, Stands, member_moments}
-use Rattle.sl_plain.proofs.Lists.{contains_none, got_inside}
-use Rattle.sl_plain.proofs.Numbers.{number_itself}
-use Rattle.sl_plain.proofs.Options.{none_is}
+use Rattle.sl_host_law.proofs.SharedFacts.KeptJobs.{running_there}
+use Rattle.sl_host_law.proofs.SharedFacts.MembersAreSessions.{member_inside}
+use Rattle.sl_host_law.proofs.SharedFacts.PlainLists.{at_mapped, at_some, filter_where}
+use Rattle.sl_host_law.proofs.SharedFacts.PlainOrders.{put_inside, put_mapped}
+use Rattle.sl_host_law.proofs.SharedFacts.QuietMoments.{job_quiet, member_quiet, quiet_by}
+use Rattle.sl_host_law.proofs.SharedFacts.SessionNumbers.{below_count}
+use Rattle.sl_host_state.specs.KeptState.{Config, HostState, MemberState}
+use Rattle.sl_host_state.specs.MadeEffects.{calling, member_calling, with_member}
+use Rattle.sl_host_state.specs.NewHost.{IsOfProgram, new_member}
+use Rattle.sl_host_state.specs.HostStands.{IsQuiet, Keeps, MemberStands, Stands, member_moments}
+use Rattle.sl_words.proofs.Lists.{contains_none, got_inside}
+use Rattle.sl_words.proofs.Numbers.{number_itself}
+use Rattle.sl_words.proofs.Options.{none_is}
 use Rattle.sl_trace.specs.Sessions.{added, added_by, has_open_write, is_join_call, is_present, joined_after, joining_session, present_sessions, refused_after, removed_after, sessions}
 use Rattle.sl_trace.specs.declared.session.Session.{Session}
 use Rattle.sl_trace.proofs.TraceFacts.{fold-push}

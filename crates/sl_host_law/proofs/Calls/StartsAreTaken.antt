@@ -1,21 +1,21 @@
 -- One more start is taken: the child comes behind all, and is its job's.
-use Rattle.sl_host_law.proofs.Calls.Calls.KnownMore.{known_by}
-use Rattle.sl_host_law.proofs.Calls.Calls.LeasesMore.{calls_on}
-use Rattle.sl_host_law.proofs.Calls.Calls.MemberMore.{self_by}
-use Rattle.sl_host_law.proofs.Calls.Calls.ValuesMore.{on_lease}
+use Rattle.sl_host_law.proofs.Calls.MemberCalls.KnownMore.{known_by}
+use Rattle.sl_host_law.proofs.Calls.MemberCalls.LeasesMore.{calls_on}
+use Rattle.sl_host_law.proofs.Calls.MemberCalls.MemberMore.{self_by}
+use Rattle.sl_host_law.proofs.Calls.MemberCalls.ValuesMore.{on_lease}
 use Rattle.sl_host_law.specs.Calls.Starts.{StartFits, StartsAreTaken}
 use Rattle.sl_due.specs.Steps.{Step, add_start, seen}
-use Rattle.sl_host_law.proofs.Plain.KeptJobs.{kept_numbered}
-use Rattle.sl_host_law.proofs.Plain.PlainLists.{all_both, range_last}
-use Rattle.sl_host_law.proofs.Plain.Quiet.{job_quiet, member_quiet, quiet_by}
-use Rattle.sl_host_state.specs.Kept.{HostState, MemberState}
-use Rattle.sl_host_state.specs.Makes.{job_starting, with_start}
-use Rattle.sl_host_state.specs.Stands.{AreInTurn, AskedStands, IsQuiet, JoinStands, Keeps, LeaseStands, MemberStands, WatchKeeps, is_there, job_moments, kept_call, kept_waiting, newest_value}
-use Rattle.sl_host_state.specs.declared.kept.JobState.{JobState}
+use Rattle.sl_host_law.proofs.SharedFacts.KeptJobs.{kept_numbered}
+use Rattle.sl_host_law.proofs.SharedFacts.PlainLists.{all_both, range_last}
+use Rattle.sl_host_law.proofs.SharedFacts.QuietMoments.{job_quiet, member_quiet, quiet_by}
+use Rattle.sl_host_state.specs.KeptState.{HostState, MemberState}
+use Rattle.sl_host_state.specs.MadeEffects.{job_starting, with_start}
+use Rattle.sl_host_state.specs.HostStands.{AreInTurn, AskedStands, IsQuiet, JoinStands, Keeps, LeaseStands, MemberStands, WatchKeeps, is_there, job_moments, kept_call, kept_waiting, newest_value}
+use Rattle.sl_host_state.specs.declared.kept_parts.JobState.{JobState}
 use Rattle.sl_trace.specs.Counts.{values_on}
 use Rattle.sl_trace.specs.Jobs.{command_of}
 use Rattle.sl_trace.specs.Leases.{spots_in}
-use Rattle.sl_plain.proofs.Lists.{in_map}
+use Rattle.sl_words.proofs.Lists.{in_map}
 use Rattle.sl_trace.specs.Sessions.{calls_of, ended_after, is_call_of, is_delta_purpose, joined_after, leaving_job, recovery_of, sessions}
 use Rattle.sl_trace.specs.Traces.{Child, Job, Submitted, child_after, children, first_child, is_of_job, is_write, job_numbered, job_of, mark, new_call, new_child, running_jobs, submitted, unanswered}
 use Rattle.sl_trace.specs.declared.effects.Call.{Call}

@@ -5,11 +5,11 @@ use Rattle.sl_host_law.proofs.Calls.Beginnings.NothingIsDue.{nothing_is_due}
 use Rattle.sl_host_law.proofs.Calls.Beginnings.QuietBegun.{quiet_begun, quietly}
 use Rattle.sl_host_law.specs.Calls.Beginnings.{StepsBegin}
 use Rattle.sl_due.specs.Steps.{begin_step}
-use Rattle.sl_host_law.proofs.Plain.PlainLists.{at_mapped}
-use Rattle.sl_host_state.specs.Hears.{beginning, begun, counted, is_late, member_begun, quiet_to, with_renewing}
-use Rattle.sl_host_state.specs.Kept.{HostState, MemberState}
-use Rattle.sl_host_state.specs.Stands.{HostStands, IsQuiet, Keeps, MemberStands, Stands, Takes, is_there, kept_waiting}
-use Rattle.sl_host_state.specs.declared.kept.JobState.{JobState}
+use Rattle.sl_host_law.proofs.SharedFacts.PlainLists.{at_mapped}
+use Rattle.sl_host_state.specs.HeardInputs.{beginning, begun, counted, is_late, member_begun, quiet_to, with_renewing}
+use Rattle.sl_host_state.specs.KeptState.{HostState, MemberState}
+use Rattle.sl_host_state.specs.HostStands.{HostStands, IsQuiet, Keeps, MemberStands, Stands, Takes, is_there, kept_waiting}
+use Rattle.sl_host_state.specs.declared.kept_parts.JobState.{JobState}
 use Rattle.sl_trace.specs.Jobs.{command_of}
 use Rattle.sl_trace.specs.Traces.{Child, Job, Setting, Trace, children, first_child, job_of, jobs, running_jobs, submitted, waiting_call}
 use Rattle.sl_trace.specs.declared.input.Input.TheVariants.{Wake}
@@ -59,7 +59,7 @@ keeps_begun h st es now k =
       numbered = k.numbered;
       counted = ap (λ (ks : List Child). map (λ c. c.process) ks) (same_children st es now) ∙ k.counted
           ∙ ap (λ ks. range_with_len first_child (length ks)) (sym (same_children st es now));
-      present = same_presents st es now ∙ (k.present ∙ whos_begun (Rattle.sl_host_state.specs.Hears.counted now h) h.members);
+      present = same_presents st es now ∙ (k.present ∙ whos_begun (Rattle.sl_host_state.specs.HeardInputs.counted now h) h.members);
       members = members_begun h st es now k;
       connected = k.connected;
       unanswered = k.unanswered;

@@ -1,19 +1,19 @@
 -- Each command comes to what the kept state says.
 use Rattle.sl_host_law.proofs.Decisions.QuestionsByKept.{busy_is, for_member, generation_is, how_many_present, joined_refusal_is, limit_is, matching_is, member_of_stands, named_is, named_stands, pending_is, process_is, refusal_is, sessions_are, states_are}
-use Rattle.sl_host_law.specs.Decisions.Deciding.{acquire_decision, add_decision, busy_refused, convert_decision, decision_of, held_of, held_on, holder_decision, holds_there, joined_refused, killpath_decision, leave_decision, limit_refused, member_acquires, member_converts, member_named, member_of, member_refusal, member_sets, orphan_at, orphan_decision, other_at, pending_refused, process_refused, report_decision, request_decision, serving_holding, states_told, take_over_decision, value_seq}
-use Rattle.sl_host_law.specs.Decisions.Promises.{CommandsAreDecided, LastIsEnough}
+use Rattle.sl_host_law.specs.Decisions.CommandDecisions.{acquire_decision, add_decision, busy_refused, convert_decision, decision_of, held_of, held_on, holder_decision, holds_there, joined_refused, killpath_decision, leave_decision, limit_refused, member_acquires, member_converts, member_named, member_of, member_refusal, member_sets, orphan_at, orphan_decision, other_at, pending_refused, process_refused, report_decision, request_decision, serving_holding, states_told, take_over_decision, value_seq}
+use Rattle.sl_host_law.specs.Decisions.DecisionLaws.{CommandsAreDecided, LastIsEnough}
 use Rattle.sl_due.specs.DueCommands.{acquiring, busy_refusal, converting, decide_acquire, decide_add, decide_convert, decide_holder, decide_killpath, decide_leave, decide_orphan, decide_report, decide_request, decide_take_over, decided, holding_of, joined_refusal, leave_refusal, limit_refusal, orphan_refusal, pending_refusal, process_refusal, serving_orphan, session_refusal, setting_value, unless_refused, with_session}
 use Rattle.sl_due.specs.Steps.{Step, seen}
 use Rattle.sl_due.specs.declared.decision.Decision.TheVariants.{GetsValue, GivesUp, Joins, Leaves, ReadsArea, Replies, Requests, Shares, TakesOver}
 use Rattle.sl_due.specs.declared.decision.Decision.{Decision}
-use Rattle.sl_host_state.specs.Kept.{HostState, MemberState}
-use Rattle.sl_host_state.specs.Stands.{MemberStands, Stands}
+use Rattle.sl_host_state.specs.KeptState.{HostState, MemberState}
+use Rattle.sl_host_state.specs.HostStands.{MemberStands, Stands}
 use Rattle.sl_trace.specs.Counts.{holds_already, next_value_seq, other_holder}
 use Rattle.sl_trace.specs.Jobs.{wanted_mode}
 use Rattle.sl_trace.specs.Leases.{spot_of}
-use Rattle.sl_plain.proofs.Lists.{find_inside}
+use Rattle.sl_words.proofs.Lists.{find_inside}
 use Rattle.sl_trace.specs.Sessions.{generation_of, present_sessions, sessions}
-use Rattle.sl_trace.specs.Watching.{states_seen}
+use Rattle.sl_trace.specs.Sightings.{states_seen}
 use Rattle.sl_trace.specs.declared.delta.DeltaKnown.{DeltaKnown}
 use Rattle.sl_trace.specs.declared.session.Session.{Session}
 use Rattle.sl_trace.specs.Limits.{most_killpaths, most_lockspaces}

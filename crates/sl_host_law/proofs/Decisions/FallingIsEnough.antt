@@ -1,17 +1,17 @@
 -- Where the versions of a session's values on an area fall from the version held, only the last can be of that version.
-use Rattle.sl_host_law.specs.Decisions.Deciding.{value_seq}
-use Rattle.sl_host_law.specs.Decisions.Promises.{AreFalling, FallingIsEnough}
+use Rattle.sl_host_law.specs.Decisions.CommandDecisions.{value_seq}
+use Rattle.sl_host_law.specs.Decisions.DecisionLaws.{AreFalling, FallingIsEnough}
 use Rattle.sl_host_law.proofs.Decisions.QuestionsByKept.{named_stands}
 use Rattle.sl_due.specs.Steps.{seen}
-use Rattle.sl_host_law.proofs.Plain.PlainLists.{at_some}
-use Rattle.sl_host_state.specs.Kept.{LeaseState, MemberState}
-use Rattle.sl_host_state.specs.Makes.{is_lease_on}
-use Rattle.sl_host_state.specs.Stands.{MemberStands, newest_value}
-use Rattle.sl_host_state.specs.declared.kept.ValuePair.{ValuePair}
+use Rattle.sl_host_law.proofs.SharedFacts.PlainLists.{at_some}
+use Rattle.sl_host_state.specs.KeptState.{LeaseState, MemberState}
+use Rattle.sl_host_state.specs.MadeEffects.{is_lease_on}
+use Rattle.sl_host_state.specs.HostStands.{MemberStands, newest_value}
+use Rattle.sl_host_state.specs.declared.kept_parts.ValuePair.{ValuePair}
 use Rattle.sl_trace.specs.Counts.{next_value_seq, values_on}
 use Rattle.sl_trace.specs.Leases.{spot_of}
-use Rattle.sl_plain.proofs.Lists.{find_inside}
-use Rattle.sl_plain.proofs.Options.{some_of}
+use Rattle.sl_words.proofs.Lists.{find_inside}
+use Rattle.sl_words.proofs.Options.{some_of}
 use Rattle.sl_sector.specs.declared.sector.ValueRec.{ValueRec}
 use Rattle.sl_trace.specs.Sessions.{calls_of}
 use Rattle.sl_trace.specs.Traces.{Setting, Trace, same_spot}

@@ -1,7 +1,7 @@
 -- Plain facts of sums, least numbers and numbers in a row.
-use Rattle.sl_host_law.proofs.Plain.PlainLists.{all_from, kept_if}
-use Rattle.sl_host_law.proofs.Plain.PlainOrders.{AreApart}
-use Rattle.sl_plain.proofs.Lists.{contains_cases, contains_first, contains_more, contains_none}
+use Rattle.sl_host_law.proofs.SharedFacts.PlainLists.{all_from, kept_if}
+use Rattle.sl_host_law.proofs.SharedFacts.PlainOrders.{AreApart}
+use Rattle.sl_words.proofs.Lists.{contains_cases, contains_first, contains_more, contains_none}
 use Rattle.sl_words.specs.Orders.{in_order, put_in}
 use Rattle.sl_words.specs.Words.{least}
 use Rattle.std.proofs.Common.{ap, arith, inl, inr, refl, suc, sym, zero, ◌∙◌}

@@ -1,24 +1,24 @@
 -- What a decision asks of the steps has the answer that the kept state gives.
 use Rattle.sl_host_law.proofs.Decisions.PlainSums.{apart_unmapped, least_reversed, list_mapped, order_sum, row_apart, sum_mapped}
-use Rattle.sl_host_law.specs.Decisions.Deciding.{busy_refused, is_open_on, joined_refused, lease_count, limit_refused, member_named, member_of, member_refusal, open_at, pending_refused, process_refused, sessions_told, states_told, with_member}
+use Rattle.sl_host_law.specs.Decisions.CommandDecisions.{busy_refused, is_open_on, joined_refused, lease_count, limit_refused, member_named, member_of, member_refusal, open_at, pending_refused, process_refused, sessions_told, states_told, with_member}
 use Rattle.sl_due.specs.DueCommands.{busy_refusal, joined_refusal, limit_refusal, matching_session, pending_refusal, process_refusal, session_refusal, with_session}
 use Rattle.sl_due.specs.Steps.{Step, seen}
 use Rattle.sl_due.specs.declared.decision.Decision.{Decision}
-use Rattle.sl_host_law.proofs.Plain.PlainLists.{any_mapped, at_some, filter_as, found_mapped}
-use Rattle.sl_host_law.proofs.Plain.PlainOrders.{AreApart}
-use Rattle.sl_host_state.proofs.Asking.{questions_are_answered}
-use Rattle.sl_host_state.specs.Asks.{ungranted_in}
-use Rattle.sl_host_state.specs.Kept.{Config, HostState, LeaseState, MemberState}
-use Rattle.sl_host_state.specs.Makes.{is_lease_on}
-use Rattle.sl_host_state.specs.Stands.{Keeps, MemberStands, Stands, is_there, kept_call}
-use Rattle.sl_host_state.specs.declared.kept.OpenCall.{OpenCall}
+use Rattle.sl_host_law.proofs.SharedFacts.PlainLists.{any_mapped, at_some, filter_as, found_mapped}
+use Rattle.sl_host_law.proofs.SharedFacts.PlainOrders.{AreApart}
+use Rattle.sl_host_state.proofs.StepQuestions.{questions_are_answered}
+use Rattle.sl_host_state.specs.StepQuestions.{ungranted_in}
+use Rattle.sl_host_state.specs.KeptState.{Config, HostState, LeaseState, MemberState}
+use Rattle.sl_host_state.specs.MadeEffects.{is_lease_on}
+use Rattle.sl_host_state.specs.HostStands.{Keeps, MemberStands, Stands, is_there, kept_call}
+use Rattle.sl_host_state.specs.declared.kept_parts.OpenCall.{OpenCall}
 use Rattle.sl_trace.specs.Counts.{child_count, holder_count, pending_call, resource_count}
 use Rattle.sl_trace.specs.Jobs.{is_asking_lease}
 use Rattle.sl_trace.specs.Leases.{lease_spots}
-use Rattle.sl_plain.proofs.Lists.{filter_both, find_inside}
-use Rattle.sl_plain.proofs.Options.{then_value}
+use Rattle.sl_words.proofs.Lists.{filter_both, find_inside}
+use Rattle.sl_words.proofs.Options.{then_value}
 use Rattle.sl_trace.specs.Sessions.{calls_of, generation_of, has_open_write, is_joined, is_present, is_session_arg, joined_after, leaving_job, present_sessions, refused_after, removed_after, renewing, session_named, sessions}
-use Rattle.sl_trace.specs.Watching.{host_state, sessions_seen, sightings, states_seen}
+use Rattle.sl_trace.specs.Sightings.{host_state, sessions_seen, sightings, states_seen}
 use Rattle.sl_trace.specs.declared.delta.DeltaKnown.{DeltaKnown}
 use Rattle.sl_trace.specs.declared.session.Begun.{Begun}
 use Rattle.sl_trace.specs.declared.session.Renewing.{Renewing}

@@ -1,12 +1,12 @@
 -- The answer to a call is that of the member that made it; where no member has made it, it does nothing.
 use Rattle.sl_due.specs.DueAnswers.{after_answer, after_answer_of}
 use Rattle.sl_due.specs.Steps.{Step, seen, when, with_input, with_some}
-use Rattle.sl_host_law.proofs.Plain.MembersAreSessions.{members_are_sessions}
-use Rattle.sl_host_law.specs.Plain.AtInput.{IsAtInput}
-use Rattle.sl_host_state.specs.Kept.{HostState, MemberState}
-use Rattle.sl_host_state.specs.Stands.{Stands, kept_call}
-use Rattle.sl_host_state.specs.declared.kept.OpenCall.{OpenCall}
-use Rattle.sl_plain.proofs.Lists.{find_inside}
+use Rattle.sl_host_law.proofs.SharedFacts.MembersAreSessions.{members_are_sessions}
+use Rattle.sl_host_law.specs.SharedFacts.AtInput.{IsAtInput}
+use Rattle.sl_host_state.specs.KeptState.{HostState, MemberState}
+use Rattle.sl_host_state.specs.HostStands.{Stands, kept_call}
+use Rattle.sl_host_state.specs.declared.kept_parts.OpenCall.{OpenCall}
+use Rattle.sl_words.proofs.Lists.{find_inside}
 use Rattle.sl_host_law.specs.Questions.Answers.{AnswersAreTheirs}
 use Rattle.sl_host_law.proofs.Replies.Answers.AnswersAreHeard.{answers_are_heard}
 use Rattle.sl_host_law.specs.Replies.Answers.{IsOpen}

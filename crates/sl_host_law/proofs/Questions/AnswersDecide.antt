@@ -6,9 +6,9 @@ use Rattle.sl_due.specs.DueFirst.{remove_of_refused, send, signal_and_refuse}
 use Rattle.sl_due.specs.DueLease.{after_lease_answer, carry_lease, next_of_lease, with_command}
 use Rattle.sl_due.specs.DueRequests.{after_request_read, after_see_request, after_value_read, signal_of_request}
 use Rattle.sl_due.specs.Steps.{Step, add_reply, seen, when, with_some}
-use Rattle.sl_host_state.specs.Kept.{Config, HostState, MemberState}
-use Rattle.sl_host_state.specs.Stands.{config_of, kept_call, pair_of}
-use Rattle.sl_host_state.specs.declared.kept.OpenCall.{OpenCall}
+use Rattle.sl_host_state.specs.KeptState.{Config, HostState, MemberState}
+use Rattle.sl_host_state.specs.HostStands.{config_of, kept_call, pair_of}
+use Rattle.sl_host_state.specs.declared.kept_parts.OpenCall.{OpenCall}
 use Rattle.sl_trace.specs.Jobs.{aim_of}
 use Rattle.sl_trace.specs.LeaseWork.{LeasePlace, lease_next, within_turn}
 use Rattle.sl_trace.specs.Leases.{LeaseKnown, exclusive_on, known, lease_step, lver_written, spot_of_call, value_written}

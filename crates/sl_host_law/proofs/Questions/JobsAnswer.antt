@@ -1,17 +1,17 @@
 -- What a step asks of jobs is answered by those that are kept.
 use Rattle.sl_due.specs.DueFirst.{refuse, time_out}
 use Rattle.sl_due.specs.Steps.{Step, seen, when, with_some}
-use Rattle.sl_host_law.proofs.Plain.KeptJobs.{kept_is_running, running_there}
-use Rattle.sl_host_law.proofs.Plain.MembersAreSessions.{member_inside}
-use Rattle.sl_host_law.proofs.Plain.NewNumbers.{mapped_inside}
-use Rattle.sl_host_law.proofs.Plain.PlainLists.{all_front, at_some, each_of, found_mapped}
-use Rattle.sl_host_law.proofs.Plain.PlainOrders.{inside_ordered}
-use Rattle.sl_host_state.specs.Kept.{Config, HostState, MemberState}
-use Rattle.sl_host_state.specs.Stands.{Keeps, Stands, kept_job, kept_waiting}
-use Rattle.sl_host_state.specs.declared.kept.JobState.{JobState}
+use Rattle.sl_host_law.proofs.SharedFacts.KeptJobs.{kept_is_running, running_there}
+use Rattle.sl_host_law.proofs.SharedFacts.MembersAreSessions.{member_inside}
+use Rattle.sl_host_law.proofs.SharedFacts.NewNumbers.{mapped_inside}
+use Rattle.sl_host_law.proofs.SharedFacts.PlainLists.{all_front, at_some, each_of, found_mapped}
+use Rattle.sl_host_law.proofs.SharedFacts.PlainOrders.{inside_ordered}
+use Rattle.sl_host_state.specs.KeptState.{Config, HostState, MemberState}
+use Rattle.sl_host_state.specs.HostStands.{Keeps, Stands, kept_job, kept_waiting}
+use Rattle.sl_host_state.specs.declared.kept_parts.JobState.{JobState}
 use Rattle.sl_trace.specs.Jobs.{aim_of, aim_of_command, child_of_job, command_numbered, command_of}
 use Rattle.sl_trace.specs.Leases.{lease_step}
-use Rattle.sl_plain.proofs.Lists.{find_fails, find_inside, in_map, kept}
+use Rattle.sl_words.proofs.Lists.{find_fails, find_inside, in_map, kept}
 use Rattle.sl_host_law.proofs.Questions.MembersAnswer.{members_answer}
 use Rattle.sl_host_law.proofs.Questions.OneJoining.{joining_present, one_joining}
 use Rattle.sl_host_law.specs.Questions.Jobs.{JobAnswers, JobsAnswer, WorkGoesOn, aim_in, command_in, goes_on_in, is_of_process_in, joining_in, running_in, time_out_in}

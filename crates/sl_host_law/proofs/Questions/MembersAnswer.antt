@@ -2,14 +2,14 @@
 use Rattle.sl_due.specs.DueDelta.{begins_by_read}
 use Rattle.sl_due.specs.DueRequests.{bits_due, is_asked}
 use Rattle.sl_due.specs.Steps.{Step, seen}
-use Rattle.sl_host_law.proofs.Plain.MembersAreSessions.{member_inside}
-use Rattle.sl_host_law.proofs.Plain.PlainLists.{any_as}
-use Rattle.sl_host_state.specs.Kept.{Config, HostState, MemberState}
-use Rattle.sl_host_state.specs.Stands.{Keeps, MemberStands, bits_of, config_of, is_asked_in, kept_job}
-use Rattle.sl_host_state.specs.declared.kept.JobState.{JobState}
+use Rattle.sl_host_law.proofs.SharedFacts.MembersAreSessions.{member_inside}
+use Rattle.sl_host_law.proofs.SharedFacts.PlainLists.{any_as}
+use Rattle.sl_host_state.specs.KeptState.{Config, HostState, MemberState}
+use Rattle.sl_host_state.specs.HostStands.{Keeps, MemberStands, bits_of, config_of, is_asked_in, kept_job}
+use Rattle.sl_host_state.specs.declared.kept_parts.JobState.{JobState}
 use Rattle.sl_trace.specs.Jobs.{jobs_of_session, lockspace_named}
 use Rattle.sl_trace.specs.Leases.{exclusive_on, has_shared_on, holdings_on, known, known_of, lease_calls}
-use Rattle.sl_host_law.specs.Decisions.Deciding.{held_on, is_active_member}
+use Rattle.sl_host_law.specs.Decisions.CommandDecisions.{held_on, is_active_member}
 use Rattle.sl_host_law.specs.Questions.Members.{IsMemberAt, MemberAnswers, MembersAnswer, begins_by_read_in, evidence_seen, exclusive_at, has_call_open, is_leaving_in, is_recovering_in, jobs_in, me_in, over_in, shared_at}
 use Rattle.sl_host_law.proofs.Replies.OpenCallsAreKept.{open_is, open_write_is, own_open}
 use Rattle.sl_host_law.proofs.Replies.PlainFilters.{filter_mapped}
@@ -18,7 +18,7 @@ use Rattle.sl_sector.specs.declared.sector.Owner.{Owner}
 use Rattle.sl_trace.specs.Sessions.{calls_of, generation_of, has_open_write, is_active, is_call_of, is_leaving, is_present, is_recovering, joined_after, leaving_job, me, open_calls_of, recovery_of, refused_after, removed_after}
 use Rattle.sl_area.specs.Layouts.{Layout}
 use Rattle.sl_sector.specs.declared.sector.DeltaRec.{DeltaRec}
-use Rattle.sl_trace.specs.Watching.{counts_over, current_run, evidence, evidence_in, evidence_of, has_seen, run_with, seen_records, sighted, sightings}
+use Rattle.sl_trace.specs.Sightings.{counts_over, current_run, evidence, evidence_in, evidence_of, has_seen, run_with, seen_records, sighted, sightings}
 use Rattle.sl_trace.specs.declared.sighting.Sighting.{Sighting}
 use Rattle.sl_watch.proofs.SummaryLaws.{evidence_read}
 use Rattle.sl_watch.specs.Summaries.{bare, evidence_by}

@@ -1,7 +1,7 @@
 -- A job joins one session at most, and the session of one that runs is present.
-use Rattle.sl_host_law.proofs.Plain.PlainLists.{each_of, in_either}
-use Rattle.sl_host_law.proofs.Plain.SessionNumbers.{HasJobBelow, session_jobs_below}
-use Rattle.sl_plain.proofs.Lists.{contains_cases, contains_none}
+use Rattle.sl_host_law.proofs.SharedFacts.PlainLists.{each_of, in_either}
+use Rattle.sl_host_law.proofs.SharedFacts.SessionNumbers.{HasJobBelow, session_jobs_below}
+use Rattle.sl_words.proofs.Lists.{contains_cases, contains_none}
 use Rattle.sl_trace.specs.Sessions.{added_by, begun_in, given_session, has_open_write, is_join_call, is_join_done, is_present, joining_session, refused_after, removed_after, sessions}
 use Rattle.sl_trace.specs.declared.session.Session.{Session}
 use Rattle.sl_trace.specs.Traces.{Replied, Setting, Trace, is_running, next_job, reply_to}
@@ -9,7 +9,7 @@ use Rattle.sl_trace.specs.declared.command.LockspaceArg.{LockspaceArg}
 use Rattle.sl_trace.specs.declared.effects.Entry.{Entry}
 use Rattle.sl_trace.specs.declared.effects.JoinStep.TheVariants.{FirstRead}
 use Rattle.sl_trace.specs.declared.input.Given.{Given}
-use Rattle.sl_plain.proofs.Options.{none_is}
+use Rattle.sl_words.proofs.Options.{none_is}
 use Rattle.sl_words.proofs.CaseLaws.{none_some, some_value}
 use Rattle.sl_words.specs.Words.{choose}
 use Rattle.std.proofs.Common.{ap, arith, inl, inr, sym, ◌∙◌}

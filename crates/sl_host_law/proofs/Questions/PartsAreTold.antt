@@ -2,18 +2,18 @@
 use Rattle.sl_due.specs.DueFirst.{begin_recovery, begins_now, is_kill_due, kill_holders, refuse_jobs, send, signal_and_refuse, signal_holders, tell_to_stop, time_out, time_outs}
 use Rattle.sl_due.specs.DueInputs.{end_holdings, leave_holdings, refuse_jobs_of}
 use Rattle.sl_due.specs.Steps.{Step, add_end, add_grant, add_move, add_reply, add_signal, add_start, for_each, seen, when}
-use Rattle.sl_host_law.proofs.Plain.PlainLists.{at_mapped}
-use Rattle.sl_host_state.proofs.Asking.{questions_are_answered}
-use Rattle.sl_host_state.specs.Asks.{begins_in, is_kill_due_in, stopper_in}
-use Rattle.sl_host_state.specs.Kept.{HostState, MemberState}
-use Rattle.sl_host_state.specs.Stands.{Stands, kept_job}
-use Rattle.sl_host_state.specs.declared.kept.JobState.{JobState}
+use Rattle.sl_host_law.proofs.SharedFacts.PlainLists.{at_mapped}
+use Rattle.sl_host_state.proofs.StepQuestions.{questions_are_answered}
+use Rattle.sl_host_state.specs.StepQuestions.{begins_in, is_kill_due_in, stopper_in}
+use Rattle.sl_host_state.specs.KeptState.{HostState, MemberState}
+use Rattle.sl_host_state.specs.HostStands.{Stands, kept_job}
+use Rattle.sl_host_state.specs.declared.kept_parts.JobState.{JobState}
 use Rattle.sl_trace.specs.Jobs.{is_job_of_process, jobs_of_session}
 use Rattle.sl_host_law.proofs.Questions.JobsAnswer.{jobs_answer}
 use Rattle.sl_host_law.proofs.Questions.MembersAnswer.{members_answer}
 use Rattle.sl_host_law.specs.Questions.Jobs.{JobAnswers, is_of_process_in, time_out_in}
 use Rattle.sl_host_law.specs.Questions.Members.{IsMemberAt, MemberAnswers, jobs_in}
-use Rattle.sl_host_law.specs.Questions.Parts.{HostParts, HostsPart, MemberParts, MembersPart, time_out_of}
+use Rattle.sl_host_law.specs.Questions.PartQuestions.{HostParts, HostsPart, MemberParts, MembersPart, time_out_of}
 use Rattle.sl_host_law.proofs.Replies.PlainFilters.{filter_mapped}
 use Rattle.sl_trace.specs.Sessions.{leaving_of, recovery_of}
 use Rattle.sl_trace.specs.declared.session.Begun.{Begun}

@@ -1,22 +1,22 @@
 -- The connection of a refused joining goes with it, or with the answer to its last write, as what is kept tells.
 use Rattle.sl_due.specs.DueFirst.{refuse, remove_connection, remove_of_refused}
 use Rattle.sl_due.specs.Steps.{Step, add_reply, seen, when, with_input, with_some}
-use Rattle.sl_host_law.proofs.Plain.KeptJobs.{running_there}
-use Rattle.sl_host_law.specs.Plain.AtInput.{IsAtInput}
-use Rattle.sl_host_state.specs.Hears.{heard_answer}
-use Rattle.sl_host_state.specs.Kept.{HostState, MemberState}
-use Rattle.sl_host_state.specs.Makes.{has_write_open}
-use Rattle.sl_host_state.specs.Stands.{Stands}
-use Rattle.sl_host_state.specs.declared.kept.OpenCall.{OpenCall}
-use Rattle.sl_plain.proofs.Lists.{find_inside}
+use Rattle.sl_host_law.proofs.SharedFacts.KeptJobs.{running_there}
+use Rattle.sl_host_law.specs.SharedFacts.AtInput.{IsAtInput}
+use Rattle.sl_host_state.specs.HeardInputs.{heard_answer}
+use Rattle.sl_host_state.specs.KeptState.{HostState, MemberState}
+use Rattle.sl_host_state.specs.MadeEffects.{has_write_open}
+use Rattle.sl_host_state.specs.HostStands.{Stands}
+use Rattle.sl_host_state.specs.declared.kept_parts.OpenCall.{OpenCall}
+use Rattle.sl_words.proofs.Lists.{find_inside}
 use Rattle.sl_host_law.proofs.Questions.JobsAnswer.{jobs_answer}
 use Rattle.sl_host_law.specs.Questions.Jobs.{joining_in}
-use Rattle.sl_host_law.specs.Questions.Parts.{RefusalsAreTold}
+use Rattle.sl_host_law.specs.Questions.PartQuestions.{RefusalsAreTold}
 use Rattle.sl_host_law.proofs.Replies.Answers.AnswersAreHeard.{answers_are_heard}
 use Rattle.sl_host_law.proofs.Replies.OpenCallsAreKept.{open_write_is}
-use Rattle.sl_host_law.proofs.Replies.Replies.ReplyEndsJob.{calls_stay, own_joining}
+use Rattle.sl_host_law.proofs.Replies.RepliesAreTaken.ReplyEndsJob.{calls_stay, own_joining}
 use Rattle.sl_host_law.specs.Replies.Answers.{FitsCall, IsOpen}
-use Rattle.sl_host_law.specs.Replies.Replies.{LeavesHeed, MayReply}
+use Rattle.sl_host_law.specs.Replies.RepliesAreTaken.{LeavesHeed, MayReply}
 use Rattle.sl_trace.specs.Sessions.{has_open_write, is_call_of, is_join_done}
 use Rattle.sl_trace.specs.declared.session.Session.{Session}
 use Rattle.sl_trace.specs.Traces.{is_running, is_write, unanswered}

@@ -1,6 +1,6 @@
 -- Whether a job of the trace runs is whether one of those that run has its number.
-use Rattle.sl_plain.proofs.Options.{some_there}
-use Rattle.sl_plain.proofs.Lists.{any_of, find_inside}
+use Rattle.sl_words.proofs.Options.{some_there}
+use Rattle.sl_words.proofs.Lists.{any_of, find_inside}
 use Rattle.sl_host_law.proofs.Replies.PlainNumbers.{same_number}
 use Rattle.sl_host_law.proofs.Replies.PlainFilters.{any_kept, no_one}
 use Rattle.sl_trace.specs.Traces.{Job, Setting, Trace, is_running, job_numbered, jobs, running_jobs}

@@ -1,6 +1,6 @@
 -- A member whose session's calls, renewals and leaving are as they were stands as it did, but for whether it is joined and refused.
-use Rattle.sl_host_state.specs.Kept.{MemberState}
-use Rattle.sl_host_state.specs.Stands.{AreInTurn, AskedStands, JoinStands, LeaseStands, MemberStands, WatchKeeps, is_joining, newest_value}
+use Rattle.sl_host_state.specs.KeptState.{MemberState}
+use Rattle.sl_host_state.specs.HostStands.{AreInTurn, AskedStands, JoinStands, LeaseStands, MemberStands, WatchKeeps, is_joining, newest_value}
 use Rattle.sl_trace.specs.Counts.{values_on}
 use Rattle.sl_trace.specs.Leases.{is_lease_call, is_on, spots_in, value_written}
 use Rattle.sl_trace.specs.Sessions.{calls_of, free_write, generation_in, is_call_of, is_delta_purpose, is_joined, leaving_job, refused_after, renewal_in, renewing, seq_in}

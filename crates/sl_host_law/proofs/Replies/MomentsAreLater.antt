@@ -1,12 +1,12 @@
 -- None of the moments at which something is due by time is below the one that a host keeps: of all, where it is so of each member's and
 -- of each job's.
-use Rattle.sl_host_law.proofs.Plain.PlainLists.{in_either}
-use Rattle.sl_host_law.proofs.Plain.Quiet.{job_quiet, member_quiet, quiet_by}
-use Rattle.sl_host_state.specs.Kept.{HostState, MemberState}
-use Rattle.sl_host_state.specs.Stands.{IsQuiet, job_moments, member_moments}
-use Rattle.sl_host_state.specs.declared.kept.JobState.{JobState}
-use Rattle.sl_plain.proofs.Lists.{contains_cases, contains_none}
-use Rattle.sl_plain.proofs.Numbers.{trans_le}
+use Rattle.sl_host_law.proofs.SharedFacts.PlainLists.{in_either}
+use Rattle.sl_host_law.proofs.SharedFacts.QuietMoments.{job_quiet, member_quiet, quiet_by}
+use Rattle.sl_host_state.specs.KeptState.{HostState, MemberState}
+use Rattle.sl_host_state.specs.HostStands.{IsQuiet, job_moments, member_moments}
+use Rattle.sl_host_state.specs.declared.kept_parts.JobState.{JobState}
+use Rattle.sl_words.proofs.Lists.{contains_cases, contains_none}
+use Rattle.sl_words.proofs.Numbers.{trans_le}
 use Rattle.std.proofs.Common.{inl, inr, subst}
 use Rattle.std.specs.Prelude.{Contains, List, [], ℕ, ◌++◌, ◌∷◌, ◌≡◌, ◌≤◌, ◌⊎◌}
 

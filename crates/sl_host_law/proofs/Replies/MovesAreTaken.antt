@@ -1,13 +1,13 @@
 -- The host after a move stands for the step with it.
-use Rattle.sl_host_law.proofs.Plain.MembersAreSessions.{member_inside}
-use Rattle.sl_host_law.proofs.Plain.PlainLists.{at_some, filter_where}
-use Rattle.sl_host_law.proofs.Plain.PlainOrders.{inside_ordered}
-use Rattle.sl_host_state.specs.Kept.{HostState, MemberState}
-use Rattle.sl_host_state.specs.Makes.{is_ended_by_move, names_moved, with_move}
-use Rattle.sl_host_state.specs.Stands.{IsQuiet, Keeps, MemberStands, kept_call, kept_job, kept_waiting}
+use Rattle.sl_host_law.proofs.SharedFacts.MembersAreSessions.{member_inside}
+use Rattle.sl_host_law.proofs.SharedFacts.PlainLists.{at_some, filter_where}
+use Rattle.sl_host_law.proofs.SharedFacts.PlainOrders.{inside_ordered}
+use Rattle.sl_host_state.specs.KeptState.{HostState, MemberState}
+use Rattle.sl_host_state.specs.MadeEffects.{is_ended_by_move, names_moved, with_move}
+use Rattle.sl_host_state.specs.HostStands.{IsQuiet, Keeps, MemberStands, kept_call, kept_job, kept_waiting}
 use Rattle.sl_trace.specs.Jobs.{child_of_job, command_of}
-use Rattle.sl_plain.proofs.Lists.{got_inside, in_map, kept, kept_inside}
-use Rattle.sl_plain.proofs.Numbers.{refl_le}
+use Rattle.sl_words.proofs.Lists.{got_inside, in_map, kept, kept_inside}
+use Rattle.sl_words.proofs.Numbers.{refl_le}
 use Rattle.sl_host_law.proofs.Replies.Answers.JobsHearAnswer.{job_with}
 use Rattle.sl_host_law.proofs.Replies.MembersKeepCalls.{member_stays}
 use Rattle.sl_host_law.proofs.Replies.NotJoinedNotBegun.{begun_joined}

@@ -1,7 +1,7 @@
 -- What is asked of a session's calls without an answer, where these are kept: any list that they are kept in, the oldest first, answers it.
-use Rattle.sl_host_law.proofs.Plain.PlainLists.{any_as, any_mapped}
-use Rattle.sl_host_state.specs.Stands.{kept_call, sectors_of}
-use Rattle.sl_host_state.specs.declared.kept.OpenCall.{OpenCall}
+use Rattle.sl_host_law.proofs.SharedFacts.PlainLists.{any_as, any_mapped}
+use Rattle.sl_host_state.specs.HostStands.{kept_call, sectors_of}
+use Rattle.sl_host_state.specs.declared.kept_parts.OpenCall.{OpenCall}
 use Rattle.sl_host_law.proofs.Replies.PlainFilters.{any_kept, any_reversed, filters_turned}
 use Rattle.sl_trace.specs.Sessions.{has_open_delta, has_open_write, is_call_of, is_delta_purpose}
 use Rattle.sl_trace.specs.declared.session.Session.{Session}

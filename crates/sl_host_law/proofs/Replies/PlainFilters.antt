@@ -1,6 +1,6 @@
 -- Plain facts of lists that are filtered, mapped and turned round.
-use Rattle.sl_host_law.proofs.Plain.PlainLists.{kept_if}
-use Rattle.sl_plain.proofs.Lists.{contains_first, contains_more}
+use Rattle.sl_host_law.proofs.SharedFacts.PlainLists.{kept_if}
+use Rattle.sl_words.proofs.Lists.{contains_first, contains_more}
 use Rattle.std.proofs.Common.{ap, refl, sym, ◌∙◌}
 use Rattle.std.proofs.lemmas.List.Elements.{filter-append}
 use Rattle.std.proofs.lemmas.List.Folds.{list_any-append}

@@ -1,5 +1,5 @@
 -- Elements that are left out of a list in order: the order of the others stays.
-use Rattle.sl_host_law.proofs.Plain.PlainLists.{kept_if}
+use Rattle.sl_host_law.proofs.SharedFacts.PlainLists.{kept_if}
 use Rattle.sl_words.specs.Orders.{in_order, put_in}
 use Rattle.std.proofs.Common.{ap, refl, sym, ◌∙◌}
 use Rattle.std.specs.Prelude.{Bool, List, cond, false, filter, fold, if◌then◌else◌, true, [], ◌∷◌, ◌≡◌}

@@ -1,6 +1,6 @@
 -- The present sessions stand in the order of their lockspaces' names, also where some have gone.
-use Rattle.sl_host_law.proofs.Plain.PlainLists.{filter_where}
-use Rattle.sl_plain.proofs.Lists.{filter_both}
+use Rattle.sl_host_law.proofs.SharedFacts.PlainLists.{filter_where}
+use Rattle.sl_words.proofs.Lists.{filter_both}
 use Rattle.sl_host_law.proofs.Replies.PlainOrderKept.{IsStrict, order_filtered}
 use Rattle.sl_host_law.proofs.Replies.PlainTextOrder.{text_asym, text_weak}
 use Rattle.sl_trace.specs.Sessions.{is_present, present_sessions, sessions}

@@ -3,21 +3,21 @@
 use Rattle.sl_host_law.proofs.Answers.AnswersFollow.{place, stands}
 use Rattle.sl_host_law.proofs.Answers.DecisionsAreCarried.{layout_is}
 use Rattle.sl_host_law.proofs.Answers.LeasesSetFree.{call_told, leases_set_free, told_spot}
-use Rattle.sl_host_law.specs.Answers.Answering.{IsAnswerTo}
+use Rattle.sl_host_law.specs.Answers.AnswersFollow.{IsAnswerTo}
 use Rattle.sl_host_law.specs.Answers.LeaseAnswers.{area_of}
 use Rattle.sl_area.specs.Layouts.{Layout}
 use Rattle.sl_area.specs.Places.{blocks_of, blocks_part, leader_read, needs_again, read_once}
 use Rattle.sl_host_state.proofs.Pairs.{again_is, blocks_are_shown, second_finds}
-use Rattle.sl_host_law.proofs.Calls.Calls.SpotsMore.{on_own, one_spot}
+use Rattle.sl_host_law.proofs.Calls.MemberCalls.SpotsMore.{on_own, one_spot}
 use Rattle.sl_due.specs.Steps.{Step, seen, with_input}
-use Rattle.sl_host_law.proofs.Plain.PlainLists.{at_some, each_of}
-use Rattle.sl_host_state.specs.Hears.{blocks_shown, heard_answer, hearing, is_block_step, is_heeded_by, lease_told, member_hearing}
-use Rattle.sl_host_state.specs.Kept.{Config, HostState, LeaseState, MemberState, PairState}
-use Rattle.sl_host_state.specs.Makes.{is_lease_on}
-use Rattle.sl_host_state.specs.New.{IsOfProgram}
-use Rattle.sl_host_state.specs.Stands.{IsWaiting, LeaseStands, Stands, kept_call}
-use Rattle.sl_host_state.specs.declared.kept.LeaseCall.{LeaseCall}
-use Rattle.sl_host_state.specs.declared.kept.OpenCall.{OpenCall}
+use Rattle.sl_host_law.proofs.SharedFacts.PlainLists.{at_some, each_of}
+use Rattle.sl_host_state.specs.HeardInputs.{blocks_shown, heard_answer, hearing, is_block_step, is_heeded_by, lease_told, member_hearing}
+use Rattle.sl_host_state.specs.KeptState.{Config, HostState, LeaseState, MemberState, PairState}
+use Rattle.sl_host_state.specs.MadeEffects.{is_lease_on}
+use Rattle.sl_host_state.specs.NewHost.{IsOfProgram}
+use Rattle.sl_host_state.specs.HostStands.{IsWaiting, LeaseStands, Stands, kept_call}
+use Rattle.sl_host_state.specs.declared.kept_parts.LeaseCall.{LeaseCall}
+use Rattle.sl_host_state.specs.declared.kept_parts.OpenCall.{OpenCall}
 use Rattle.sl_host_law.proofs.Steps.LeasesAreKnown.{kept_tops, known_is, lease_is, read_tops, settles_alike, stands as lease_stands, within_alike}
 use Rattle.sl_host_law.specs.Steps.Leases.{answered_next, blocks_at, kept_blocks, known_by}
 use Rattle.sl_trace.specs.LeaseWork.{LeasePlace, after_bytes, after_read, asked_again, first_step, heard, lease_next, part_read, settle_next, step_of_read, within_turn}
@@ -26,7 +26,7 @@ use Rattle.sl_trace.specs.declared.lease.Aim.TheVariants.{Acquires, Converts, Se
 use Rattle.sl_trace.specs.declared.lease.Aim.{Aim}
 use Rattle.sl_trace.specs.declared.lease.LeaseNext.TheVariants.{Nothing, ReadFor}
 use Rattle.sl_trace.specs.declared.lease.LeaseNext.{LeaseNext}
-use Rattle.sl_plain.proofs.Lists.{contains_cases, find_inside, in_map, kept}
+use Rattle.sl_words.proofs.Lists.{contains_cases, find_inside, in_map, kept}
 use Rattle.sl_host_law.specs.Questions.Answers.{next_in, place_in, spot_in}
 use Rattle.sl_host_law.specs.Questions.Members.{IsMemberAt, me_in}
 use Rattle.sl_host_law.proofs.Replies.Answers.AnswerMarksOneCall.{hear, hear_by, picked, same_call, told}

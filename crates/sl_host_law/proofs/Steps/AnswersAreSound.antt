@@ -1,19 +1,19 @@
 -- An answer leaves a host sound, whatever it makes due.
-use Rattle.sl_host_law.specs.Answers.Carrying.{carrying, connecting, reading_own, registering, surveying, writing_own}
+use Rattle.sl_host_law.specs.Answers.CarriedDecisions.{carrying, connecting, reading_own, registering, surveying, writing_own}
 use Rattle.sl_host_law.specs.Answers.LeaseAnswers.{area_of}
-use Rattle.sl_host_law.specs.Answers.Leasing.{carrying_lease, converted, converting, converting_for, granting_for}
-use Rattle.sl_host_law.specs.Answers.Refusing.{refusing}
-use Rattle.sl_host_law.specs.Parts.Signals.{sending}
-use Rattle.sl_host_law.specs.Parts.Refusals.{signalling_and_refusing}
+use Rattle.sl_host_law.specs.Answers.LeaseDecisions.{carrying_lease, converted, converting, converting_for, granting_for}
+use Rattle.sl_host_law.specs.Answers.RefusalsFollow.{refusing}
+use Rattle.sl_host_law.specs.StepParts.Signals.{sending}
+use Rattle.sl_host_law.specs.StepParts.Refusals.{signalling_and_refusing}
 use Rattle.sl_host_law.specs.Answers.Requests.{answering_job, on_given, requesting, requesting_for, seeing_request, writing_request}
 use Rattle.sl_host_law.specs.Answers.Surveys.{exclusive_of, is_asked_by, reading_request, reading_request_on, reading_requests, recovering_by_read, surveyed_in}
-use Rattle.sl_delta.specs.Decides.{after_join, claim_next, is_over_since, verified}
-use Rattle.sl_delta.specs.Own.{OwnState, lease_of}
+use Rattle.sl_delta.specs.DeltaDecisions.{after_join, claim_next, is_over_since, verified}
+use Rattle.sl_delta.specs.OwnSector.{OwnState, lease_of}
 use Rattle.sl_due.specs.DueRequests.{owner_read, request_refusal, signal_of_request, value_reply}
-use Rattle.sl_host_state.specs.Hears.{heard_answer, hearing, is_over_with, member_hearing, renewing_hearing}
-use Rattle.sl_host_state.specs.Kept.{HostState, MemberState}
-use Rattle.sl_host_state.specs.Makes.{has_write_open, next_submitted, with_call, with_reply}
-use Rattle.sl_host_state.specs.declared.kept.OpenCall.{OpenCall}
+use Rattle.sl_host_state.specs.HeardInputs.{heard_answer, hearing, is_over_with, member_hearing, renewing_hearing}
+use Rattle.sl_host_state.specs.KeptState.{HostState, MemberState}
+use Rattle.sl_host_state.specs.MadeEffects.{has_write_open, next_submitted, with_call, with_reply}
+use Rattle.sl_host_state.specs.declared.kept_parts.OpenCall.{OpenCall}
 use Rattle.sl_host_law.proofs.Steps.EarlyParts.{over_keeps}
 use Rattle.sl_host_law.proofs.Steps.InputsFollow.{same_members}
 use Rattle.sl_host_law.proofs.Steps.JoiningsWake.{joining_call, refusing_sound}
@@ -23,14 +23,14 @@ use Rattle.sl_host_law.proofs.Steps.SoundParts.{IsCut, Was, cut_more, cut_move, 
 use Rattle.sl_host_law.specs.Steps.Answers.{answering, answering_by, answering_for, joining_next, own_of}
 use Rattle.sl_host_law.specs.Steps.Leases.{answered_next}
 use Rattle.sl_host_law.specs.Steps.Passes.{member_numbered}
-use Rattle.sl_host_law.specs.Steps.Sound.{IsSound}
+use Rattle.sl_host_law.specs.Steps.SoundHosts.{IsSound}
 use Rattle.sl_area.specs.Layouts.{record_in}
 use Rattle.sl_trace.specs.Jobs.{process_named}
 use Rattle.sl_trace.specs.declared.lease.Aim.{Aim}
 use Rattle.sl_trace.specs.declared.lease.LeaseNext.TheVariants.{AnswerJob, BecomeExclusive, BecomeShared, GrantJob, Nothing as NoLease, ReadFor, WriteBlock, WriteLeader}
 use Rattle.sl_trace.specs.declared.lease.LeaseNext.{LeaseNext}
-use Rattle.sl_host_law.specs.Parts.Ends.{removing}
-use Rattle.sl_plain.proofs.Lists.{find_inside, in_map, kept_inside}
+use Rattle.sl_host_law.specs.StepParts.Ends.{removing}
+use Rattle.sl_words.proofs.Lists.{find_inside, in_map, kept_inside}
 use Rattle.sl_host_law.specs.Questions.Answers.{set_reply_in, spot_in}
 use Rattle.sl_host_law.specs.Questions.Jobs.{aim_in, command_in, goes_on_in, running_in}
 use Rattle.sl_host_law.specs.Questions.Members.{begins_by_read_in, exclusive_at, otherwise_at}
@@ -38,7 +38,7 @@ use Rattle.sl_sector.specs.Spelling.{delta_in}
 use Rattle.sl_sector.specs.declared.sector.DeltaRec.{DeltaRec}
 use Rattle.sl_trace.specs.Deltas.{next_after_first, next_after_free, next_after_renewal}
 use Rattle.sl_trace.specs.Sessions.{is_delta_purpose}
-use Rattle.sl_trace.specs.Watching.{is_free_state}
+use Rattle.sl_trace.specs.Sightings.{is_free_state}
 use Rattle.sl_trace.specs.declared.delta.DeltaNext.TheVariants.{Disconnect, EndLeaving, Join, MoveConnection, Nothing, ReadOwn, RefuseJoin, RegisterAndRead, WriteClaim, WriteFirst, WriteFree, WriteRenewal}
 use Rattle.sl_trace.specs.declared.delta.DeltaNext.{DeltaNext}
 use Rattle.sl_trace.specs.declared.session.Session.{Session}

@@ -1,16 +1,16 @@
 -- Leader and blocks of an area lie on it: it has room for leader, request and the block of each host, with one sector or with two.
 use Rattle.sl_host_law.specs.Answers.LeasesGoOn.{IsPlacedAt}
-use Rattle.sl_host_law.specs.Answers.Leasing.{read_from}
+use Rattle.sl_host_law.specs.Answers.LeaseDecisions.{read_from}
 use Rattle.sl_area.specs.Layouts.{IsGeometry, Layout, Sizes, layout_of, roomy}
 use Rattle.sl_area.specs.Places.{block_offset, block_sectors, pair_offset}
 use Rattle.sl_sector.specs.Spelling.{is_first_turn}
 use Rattle.sl_trace.specs.declared.effects.LeaseRead.TheVariants.{OfArea, OfBlock, OfFree, OfPhase1, OfPhase2}
-use Rattle.sl_host_law.proofs.Calls.Calls.SpotsMore.{spot_comes}
+use Rattle.sl_host_law.proofs.Calls.MemberCalls.SpotsMore.{spot_comes}
 use Rattle.sl_due.specs.Steps.{Step, seen}
-use Rattle.sl_host_state.specs.Kept.{Config, HostState, MemberState}
-use Rattle.sl_host_state.specs.New.{sizes_in}
+use Rattle.sl_host_state.specs.KeptState.{Config, HostState, MemberState}
+use Rattle.sl_host_state.specs.NewHost.{sizes_in}
 use Rattle.sl_host_state.specs.Passes.{whos}
-use Rattle.sl_host_law.specs.Steps.Sound.{IsLaidOut}
+use Rattle.sl_host_law.specs.Steps.SoundHosts.{IsLaidOut}
 use Rattle.sl_host_law.specs.Questions.Members.{IsMemberAt}
 use Rattle.sl_trace.specs.Sessions.{calls_of}
 use Rattle.sl_trace.specs.declared.effects.LeaseStep.TheVariants.{ClearMode, FreeLeader, Phase1Read, Phase1Write, Phase2Read, Phase2Write, ReadAgain, ReadArea, ReadBeforeBlock, ReadBeforeFree, SetMode, TakeLeader}

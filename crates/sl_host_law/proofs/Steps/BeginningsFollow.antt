@@ -1,39 +1,39 @@
 -- What comes before the input follows what is due before it.
-use Rattle.sl_acts.proofs.InputsKeep.{stop_stays}
-use Rattle.sl_acts.proofs.LoopsKeep.{when_keeps}
-use Rattle.sl_acts.proofs.SessionsStay.{Stays}
-use Rattle.sl_acts.specs.Acts.{Has}
+use Rattle.sl_due_facts.proofs.Acts.InputsKeep.{stop_stays}
+use Rattle.sl_due_facts.proofs.Acts.LoopsKeep.{when_keeps}
+use Rattle.sl_due_facts.proofs.Acts.SessionsStay.{Stays}
+use Rattle.sl_due_facts.specs.Acts.Acts.{Has}
 use Rattle.sl_host_law.proofs.Answers.RefusalsFollow.{refusals_follow}
-use Rattle.sl_host_law.specs.Answers.Refusing.{refusing, timing_out}
+use Rattle.sl_host_law.specs.Answers.RefusalsFollow.{refusing, timing_out}
 use Rattle.sl_host_law.proofs.Calls.StepsBegin.{steps_begin}
 use Rattle.sl_due.specs.Due.{before_input}
 use Rattle.sl_due.specs.DueFirst.{begin_recoveries, begin_recovery, begins_now, kills, signal_and_refuse, time_outs}
 use Rattle.sl_due.specs.Steps.{Step, begin_step, for_each, seen}
-use Rattle.sl_host_law.proofs.Plain.PlainLists.{at_some, each_of}
-use Rattle.sl_host_law.proofs.Plain.PlainOrders.{AreApart}
-use Rattle.sl_host_state.specs.Hears.{beginning, begun, counted, is_late, member_begun, with_renewing}
-use Rattle.sl_host_state.specs.Kept.{HostState, MemberState}
-use Rattle.sl_host_state.specs.Makes.{has_write_open, with_move, with_reply}
-use Rattle.sl_host_state.specs.Stands.{HostStands, Stands}
-use Rattle.sl_host_state.specs.declared.kept.JobState.{JobState}
-use Rattle.sl_host_state.specs.declared.kept.WaitingCall.{WaitingCall}
-use Rattle.sl_host_law.proofs.Steps.Alone.{alone}
+use Rattle.sl_host_law.proofs.SharedFacts.PlainLists.{at_some, each_of}
+use Rattle.sl_host_law.proofs.SharedFacts.PlainOrders.{AreApart}
+use Rattle.sl_host_state.specs.HeardInputs.{beginning, begun, counted, is_late, member_begun, with_renewing}
+use Rattle.sl_host_state.specs.KeptState.{HostState, MemberState}
+use Rattle.sl_host_state.specs.MadeEffects.{has_write_open, with_move, with_reply}
+use Rattle.sl_host_state.specs.HostStands.{HostStands, Stands}
+use Rattle.sl_host_state.specs.declared.kept_parts.JobState.{JobState}
+use Rattle.sl_host_state.specs.declared.kept_parts.WaitingCall.{WaitingCall}
+use Rattle.sl_host_law.proofs.Steps.JoiningNamesApart.{alone}
 use Rattle.sl_host_law.proofs.Steps.EarlyParts.{Unmoved, killing_early, over_keeps, recovering_early, recovering_unmoved, timing_early}
 use Rattle.sl_host_law.proofs.Steps.PassesFollow.{IsPass, Passed, all}
 use Rattle.sl_host_law.specs.Steps.Beginnings.{BeginningsFollow}
 use Rattle.sl_host_law.specs.Steps.Passes.{at_job, for_members, job_with}
-use Rattle.sl_host_law.specs.Steps.Sound.{IsEarly, NamesApart}
-use Rattle.sl_host_law.specs.Steps.Stepping.{before_taking}
-use Rattle.sl_host_law.proofs.Parts.GoneDoNothing.{gone_do_nothing}
-use Rattle.sl_host_law.proofs.Parts.RecoveriesAreTaken.{recoveries_are_taken}
-use Rattle.sl_host_law.proofs.Parts.RefusalsAreTaken.{kept_apart}
-use Rattle.sl_host_law.specs.Parts.Ends.{removing}
-use Rattle.sl_host_law.specs.Parts.Recoveries.{killing, recovering_in}
-use Rattle.sl_host_law.specs.Parts.Signals.{over}
-use Rattle.sl_plain.proofs.Lists.{any_found, any_of, contains_first, contains_map, contains_more, find_fails, find_inside, in_map, kept}
+use Rattle.sl_host_law.specs.Steps.SoundHosts.{IsEarly, NamesApart}
+use Rattle.sl_host_law.specs.Steps.StepFunction.{before_taking}
+use Rattle.sl_host_law.proofs.StepParts.GoneDoNothing.{gone_do_nothing}
+use Rattle.sl_host_law.proofs.StepParts.RecoveriesAreTaken.{recoveries_are_taken}
+use Rattle.sl_host_law.proofs.StepParts.RefusalsAreTaken.{kept_apart}
+use Rattle.sl_host_law.specs.StepParts.Ends.{removing}
+use Rattle.sl_host_law.specs.StepParts.Recoveries.{killing, recovering_in}
+use Rattle.sl_host_law.specs.StepParts.Signals.{over}
+use Rattle.sl_words.proofs.Lists.{any_found, any_of, contains_first, contains_map, contains_more, find_fails, find_inside, in_map, kept}
 use Rattle.sl_host_law.proofs.Questions.PartsAreTold.{hosts_part}
 use Rattle.sl_host_law.specs.Questions.Jobs.{is_overdue_in, joining_in, running_in}
-use Rattle.sl_host_law.specs.Questions.Parts.{time_out_of}
+use Rattle.sl_host_law.specs.Questions.PartQuestions.{time_out_of}
 use Rattle.sl_trace.specs.Sessions.{recovery_of}
 use Rattle.sl_trace.specs.declared.session.Session.{Session}
 use Rattle.sl_trace.specs.Traces.{Setting, Trace, is_before_input}

@@ -1,19 +1,19 @@
 -- What comes before the input leaves a step that has come to it.
-use Rattle.sl_host_law.specs.Answers.Refusing.{refusing, timing_out}
-use Rattle.sl_host_law.proofs.Plain.PlainLists.{all_both, in_flat}
-use Rattle.sl_host_state.specs.Asks.{begins_in, is_kill_due_in, stopper_in}
-use Rattle.sl_host_state.specs.Kept.{HostState, MemberState}
-use Rattle.sl_host_state.specs.Makes.{has_write_open, is_ended_by_move, member_answered, member_replying, with_move, with_reply, with_signal, with_start}
+use Rattle.sl_host_law.specs.Answers.RefusalsFollow.{refusing, timing_out}
+use Rattle.sl_host_law.proofs.SharedFacts.PlainLists.{all_both, in_flat}
+use Rattle.sl_host_state.specs.StepQuestions.{begins_in, is_kill_due_in, stopper_in}
+use Rattle.sl_host_state.specs.KeptState.{HostState, MemberState}
+use Rattle.sl_host_state.specs.MadeEffects.{has_write_open, is_ended_by_move, member_answered, member_replying, with_move, with_reply, with_signal, with_start}
 use Rattle.sl_host_state.specs.Passes.{whos}
-use Rattle.sl_host_state.specs.Stands.{is_joining}
-use Rattle.sl_host_state.specs.declared.kept.JobState.{JobState}
-use Rattle.sl_host_state.specs.declared.kept.WaitingCall.{WaitingCall}
-use Rattle.sl_host_law.specs.Steps.Sound.{IsEarly}
-use Rattle.sl_host_law.specs.Parts.Ends.{removing}
-use Rattle.sl_host_law.specs.Parts.Recoveries.{killing, recovering_in}
-use Rattle.sl_host_law.specs.Parts.Refusals.{jobs_but, numbers_of, signalling_and_refusing}
-use Rattle.sl_host_law.specs.Parts.Signals.{over, sending, signalling, telling}
-use Rattle.sl_plain.proofs.Lists.{contains_cases, contains_map, contains_none, in_map, kept_inside}
+use Rattle.sl_host_state.specs.HostStands.{is_joining}
+use Rattle.sl_host_state.specs.declared.kept_parts.JobState.{JobState}
+use Rattle.sl_host_state.specs.declared.kept_parts.WaitingCall.{WaitingCall}
+use Rattle.sl_host_law.specs.Steps.SoundHosts.{IsEarly}
+use Rattle.sl_host_law.specs.StepParts.Ends.{removing}
+use Rattle.sl_host_law.specs.StepParts.Recoveries.{killing, recovering_in}
+use Rattle.sl_host_law.specs.StepParts.Refusals.{jobs_but, numbers_of, signalling_and_refusing}
+use Rattle.sl_host_law.specs.StepParts.Signals.{over, sending, signalling, telling}
+use Rattle.sl_words.proofs.Lists.{contains_cases, contains_map, contains_none, in_map, kept_inside}
 use Rattle.sl_host_law.specs.Questions.Jobs.{is_overdue_in, joining_in}
 use Rattle.sl_host_law.specs.Questions.Members.{holders_in}
 use Rattle.sl_trace.specs.Sessions.{is_join_done}

@@ -1,33 +1,33 @@
 -- Renewals, removals and frees follow what is due, member by member.
-use Rattle.sl_acts.proofs.LoopsKeep.{when_keeps}
-use Rattle.sl_acts.proofs.SessionsStay.{Stays, delta_stays, removal_stays}
-use Rattle.sl_acts.specs.Acts.{Has}
+use Rattle.sl_due_facts.proofs.Acts.LoopsKeep.{when_keeps}
+use Rattle.sl_due_facts.proofs.Acts.SessionsStay.{Stays, delta_stays, removal_stays}
+use Rattle.sl_due_facts.specs.Acts.Acts.{Has}
 use Rattle.sl_area.specs.Places.{delta_offset}
-use Rattle.sl_host_law.specs.Calls.Calls.{is_idle_job, is_leaving_alone}
-use Rattle.sl_host_law.specs.Decisions.Deciding.{held_of}
+use Rattle.sl_host_law.specs.Calls.MemberCalls.{is_idle_job, is_leaving_alone}
+use Rattle.sl_host_law.specs.Decisions.CommandDecisions.{held_of}
 use Rattle.sl_due.specs.DueDelta.{carry_delta}
 use Rattle.sl_due.specs.DueFirst.{remove_connection}
 use Rattle.sl_due.specs.DueRequests.{bits_due}
 use Rattle.sl_due.specs.DueWake.{end_if_done, finish, finish_session, free_if_done, renew_on_wake}
 use Rattle.sl_due.specs.Steps.{Step, seen, when}
-use Rattle.sl_host_law.proofs.Plain.MembersAreSessions.{numbers_are_apart}
-use Rattle.sl_host_law.proofs.Plain.PlainLists.{one_there}
-use Rattle.sl_host_state.specs.Kept.{HostState, MemberState}
-use Rattle.sl_host_state.specs.Makes.{has_write_open, next_submitted}
-use Rattle.sl_host_state.specs.Stands.{Stands, is_kept_of}
-use Rattle.sl_host_state.specs.declared.kept.OpenCall.{OpenCall}
-use Rattle.sl_host_law.proofs.Steps.Alone.{same_name}
+use Rattle.sl_host_law.proofs.SharedFacts.MembersAreSessions.{numbers_are_apart}
+use Rattle.sl_host_law.proofs.SharedFacts.PlainLists.{one_there}
+use Rattle.sl_host_state.specs.KeptState.{HostState, MemberState}
+use Rattle.sl_host_state.specs.MadeEffects.{has_write_open, next_submitted}
+use Rattle.sl_host_state.specs.HostStands.{Stands, is_kept_of}
+use Rattle.sl_host_state.specs.declared.kept_parts.OpenCall.{OpenCall}
+use Rattle.sl_host_law.proofs.Steps.JoiningNamesApart.{same_name}
 use Rattle.sl_host_law.proofs.Steps.SoundParts.{sound_call, sound_removing}
 use Rattle.sl_host_law.proofs.Steps.PassesFollow.{IsPass, Passed, all}
 use Rattle.sl_host_law.specs.Steps.Endings.{EndingsFollow}
 use Rattle.sl_host_law.specs.Steps.Passes.{for_members}
-use Rattle.sl_host_law.specs.Steps.Sound.{IsSound, LeavingsOwn, NamesApart}
-use Rattle.sl_host_law.proofs.Parts.EndsAreTaken.{ends_are_taken}
-use Rattle.sl_host_law.proofs.Parts.GoneDoNothing.{gone_do_nothing}
-use Rattle.sl_host_law.proofs.Parts.MembersWake.{members_wake}
-use Rattle.sl_host_law.specs.Parts.Ends.{FreesAlone, ending_in, finishing, freeing_for, freeing_in, removing, renewing_in, writing_own}
-use Rattle.sl_host_law.specs.Parts.Wakes.{delta_in}
-use Rattle.sl_plain.proofs.Lists.{any_found, any_of, got_inside}
+use Rattle.sl_host_law.specs.Steps.SoundHosts.{IsSound, LeavingsOwn, NamesApart}
+use Rattle.sl_host_law.proofs.StepParts.EndsAreTaken.{ends_are_taken}
+use Rattle.sl_host_law.proofs.StepParts.GoneDoNothing.{gone_do_nothing}
+use Rattle.sl_host_law.proofs.StepParts.MembersWake.{members_wake}
+use Rattle.sl_host_law.specs.StepParts.Ends.{FreesAlone, ending_in, finishing, freeing_for, freeing_in, removing, renewing_in, writing_own}
+use Rattle.sl_host_law.specs.StepParts.Wakes.{delta_in}
+use Rattle.sl_words.proofs.Lists.{any_found, any_of, got_inside}
 use Rattle.sl_host_law.specs.Questions.Members.{IsMemberAt, has_call_open}
 use Rattle.sl_host_law.specs.Replies.Moves.{EndsBegun}
 use Rattle.sl_sector.specs.Bitmaps.{no_bits}

@@ -5,26 +5,26 @@ use Rattle.sl_host_law.proofs.Answers.LeaseAnswersFollow.{lease_answers_follow}
 use Rattle.sl_host_law.proofs.Answers.LeasesGoOn.{leases_go_on}
 use Rattle.sl_host_law.proofs.Answers.RequestsFollow.{requests_follow}
 use Rattle.sl_host_law.proofs.Answers.SurveysFollow.{surveys_follow}
-use Rattle.sl_host_law.specs.Answers.Answering.{IsAnswerTo}
-use Rattle.sl_host_law.specs.Answers.Carrying.{carrying}
+use Rattle.sl_host_law.specs.Answers.AnswersFollow.{IsAnswerTo}
+use Rattle.sl_host_law.specs.Answers.CarriedDecisions.{carrying}
 use Rattle.sl_host_law.specs.Answers.LeaseAnswers.{area_of}
-use Rattle.sl_host_law.specs.Answers.Leasing.{carrying_lease}
+use Rattle.sl_host_law.specs.Answers.LeaseDecisions.{carrying_lease}
 use Rattle.sl_host_law.specs.Answers.Requests.{Follows}
 use Rattle.sl_host_law.proofs.Calls.InputsAreHeard.{inputs_are_heard}
 use Rattle.sl_due.specs.DueAnswers.{after_answer}
 use Rattle.sl_due.specs.DueInputs.{on_spawned, take_input}
 use Rattle.sl_due.specs.Steps.{Step, seen, with_input}
-use Rattle.sl_host_law.proofs.Plain.KeptJobs.{running_there}
-use Rattle.sl_host_law.proofs.Plain.MembersAreSessions.{numbers_are_apart}
-use Rattle.sl_host_law.proofs.Plain.PlainLists.{at_some, one_there}
-use Rattle.sl_host_state.specs.Hears.{heard_answer, heard_exit, heard_number, heard_start, hearing, is_over_with, job_hearing, member_hearing}
-use Rattle.sl_host_state.specs.Kept.{HostState, MemberState}
-use Rattle.sl_host_state.specs.Makes.{has_write_open, with_end, with_grant, with_reply, with_signal}
+use Rattle.sl_host_law.proofs.SharedFacts.KeptJobs.{running_there}
+use Rattle.sl_host_law.proofs.SharedFacts.MembersAreSessions.{numbers_are_apart}
+use Rattle.sl_host_law.proofs.SharedFacts.PlainLists.{at_some, one_there}
+use Rattle.sl_host_state.specs.HeardInputs.{heard_answer, heard_exit, heard_number, heard_start, hearing, is_over_with, job_hearing, member_hearing}
+use Rattle.sl_host_state.specs.KeptState.{HostState, MemberState}
+use Rattle.sl_host_state.specs.MadeEffects.{has_write_open, with_end, with_grant, with_reply, with_signal}
 use Rattle.sl_host_state.specs.Passes.{whos}
-use Rattle.sl_host_state.specs.Stands.{MemberStands, Stands, is_joining}
-use Rattle.sl_host_state.specs.declared.kept.OpenCall.{OpenCall}
+use Rattle.sl_host_state.specs.HostStands.{MemberStands, Stands, is_joining}
+use Rattle.sl_host_state.specs.declared.kept_parts.OpenCall.{OpenCall}
 use Rattle.sl_host_law.proofs.Steps.AnswersAreKnown.{answers_as_known}
-use Rattle.sl_host_law.proofs.Steps.Alone.{alone, not_joined}
+use Rattle.sl_host_law.proofs.Steps.JoiningNamesApart.{alone, not_joined}
 use Rattle.sl_host_law.proofs.Steps.AreasLie.{begins_at, placed}
 use Rattle.sl_host_law.proofs.Steps.EarlyParts.{over_keeps}
 use Rattle.sl_host_law.proofs.Steps.JoiningsWake.{not_refused}
@@ -33,14 +33,14 @@ use Rattle.sl_host_law.specs.Steps.Answers.{answering, answering_by, answering_f
 use Rattle.sl_host_law.specs.Steps.Inputs.{starting, taking}
 use Rattle.sl_host_law.specs.Steps.Leases.{answered_next}
 use Rattle.sl_host_law.specs.Steps.Passes.{member_numbered}
-use Rattle.sl_host_law.specs.Steps.Sound.{IsEarly, IsLaidOut, IsSound, NamesApart}
-use Rattle.sl_host_law.specs.Steps.Taking.{AnswerComes, InputsAreSound, InputsFollow, IsCallOf, LeaseMay}
-use Rattle.sl_host_law.proofs.Parts.ExitsAreTaken.{exits_are_taken}
-use Rattle.sl_host_law.proofs.Parts.SpawnsAreTaken.{spawns_are_taken}
-use Rattle.sl_host_law.specs.Parts.Exits.{ending, exiting, leaving, refusing_of}
-use Rattle.sl_host_law.specs.Parts.Refusals.{numbers_of}
-use Rattle.sl_host_law.specs.Parts.Spawns.{child_in, replying_if, spawning, started_in, terming}
-use Rattle.sl_plain.proofs.Lists.{any_found, any_of, contains_map, find_fails, find_inside, got_inside, in_map, kept_inside}
+use Rattle.sl_host_law.specs.Steps.SoundHosts.{IsEarly, IsLaidOut, IsSound, NamesApart}
+use Rattle.sl_host_law.specs.Steps.InputsFollow.{AnswerComes, InputsAreSound, InputsFollow, IsCallOf, LeaseMay}
+use Rattle.sl_host_law.proofs.StepParts.ExitsAreTaken.{exits_are_taken}
+use Rattle.sl_host_law.proofs.StepParts.SpawnsAreTaken.{spawns_are_taken}
+use Rattle.sl_host_law.specs.StepParts.Exits.{ending, exiting, leaving, refusing_of}
+use Rattle.sl_host_law.specs.StepParts.Refusals.{numbers_of}
+use Rattle.sl_host_law.specs.StepParts.Spawns.{child_in, replying_if, spawning, started_in, terming}
+use Rattle.sl_words.proofs.Lists.{any_found, any_of, contains_map, find_fails, find_inside, got_inside, in_map, kept_inside}
 use Rattle.sl_host_law.proofs.Questions.AnswersAreTheirs.{answers_are_theirs}
 use Rattle.sl_host_law.specs.Questions.Jobs.{aim_in, goes_on_in, is_of_process_in, running_in}
 use Rattle.sl_host_law.specs.Replies.Moves.{EndsBegun}
@@ -56,11 +56,11 @@ use Rattle.sl_host_law.proofs.Answers.AnswersSetFree.{answers_set_free}
 use Rattle.sl_host_law.specs.Answers.Joinings.{IsDecided}
 use Rattle.sl_host_law.specs.Answers.LeasesGoOn.{IsPlaced}
 use Rattle.sl_host_law.proofs.Replies.Answers.AnswersAreHeard.{answers_are_heard}
-use Rattle.sl_host_state.specs.declared.kept.JobState.{JobState}
-use Rattle.sl_host_state.specs.declared.kept.WaitingCall.{WaitingCall}
+use Rattle.sl_host_state.specs.declared.kept_parts.JobState.{JobState}
+use Rattle.sl_host_state.specs.declared.kept_parts.WaitingCall.{WaitingCall}
 use Rattle.sl_host_law.proofs.Steps.JoiningDecides.{joining_decides}
 use Rattle.sl_trace.specs.declared.lease.Aim.{Aim}
-use Rattle.sl_host_law.specs.Parts.Ends.{removing}
+use Rattle.sl_host_law.specs.StepParts.Ends.{removing}
 use Rattle.sl_trace.specs.declared.effects.JoinStep.{JoinStep}
 use Rattle.sl_trace.specs.declared.effects.LeaseStep.{LeaseStep}
 use Rattle.sl_trace.specs.declared.effects.Move.TheVariants.{Unregister}

@@ -1,13 +1,13 @@
 -- A joining decides by what is kept of its sector as by its calls.
-use Rattle.sl_delta.specs.Decides.{after_join}
-use Rattle.sl_delta.specs.Own.{OwnState, after_answer, joining_told, lease_of}
+use Rattle.sl_delta.specs.DeltaDecisions.{after_join}
+use Rattle.sl_delta.specs.OwnSector.{OwnState, after_answer, joining_told, lease_of}
 use Rattle.sl_delta.proofs.EnoughLaws.{joining_by, told_is}
 use Rattle.sl_due.specs.Steps.{Step}
-use Rattle.sl_host_state.specs.Hears.{joining_hearing}
-use Rattle.sl_host_state.specs.Kept.{Config, HostState, MemberState}
-use Rattle.sl_host_state.specs.New.{IsOfProgram}
-use Rattle.sl_host_state.specs.Stands.{JoinStands, Stands, kept_call}
-use Rattle.sl_host_state.specs.declared.kept.OpenCall.{OpenCall}
+use Rattle.sl_host_state.specs.HeardInputs.{joining_hearing}
+use Rattle.sl_host_state.specs.KeptState.{Config, HostState, MemberState}
+use Rattle.sl_host_state.specs.NewHost.{IsOfProgram}
+use Rattle.sl_host_state.specs.HostStands.{JoinStands, Stands, kept_call}
+use Rattle.sl_host_state.specs.declared.kept_parts.OpenCall.{OpenCall}
 use Rattle.sl_host_law.specs.Steps.Answers.{joining_next, own_of}
 use Rattle.sl_trace.specs.Deltas.{DeltaLease, delta_of_session, next_in_joining}
 use Rattle.sl_trace.specs.Traces.{Submitted}

@@ -1,33 +1,33 @@
 -- A joining goes on by time: its job waits for no call, and no call on its sector is open.
-use Rattle.sl_acts.proofs.LoopsKeep.{when_keeps, with_some_keeps}
-use Rattle.sl_acts.proofs.SessionsStay.{Stays, delta_stays}
-use Rattle.sl_acts.specs.Acts.{Has}
+use Rattle.sl_due_facts.proofs.Acts.LoopsKeep.{when_keeps, with_some_keeps}
+use Rattle.sl_due_facts.proofs.Acts.SessionsStay.{Stays, delta_stays}
+use Rattle.sl_due_facts.specs.Acts.Acts.{Has}
 use Rattle.sl_host_law.proofs.Answers.WakingsFollow.{IsTimeDecision, time_decides, wakings_follow}
-use Rattle.sl_host_law.specs.Answers.Carrying.{carrying, own_sector, reading_own, registering}
-use Rattle.sl_host_law.specs.Answers.Refusing.{refusing}
-use Rattle.sl_host_law.specs.Answers.Wakings.{joining_by_time}
-use Rattle.sl_host_law.specs.Calls.Calls.{is_idle_job}
+use Rattle.sl_host_law.specs.Answers.CarriedDecisions.{carrying, own_sector, reading_own, registering}
+use Rattle.sl_host_law.specs.Answers.RefusalsFollow.{refusing}
+use Rattle.sl_host_law.specs.Answers.WakingsFollow.{joining_by_time}
+use Rattle.sl_host_law.specs.Calls.MemberCalls.{is_idle_job}
 use Rattle.sl_due.specs.DueDelta.{carry_delta}
 use Rattle.sl_due.specs.DueWake.{join_on_wake}
 use Rattle.sl_due.specs.Steps.{Step, seen, when}
-use Rattle.sl_host_law.proofs.Plain.IdleJobs.{open_of_job}
-use Rattle.sl_host_law.proofs.Plain.KeptJobs.{running_there}
-use Rattle.sl_host_law.proofs.Plain.PlainLists.{each_of, none_any}
-use Rattle.sl_host_state.specs.Kept.{HostState, MemberState}
-use Rattle.sl_host_state.specs.Makes.{has_write_open, next_submitted, with_call, with_reply}
-use Rattle.sl_host_state.specs.Stands.{AreInTurn, MemberStands, Stands, is_kept_of, kept_job, kept_waiting, newest_of}
-use Rattle.sl_host_state.specs.declared.kept.JobState.{JobState}
-use Rattle.sl_host_state.specs.declared.kept.JoinCall.{JoinCall}
-use Rattle.sl_host_state.specs.declared.kept.OpenCall.{OpenCall}
-use Rattle.sl_host_law.proofs.Steps.Alone.{alone, not_joined}
+use Rattle.sl_host_law.proofs.SharedFacts.IdleJobs.{open_of_job}
+use Rattle.sl_host_law.proofs.SharedFacts.KeptJobs.{running_there}
+use Rattle.sl_host_law.proofs.SharedFacts.PlainLists.{each_of, none_any}
+use Rattle.sl_host_state.specs.KeptState.{HostState, MemberState}
+use Rattle.sl_host_state.specs.MadeEffects.{has_write_open, next_submitted, with_call, with_reply}
+use Rattle.sl_host_state.specs.HostStands.{AreInTurn, MemberStands, Stands, is_kept_of, kept_job, kept_waiting, newest_of}
+use Rattle.sl_host_state.specs.declared.kept_parts.JobState.{JobState}
+use Rattle.sl_host_state.specs.declared.kept_parts.JoinCall.{JoinCall}
+use Rattle.sl_host_state.specs.declared.kept_parts.OpenCall.{OpenCall}
+use Rattle.sl_host_law.proofs.Steps.JoiningNamesApart.{alone, not_joined}
 use Rattle.sl_host_law.proofs.Steps.PassesFollow.{IsPass}
 use Rattle.sl_host_law.proofs.Steps.SoundParts.{IsCut, cut_move, cut_same, sound_call, sound_cut, sound_removing, sound_reply}
-use Rattle.sl_host_law.specs.Steps.Sound.{IsSound, JoiningsOwn}
-use Rattle.sl_host_law.proofs.Parts.GoneDoNothing.{gone_do_nothing}
-use Rattle.sl_host_law.specs.Parts.Ends.{removing}
-use Rattle.sl_host_law.specs.Parts.Wakes.{delta_in, next_by_newest}
-use Rattle.sl_plain.proofs.Lists.{any_found, any_of, contains_cases, find_inside, got_inside, in_map, kept, kept_inside}
-use Rattle.sl_plain.proofs.Options.{none_is}
+use Rattle.sl_host_law.specs.Steps.SoundHosts.{IsSound, JoiningsOwn}
+use Rattle.sl_host_law.proofs.StepParts.GoneDoNothing.{gone_do_nothing}
+use Rattle.sl_host_law.specs.StepParts.Ends.{removing}
+use Rattle.sl_host_law.specs.StepParts.Wakes.{delta_in, next_by_newest}
+use Rattle.sl_words.proofs.Lists.{any_found, any_of, contains_cases, find_inside, got_inside, in_map, kept, kept_inside}
+use Rattle.sl_words.proofs.Options.{none_is}
 use Rattle.sl_host_law.specs.Questions.Jobs.{joining_in, running_in}
 use Rattle.sl_host_law.specs.Questions.Members.{IsMemberAt}
 use Rattle.sl_host_law.proofs.Replies.OpenCallsAreKept.{open_delta_is}

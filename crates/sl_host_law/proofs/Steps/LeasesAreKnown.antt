@@ -1,17 +1,17 @@
 -- What is known of a lease by its calls is what is kept of it; and where no sectors are in hand the greatest number that is kept is enough.
 use Rattle.sl_area.specs.Layouts.{Layout}
-use Rattle.sl_host_law.proofs.Calls.Calls.SpotsMore.{one_spot}
+use Rattle.sl_host_law.proofs.Calls.MemberCalls.SpotsMore.{one_spot}
 use Rattle.sl_due.specs.Steps.{Step, seen}
-use Rattle.sl_host_law.proofs.Plain.PlainLists.{at_some}
+use Rattle.sl_host_law.proofs.SharedFacts.PlainLists.{at_some}
 use Rattle.sl_host_state.proofs.Pairs.{first_is_kept}
-use Rattle.sl_host_state.specs.Kept.{Config, HostState, LeaseState, MemberState}
-use Rattle.sl_host_state.specs.Makes.{is_lease_on, new_lease}
-use Rattle.sl_host_state.specs.New.{IsOfProgram, sizes_in}
-use Rattle.sl_host_state.specs.Stands.{LeaseStands, top_mbal, turn_kept}
-use Rattle.sl_host_state.specs.declared.kept.TopNumber.{TopNumber}
+use Rattle.sl_host_state.specs.KeptState.{Config, HostState, LeaseState, MemberState}
+use Rattle.sl_host_state.specs.MadeEffects.{is_lease_on, new_lease}
+use Rattle.sl_host_state.specs.NewHost.{IsOfProgram, sizes_in}
+use Rattle.sl_host_state.specs.HostStands.{LeaseStands, top_mbal, turn_kept}
+use Rattle.sl_host_state.specs.declared.kept_parts.TopNumber.{TopNumber}
 use Rattle.sl_host_law.specs.Steps.Leases.{converting_next, kept_blocks, known_by, lease_at, releasing_next, settling_next, top_block}
 use Rattle.sl_lease.proofs.NextLaws.{begins_again}
-use Rattle.sl_lease.specs.Asked.{TopStands, begin_above}
+use Rattle.sl_lease.specs.LeaseQuestions.{TopStands, begin_above}
 use Rattle.sl_lease.specs.declared.evidence.Held.{Held}
 use Rattle.sl_lease.specs.declared.side.Side.{Side}
 use Rattle.sl_trace.specs.LeaseWork.{begin_next, convert_next, owes_block, refuses_block, release_next, settle_begin, settle_next, settle_owed, within_turn}
@@ -22,7 +22,7 @@ use Rattle.sl_trace.specs.declared.lease.Aim.TheVariants.{Converts, Releases, Se
 use Rattle.sl_trace.specs.declared.lease.Aim.{Aim}
 use Rattle.sl_trace.specs.declared.lease.LeaseNext.TheVariants.{ReadFor}
 use Rattle.sl_trace.specs.declared.lease.LeaseNext.{LeaseNext}
-use Rattle.sl_plain.proofs.Lists.{find_inside}
+use Rattle.sl_words.proofs.Lists.{find_inside}
 use Rattle.sl_host_law.proofs.Questions.MembersAnswer.{members_answer}
 use Rattle.sl_host_law.specs.Questions.Answers.{converting_in, known_in, place_in, releasing_in, settling_in}
 use Rattle.sl_host_law.specs.Questions.Members.{IsMemberAt, exclusive_at, me_in, over_in, shared_at}

@@ -1,10 +1,10 @@
 -- A line that grants, ends or converts a holding does nothing else by its reply.
-use Rattle.sl_host_law.specs.Decisions.Deciding.{decision_of, held_of, killpath_decision, leave_decision, member_of, member_refusal, process_refused, with_member}
+use Rattle.sl_host_law.specs.Decisions.CommandDecisions.{decision_of, held_of, killpath_decision, leave_decision, member_of, member_refusal, process_refused, with_member}
 use Rattle.sl_due.specs.DueCommands.{unless_refused}
 use Rattle.sl_due.specs.declared.decision.Decision.TheVariants.{Leaves, Replies}
 use Rattle.sl_due.specs.declared.decision.Decision.{Decision}
-use Rattle.sl_host_state.specs.Kept.{HostState, MemberState}
-use Rattle.sl_host_law.specs.Replies.Replies.{is_plain_line}
+use Rattle.sl_host_state.specs.KeptState.{HostState, MemberState}
+use Rattle.sl_host_law.specs.Replies.RepliesAreTaken.{is_plain_line}
 use Rattle.sl_trace.specs.declared.command.Command.TheVariants.{Acquire, AddLockspace, Convert, GetLvb, HostStatus, InqLockspace, Release, ReleaseOrphan, RemLockspace, Request, RunProgram, SetKillpath, SetLvb, Status, TakeOver}
 use Rattle.sl_trace.specs.declared.command.Command.{Command}
 use Rattle.sl_trace.specs.declared.command.LockspaceArg.{LockspaceArg}

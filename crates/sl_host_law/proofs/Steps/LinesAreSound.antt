@@ -1,45 +1,45 @@
 -- A line leaves a host sound: its job is new, so it is no member's yet, and no call is its.
-use Rattle.sl_acts.proofs.DecisionsAreTheirs.{decisions_are_theirs}
-use Rattle.sl_acts.specs.Promises.{IsDecidedFor}
+use Rattle.sl_due_facts.proofs.Acts.DecisionsAreTheirs.{decisions_are_theirs}
+use Rattle.sl_due_facts.specs.Acts.DueDaemons.{IsDecidedFor}
 use Rattle.sl_host_law.proofs.Answers.AnswersSetFree.{of_trace}
 use Rattle.sl_host_law.specs.Answers.Grants.{after_giving, given_up}
-use Rattle.sl_host_law.specs.Answers.Leasing.{carrying_lease}
+use Rattle.sl_host_law.specs.Answers.LeaseDecisions.{carrying_lease}
 use Rattle.sl_area.specs.Places.{delta_offset}
 use Rattle.sl_host_law.proofs.Decisions.CommandsAreDecided.{commands_are_decided}
-use Rattle.sl_host_law.specs.Decisions.Deciding.{decision_of, held_on, joined_refused, member_named, member_refusal}
-use Rattle.sl_host_law.specs.Decisions.Promises.{LastIsEnough}
+use Rattle.sl_host_law.specs.Decisions.CommandDecisions.{decision_of, held_on, joined_refused, member_named, member_refusal}
+use Rattle.sl_host_law.specs.Decisions.DecisionLaws.{LastIsEnough}
 use Rattle.sl_due.specs.DueCommands.{unless_refused}
 use Rattle.sl_due.specs.Steps.{Step, seen}
 use Rattle.sl_due.specs.declared.decision.Decision.TheVariants.{ConvertsTo, GetsValue, GivesUp, Joins, Leaves, ReadsArea, Replies, Requests, SetsValue, Shares, TakesOver}
 use Rattle.sl_due.specs.declared.decision.Decision.{Decision}
-use Rattle.sl_host_law.proofs.Plain.KeptJobs.{leaving_numbered}
-use Rattle.sl_host_law.proofs.Plain.MembersAreSessions.{member_inside}
-use Rattle.sl_host_law.proofs.Plain.NewNumbers.{mapped_inside}
-use Rattle.sl_host_law.proofs.Plain.PlainLists.{all_front, at_some, each_of}
-use Rattle.sl_host_law.proofs.Plain.PlainOrders.{put_inside}
-use Rattle.sl_host_law.proofs.Plain.SessionNumbers.{HasJobBelow, numbered_below, session_jobs_below}
-use Rattle.sl_host_state.specs.Hears.{answered_line, heard_line, leaves_member, member_leaving}
-use Rattle.sl_host_state.specs.Kept.{HostState, MemberState}
-use Rattle.sl_host_state.specs.Makes.{next_submitted, with_call, with_member, with_reply}
-use Rattle.sl_host_state.specs.New.{new_member}
+use Rattle.sl_host_law.proofs.SharedFacts.KeptJobs.{leaving_numbered}
+use Rattle.sl_host_law.proofs.SharedFacts.MembersAreSessions.{member_inside}
+use Rattle.sl_host_law.proofs.SharedFacts.NewNumbers.{mapped_inside}
+use Rattle.sl_host_law.proofs.SharedFacts.PlainLists.{all_front, at_some, each_of}
+use Rattle.sl_host_law.proofs.SharedFacts.PlainOrders.{put_inside}
+use Rattle.sl_host_law.proofs.SharedFacts.SessionNumbers.{HasJobBelow, numbered_below, session_jobs_below}
+use Rattle.sl_host_state.specs.HeardInputs.{answered_line, heard_line, leaves_member, member_leaving}
+use Rattle.sl_host_state.specs.KeptState.{HostState, MemberState}
+use Rattle.sl_host_state.specs.MadeEffects.{next_submitted, with_call, with_member, with_reply}
+use Rattle.sl_host_state.specs.NewHost.{new_member}
 use Rattle.sl_host_state.specs.Passes.{whos}
-use Rattle.sl_host_state.specs.Stands.{Stands, is_kept_of}
-use Rattle.sl_host_state.specs.declared.kept.OpenCall.{OpenCall}
+use Rattle.sl_host_state.specs.HostStands.{Stands, is_kept_of}
+use Rattle.sl_host_state.specs.declared.kept_parts.OpenCall.{OpenCall}
 use Rattle.sl_host_law.proofs.Steps.AnswersAreSound.{granted, leased}
 use Rattle.sl_host_law.proofs.Steps.InputsFollow.{same_members}
 use Rattle.sl_host_law.proofs.Steps.LinesArePlain.{is_of_line, plain_by}
 use Rattle.sl_host_law.proofs.Steps.SoundBefore.{stopping_sound}
 use Rattle.sl_host_law.proofs.Steps.SoundParts.{IsCut, Was, laid_as, sound_call, sound_cut, sound_reply}
 use Rattle.sl_host_law.specs.Steps.Leases.{converting_next, releasing_next}
-use Rattle.sl_host_law.specs.Steps.Lines.{deciding, lining}
+use Rattle.sl_host_law.specs.Steps.LineSteps.{deciding, lining}
 use Rattle.sl_host_law.specs.Steps.Passes.{at_member, member_numbered}
-use Rattle.sl_host_law.specs.Steps.Sound.{IsSound}
+use Rattle.sl_host_law.specs.Steps.SoundHosts.{IsSound}
 use Rattle.sl_trace.specs.Leases.{spot_of}
 use Rattle.sl_trace.specs.declared.lease.LeaseNext.{LeaseNext}
-use Rattle.sl_host_law.specs.Parts.Refusals.{signalling_and_refusing}
-use Rattle.sl_plain.proofs.Lists.{contains_map, find_fails, in_map, kept_inside}
-use Rattle.sl_plain.proofs.Numbers.{number_itself}
-use Rattle.sl_host_law.specs.Replies.Replies.{is_plain_line}
+use Rattle.sl_host_law.specs.StepParts.Refusals.{signalling_and_refusing}
+use Rattle.sl_words.proofs.Lists.{contains_map, find_fails, in_map, kept_inside}
+use Rattle.sl_words.proofs.Numbers.{number_itself}
+use Rattle.sl_host_law.specs.Replies.RepliesAreTaken.{is_plain_line}
 use Rattle.sl_trace.specs.Sessions.{is_delta_purpose, is_session_arg, joining_session, sessions}
 use Rattle.sl_trace.specs.declared.delta.DeltaKnown.{DeltaKnown}
 use Rattle.sl_trace.specs.declared.session.Begun.{Begun}

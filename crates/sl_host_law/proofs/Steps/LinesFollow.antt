@@ -1,36 +1,36 @@
 -- A line follows what is due, decision by decision.
-use Rattle.sl_acts.proofs.DecisionsAreTheirs.{decisions_are_theirs}
-use Rattle.sl_acts.specs.Promises.{IsDecidedFor, IsPresent}
+use Rattle.sl_due_facts.proofs.Acts.DecisionsAreTheirs.{decisions_are_theirs}
+use Rattle.sl_due_facts.specs.Acts.DueDaemons.{IsDecidedFor, IsPresent}
 use Rattle.sl_host_law.proofs.Answers.GrantsAreTaken.{grants_are_taken}
 use Rattle.sl_host_law.specs.Answers.Grants.{after_giving, ended, given_up}
-use Rattle.sl_host_law.specs.Answers.Leasing.{carrying_lease, granting_for}
+use Rattle.sl_host_law.specs.Answers.LeaseDecisions.{carrying_lease, granting_for}
 use Rattle.sl_area.specs.Places.{area_sectors, value_offset}
 use Rattle.sl_host_law.proofs.Decisions.CommandsAreDecided.{commands_are_decided}
-use Rattle.sl_host_law.specs.Decisions.Deciding.{decision_of}
+use Rattle.sl_host_law.specs.Decisions.CommandDecisions.{decision_of}
 use Rattle.sl_due.specs.DueCommands.{on_line}
 use Rattle.sl_due.specs.DueInputs.{take_input}
 use Rattle.sl_due.specs.Steps.{Step, seen, with_input}
 use Rattle.sl_due.specs.declared.decision.Decision.TheVariants.{ConvertsTo, GetsValue, GivesUp, Joins, Leaves, ReadsArea, Replies, Requests, SetsValue, Shares, TakesOver}
 use Rattle.sl_due.specs.declared.decision.Decision.{Decision}
-use Rattle.sl_host_law.proofs.Plain.MembersAreSessions.{members_are_sessions}
-use Rattle.sl_host_law.proofs.Plain.PlainLists.{at_some}
-use Rattle.sl_host_state.proofs.Others.{effects_are_taken}
-use Rattle.sl_host_state.specs.Hears.{answered_line, heard_line, leaves_member, member_leaving}
-use Rattle.sl_host_state.specs.Kept.{HostState, MemberState}
-use Rattle.sl_host_state.specs.Makes.{with_call}
-use Rattle.sl_host_state.specs.Stands.{Stands}
+use Rattle.sl_host_law.proofs.SharedFacts.MembersAreSessions.{members_are_sessions}
+use Rattle.sl_host_law.proofs.SharedFacts.PlainLists.{at_some}
+use Rattle.sl_host_state.proofs.EffectsAreTaken.{effects_are_taken}
+use Rattle.sl_host_state.specs.HeardInputs.{answered_line, heard_line, leaves_member, member_leaving}
+use Rattle.sl_host_state.specs.KeptState.{HostState, MemberState}
+use Rattle.sl_host_state.specs.MadeEffects.{with_call}
+use Rattle.sl_host_state.specs.HostStands.{Stands}
 use Rattle.sl_host_law.proofs.Steps.LinesArePlain.{plain_by}
 use Rattle.sl_host_law.proofs.Steps.LeasesAreKnown.{converts_as_known, releases_as_known}
 use Rattle.sl_host_law.specs.Steps.Leases.{converting_next, releasing_next}
-use Rattle.sl_host_law.specs.Steps.Lines.{deciding, lining}
-use Rattle.sl_host_law.specs.Steps.Lining.{LineMay, LinesFollow, MayDecide}
+use Rattle.sl_host_law.specs.Steps.LineSteps.{deciding, lining}
+use Rattle.sl_host_law.specs.Steps.LinesFollow.{LineMay, LinesFollow, MayDecide}
 use Rattle.sl_host_law.specs.Steps.Passes.{at_member, member_numbered}
-use Rattle.sl_host_law.specs.Steps.Sound.{IsEarly, IsSound}
+use Rattle.sl_host_law.specs.Steps.SoundHosts.{IsEarly, IsSound}
 use Rattle.sl_trace.specs.Leases.{spot_of}
-use Rattle.sl_host_law.proofs.Parts.LinesAreTaken.{lines_are_taken}
-use Rattle.sl_host_law.specs.Parts.Lines.{HeardBy, LineComes}
-use Rattle.sl_host_law.specs.Parts.Refusals.{signalling_and_refusing}
-use Rattle.sl_plain.proofs.Lists.{contains_map, find_fails, find_inside, in_map}
+use Rattle.sl_host_law.proofs.StepParts.LinesAreTaken.{lines_are_taken}
+use Rattle.sl_host_law.specs.StepParts.Lines.{HeardBy, LineComes}
+use Rattle.sl_host_law.specs.StepParts.Refusals.{signalling_and_refusing}
+use Rattle.sl_words.proofs.Lists.{contains_map, find_fails, find_inside, in_map}
 use Rattle.sl_host_law.specs.Questions.Members.{IsMemberAt}
 use Rattle.sl_sector.specs.declared.sector.Rec.TheVariants.{ValueIs}
 use Rattle.sl_trace.specs.Sessions.{session_numbered}

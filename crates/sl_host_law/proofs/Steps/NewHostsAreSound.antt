@@ -1,11 +1,11 @@
 -- A new host is sound: nobody leaves, no job joins, and no call is open.
-use Rattle.sl_host_law.proofs.Plain.PlainOrders.{ordered_inside}
-use Rattle.sl_host_state.specs.Kept.{MemberState}
-use Rattle.sl_host_state.specs.New.{given_sessions, new_host, new_member}
+use Rattle.sl_host_law.proofs.SharedFacts.PlainOrders.{ordered_inside}
+use Rattle.sl_host_state.specs.KeptState.{MemberState}
+use Rattle.sl_host_state.specs.NewHost.{given_sessions, new_host, new_member}
 use Rattle.sl_host_state.specs.Passes.{whos}
-use Rattle.sl_host_state.specs.Stands.{config_of}
+use Rattle.sl_host_state.specs.HostStands.{config_of}
 use Rattle.sl_host_law.specs.Steps.NewHosts.{NewHostsAreSound}
-use Rattle.sl_plain.proofs.Lists.{contains_none, in_map}
+use Rattle.sl_words.proofs.Lists.{contains_none, in_map}
 use Rattle.sl_trace.specs.Sessions.{given_session}
 use Rattle.sl_trace.specs.declared.session.Session.{Session}
 use Rattle.sl_trace.specs.Traces.{Setting}

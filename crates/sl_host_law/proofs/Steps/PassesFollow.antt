@@ -1,17 +1,17 @@
 -- A pass over members follows a pass over sessions: each member is found again, and for a session that is gone nothing is due.
-use Rattle.sl_acts.proofs.SessionsStay.{Stays}
-use Rattle.sl_acts.specs.Acts.{Has}
+use Rattle.sl_due_facts.proofs.Acts.SessionsStay.{Stays}
+use Rattle.sl_due_facts.specs.Acts.Acts.{Has}
 use Rattle.sl_due.specs.Steps.{Step, for_each, seen}
 use Rattle.sl_due.specs.DueWake.{for_sessions}
-use Rattle.sl_host_law.proofs.Plain.MembersAreSessions.{members_are_sessions}
-use Rattle.sl_host_law.proofs.Plain.PlainLists.{at_some}
-use Rattle.sl_host_state.specs.Kept.{HostState, MemberState}
-use Rattle.sl_host_state.specs.Stands.{Stands}
+use Rattle.sl_host_law.proofs.SharedFacts.MembersAreSessions.{members_are_sessions}
+use Rattle.sl_host_law.proofs.SharedFacts.PlainLists.{at_some}
+use Rattle.sl_host_state.specs.KeptState.{HostState, MemberState}
+use Rattle.sl_host_state.specs.HostStands.{Stands}
 use Rattle.sl_host_law.specs.Steps.Passes.{at_member, for_members, member_numbered}
-use Rattle.sl_host_law.specs.Parts.Recoveries.{IsGone}
-use Rattle.sl_host_law.specs.Parts.Signals.{over}
-use Rattle.sl_acts.proofs.WakesKeep.{present_has}
-use Rattle.sl_plain.proofs.Lists.{contains_first, contains_more, find_fails, find_inside}
+use Rattle.sl_host_law.specs.StepParts.Recoveries.{IsGone}
+use Rattle.sl_host_law.specs.StepParts.Signals.{over}
+use Rattle.sl_due_facts.proofs.Acts.WakesKeep.{present_has}
+use Rattle.sl_words.proofs.Lists.{contains_first, contains_more, find_fails, find_inside}
 use Rattle.sl_host_law.specs.Questions.Members.{IsMemberAt}
 use Rattle.sl_trace.specs.Sessions.{present_sessions, session_numbered}
 use Rattle.sl_trace.specs.declared.session.Session.{Session}
@@ -20,7 +20,7 @@ use Rattle.sl_words.proofs.CaseLaws.{is_false, some_value, true_is_false}
 use Rattle.std.proofs.Common.{ap, refl, subst, sym, ◌∙◌}
 use Rattle.std.proofs.lemmas.Bool.Decides.{Decides-eqb}
 use Rattle.std.specs.List.{list_any}
-use Rattle.sl_plain.proofs.Lists.{any_found}
+use Rattle.sl_words.proofs.Lists.{any_found}
 use Rattle.std.specs.Prelude.{Contains, List, None, Option, Some, false, map, slice_get, true, [], ℕ, ◌==◌, ◌∷◌, ◌≡◌}
 
 -- What is asked of a pass: a state after a part follows the step after it and keeps P; nothing is done for a session that is gone; and

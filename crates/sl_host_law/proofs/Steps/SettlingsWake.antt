@@ -1,21 +1,21 @@
 -- Leases are settled by place: each is found again with its member, and none goes while the others are settled.
-use Rattle.sl_acts.proofs.LoopsKeep.{for_each_keeps, when_keeps}
-use Rattle.sl_acts.proofs.SessionsStay.{Stays, delta_stays, lease_stays}
-use Rattle.sl_acts.specs.Acts.{Has, next_of_settling}
+use Rattle.sl_due_facts.proofs.Acts.LoopsKeep.{for_each_keeps, when_keeps}
+use Rattle.sl_due_facts.proofs.Acts.SessionsStay.{Stays, delta_stays, lease_stays}
+use Rattle.sl_due_facts.specs.Acts.Acts.{Has, next_of_settling}
 use Rattle.sl_host_law.proofs.Answers.SettlingsMay.{settlings_may}
 use Rattle.sl_host_law.proofs.Answers.WakingsFollow.{wakings_follow}
-use Rattle.sl_host_law.specs.Answers.Leasing.{carrying_lease}
+use Rattle.sl_host_law.specs.Answers.LeaseDecisions.{carrying_lease}
 use Rattle.sl_area.specs.Layouts.{Layout}
-use Rattle.sl_host_law.proofs.Calls.Calls.SpotsMore.{spot_itself}
-use Rattle.sl_host_law.specs.Decisions.Deciding.{is_active_member}
+use Rattle.sl_host_law.proofs.Calls.MemberCalls.SpotsMore.{spot_itself}
+use Rattle.sl_host_law.specs.Decisions.CommandDecisions.{is_active_member}
 use Rattle.sl_due.specs.DueWake.{for_sessions, join_on_wake, on_wake, renew_on_wake, settle_on_wake, settlings}
 use Rattle.sl_due.specs.Steps.{Step, for_each, seen, when}
-use Rattle.sl_host_law.proofs.Plain.MembersAreSessions.{numbers_are_apart}
-use Rattle.sl_host_law.proofs.Plain.PlainLists.{at_some, found_some, mapped_at, one_there}
-use Rattle.sl_host_law.proofs.Plain.PlainOrders.{put_old}
-use Rattle.sl_host_state.specs.Kept.{HostState, LeaseState, MemberState}
-use Rattle.sl_host_state.specs.Makes.{is_lease_on, joining_calling, known_calling, lease_calling, leases_calling, leases_working, member_calling, new_lease, next_submitted, value_calling, with_call}
-use Rattle.sl_host_state.specs.Stands.{Stands, pair_of}
+use Rattle.sl_host_law.proofs.SharedFacts.MembersAreSessions.{numbers_are_apart}
+use Rattle.sl_host_law.proofs.SharedFacts.PlainLists.{at_some, found_some, mapped_at, one_there}
+use Rattle.sl_host_law.proofs.SharedFacts.PlainOrders.{put_old}
+use Rattle.sl_host_state.specs.KeptState.{HostState, LeaseState, MemberState}
+use Rattle.sl_host_state.specs.MadeEffects.{is_lease_on, joining_calling, known_calling, lease_calling, leases_calling, leases_working, member_calling, new_lease, next_submitted, value_calling, with_call}
+use Rattle.sl_host_state.specs.HostStands.{Stands, pair_of}
 use Rattle.sl_host_law.proofs.Steps.AreasLie.{placed, spots_begin}
 use Rattle.sl_host_law.proofs.Steps.JoiningsWake.{joins}
 use Rattle.sl_host_law.proofs.Steps.LeasesAreKnown.{settles_as_known}
@@ -23,20 +23,20 @@ use Rattle.sl_host_law.proofs.Steps.PassesFollow.{IsPass, Passed, all}
 use Rattle.sl_host_law.proofs.Steps.SoundParts.{sound_call}
 use Rattle.sl_host_law.specs.Steps.Leases.{settling_next}
 use Rattle.sl_host_law.specs.Steps.Passes.{at_member, for_members, member_numbered}
-use Rattle.sl_host_law.specs.Steps.Sound.{IsSound}
-use Rattle.sl_host_law.specs.Steps.Wakes.{settling_all, settling_here, waking}
-use Rattle.sl_host_law.specs.Steps.Waking.{WakesFollow}
+use Rattle.sl_host_law.specs.Steps.SoundHosts.{IsSound}
+use Rattle.sl_host_law.specs.Steps.WakePasses.{settling_all, settling_here, waking}
+use Rattle.sl_host_law.specs.Steps.WakesFollow.{WakesFollow}
 use Rattle.sl_trace.specs.Leases.{is_lease_call, is_on, is_spot_before, lease_spots, open_on, spot_of_call, value_written}
 use Rattle.sl_trace.specs.declared.lease.LeaseNext.TheVariants.{AnswerJob, BecomeExclusive, BecomeShared, GrantJob, Nothing, ReadFor, WriteBlock, WriteLeader}
 use Rattle.sl_trace.specs.declared.lease.LeaseNext.{LeaseNext}
-use Rattle.sl_host_law.proofs.Parts.EndsAreTaken.{ends_are_taken}
-use Rattle.sl_host_law.proofs.Parts.GoneDoNothing.{gone_do_nothing}
-use Rattle.sl_host_law.proofs.Parts.MembersWake.{members_wake}
-use Rattle.sl_host_law.specs.Parts.Ends.{renewing_in, writing_own}
-use Rattle.sl_host_law.specs.Parts.Signals.{over}
-use Rattle.sl_host_law.specs.Parts.Wakes.{bits_in, delta_in, is_free_at}
+use Rattle.sl_host_law.proofs.StepParts.EndsAreTaken.{ends_are_taken}
+use Rattle.sl_host_law.proofs.StepParts.GoneDoNothing.{gone_do_nothing}
+use Rattle.sl_host_law.proofs.StepParts.MembersWake.{members_wake}
+use Rattle.sl_host_law.specs.StepParts.Ends.{renewing_in, writing_own}
+use Rattle.sl_host_law.specs.StepParts.Signals.{over}
+use Rattle.sl_host_law.specs.StepParts.Wakes.{bits_in, delta_in, is_free_at}
 use Rattle.sl_area.specs.Places.{delta_offset}
-use Rattle.sl_plain.proofs.Lists.{contains_first, contains_map, contains_more, find_fails, find_inside, got_inside, in_map}
+use Rattle.sl_words.proofs.Lists.{contains_first, contains_map, contains_more, find_fails, find_inside, got_inside, in_map}
 use Rattle.sl_host_law.specs.Questions.Members.{IsMemberAt}
 use Rattle.sl_sector.specs.declared.sector.DeltaRec.{DeltaRec}
 use Rattle.sl_sector.specs.declared.sector.DeltaState.TheVariants.{Live}
@@ -62,7 +62,7 @@ use Rattle.std.proofs.lemmas.Bool.Decides.{Decides-eqb}
 use Rattle.std.specs.List.{list_any}
 use Rattle.std.specs.Option.{option_or}
 use Rattle.sl_due.specs.DueLease.{settle}
-use Rattle.sl_host_law.specs.Answers.Wakings.{joining_by_time}
+use Rattle.sl_host_law.specs.Answers.WakingsFollow.{joining_by_time}
 use Rattle.sl_words.specs.Orders.{put_in}
 use Rattle.std.specs.Prelude.{Bool, Contains, List, None, Option, Some, cond, false, find, is_some, map, option_map, slice_get, true, [], ℕ, ◌+◌, ◌&&◌, ◌==◌, ◌∷◌, ◌≡◌}
 

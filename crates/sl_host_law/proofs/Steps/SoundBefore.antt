@@ -1,22 +1,22 @@
 -- What comes before an input leaves a host sound.
-use Rattle.sl_host_law.specs.Answers.Refusing.{refusing, timing_out}
-use Rattle.sl_host_state.specs.Asks.{begins_in, is_kill_due_in, stopper_in}
-use Rattle.sl_host_state.specs.Hears.{beginning, begun, counted, is_late, member_begun, with_renewing}
-use Rattle.sl_host_state.specs.Kept.{HostState, MemberState}
-use Rattle.sl_host_state.specs.Makes.{with_reply, with_signal, with_start}
-use Rattle.sl_host_state.specs.declared.kept.JobState.{JobState}
-use Rattle.sl_host_state.specs.declared.kept.WaitingCall.{WaitingCall}
+use Rattle.sl_host_law.specs.Answers.RefusalsFollow.{refusing, timing_out}
+use Rattle.sl_host_state.specs.StepQuestions.{begins_in, is_kill_due_in, stopper_in}
+use Rattle.sl_host_state.specs.HeardInputs.{beginning, begun, counted, is_late, member_begun, with_renewing}
+use Rattle.sl_host_state.specs.KeptState.{HostState, MemberState}
+use Rattle.sl_host_state.specs.MadeEffects.{with_reply, with_signal, with_start}
+use Rattle.sl_host_state.specs.declared.kept_parts.JobState.{JobState}
+use Rattle.sl_host_state.specs.declared.kept_parts.WaitingCall.{WaitingCall}
 use Rattle.sl_host_law.proofs.Steps.EarlyParts.{over_keeps}
 use Rattle.sl_host_law.proofs.Steps.InputsFollow.{same_members}
 use Rattle.sl_host_law.proofs.Steps.JoiningsWake.{refusing_sound}
 use Rattle.sl_host_law.proofs.Steps.SoundParts.{Was, sound_cut, sound_reply}
 use Rattle.sl_host_law.specs.Steps.Passes.{at_job, at_member, for_members, job_with, member_numbered}
-use Rattle.sl_host_law.specs.Steps.Sound.{IsSound}
-use Rattle.sl_host_law.specs.Steps.Stepping.{before_taking}
-use Rattle.sl_host_law.specs.Parts.Recoveries.{killing, recovering_in}
-use Rattle.sl_host_law.specs.Parts.Refusals.{jobs_but, numbers_of, signalling_and_refusing}
-use Rattle.sl_host_law.specs.Parts.Signals.{over, sending, signalling}
-use Rattle.sl_plain.proofs.Lists.{in_map}
+use Rattle.sl_host_law.specs.Steps.SoundHosts.{IsSound}
+use Rattle.sl_host_law.specs.Steps.StepFunction.{before_taking}
+use Rattle.sl_host_law.specs.StepParts.Recoveries.{killing, recovering_in}
+use Rattle.sl_host_law.specs.StepParts.Refusals.{jobs_but, numbers_of, signalling_and_refusing}
+use Rattle.sl_host_law.specs.StepParts.Signals.{over, sending, signalling}
+use Rattle.sl_words.proofs.Lists.{in_map}
 use Rattle.sl_host_law.specs.Questions.Jobs.{is_overdue_in}
 use Rattle.sl_host_law.specs.Questions.Members.{holders_in}
 use Rattle.sl_trace.specs.Traces.{first_child}

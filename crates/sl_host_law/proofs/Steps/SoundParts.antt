@@ -1,15 +1,15 @@
 -- What leaves a host sound: what only takes members out, and a call that is its job's.
 use Rattle.sl_area.specs.Layouts.{IsGeometry, Layout}
-use Rattle.sl_host_law.proofs.Plain.PlainLists.{in_either, in_flat}
-use Rattle.sl_host_state.specs.Kept.{Config, HostState, MemberState}
-use Rattle.sl_host_state.specs.Makes.{calling, has_write_open, is_ended_by_move, joining_calling, known_calling, leases_calling, member_answered, member_calling, member_replying, with_move, with_reply}
-use Rattle.sl_host_state.specs.New.{IsOfProgram, sizes_in}
+use Rattle.sl_host_law.proofs.SharedFacts.PlainLists.{in_either, in_flat}
+use Rattle.sl_host_state.specs.KeptState.{Config, HostState, MemberState}
+use Rattle.sl_host_state.specs.MadeEffects.{calling, has_write_open, is_ended_by_move, joining_calling, known_calling, leases_calling, member_answered, member_calling, member_replying, with_move, with_reply}
+use Rattle.sl_host_state.specs.NewHost.{IsOfProgram, sizes_in}
 use Rattle.sl_host_state.specs.Passes.{whos}
-use Rattle.sl_host_state.specs.Stands.{is_joining, is_kept_of, kept_call}
-use Rattle.sl_host_state.specs.declared.kept.OpenCall.{OpenCall}
-use Rattle.sl_host_law.specs.Steps.Sound.{IsLaidOut, IsSound}
-use Rattle.sl_host_law.specs.Parts.Ends.{removing}
-use Rattle.sl_plain.proofs.Lists.{contains_cases, contains_map, contains_none, in_map, kept_inside}
+use Rattle.sl_host_state.specs.HostStands.{is_joining, is_kept_of, kept_call}
+use Rattle.sl_host_state.specs.declared.kept_parts.OpenCall.{OpenCall}
+use Rattle.sl_host_law.specs.Steps.SoundHosts.{IsLaidOut, IsSound}
+use Rattle.sl_host_law.specs.StepParts.Ends.{removing}
+use Rattle.sl_words.proofs.Lists.{contains_cases, contains_map, contains_none, in_map, kept_inside}
 use Rattle.sl_trace.specs.Sessions.{is_delta_purpose, is_join_done}
 use Rattle.sl_trace.specs.declared.session.Session.{Session}
 use Rattle.sl_trace.specs.Traces.{Submitted}

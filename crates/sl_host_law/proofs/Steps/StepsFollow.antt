@@ -1,15 +1,15 @@
 -- The whole of a step follows what is due, part after part.
-use Rattle.sl_acts.proofs.StepsKeep.{Fixed, due_is_of, expected_there}
-use Rattle.sl_acts.proofs.TracesKeep.{due_is_seen}
+use Rattle.sl_due_facts.proofs.Acts.StepsKeep.{Fixed, due_is_of, expected_there}
+use Rattle.sl_due_facts.proofs.Acts.TracesKeep.{due_is_seen}
 use Rattle.sl_due.specs.Due.{IsDue, after_input, before_input, due, due_step}
 use Rattle.sl_due.specs.DueInputs.{take_input}
 use Rattle.sl_due.specs.DueWake.{is_wake, on_wake}
 use Rattle.sl_due.specs.Steps.{Step, begin_step, when}
-use Rattle.sl_host_state.proofs.Resting.{steps_are_over}
-use Rattle.sl_host_state.specs.Hears.{begun, rested}
-use Rattle.sl_host_state.specs.Kept.{HostState}
-use Rattle.sl_host_state.specs.Resting.{entry_of}
-use Rattle.sl_host_state.specs.Stands.{HostStands, Stands}
+use Rattle.sl_host_state.proofs.StepsAreOver.{steps_are_over}
+use Rattle.sl_host_state.specs.HeardInputs.{begun, rested}
+use Rattle.sl_host_state.specs.KeptState.{HostState}
+use Rattle.sl_host_state.specs.StepsAreOver.{entry_of}
+use Rattle.sl_host_state.specs.HostStands.{HostStands, Stands}
 use Rattle.sl_host_law.proofs.Steps.BeginningsFollow.{beginnings_follow}
 use Rattle.sl_host_law.proofs.Steps.EndingsFollow.{endings_follow}
 use Rattle.sl_host_law.proofs.Steps.InputsFollow.{inputs_are_sound, inputs_follow, same_members}
@@ -19,11 +19,11 @@ use Rattle.sl_host_law.proofs.Steps.SettlingsWake.{wakes_follow}
 use Rattle.sl_host_law.proofs.Steps.SoundBefore.{before_sound}
 use Rattle.sl_host_law.proofs.Steps.AnswersAreSound.{answers_are_sound}
 use Rattle.sl_host_law.specs.Steps.Inputs.{taking}
-use Rattle.sl_host_law.specs.Steps.Sound.{IsEarly, IsSound}
-use Rattle.sl_host_law.specs.Steps.Stepping.{before_taking, stepped, stepping}
-use Rattle.sl_host_law.specs.Steps.Wakes.{waking}
-use Rattle.sl_host_law.specs.Steps.Whole.{StepComes, StepsFollow, entry_at}
-use Rattle.sl_plain.proofs.Lists.{head_is, tail_is}
+use Rattle.sl_host_law.specs.Steps.SoundHosts.{IsEarly, IsSound}
+use Rattle.sl_host_law.specs.Steps.StepFunction.{before_taking, stepped, stepping}
+use Rattle.sl_host_law.specs.Steps.WakePasses.{waking}
+use Rattle.sl_host_law.specs.Steps.StepsFollow.{StepComes, StepsFollow, entry_at}
+use Rattle.sl_words.proofs.Lists.{head_is, tail_is}
 use Rattle.sl_trace.specs.Traces.{FollowsTrace, Setting, Trace, is_expected}
 use Rattle.sl_trace.specs.declared.effects.Entry.{Entry}
 use Rattle.sl_trace.specs.declared.input.Input.TheVariants.{Answer as Told, Exit, Line, Number, Spawned, Wake}

@@ -1,19 +1,19 @@
 -- Lines that give or take a holding at once: a shared grant beside another, a take-over, a release, a conversion. What a lease does next
 -- is told by its own state.
-use Rattle.sl_host_law.specs.Answers.Leasing.{MayCarryLease, carrying_lease, granting_for}
-use Rattle.sl_host_law.specs.Decisions.Deciding.{held_on}
+use Rattle.sl_host_law.specs.Answers.LeaseDecisions.{MayCarryLease, carrying_lease, granting_for}
+use Rattle.sl_host_law.specs.Decisions.CommandDecisions.{held_on}
 use Rattle.sl_due.specs.DueCommands.{on_line}
 use Rattle.sl_due.specs.Steps.{Step, add_end, with_input}
 use Rattle.sl_due.specs.declared.decision.Decision.TheVariants.{ConvertsTo, GivesUp, Shares, TakesOver}
-use Rattle.sl_host_state.specs.Hears.{heard_line}
-use Rattle.sl_host_state.specs.Kept.{HostState, MemberState}
-use Rattle.sl_host_state.specs.Makes.{with_end, with_reply}
-use Rattle.sl_host_state.specs.Stands.{Stands}
+use Rattle.sl_host_state.specs.HeardInputs.{heard_line}
+use Rattle.sl_host_state.specs.KeptState.{HostState, MemberState}
+use Rattle.sl_host_state.specs.MadeEffects.{with_end, with_reply}
+use Rattle.sl_host_state.specs.HostStands.{Stands}
 use Rattle.sl_trace.specs.Leases.{spot_of}
 use Rattle.sl_trace.specs.declared.lease.LeaseNext.{LeaseNext}
-use Rattle.sl_host_law.specs.Parts.Lines.{HeardBy, LineComes}
+use Rattle.sl_host_law.specs.StepParts.Lines.{HeardBy, LineComes}
 use Rattle.sl_host_law.specs.Questions.Answers.{converting_in, releasing_in}
-use Rattle.sl_host_law.specs.Replies.Replies.{is_plain_line}
+use Rattle.sl_host_law.specs.Replies.RepliesAreTaken.{is_plain_line}
 use Rattle.sl_trace.specs.declared.session.Session.{Session}
 use Rattle.sl_trace.specs.Traces.{end_of, spot_of_grant}
 use Rattle.sl_trace.specs.declared.command.Command.{Command}

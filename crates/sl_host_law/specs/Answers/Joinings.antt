@@ -1,16 +1,16 @@
 -- The whole of an answer to a joining's call: the joining goes on by what its machine decides, or, where it was refused before, its
 -- connection goes with its last write.
-use Rattle.sl_host_law.specs.Answers.Answering.{IsAnswerTo}
-use Rattle.sl_host_law.specs.Answers.Carrying.{carrying}
-use Rattle.sl_host_law.specs.Answers.Refusing.{IsAlone}
+use Rattle.sl_host_law.specs.Answers.AnswersFollow.{IsAnswerTo}
+use Rattle.sl_host_law.specs.Answers.CarriedDecisions.{carrying}
+use Rattle.sl_host_law.specs.Answers.RefusalsFollow.{IsAlone}
 use Rattle.sl_host_law.specs.Answers.Requests.{Follows}
 use Rattle.sl_due.specs.Steps.{Step, seen, with_input}
-use Rattle.sl_host_state.specs.Hears.{heard_answer}
-use Rattle.sl_host_state.specs.Kept.{HostState, MemberState}
-use Rattle.sl_host_state.specs.Makes.{has_write_open}
-use Rattle.sl_host_state.specs.Stands.{is_joining, kept_call}
-use Rattle.sl_host_state.specs.declared.kept.OpenCall.{OpenCall}
-use Rattle.sl_host_law.specs.Parts.Ends.{removing}
+use Rattle.sl_host_state.specs.HeardInputs.{heard_answer}
+use Rattle.sl_host_state.specs.KeptState.{HostState, MemberState}
+use Rattle.sl_host_state.specs.MadeEffects.{has_write_open}
+use Rattle.sl_host_state.specs.HostStands.{is_joining, kept_call}
+use Rattle.sl_host_state.specs.declared.kept_parts.OpenCall.{OpenCall}
+use Rattle.sl_host_law.specs.StepParts.Ends.{removing}
 use Rattle.sl_host_law.specs.Questions.Jobs.{running_in}
 use Rattle.sl_host_law.specs.Replies.Moves.{EndsBegun}
 use Rattle.sl_trace.specs.Deltas.{delta_of_session, next_in_joining}

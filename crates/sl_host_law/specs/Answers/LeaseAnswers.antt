@@ -1,11 +1,11 @@
 -- The whole of an answer to a lease's call: where its work goes on, what its lease decides is done.
-use Rattle.sl_host_law.specs.Answers.Answering.{IsAnswerTo}
-use Rattle.sl_host_law.specs.Answers.Leasing.{MayCarryLease, carrying_lease}
+use Rattle.sl_host_law.specs.Answers.AnswersFollow.{IsAnswerTo}
+use Rattle.sl_host_law.specs.Answers.LeaseDecisions.{MayCarryLease, carrying_lease}
 use Rattle.sl_host_law.specs.Answers.Requests.{Follows}
 use Rattle.sl_due.specs.Steps.{Step, with_input}
-use Rattle.sl_host_state.specs.Hears.{heard_answer, member_hearing}
-use Rattle.sl_host_state.specs.Kept.{HostState, MemberState}
-use Rattle.sl_host_state.specs.declared.kept.OpenCall.{OpenCall}
+use Rattle.sl_host_state.specs.HeardInputs.{heard_answer, member_hearing}
+use Rattle.sl_host_state.specs.KeptState.{HostState, MemberState}
+use Rattle.sl_host_state.specs.declared.kept_parts.OpenCall.{OpenCall}
 use Rattle.sl_trace.specs.declared.lease.Aim.{Aim}
 use Rattle.sl_trace.specs.declared.lease.LeaseNext.{LeaseNext}
 use Rattle.sl_host_law.specs.Questions.Answers.{next_in, spot_in}

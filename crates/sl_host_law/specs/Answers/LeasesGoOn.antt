@@ -1,18 +1,18 @@
 -- The whole of an answer to a lease's call, with no premise on calls or replies but where the areas of the layout lie. Of a conversion
 -- that is done the premises are as they were.
-use Rattle.sl_host_law.specs.Answers.Answering.{IsAnswerTo}
+use Rattle.sl_host_law.specs.Answers.AnswersFollow.{IsAnswerTo}
 use Rattle.sl_host_law.specs.Answers.LeaseAnswers.{area_of}
-use Rattle.sl_host_law.specs.Answers.Leasing.{MayCarryLease, carrying_lease, read_from}
+use Rattle.sl_host_law.specs.Answers.LeaseDecisions.{MayCarryLease, carrying_lease, read_from}
 use Rattle.sl_host_law.specs.Answers.Requests.{Follows}
 use Rattle.sl_area.specs.Places.{block_place, leader_offset}
 use Rattle.sl_due.specs.Steps.{Step, with_input}
-use Rattle.sl_host_state.specs.Hears.{heard_answer, member_hearing}
-use Rattle.sl_host_state.specs.Kept.{HostState, MemberState}
-use Rattle.sl_host_state.specs.declared.kept.OpenCall.{OpenCall}
+use Rattle.sl_host_state.specs.HeardInputs.{heard_answer, member_hearing}
+use Rattle.sl_host_state.specs.KeptState.{HostState, MemberState}
+use Rattle.sl_host_state.specs.declared.kept_parts.OpenCall.{OpenCall}
 use Rattle.sl_trace.specs.declared.lease.Aim.{Aim}
 use Rattle.sl_trace.specs.declared.lease.LeaseNext.TheVariants.{BecomeExclusive, BecomeShared}
 use Rattle.sl_trace.specs.declared.lease.LeaseNext.{LeaseNext}
-use Rattle.sl_host_law.specs.Parts.Wakes.{is_free_at}
+use Rattle.sl_host_law.specs.StepParts.Wakes.{is_free_at}
 use Rattle.sl_host_law.specs.Questions.Answers.{next_in, settling_in}
 use Rattle.sl_host_law.specs.Questions.Jobs.{aim_in, goes_on_in}
 use Rattle.sl_host_law.specs.Questions.Members.{IsMemberAt}

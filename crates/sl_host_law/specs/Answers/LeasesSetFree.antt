@@ -1,13 +1,13 @@
 -- After an answer to a lease's call its lease waits for nothing, so its work may go on by one more call.
-use Rattle.sl_host_law.specs.Answers.Answering.{IsAnswerTo}
+use Rattle.sl_host_law.specs.Answers.AnswersFollow.{IsAnswerTo}
 use Rattle.sl_host_law.specs.Answers.LeaseAnswers.{area_of}
-use Rattle.sl_host_law.specs.Answers.Leasing.{MayWork}
-use Rattle.sl_host_law.specs.Calls.Calls.{follows_read}
+use Rattle.sl_host_law.specs.Answers.LeaseDecisions.{MayWork}
+use Rattle.sl_host_law.specs.Calls.MemberCalls.{follows_read}
 use Rattle.sl_due.specs.Steps.{Step}
-use Rattle.sl_host_state.specs.Hears.{heard_answer, member_hearing}
-use Rattle.sl_host_state.specs.Kept.{HostState, LeaseState, MemberState}
-use Rattle.sl_host_state.specs.Makes.{is_lease_on, next_submitted}
-use Rattle.sl_host_state.specs.declared.kept.OpenCall.{OpenCall}
+use Rattle.sl_host_state.specs.HeardInputs.{heard_answer, member_hearing}
+use Rattle.sl_host_state.specs.KeptState.{HostState, LeaseState, MemberState}
+use Rattle.sl_host_state.specs.MadeEffects.{is_lease_on, next_submitted}
+use Rattle.sl_host_state.specs.declared.kept_parts.OpenCall.{OpenCall}
 use Rattle.sl_host_law.specs.Questions.Jobs.{goes_on_in}
 use Rattle.sl_sector.specs.declared.sector.Rec.TheVariants.{BlockIs, LeaderIs, PairIs, PairLeaderIs}
 use Rattle.sl_trace.specs.Leases.{is_second}

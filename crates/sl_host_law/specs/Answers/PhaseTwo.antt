@@ -5,7 +5,7 @@ use Rattle.sl_trace.specs.Leases.{LeaseKnown, is_second}
 use Rattle.sl_trace.specs.declared.lease.Aim.{Aim}
 use Rattle.sl_trace.specs.declared.lease.LeaseNext.TheVariants.{AnswerJob, ReadFor, WriteBlock, WriteLeader}
 use Rattle.sl_trace.specs.declared.lease.LeaseNext.{LeaseNext}
-use Rattle.sl_host_state.specs.Hears.{kept_heard}
+use Rattle.sl_host_state.specs.HeardInputs.{kept_heard}
 use Rattle.sl_sector.specs.declared.sector.Block.{Block}
 use Rattle.sl_sector.specs.declared.sector.PairBlock.{PairBlock}
 use Rattle.sl_trace.specs.Traces.{is_before_input}

@@ -1,14 +1,14 @@
 -- The whole of an answer to a read of all ids: a recovery may begin by it, and requests are read where the session is asked.
-use Rattle.sl_host_law.specs.Answers.Answering.{IsAnswerTo}
+use Rattle.sl_host_law.specs.Answers.AnswersFollow.{IsAnswerTo}
 use Rattle.sl_host_law.specs.Answers.Requests.{Follows, on_given}
 use Rattle.sl_area.specs.Layouts.{Layout}
 use Rattle.sl_area.specs.Places.{delta_of, request_offset}
-use Rattle.sl_host_state.specs.Hears.{heard_answer, member_hearing}
-use Rattle.sl_host_state.specs.Kept.{HostState, MemberState}
-use Rattle.sl_host_state.specs.Makes.{with_call}
-use Rattle.sl_host_state.specs.declared.kept.OpenCall.{OpenCall}
-use Rattle.sl_host_law.specs.Parts.Refusals.{signalling_and_refusing}
-use Rattle.sl_host_law.specs.Parts.Signals.{over}
+use Rattle.sl_host_state.specs.HeardInputs.{heard_answer, member_hearing}
+use Rattle.sl_host_state.specs.KeptState.{HostState, MemberState}
+use Rattle.sl_host_state.specs.MadeEffects.{with_call}
+use Rattle.sl_host_state.specs.declared.kept_parts.OpenCall.{OpenCall}
+use Rattle.sl_host_law.specs.StepParts.Refusals.{signalling_and_refusing}
+use Rattle.sl_host_law.specs.StepParts.Signals.{over}
 use Rattle.sl_due.specs.Steps.{Step}
 use Rattle.sl_host_law.specs.Questions.Members.{begins_by_read_in}
 use Rattle.sl_sector.specs.Bitmaps.{is_bit_set}

@@ -2,9 +2,9 @@
 -- step is as it began.
 use Rattle.sl_due.specs.Due.{before_input}
 use Rattle.sl_due.specs.Steps.{begin_step}
-use Rattle.sl_host_state.specs.Hears.{begun, counted, quiet_to}
-use Rattle.sl_host_state.specs.Kept.{HostState}
-use Rattle.sl_host_state.specs.Stands.{HostStands, IsQuiet, Stands, Takes}
+use Rattle.sl_host_state.specs.HeardInputs.{begun, counted, quiet_to}
+use Rattle.sl_host_state.specs.KeptState.{HostState}
+use Rattle.sl_host_state.specs.HostStands.{HostStands, IsQuiet, Stands, Takes}
 use Rattle.sl_trace.specs.Traces.{Setting, Trace}
 use Rattle.sl_trace.specs.declared.input.Input.TheVariants.{Wake}
 use Rattle.std.specs.Prelude.{ℕ, ◌<◌, ◌≡◌, ◌≤◌}

@@ -1,10 +1,10 @@
 -- The inputs that answer no call: each is heard before anything is decided on it.
 use Rattle.sl_due.specs.DueCommands.{answer_line}
 use Rattle.sl_due.specs.Steps.{Step, seen, with_input}
-use Rattle.sl_host_law.specs.Plain.AtInput.{IsAtInput}
-use Rattle.sl_host_state.specs.Hears.{answered_line, heard_exit, heard_line, heard_number, heard_start}
-use Rattle.sl_host_state.specs.Kept.{HostState}
-use Rattle.sl_host_state.specs.Stands.{Stands}
+use Rattle.sl_host_law.specs.SharedFacts.AtInput.{IsAtInput}
+use Rattle.sl_host_state.specs.HeardInputs.{answered_line, heard_exit, heard_line, heard_number, heard_start}
+use Rattle.sl_host_state.specs.KeptState.{HostState}
+use Rattle.sl_host_state.specs.HostStands.{Stands}
 use Rattle.sl_trace.specs.Traces.{next_job}
 use Rattle.sl_trace.specs.declared.command.Command.{Command}
 use Rattle.sl_trace.specs.declared.input.Input.TheVariants.{Exit, Line, Number, Spawned, Wake}

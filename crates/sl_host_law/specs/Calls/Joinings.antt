@@ -1,10 +1,10 @@
 -- The first read of a joining: with it its session begins.
-use Rattle.sl_host_law.specs.Calls.Calls.{is_idle_job}
+use Rattle.sl_host_law.specs.Calls.MemberCalls.{is_idle_job}
 use Rattle.sl_due.specs.Steps.{Step, add_call_of}
-use Rattle.sl_host_state.specs.Kept.{HostState}
-use Rattle.sl_host_state.specs.Makes.{with_joining}
-use Rattle.sl_host_state.specs.New.{IsOfProgram}
-use Rattle.sl_host_state.specs.Stands.{Stands}
+use Rattle.sl_host_state.specs.KeptState.{HostState}
+use Rattle.sl_host_state.specs.MadeEffects.{with_joining}
+use Rattle.sl_host_state.specs.NewHost.{IsOfProgram}
+use Rattle.sl_host_state.specs.HostStands.{Stands}
 use Rattle.sl_trace.specs.declared.command.Command.TheVariants.{AddLockspace}
 use Rattle.sl_trace.specs.declared.command.LockspaceArg.{LockspaceArg}
 use Rattle.sl_trace.specs.declared.effects.JoinStep.TheVariants.{FirstRead}

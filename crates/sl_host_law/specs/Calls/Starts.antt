@@ -1,8 +1,8 @@
 -- One more start of a child.
 use Rattle.sl_due.specs.Steps.{add_start}
-use Rattle.sl_host_state.specs.Kept.{HostState}
-use Rattle.sl_host_state.specs.Makes.{with_start}
-use Rattle.sl_host_state.specs.Stands.{Takes}
+use Rattle.sl_host_state.specs.KeptState.{HostState}
+use Rattle.sl_host_state.specs.MadeEffects.{with_start}
+use Rattle.sl_host_state.specs.HostStands.{Takes}
 use Rattle.sl_trace.specs.Traces.{first_child}
 use Rattle.sl_trace.specs.declared.effects.Start.{Start}
 use Rattle.std.specs.List.{list_any}

@@ -7,10 +7,10 @@ use Rattle.sl_due.specs.DueFirst.{remove_of_refused, send, signal_and_refuse}
 use Rattle.sl_due.specs.DueLease.{after_lease_answer, carry_lease, with_command}
 use Rattle.sl_due.specs.DueRequests.{after_request_read, after_see_request, after_value_read, signal_of_request}
 use Rattle.sl_due.specs.Steps.{Step, add_reply, seen, when, with_input, with_some}
-use Rattle.sl_host_law.specs.Plain.AtInput.{IsAtInput}
-use Rattle.sl_host_state.specs.Kept.{HostState, MemberState}
-use Rattle.sl_host_state.specs.Stands.{Stands, kept_call}
-use Rattle.sl_host_state.specs.declared.kept.OpenCall.{OpenCall}
+use Rattle.sl_host_law.specs.SharedFacts.AtInput.{IsAtInput}
+use Rattle.sl_host_state.specs.KeptState.{HostState, MemberState}
+use Rattle.sl_host_state.specs.HostStands.{Stands, kept_call}
+use Rattle.sl_host_state.specs.declared.kept_parts.OpenCall.{OpenCall}
 use Rattle.sl_trace.specs.LeaseWork.{LeasePlace, convert_next, lease_next, release_next, settle_begin, within_turn}
 use Rattle.sl_trace.specs.Leases.{LeaseKnown, known_of, lease_calls, lease_step}
 use Rattle.sl_trace.specs.declared.lease.Aim.TheVariants.{Converts, Releases, Settles}

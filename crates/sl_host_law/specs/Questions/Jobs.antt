@@ -2,15 +2,15 @@
 use Rattle.sl_due.specs.DueFirst.{refuse, time_out}
 use Rattle.sl_due.specs.DueLease.{goes_on}
 use Rattle.sl_due.specs.Steps.{Step, seen, when, with_some}
-use Rattle.sl_host_state.specs.Kept.{HostState, MemberState}
-use Rattle.sl_host_state.specs.Stands.{Stands, kept_job, kept_waiting}
-use Rattle.sl_host_state.specs.declared.kept.JobState.{JobState}
-use Rattle.sl_host_state.specs.declared.kept.WaitingCall.{WaitingCall}
+use Rattle.sl_host_state.specs.KeptState.{HostState, MemberState}
+use Rattle.sl_host_state.specs.HostStands.{Stands, kept_job, kept_waiting}
+use Rattle.sl_host_state.specs.declared.kept_parts.JobState.{JobState}
+use Rattle.sl_host_state.specs.declared.kept_parts.WaitingCall.{WaitingCall}
 use Rattle.sl_trace.specs.Jobs.{aim_of, aim_of_command, child_of_job, command_numbered, is_job_of_process, process_named}
 use Rattle.sl_trace.specs.Leases.{lease_step}
 use Rattle.sl_trace.specs.declared.lease.Aim.TheVariants.{Settles}
 use Rattle.sl_trace.specs.declared.lease.Aim.{Aim}
-use Rattle.sl_host_law.specs.Decisions.Deciding.{is_active_member}
+use Rattle.sl_host_law.specs.Decisions.CommandDecisions.{is_active_member}
 use Rattle.sl_host_law.specs.Questions.Members.{IsMemberAt}
 use Rattle.sl_trace.specs.Sessions.{session_of_job}
 use Rattle.sl_trace.specs.Traces.{Job, Submitted, is_running, job_of, running_jobs, submitted, waiting_call}

@@ -1,18 +1,18 @@
 -- What a step asks of a session, and what answers it of its member.
-use Rattle.sl_host_law.specs.Decisions.Deciding.{held_of, held_on, is_active_member}
+use Rattle.sl_host_law.specs.Decisions.CommandDecisions.{held_of, held_on, is_active_member}
 use Rattle.sl_due.specs.DueDelta.{begins_by_read}
 use Rattle.sl_due.specs.DueLease.{held_otherwise}
 use Rattle.sl_due.specs.DueRequests.{bits_due}
 use Rattle.sl_due.specs.Steps.{Step, seen}
-use Rattle.sl_host_state.specs.Kept.{HostState, MemberState}
-use Rattle.sl_host_state.specs.Makes.{has_write_open}
-use Rattle.sl_host_state.specs.Stands.{Stands, bits_of, kept_job}
-use Rattle.sl_host_state.specs.declared.kept.JobState.{JobState}
+use Rattle.sl_host_state.specs.KeptState.{HostState, MemberState}
+use Rattle.sl_host_state.specs.MadeEffects.{has_write_open}
+use Rattle.sl_host_state.specs.HostStands.{Stands, bits_of, kept_job}
+use Rattle.sl_host_state.specs.declared.kept_parts.JobState.{JobState}
 use Rattle.sl_trace.specs.Jobs.{jobs_of_session, lockspace_named}
 use Rattle.sl_trace.specs.Leases.{exclusive_on, has_shared_on, holdings_on, known, known_of, lease_calls, lease_spots, orphan_on, shared_on}
 use Rattle.sl_sector.specs.declared.sector.Owner.{Owner}
 use Rattle.sl_trace.specs.Sessions.{calls_of, has_open_write, holders_of, holdings_of, is_active, is_joined, is_leaving, is_recovering, last_renewal, me, open_calls_of, recovery_of}
-use Rattle.sl_trace.specs.Watching.{counts_over, evidence_in}
+use Rattle.sl_trace.specs.Sightings.{counts_over, evidence_in}
 use Rattle.sl_trace.specs.Traces.{is_orphan, is_shared}
 use Rattle.sl_trace.specs.declared.effects.Grant.{Grant}
 use Rattle.sl_trace.specs.declared.effects.Mode.{Mode}

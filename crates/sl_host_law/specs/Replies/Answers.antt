@@ -2,12 +2,12 @@
 use Rattle.sl_area.specs.Layouts.{Layout}
 use Rattle.sl_area.specs.Places.{read_at}
 use Rattle.sl_due.specs.Steps.{Step, seen, with_input}
-use Rattle.sl_host_law.specs.Plain.AtInput.{IsAtInput}
-use Rattle.sl_host_state.specs.Hears.{heard_answer}
-use Rattle.sl_host_state.specs.Kept.{HostState}
-use Rattle.sl_host_state.specs.New.{sizes_in}
-use Rattle.sl_host_state.specs.Stands.{Stands, is_kept_of, kept_call}
-use Rattle.sl_host_state.specs.declared.kept.OpenCall.{OpenCall}
+use Rattle.sl_host_law.specs.SharedFacts.AtInput.{IsAtInput}
+use Rattle.sl_host_state.specs.HeardInputs.{heard_answer}
+use Rattle.sl_host_state.specs.KeptState.{HostState}
+use Rattle.sl_host_state.specs.NewHost.{sizes_in}
+use Rattle.sl_host_state.specs.HostStands.{Stands, is_kept_of, kept_call}
+use Rattle.sl_host_state.specs.declared.kept_parts.OpenCall.{OpenCall}
 use Rattle.sl_trace.specs.Sessions.{is_present, is_survey_purpose, session_numbered}
 use Rattle.sl_trace.specs.declared.session.Session.{Session}
 use Rattle.sl_trace.specs.Traces.{Submitted, Trace, call_numbered, is_of_job, submitted}
@@ -15,7 +15,7 @@ use Rattle.sl_trace.specs.declared.input.Answer.TheVariants.{Failed, Read, Writt
 use Rattle.sl_trace.specs.declared.input.Answer.{Answer}
 use Rattle.sl_trace.specs.declared.input.Input.TheVariants.{Answer as Told, Wake}
 use Rattle.sl_trace.specs.declared.input.Input.{Input}
-use Rattle.sl_watch.specs.Telling.{AreTrue, delta_found}
+use Rattle.sl_watch.specs.ToldLooks.{AreTrue, delta_found}
 use Rattle.std.specs.Int.{is_in_range}
 use Rattle.std.specs.List.{list_any}
 use Rattle.std.specs.Prelude.{Contains, IsTrue, List, None, Some, false, find, is_some, true, ℕ, ◌-◌, ◌==◌, ◌≡◌}

@@ -1,8 +1,8 @@
 -- One more move of a connection: the connections that stand, and the end of a joined session whose connection goes.
 use Rattle.sl_due.specs.Steps.{Step, add_move}
-use Rattle.sl_host_state.specs.Kept.{HostState, MemberState}
-use Rattle.sl_host_state.specs.Makes.{is_ended_by_move, with_move}
-use Rattle.sl_host_state.specs.Stands.{Stands}
+use Rattle.sl_host_state.specs.KeptState.{HostState, MemberState}
+use Rattle.sl_host_state.specs.MadeEffects.{is_ended_by_move, with_move}
+use Rattle.sl_host_state.specs.HostStands.{Stands}
 use Rattle.sl_trace.specs.declared.effects.Move.{Move}
 use Rattle.sl_trace.specs.declared.input.Input.{Input}
 use Rattle.std.specs.Prelude.{IsTrue, Some, is_some, slice_get, true, ℕ, ◌≡◌, ◌||◌}

@@ -1,20 +1,20 @@
 -- An answer: the call that it answers is found, its session hears it, and what the purpose of the call makes due is done.
-use Rattle.sl_host_law.specs.Answers.Carrying.{carrying}
+use Rattle.sl_host_law.specs.Answers.CarriedDecisions.{carrying}
 use Rattle.sl_host_law.specs.Answers.LeaseAnswers.{area_of}
-use Rattle.sl_host_law.specs.Answers.Leasing.{carrying_lease}
+use Rattle.sl_host_law.specs.Answers.LeaseDecisions.{carrying_lease}
 use Rattle.sl_host_law.specs.Answers.Requests.{answering_job, on_given, requesting_for, seeing_request}
 use Rattle.sl_host_law.specs.Answers.Surveys.{surveyed_in}
-use Rattle.sl_delta.specs.Decides.{after_join}
-use Rattle.sl_delta.specs.Own.{OwnState}
+use Rattle.sl_delta.specs.DeltaDecisions.{after_join}
+use Rattle.sl_delta.specs.OwnSector.{OwnState}
 use Rattle.sl_due.specs.DueRequests.{value_reply}
-use Rattle.sl_host_state.specs.Hears.{heard_answer, member_hearing, renewing_hearing}
-use Rattle.sl_host_state.specs.Kept.{HostState, MemberState}
-use Rattle.sl_host_state.specs.Makes.{has_write_open, with_reply}
-use Rattle.sl_host_state.specs.New.{sizes_in}
-use Rattle.sl_host_state.specs.declared.kept.OpenCall.{OpenCall}
+use Rattle.sl_host_state.specs.HeardInputs.{heard_answer, member_hearing, renewing_hearing}
+use Rattle.sl_host_state.specs.KeptState.{HostState, MemberState}
+use Rattle.sl_host_state.specs.MadeEffects.{has_write_open, with_reply}
+use Rattle.sl_host_state.specs.NewHost.{sizes_in}
+use Rattle.sl_host_state.specs.declared.kept_parts.OpenCall.{OpenCall}
 use Rattle.sl_host_law.specs.Steps.Leases.{answered_next}
 use Rattle.sl_host_law.specs.Steps.Passes.{member_numbered}
-use Rattle.sl_host_law.specs.Parts.Ends.{removing}
+use Rattle.sl_host_law.specs.StepParts.Ends.{removing}
 use Rattle.sl_host_law.specs.Questions.Answers.{set_reply_in}
 use Rattle.sl_host_law.specs.Questions.Jobs.{aim_in, goes_on_in, running_in}
 use Rattle.sl_trace.specs.Deltas.{next_after_free, next_after_renewal}

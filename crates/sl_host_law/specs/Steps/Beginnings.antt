@@ -1,11 +1,11 @@
 -- A step up to its input.
 use Rattle.sl_due.specs.Due.{before_input}
 use Rattle.sl_due.specs.Steps.{begin_step}
-use Rattle.sl_host_state.specs.Hears.{begun}
-use Rattle.sl_host_state.specs.Kept.{HostState}
-use Rattle.sl_host_state.specs.Stands.{HostStands, Stands}
-use Rattle.sl_host_law.specs.Steps.Sound.{IsEarly, NamesApart}
-use Rattle.sl_host_law.specs.Steps.Stepping.{before_taking}
+use Rattle.sl_host_state.specs.HeardInputs.{begun}
+use Rattle.sl_host_state.specs.KeptState.{HostState}
+use Rattle.sl_host_state.specs.HostStands.{HostStands, Stands}
+use Rattle.sl_host_law.specs.Steps.SoundHosts.{IsEarly, NamesApart}
+use Rattle.sl_host_law.specs.Steps.StepFunction.{before_taking}
 use Rattle.sl_trace.specs.Traces.{Setting, Trace}
 use Rattle.sl_trace.specs.declared.input.Input.TheVariants.{Wake}
 use Rattle.std.specs.Prelude.{ℕ, ◌≤◌}

@@ -1,11 +1,11 @@
 -- Renewals on a wake, and what comes last in a step, as passes.
 use Rattle.sl_due.specs.DueWake.{finish, for_sessions, renew_on_wake}
 use Rattle.sl_due.specs.Steps.{Step}
-use Rattle.sl_host_state.specs.Kept.{HostState}
-use Rattle.sl_host_state.specs.Stands.{Stands}
+use Rattle.sl_host_state.specs.KeptState.{HostState}
+use Rattle.sl_host_state.specs.HostStands.{Stands}
 use Rattle.sl_host_law.specs.Steps.Passes.{for_members}
-use Rattle.sl_host_law.specs.Steps.Sound.{IsSound}
-use Rattle.sl_host_law.specs.Parts.Ends.{finishing, renewing_in}
+use Rattle.sl_host_law.specs.Steps.SoundHosts.{IsSound}
+use Rattle.sl_host_law.specs.StepParts.Ends.{finishing, renewing_in}
 use Rattle.sl_trace.specs.declared.input.Input.{Input}
 
 -- The state follows the step.

@@ -1,10 +1,10 @@
 -- What an input makes due; a wake is looked at afterwards.
-use Rattle.sl_host_state.specs.Hears.{heard_exit, heard_number, heard_start}
-use Rattle.sl_host_state.specs.Kept.{HostState}
+use Rattle.sl_host_state.specs.HeardInputs.{heard_exit, heard_number, heard_start}
+use Rattle.sl_host_state.specs.KeptState.{HostState}
 use Rattle.sl_host_law.specs.Steps.Answers.{answering}
-use Rattle.sl_host_law.specs.Steps.Lines.{lining}
-use Rattle.sl_host_law.specs.Parts.Exits.{exiting}
-use Rattle.sl_host_law.specs.Parts.Spawns.{child_in, spawning}
+use Rattle.sl_host_law.specs.Steps.LineSteps.{lining}
+use Rattle.sl_host_law.specs.StepParts.Exits.{exiting}
+use Rattle.sl_host_law.specs.StepParts.Spawns.{child_in, spawning}
 use Rattle.sl_trace.specs.declared.input.Input.TheVariants.{Answer as Told, Exit, Line, Number, Spawned, Wake}
 use Rattle.sl_trace.specs.declared.input.Input.{Input}
 use Rattle.std.specs.Prelude.{Bool, None, Some, ℕ}

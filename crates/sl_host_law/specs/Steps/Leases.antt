@@ -1,10 +1,10 @@
 -- What a lease does next, by what is kept of it and the sectors in hand.
 use Rattle.sl_area.specs.Layouts.{Layout}
-use Rattle.sl_host_state.specs.Hears.{blocks_shown}
-use Rattle.sl_host_state.specs.Kept.{HostState, LeaseState, MemberState}
-use Rattle.sl_host_state.specs.Makes.{is_lease_on, new_lease}
-use Rattle.sl_host_state.specs.declared.kept.OpenCall.{OpenCall}
-use Rattle.sl_host_state.specs.declared.kept.TopNumber.{TopNumber}
+use Rattle.sl_host_state.specs.HeardInputs.{blocks_shown}
+use Rattle.sl_host_state.specs.KeptState.{HostState, LeaseState, MemberState}
+use Rattle.sl_host_state.specs.MadeEffects.{is_lease_on, new_lease}
+use Rattle.sl_host_state.specs.declared.kept_parts.OpenCall.{OpenCall}
+use Rattle.sl_host_state.specs.declared.kept_parts.TopNumber.{TopNumber}
 use Rattle.sl_trace.specs.LeaseWork.{convert_next, lease_next, release_next, settle_begin, within_turn}
 use Rattle.sl_trace.specs.Leases.{LeaseKnown}
 use Rattle.sl_trace.specs.declared.lease.Aim.TheVariants.{Converts, Releases, Settles}
@@ -18,7 +18,7 @@ use Rattle.sl_trace.specs.declared.effects.LeaseStep.{LeaseStep}
 use Rattle.sl_trace.specs.declared.effects.Mode.{Mode}
 use Rattle.sl_trace.specs.declared.effects.Spot.{Spot}
 use Rattle.sl_trace.specs.declared.input.Answer.{Answer}
-use Rattle.sl_host_state.specs.Stands.{first_read, turn_kept}
+use Rattle.sl_host_state.specs.HostStands.{first_read, turn_kept}
 use Rattle.std.specs.Prelude.{List, None, Option, Some, false, find, is_some, option_map, unwrap_or, [], ℕ, ◌∷◌}
 
 -- The member's lease on an area; one without a call where there is none.

@@ -1,7 +1,7 @@
 -- Passes over members and jobs. Each goes by the numbers that it begins with.
-use Rattle.sl_host_state.specs.Kept.{HostState, MemberState}
-use Rattle.sl_host_state.specs.declared.kept.JobState.{JobState}
-use Rattle.sl_host_law.specs.Parts.Signals.{over}
+use Rattle.sl_host_state.specs.KeptState.{HostState, MemberState}
+use Rattle.sl_host_state.specs.declared.kept_parts.JobState.{JobState}
+use Rattle.sl_host_law.specs.StepParts.Signals.{over}
 use Rattle.std.specs.Prelude.{None, Option, Some, find, map, ℕ, ◌==◌}
 
 -- The member of this number.

@@ -1,18 +1,18 @@
 //! What is decided at an answer is done: the state that follows stands for the step with it.
 
-ghost use Rattle.sl_host_law.specs.Answers.Answering.{AnswersFollow, AnswersSetFree};
-ghost use Rattle.sl_host_law.specs.Answers.Carrying.{DecisionsAreCarried};
+ghost use Rattle.sl_host_law.specs.Answers.AnswersFollow.{AnswersFollow, AnswersSetFree};
+ghost use Rattle.sl_host_law.specs.Answers.CarriedDecisions.{DecisionsAreCarried};
 ghost use Rattle.sl_host_law.specs.Answers.Grants.{GrantsAreTaken};
 ghost use Rattle.sl_host_law.specs.Answers.Joinings.{JoiningsFollow};
 ghost use Rattle.sl_host_law.specs.Answers.LeaseAnswers.{LeaseAnswersFollow};
 ghost use Rattle.sl_host_law.specs.Answers.LeasesGoOn.{LeasesGoOn, SettlingsMay};
 ghost use Rattle.sl_host_law.specs.Answers.LeasesSetFree.{LeasesSetFree};
-ghost use Rattle.sl_host_law.specs.Answers.Leasing.{LeasesAreCarried};
+ghost use Rattle.sl_host_law.specs.Answers.LeaseDecisions.{LeasesAreCarried};
 ghost use Rattle.sl_host_law.specs.Answers.PhaseTwo.{PhaseTwoFollows};
-ghost use Rattle.sl_host_law.specs.Answers.Refusing.{RefusalsFollow};
+ghost use Rattle.sl_host_law.specs.Answers.RefusalsFollow.{RefusalsFollow};
 ghost use Rattle.sl_host_law.specs.Answers.Requests.{RequestsFollow};
 ghost use Rattle.sl_host_law.specs.Answers.Surveys.{SurveysFollow};
-ghost use Rattle.sl_host_law.specs.Answers.Wakings.{WakingsFollow};
+ghost use Rattle.sl_host_law.specs.Answers.WakingsFollow.{WakingsFollow};
 
 /// A refused joining goes with its connection, and an overdue job is refused.
 pub fn refusals_follow()

@@ -1,7 +1,7 @@
 //! Calls, starts, a step's beginning and the inputs that bring no answer: what each makes of the steps that a host stands for.
 
 ghost use Rattle.sl_host_law.specs.Calls.Beginnings.{StepsBegin};
-ghost use Rattle.sl_host_law.specs.Calls.Calls.{CallsAreTaken};
+ghost use Rattle.sl_host_law.specs.Calls.MemberCalls.{CallsAreTaken};
 ghost use Rattle.sl_host_law.specs.Calls.Inputs.{InputsAreHeard};
 ghost use Rattle.sl_host_law.specs.Calls.Joinings.{JoiningsAreTaken};
 ghost use Rattle.sl_host_law.specs.Calls.Starts.{StartsAreTaken};

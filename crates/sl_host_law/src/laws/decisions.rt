@@ -1,6 +1,6 @@
 //! Decisions by what a host keeps: what a command comes to is the same as by the steps that the host stands for.
 
-ghost use Rattle.sl_host_law.specs.Decisions.Promises.{CommandsAreDecided, FallingIsEnough};
+ghost use Rattle.sl_host_law.specs.Decisions.DecisionLaws.{CommandsAreDecided, FallingIsEnough};
 
 /// A command comes to what the kept state says.
 pub fn commands_are_decided()

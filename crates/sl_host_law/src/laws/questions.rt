@@ -3,7 +3,7 @@
 ghost use Rattle.sl_host_law.specs.Questions.Answers.{AnswersAreTheirs, AnswersDecide};
 ghost use Rattle.sl_host_law.specs.Questions.Jobs.{JobsAnswer, WorkGoesOn};
 ghost use Rattle.sl_host_law.specs.Questions.Members.{MembersAnswer};
-ghost use Rattle.sl_host_law.specs.Questions.Parts.{HostsPart, MembersPart, RefusalsAreTold};
+ghost use Rattle.sl_host_law.specs.Questions.PartQuestions.{HostsPart, MembersPart, RefusalsAreTold};
 
 /// What a step asks of a session is answered by its member.
 pub fn members_answer()

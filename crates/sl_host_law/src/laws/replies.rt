@@ -2,7 +2,7 @@
 
 ghost use Rattle.sl_host_law.specs.Replies.Answers.{AnswersAreHeard};
 ghost use Rattle.sl_host_law.specs.Replies.Moves.{MovesAreTaken};
-ghost use Rattle.sl_host_law.specs.Replies.Replies.{RepliesAreTaken};
+ghost use Rattle.sl_host_law.specs.Replies.RepliesAreTaken.{RepliesAreTaken};
 
 /// The host that hears an answer stands for the step with it.
 pub fn answers_are_heard()

@@ -7,11 +7,11 @@
 
 ghost use Rattle.sl_host_law.specs.Steps.Beginnings.{BeginningsFollow};
 ghost use Rattle.sl_host_law.specs.Steps.Endings.{EndingsFollow};
-ghost use Rattle.sl_host_law.specs.Steps.Lining.{LinesFollow};
+ghost use Rattle.sl_host_law.specs.Steps.LinesFollow.{LinesFollow};
 ghost use Rattle.sl_host_law.specs.Steps.NewHosts.{NewHostsAreSound};
-ghost use Rattle.sl_host_law.specs.Steps.Taking.{InputsAreSound, InputsFollow};
-ghost use Rattle.sl_host_law.specs.Steps.Waking.{WakesFollow};
-ghost use Rattle.sl_host_law.specs.Steps.Whole.{StepsFollow};
+ghost use Rattle.sl_host_law.specs.Steps.InputsFollow.{InputsAreSound, InputsFollow};
+ghost use Rattle.sl_host_law.specs.Steps.WakesFollow.{WakesFollow};
+ghost use Rattle.sl_host_law.specs.Steps.StepsFollow.{StepsFollow};
 
 /// A host that stands for the steps so far, and whose members have names of their own, has at the next step's input done what is due before
 /// it.

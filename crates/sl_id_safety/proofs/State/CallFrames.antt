@@ -8,9 +8,9 @@ use Rattle.sl_id_safety.specs.State.IdStates.{deciding_sample, generation_above,
 use Rattle.sl_run.specs.Events.{change_call}
 use Rattle.sl_run.specs.Safety.{Found, SessionId, is_course_of, session_of_world}
 use Rattle.sl_run.specs.Worlds.{Course, Landing, Machine, Sampling, World, flight_of, history_of, machine_at}
-use Rattle.sl_run_law.proofs.Coursing.{changed_if}
-use Rattle.sl_run_law.specs.Fates.{AreDistinct}
-use Rattle.sl_run_law.proofs.Sample.Numbering.{number_stays}
+use Rattle.sl_run_law.proofs.CourseLists.{changed_if}
+use Rattle.sl_run_law.specs.FatesStay.{AreDistinct}
+use Rattle.sl_run_law.proofs.Sample.LandingNumbers.{number_stays}
 use Rattle.sl_run_law.specs.Sample.Samples.{numbered_landing}
 use Rattle.sl_trace.specs.Sessions.{given_number}
 use Rattle.sl_trace.specs.declared.effects.JoinStep.TheVariants.{ClaimWrite}

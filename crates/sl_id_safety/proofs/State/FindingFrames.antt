@@ -1,14 +1,14 @@
 -- Sessions are found where they were found, as events go on.
 use Rattle.sl_id_safety.proofs.State.Frames.{Same, flying_same, is_running}
 use Rattle.sl_id_safety.specs.State.IdStates.{own_courses}
-use Rattle.sl_plain.proofs.Lists.{contains_first, contains_more}
+use Rattle.sl_words.proofs.Lists.{contains_first, contains_more}
 use Rattle.sl_run.specs.Events.{change_call}
 use Rattle.sl_run.specs.Safety.{Found, SessionId, is_course_of, session_of_world}
 use Rattle.sl_run.specs.Worlds.{Course, Daemon, Machine, World, change_machine, daemon_numbered, daemons_on, flight_of, is_open, machine_at}
-use Rattle.sl_run_law.proofs.Coursing.{changed_if}
-use Rattle.sl_run_law.proofs.Fates.{every_map, numbered}
-use Rattle.sl_run_law.proofs.Walking.{index}
-use Rattle.sl_run_law.specs.Fates.{AreDistinct, Every}
+use Rattle.sl_run_law.proofs.CourseLists.{changed_if}
+use Rattle.sl_run_law.proofs.FatesStay.{every_map, numbered}
+use Rattle.sl_run_law.proofs.MachineWalk.{index}
+use Rattle.sl_run_law.specs.FatesStay.{AreDistinct, Every}
 use Rattle.sl_trace.specs.Sessions.{session_numbered}
 use Rattle.sl_trace.specs.declared.session.Session.{Session}
 use Rattle.sl_words.proofs.CaseLaws.{none_some, not_both, some_value, true_is_false}

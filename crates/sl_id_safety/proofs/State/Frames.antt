@@ -1,6 +1,6 @@
 -- What a session's state depends on: where that stays, the state stays.
 use Rattle.sl_area.specs.Layouts.{Layout, sector_with}
-use Rattle.sl_run_law.specs.Course.Stamping.{stamp_in}
+use Rattle.sl_run_law.specs.Course.CallStamps.{stamp_in}
 use Rattle.sl_id_safety.specs.State.IdStates.{claim_may_land, deciding_sample, comes_before, generation_by, has_begun, index_of, join_course, name_of, own_courses, runs_still, seq_left, standing_of}
 use Rattle.sl_ids.specs.State.{Session as IdSession}
 use Rattle.sl_run.specs.Safety.{Found, SessionId, free_landed, has_write_in_flight, is_course_of, is_over, trace_of, was_reset}
@@ -10,7 +10,7 @@ use Rattle.sl_trace.specs.declared.session.Session.{Session}
 use Rattle.sl_trace.specs.Traces.{Setting, Submitted, Trace, record_of}
 use Rattle.sl_trace.specs.declared.effects.JoinStep.{JoinStep}
 use Rattle.sl_trace.specs.declared.effects.JoinStep.TheVariants.{ClaimWrite, DecidingRead, FirstRead, VerifyRead}
-use Rattle.sl_run_law.specs.Watchdog.Acting.{acting_stamp}
+use Rattle.sl_run_law.specs.Watchdog.ActingTimes.{acting_stamp}
 use Rattle.sl_words.proofs.WordLaws.{and_true}
 use Rattle.sl_words.specs.Words.{choose, first_of_list, greatest, some_is}
 use Rattle.std.proofs.Common.{ap, refl, sym, ◌∙◌}

@@ -1,22 +1,22 @@
 -- Who is said to have held a sector at first: the session that has it there.
 use Rattle.sl_area.specs.Layouts.{Layout}
-use Rattle.sl_run_law.proofs.Course.Keeping.{header_machine}
-use Rattle.sl_run_law.proofs.Front.Having.{placed_at}
+use Rattle.sl_run_law.proofs.Course.MachinesKeep.{header_machine}
+use Rattle.sl_run_law.proofs.Front.JoinedLists.{placed_at}
 use Rattle.sl_id_safety.proofs.State.FindingFrames.{find_passes, found_on, on_machine, session_with}
 use Rattle.sl_id_safety.proofs.State.Members.{is_daemon, is_first, layout_at}
 use Rattle.sl_id_safety.proofs.State.Sectors.{one_holder}
 use Rattle.sl_id_safety.specs.State.IdStates.{holder_at, holder_in, holder_on, is_sector_of, name_of, session_named_so}
-use Rattle.sl_id_safety.specs.State.Promises.{IsIdPlace}
+use Rattle.sl_id_safety.specs.State.StateLaws.{IsIdPlace}
 use Rattle.sl_ids.specs.State.{SessionId as IdName}
-use Rattle.sl_run_law.proofs.Place.Finding.{finds}
-use Rattle.sl_run_law.proofs.Place.Numbering.{session_number}
-use Rattle.sl_plain.proofs.Lists.{contains_cases, contains_first, contains_more, contains_none, got_inside}
-use Rattle.sl_plain.proofs.Options.{else_some}
+use Rattle.sl_run_law.proofs.Place.FoundInLists.{finds}
+use Rattle.sl_run_law.proofs.Place.SessionNumbers.{session_number}
+use Rattle.sl_words.proofs.Lists.{contains_cases, contains_first, contains_more, contains_none, got_inside}
+use Rattle.sl_words.proofs.Options.{else_some}
 use Rattle.sl_run.specs.Headers.{IsHeader}
 use Rattle.sl_run.specs.Safety.{Found, IsSession, SessionId}
 use Rattle.sl_run.specs.Worlds.{Daemon, Machine, Program, World, daemon_numbered, daemons_on, machine_at, world_with}
 use Rattle.sl_run.specs.declared.header.Header.{Header}
-use Rattle.sl_run_law.proofs.Walking.{index, number_within}
+use Rattle.sl_run_law.proofs.MachineWalk.{index, number_within}
 use Rattle.sl_trace.specs.Sessions.{session_numbered, sessions}
 use Rattle.sl_trace.specs.declared.session.Session.{Session}
 use Rattle.sl_words.proofs.CaseLaws.{none_some, some_value}

@@ -1,7 +1,7 @@
 -- What stands newest among the calls of a joining, by their order.
-use Rattle.sl_id_safety.proofs.State.Registered.{is_registering, registering_call}
-use Rattle.sl_trace_law.proofs.Sessions.Joining.{stage_for}
-use Rattle.sl_trace_law.specs.Sessions.Promises.{is_ordered, may_come, may_follow}
+use Rattle.sl_id_safety.proofs.State.LastRegistering.{is_registering, registering_call}
+use Rattle.sl_run_law.proofs.Sessions.JoiningsInTurn.{stage_for}
+use Rattle.sl_run_law.specs.Sessions.SessionLaws.{is_ordered, may_come, may_follow}
 use Rattle.sl_trace.specs.Sessions.{is_covered_stage, is_join_call, join_call, stage_in}
 use Rattle.sl_trace.specs.Traces.{Submitted, is_answered_ok}
 use Rattle.sl_trace.specs.declared.effects.JoinStep.TheVariants.{ClaimWrite, DecidingRead, FirstRead, FirstRenewal, VerifyRead, WatchRead}

@@ -5,8 +5,8 @@ use Rattle.sl_ids.specs.Listed.{no_landing}
 use Rattle.sl_ids.specs.State.{Content, Landing as IdLanding, SessionId as IdName}
 use Rattle.sl_ids.specs.Steps.{Lands, SameLandings}
 use Rattle.sl_run.specs.Worlds.{Landing, World, history_of}
-use Rattle.sl_run_law.specs.Fates.{Every}
-use Rattle.sl_run_law.proofs.Sample.Numbering.{newest_number, number_stays}
+use Rattle.sl_run_law.specs.FatesStay.{Every}
+use Rattle.sl_run_law.proofs.Sample.LandingNumbers.{newest_number, number_stays}
 use Rattle.sl_run_law.specs.Sample.Samples.{numbered_landing}
 use Rattle.std.proofs.Common.{ap, arith, refl, sym, tests, ◌∙◌}
 use Rattle.std.specs.Option.{option_map_or}

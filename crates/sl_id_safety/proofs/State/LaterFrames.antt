@@ -1,20 +1,20 @@
 -- A session that is found is found later, with the same daemon gone on and the same machine gone on.
 use Rattle.sl_run_law.specs.Course.Mirrors.{AreNumbered}
-use Rattle.sl_run_law.specs.Course.Promises.{MachinesMirror}
-use Rattle.sl_run_law.proofs.Front.Going.{daemon_later, run_after}
+use Rattle.sl_run_law.specs.Course.CourseLaws.{MachinesMirror}
+use Rattle.sl_run_law.proofs.Front.RunsFromFronts.{daemon_later, run_after}
 use Rattle.sl_id_safety.proofs.State.FindingFrames.{found_on, on_machine, session_with}
-use Rattle.sl_plain.proofs.Lists.{contains_cases, contains_none}
+use Rattle.sl_words.proofs.Lists.{contains_cases, contains_none}
 use Rattle.sl_run.specs.Runs.{Happening}
 use Rattle.sl_run.specs.Safety.{Found, LawfulRun, SessionId, session_of_world, world_at}
 use Rattle.sl_run.specs.Worlds.{Daemon, Program, World, daemon_numbered, daemons_on, machine_at, world_with}
 use Rattle.sl_run.specs.declared.header.Header.{Header}
-use Rattle.sl_run_law.proofs.Tracking.{run_tracks}
-use Rattle.sl_run_law.specs.Courses.{Continues, Tracks}
-use Rattle.sl_run_law.specs.Daemons.{DaemonGoes}
-use Rattle.sl_trace_law.proofs.Sessions.Owning.{sessions_stay}
+use Rattle.sl_run_law.proofs.CoursesGoOn.{run_tracks}
+use Rattle.sl_run_law.specs.CoursesGoOn.{Continues, Tracks}
+use Rattle.sl_run_law.specs.DaemonsGoOn.{DaemonGoes}
+use Rattle.sl_run_law.proofs.Sessions.CallOwners.{sessions_stay}
 use Rattle.sl_trace.specs.Sessions.{session_numbered}
 use Rattle.sl_trace.specs.declared.session.Session.{Session}
-use Rattle.sl_run_law.proofs.Watchdog.Stepping.{number_below}
+use Rattle.sl_run_law.proofs.Watchdog.StepsKeepWatch.{number_below}
 use Rattle.sl_words.proofs.CaseLaws.{one_value}
 use Rattle.std.proofs.Common.{ap, arith, inl, inr, refl, subst, sym, tests, ◌∙◌}
 use Rattle.std.proofs.lemmas.Bool.{eq-eqb}

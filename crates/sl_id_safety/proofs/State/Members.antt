@@ -1,10 +1,10 @@
 -- The sessions of the header's world: one for each session line.
 use Rattle.sl_area.specs.Layouts.{Layout, layout_with}
 use Rattle.sl_run_law.proofs.Course.Daemons.{daemon_of_line, every_has, first_daemons}
-use Rattle.sl_run_law.proofs.Course.Keeping.{header_machine}
+use Rattle.sl_run_law.proofs.Course.MachinesKeep.{header_machine}
 use Rattle.sl_id_safety.proofs.State.FindingFrames.{IsFound, find_passes, on_machine}
-use Rattle.sl_run_law.proofs.Place.Finding.{finds, same_text}
-use Rattle.sl_plain.proofs.Lists.{got_index}
+use Rattle.sl_run_law.proofs.Place.FoundInLists.{finds, same_text}
+use Rattle.sl_words.proofs.Lists.{got_index}
 use Rattle.sl_run.specs.Headers.{IsHeader}
 use Rattle.sl_run.specs.Safety.{Found, IsSession, SessionId}
 use Rattle.sl_run.specs.Worlds.{Daemon, Machine, Program, clock_reading, daemons_on, given_of, machine_of_header, world_with}

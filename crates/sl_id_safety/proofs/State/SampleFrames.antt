@@ -5,13 +5,13 @@ use Rattle.sl_id_safety.proofs.State.FindingFrames.{find_passes, on_machine}
 use Rattle.sl_id_safety.specs.State.Facts.{JoinReadsAreOwn, ReadsOwn, is_reading_step}
 use Rattle.sl_id_safety.specs.State.IdStates.{claim_bytes, comes_before, deciding_sample, is_sector_of, join_course, own_courses, refused_stamp, sample_showing, verifying_sample, watched_bytes}
 use Rattle.sl_run_law.proofs.Place.Looks.{same_step}
-use Rattle.sl_plain.proofs.Lists.{kept_inside}
-use Rattle.sl_plain.proofs.Numbers.{no_times_more}
+use Rattle.sl_words.proofs.Lists.{kept_inside}
+use Rattle.sl_words.proofs.Numbers.{no_times_more}
 use Rattle.sl_run.specs.Runs.{Happening}
 use Rattle.sl_run.specs.Safety.{Found, LawfulRun, SessionId, is_course_of, session_of_world, world_at}
 use Rattle.sl_run.specs.Worlds.{Course, Machine, Program, Sampling, World, history_of}
 use Rattle.sl_run.specs.declared.header.Header.{Header}
-use Rattle.sl_run_law.proofs.Sample.Numbering.{number_below}
+use Rattle.sl_run_law.proofs.Sample.LandingNumbers.{number_below}
 use Rattle.sl_run_law.specs.Sample.Samples.{IsSampleOf, SamplesAreLandings, sector_place}
 use Rattle.sl_trace.specs.Sessions.{is_join_call}
 use Rattle.sl_trace.specs.declared.session.Session.{Session}

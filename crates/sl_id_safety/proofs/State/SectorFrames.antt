@@ -5,7 +5,7 @@ use Rattle.sl_id_safety.proofs.State.Frames.{Same, SameThere, begun_same, standi
 use Rattle.sl_id_safety.specs.State.IdStates.{blank, deciding_sample, generation_above, generation_by, has_begun, index_of, is_sector_of, join_course, landing_of, name_of, said_by, same_name, seq_left, session_at, session_named_so, standing_by, standing_of, writer_of}
 use Rattle.sl_run.specs.Safety.{Found, SessionId, session_of_world}
 use Rattle.sl_run.specs.Worlds.{Landing, Sampling, World, first_landing, history_of, landed_at}
-use Rattle.sl_run_law.specs.Fates.{Every}
+use Rattle.sl_run_law.specs.FatesStay.{Every}
 use Rattle.sl_run_law.specs.Sample.Samples.{numbered_landing}
 use Rattle.sl_trace.specs.Sessions.{given_number}
 use Rattle.sl_trace.specs.Traces.{same_place}

@@ -2,20 +2,20 @@
 use Rattle.sl_area.specs.Layouts.{Layout, Sizes}
 use Rattle.sl_area.specs.Places.{delta_offset, in_area}
 use Rattle.sl_run_law.proofs.Course.Daemons.{daemon_of_line}
-use Rattle.sl_run_law.proofs.Front.Having.{placed_at}
+use Rattle.sl_run_law.proofs.Front.JoinedLists.{placed_at}
 use Rattle.sl_id_safety.proofs.State.FindingFrames.{found_on, session_with}
-use Rattle.sl_id_safety.proofs.State.Keeping.{is_place}
+use Rattle.sl_id_safety.proofs.State.CallLaws.{is_place}
 use Rattle.sl_id_safety.proofs.State.Members.{IsFirst, IsGivenOf, given_by_line, given_place, givens, is_given, layout_at, line_gives, one_given, pair_of, session_at_place}
 use Rattle.sl_id_safety.specs.State.IdStates.{is_sector_of}
-use Rattle.sl_id_safety.specs.State.Promises.{IsIdPlace}
+use Rattle.sl_id_safety.specs.State.StateLaws.{IsIdPlace}
 use Rattle.sl_run_law.proofs.Place.Areas.{lockspace_aligned, one_lockspace, same_base}
 use Rattle.sl_run_law.proofs.Place.Checks.{same_slot}
-use Rattle.sl_run_law.proofs.Place.Finding.{finds, place_is}
+use Rattle.sl_run_law.proofs.Place.FoundInLists.{finds, place_is}
 use Rattle.sl_run_law.proofs.Place.Seats.{delta_within}
 use Rattle.sl_run_law.proofs.Place.Sizes.{IsSized, sized}
-use Rattle.sl_plain.proofs.Lists.{got_inside}
-use Rattle.sl_plain.proofs.Numbers.{one_again, one_index}
-use Rattle.sl_plain.proofs.Options.{else_some}
+use Rattle.sl_words.proofs.Lists.{got_inside}
+use Rattle.sl_words.proofs.Numbers.{one_again, one_index}
+use Rattle.sl_words.proofs.Options.{else_some}
 use Rattle.sl_run.specs.Headers.{GoTogether, IsHeader}
 use Rattle.sl_run.specs.Safety.{Found, IsSession, SessionId}
 use Rattle.sl_run.specs.Worlds.{Daemon, Machine, Program, daemon_numbered, given_of, machine_at, machine_of_header, world_with}

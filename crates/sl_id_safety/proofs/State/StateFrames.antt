@@ -4,7 +4,7 @@ use Rattle.sl_ids.specs.Runs.{IsBounded, Later}
 use Rattle.sl_ids.specs.State.{Content, Session as IdSession, SessionId as IdName, State}
 use Rattle.sl_ids.specs.Steps.{ChangesOnly, Lands, Pass, Passes, SameLandings, Step}
 use Rattle.sl_ids.specs.Terms.{Terms}
-use Rattle.sl_plain.proofs.Numbers.{equal_is_least, number_itself}
+use Rattle.sl_words.proofs.Numbers.{equal_is_least, number_itself}
 use Rattle.sl_words.proofs.CaseLaws.{is_false, not_both, true_is_false}
 use Rattle.sl_words.proofs.WordLaws.{and_true}
 use Rattle.std.proofs.Common.{ap, inl, inr, refl, sym, ◌∙◌}

@@ -1,9 +1,9 @@
 -- Every call of a session with those that stood before it: the laws of its entry speak of the same calls, answered less.
-use Rattle.sl_run_law.specs.Course.Stamping.{Pairwise}
-use Rattle.sl_id_safety.proofs.State.Listing.{EveryTail}
-use Rattle.sl_run.specs.Saying.{cut_at}
-use Rattle.sl_trace_law.proofs.Sessions.Growing.{mine_marked, mine_next, other_next, to_all}
-use Rattle.sl_trace_law.proofs.Sessions.Making.{SameCall, kept_by, same_answered}
+use Rattle.sl_run_law.specs.Course.CallStamps.{Pairwise}
+use Rattle.sl_id_safety.proofs.State.PairedLists.{EveryTail}
+use Rattle.sl_run.specs.LawForms.{cut_at}
+use Rattle.sl_run_law.proofs.Sessions.TraceGrowth.{mine_marked, mine_next, other_next, to_all}
+use Rattle.sl_run_law.proofs.Sessions.CallsAreMade.{SameCall, kept_by, same_answered}
 use Rattle.sl_trace.specs.Sessions.{calls_of}
 use Rattle.sl_trace.specs.declared.session.Session.{Session}
 use Rattle.sl_trace.specs.Traces.{Answered, Submitted, Trace, answer_of, answered_in, mark}

@@ -1,17 +1,17 @@
 -- Who wrote a landing stays, as calls go on and the first daemons keep the sessions that they were given.
 use Rattle.sl_area.specs.Layouts.{Layout}
-use Rattle.sl_run_law.proofs.Front.Going.{not_zero, number_place}
+use Rattle.sl_run_law.proofs.Front.RunsFromFronts.{not_zero, number_place}
 use Rattle.sl_id_safety.specs.State.IdStates.{holder_at, holder_in, holder_on, is_sector_of, submitter_of, submitter_on, writer_of}
 use Rattle.sl_ids.specs.State.{SessionId as IdName}
 use Rattle.sl_run_law.specs.Landing.Landings.{HasWriter, LandingsAreWritten}
-use Rattle.sl_plain.proofs.Lists.{contains_cases, contains_first, contains_more, contains_none}
-use Rattle.sl_plain.proofs.Numbers.{number_itself, one_before}
+use Rattle.sl_words.proofs.Lists.{contains_cases, contains_first, contains_more, contains_none}
+use Rattle.sl_words.proofs.Numbers.{number_itself, one_before}
 use Rattle.sl_run.specs.Runs.{Happening}
 use Rattle.sl_run.specs.Safety.{LawfulRun, world_at}
 use Rattle.sl_run.specs.Worlds.{Course, Daemon, Landing, Machine, Program, World, daemon_numbered, first_landing, history_of, landed_at, machine_at}
 use Rattle.sl_run.specs.declared.header.Header.{Header}
-use Rattle.sl_run_law.specs.Courses.{Continues, Follow, ListGoes}
-use Rattle.sl_run_law.specs.Fates.{AreDistinct, EachDistinct, Every}
+use Rattle.sl_run_law.specs.CoursesGoOn.{Continues, Follow, ListGoes}
+use Rattle.sl_run_law.specs.FatesStay.{AreDistinct, EachDistinct, Every}
 use Rattle.sl_run_law.specs.Machines.{EachMachine}
 use Rattle.sl_trace.specs.Sessions.{sessions}
 use Rattle.sl_trace.specs.declared.session.Session.{Session}

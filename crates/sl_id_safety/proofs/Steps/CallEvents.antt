@@ -1,18 +1,18 @@
 -- The events of calls in flight: that there is such a call, and the world between as one in which it has changed.
-use Rattle.sl_run_law.proofs.Course.Changing.{changed_here}
+use Rattle.sl_run_law.proofs.Course.OneMachineChanges.{changed_here}
 use Rattle.sl_id_safety.proofs.State.CallFrames.{ChangesCall}
 use Rattle.sl_id_safety.proofs.State.FindingFrames.{changed_elsewhere}
-use Rattle.sl_id_safety.specs.Steps.Parts.{between}
-use Rattle.sl_run_law.proofs.Landing.Arriving.{changed_landings}
+use Rattle.sl_id_safety.specs.Steps.EventParts.{between}
+use Rattle.sl_run_law.proofs.Landing.OneArrival.{changed_landings}
 use Rattle.sl_run.specs.Events.{add_landing, change_call, complete, event_tests, fated, first_change, flight_at, is_placed, is_read_course, is_shaped, land_torn, land_whole, may_happen, needs_daemon, next_step, on_flight, on_machine, sampled_more, sectors_left, spells_something, torn_bytes, write_bytes}
 use Rattle.sl_run.specs.Worlds.{Course, Dropped, Fate, Landed, Landing, Machine, Torn, World, change_machine, first_that, flight_of, is_in_flight, is_landed, is_of_running, is_torn_fate, is_write_course, machine_at}
 use Rattle.sl_run.specs.declared.event.Event.TheVariants.{AnswerCall, Do, DropWrite, Land, Sample, Tear}
 use Rattle.sl_run.specs.declared.event.Event.{Event}
 use Rattle.sl_run.specs.declared.event.Refusal.TheVariants.{MissingCall, MissingFlight, MissingLanding, MissingMachine, MissingPlace, MissingSample, PremiseTorn, Syntax}
 use Rattle.sl_run.specs.declared.event.Refusal.{Refusal}
-use Rattle.sl_run_law.proofs.Going.{event_goes}
-use Rattle.sl_run_law.specs.Fates.{AreDistinct}
-use Rattle.sl_run_law.specs.Going.{Goes, time_of}
+use Rattle.sl_run_law.proofs.WorldsGoOn.{event_goes}
+use Rattle.sl_run_law.specs.FatesStay.{AreDistinct}
+use Rattle.sl_run_law.specs.WorldsGoOn.{Goes, time_of}
 use Rattle.sl_words.proofs.CaseLaws.{false_is_true, true_is_false}
 use Rattle.std.proofs.Common.{ap, refl, ◌∙◌}
 use Rattle.std.proofs.lemmas.Bool.{not-false, or_parts}

@@ -1,8 +1,8 @@
 -- The session of a write in flight that lands or is dropped, and all other sessions.
-use Rattle.sl_id_safety.proofs.State.Listing.{every_from}
-use Rattle.sl_run_law.proofs.Landing.Listing.{one_call as distinct_one}
-use Rattle.sl_plain.proofs.Lists.{any_of, kept as keeps, kept_inside}
-use Rattle.sl_plain.proofs.Options.{none_is}
+use Rattle.sl_id_safety.proofs.State.PairedLists.{every_from}
+use Rattle.sl_run_law.proofs.Landing.CallLists.{one_call as distinct_one}
+use Rattle.sl_words.proofs.Lists.{any_of, kept as keeps, kept_inside}
+use Rattle.sl_words.proofs.Options.{none_is}
 use Rattle.std.proofs.lemmas.Bool.{and_from, eq-eqb, eqb-true}
 use Rattle.sl_id_safety.proofs.State.CallFrames.{ChangesCall, IsOther, caller, caller_calls, caller_found, not_its_call, others_same, there_grows}
 use Rattle.sl_id_safety.proofs.State.FindingFrames.{find_passes, found_on, moved, on_machine, session_on, session_with}
@@ -13,16 +13,16 @@ use Rattle.sl_id_safety.proofs.State.StateFrames.{names_apart}
 use Rattle.sl_id_safety.specs.State.Facts.{JoinReadsAreOwn}
 use Rattle.sl_id_safety.specs.State.IdStates.{blank, has_begun, is_left_by, is_sector_of, join_course, name_of, own_courses, same_name, session_at, session_named_so, standing_by, standing_of, writer_of}
 use Rattle.sl_id_safety.proofs.Steps.Fates.{FliesAt}
-use Rattle.sl_id_safety.proofs.Steps.Fating.{Turns, begun_turned}
+use Rattle.sl_id_safety.proofs.Steps.FateChanges.{Turns, begun_turned}
 use Rattle.sl_ids.specs.State.{Session as IdSession, SessionId as IdName}
-use Rattle.sl_run_law.proofs.Place.Reading.{IsPromised, owner_of, traced}
+use Rattle.sl_run_law.proofs.Place.TracesOnMachines.{IsPromised, owner_of, traced}
 use Rattle.sl_run.specs.Events.{change_call, fated}
 use Rattle.sl_run.specs.Runs.{Happening}
 use Rattle.sl_run.specs.Safety.{Found, LawfulRun, SessionId, has_write_in_flight, is_course_of, session_of_world, world_at}
 use Rattle.sl_run.specs.Worlds.{Course, Daemon, Fate, Landing, Machine, Program, World, is_in_flight, is_of_running, is_open, is_write_course, machine_at, may_land}
 use Rattle.sl_run.specs.declared.header.Header.{Header}
-use Rattle.sl_run_law.proofs.Coursing.{changed_if}
-use Rattle.sl_run_law.specs.Fates.{AreDistinct}
+use Rattle.sl_run_law.proofs.CourseLists.{changed_if}
+use Rattle.sl_run_law.specs.FatesStay.{AreDistinct}
 use Rattle.sl_run_law.specs.Sample.Samples.{SamplesAreLandings}
 use Rattle.sl_trace.specs.Sessions.{session_numbered}
 use Rattle.sl_trace.specs.declared.session.Session.{Session}

@@ -1,20 +1,20 @@
 -- The landing of a claim that has landed whole: it is the one that the state of an id names, and its bytes are what the claim writes.
-use Rattle.sl_run_law.proofs.Front.Having.{contains_append, contains_left}
+use Rattle.sl_run_law.proofs.Front.JoinedLists.{contains_append, contains_left}
 use Rattle.sl_id_safety.specs.State.IdStates.{index_of, is_left_by}
-use Rattle.sl_run_law.proofs.Landing.Listing.{one_call}
-use Rattle.sl_run_law.proofs.Landing.Proven.{landings_are_written}
-use Rattle.sl_run_law.proofs.Landing.Remaining.{landed_are_there}
+use Rattle.sl_run_law.proofs.Landing.CallLists.{one_call}
+use Rattle.sl_run_law.proofs.Landing.LandingLaws.{landings_are_written}
+use Rattle.sl_run_law.proofs.Landing.LandedRemain.{landed_are_there}
 use Rattle.sl_run_law.specs.Landing.Landings.{LeftBy}
 use Rattle.sl_area.specs.Layouts.{sector_with}
-use Rattle.sl_run_law.proofs.Place.Finding.{numbered_inside}
-use Rattle.sl_plain.proofs.Lists.{contains_cases, contains_none, kept as keeps, kept_inside}
+use Rattle.sl_run_law.proofs.Place.FoundInLists.{numbered_inside}
+use Rattle.sl_words.proofs.Lists.{contains_cases, contains_none, kept as keeps, kept_inside}
 use Rattle.sl_run.specs.Events.{write_bytes}
 use Rattle.sl_run.specs.Runs.{Happening}
 use Rattle.sl_run.specs.Safety.{LawfulRun, world_at}
 use Rattle.sl_run.specs.Worlds.{Course, Landing, Machine, Program, Stamp, World, first_landing, history_of, is_landed, landed_at, machine_at}
 use Rattle.sl_run.specs.declared.header.Header.{Header}
-use Rattle.sl_run_law.specs.Fates.{AreDistinct}
-use Rattle.sl_run_law.proofs.Sample.Numbering.{newest_number, number_stays}
+use Rattle.sl_run_law.specs.FatesStay.{AreDistinct}
+use Rattle.sl_run_law.proofs.Sample.LandingNumbers.{newest_number, number_stays}
 use Rattle.sl_run_law.specs.Sample.Samples.{numbered_landing}
 use Rattle.sl_sector.specs.declared.sector.Rec.{Rec}
 use Rattle.sl_trace.specs.Traces.{same_place}

@@ -1,8 +1,8 @@
 -- An end of a daemon's run, or a reset, as one step of an id.
-use Rattle.sl_run_law.proofs.Course.Changing.{changed_here}
+use Rattle.sl_run_law.proofs.Course.OneMachineChanges.{changed_here}
 use Rattle.sl_run_law.specs.Course.Mirrors.{Mirrors, since_restart}
-use Rattle.sl_run_law.specs.Course.Promises.{MachinesMirror}
-use Rattle.sl_run_law.proofs.Front.Going.{last_event}
+use Rattle.sl_run_law.specs.Course.CourseLaws.{MachinesMirror}
+use Rattle.sl_run_law.proofs.Front.RunsFromFronts.{last_event}
 use Rattle.sl_id_safety.proofs.State.CallFrames.{elsewhere_same}
 use Rattle.sl_id_safety.proofs.State.FindingFrames.{IsFound, changed_elsewhere, found_moves, found_on, is_found, moved, on_machine, session_on, session_with}
 use Rattle.sl_id_safety.proofs.State.Frames.{Same, SameThere, begun_past, ended, flying_same, is_running, standing_past}
@@ -19,9 +19,9 @@ use Rattle.sl_ids.specs.Terms.{Terms}
 use Rattle.sl_id_safety.proofs.Steps.CallEvents.{on_one, passes}
 use Rattle.sl_id_safety.proofs.Steps.Endings.{EndsOf, EndsOn, ends_of, last_one, not_running, over_stays, pending_before}
 use Rattle.sl_id_safety.proofs.Steps.EventFrames.{StayDistinct, first_writers}
-use Rattle.sl_id_safety.proofs.Steps.Turning.{OneTurns, Turns, flags_stay, flags_turn, of_number, one_turns}
-use Rattle.sl_id_safety.specs.Steps.Parts.{EndingsGoOn, IsEndingEvent, between, state_between}
-use Rattle.sl_run_law.proofs.Landing.Arriving.{changed_landings}
+use Rattle.sl_id_safety.proofs.Steps.OneSessionTurns.{OneTurns, Turns, flags_stay, flags_turn, of_number, one_turns}
+use Rattle.sl_id_safety.specs.Steps.EventParts.{EndingsGoOn, IsEndingEvent, between, state_between}
+use Rattle.sl_run_law.proofs.Landing.OneArrival.{changed_landings}
 use Rattle.sl_run_law.specs.Landing.Landings.{LandingsAreWritten}
 use Rattle.sl_run.specs.Events.{after_crash, after_reset, event_tests, first_change, may_happen, needs_daemon}
 use Rattle.sl_run.specs.Runs.{Happening}
@@ -31,8 +31,8 @@ use Rattle.sl_run.specs.declared.event.Event.TheVariants.{AnswerCall, Crash, Do,
 use Rattle.sl_run.specs.declared.event.Event.{Event}
 use Rattle.sl_run.specs.declared.event.Refusal.TheVariants.{MissingUp}
 use Rattle.sl_run.specs.declared.header.Header.{Header}
-use Rattle.sl_run_law.proofs.Going.{event_goes}
-use Rattle.sl_run_law.specs.Going.{Goes, time_of}
+use Rattle.sl_run_law.proofs.WorldsGoOn.{event_goes}
+use Rattle.sl_run_law.specs.WorldsGoOn.{Goes, time_of}
 use Rattle.sl_trace.specs.Sessions.{sessions}
 use Rattle.sl_words.proofs.CaseLaws.{is_false, not_both, one_value, true_is_false}
 use Rattle.sl_words.proofs.OrderLaws.{same_or_apart}

@@ -2,7 +2,7 @@
 use Rattle.sl_id_safety.proofs.State.FindingFrames.{find_passes, moved}
 use Rattle.sl_id_safety.proofs.State.Frames.{SamePast, decides_past, flying_of, free_landed_by, free_of, is_running, join_past, open_while}
 use Rattle.sl_id_safety.specs.State.IdStates.{claim_may_land, deciding_sample, join_course, own_courses, runs_still}
-use Rattle.sl_plain.proofs.Lists.{contains_cases, contains_none}
+use Rattle.sl_words.proofs.Lists.{contains_cases, contains_none}
 use Rattle.sl_run.specs.Safety.{Found, SessionId, free_landed, has_write_in_flight, is_course_of, is_over, trace_of, was_reset}
 use Rattle.sl_run.specs.Worlds.{Course, Daemon, Machine, World, daemons_on, is_in_flight, is_write_course, machine_at, may_land, resets_after}
 use Rattle.sl_trace.specs.Sessions.{calls_of, ended_after, free_write, is_join_call, refused_after}

@@ -1,17 +1,17 @@
 -- What stays of a world between an event's first change and its step, and after that step: its calls, who wrote what, the layout.
-use Rattle.sl_run_law.specs.Course.Promises.{MachinesMirror}
-use Rattle.sl_run_law.proofs.Front.Going.{last_event}
+use Rattle.sl_run_law.specs.Course.CourseLaws.{MachinesMirror}
+use Rattle.sl_run_law.proofs.Front.RunsFromFronts.{last_event}
 use Rattle.sl_id_safety.proofs.State.FindingFrames.{find_passes}
 use Rattle.sl_id_safety.proofs.State.SectorFrames.{SameSector, history_same}
 use Rattle.sl_id_safety.proofs.State.WriterFrames.{HasCall, KeepsGiven, KeepsWriters, call_kept, call_there, calls_of_landings, given_on, writers_kept}
 use Rattle.sl_id_safety.specs.State.IdStates.{writer_of}
-use Rattle.sl_id_safety.proofs.Steps.Quiet.{IsOrderly, LeavesRest, begins, leaves_by, orderly}
-use Rattle.sl_id_safety.proofs.Steps.Still.{IsStill, given_first, given_stays, with_running}
-use Rattle.sl_id_safety.specs.Steps.Parts.{between}
-use Rattle.sl_run_law.proofs.Landing.Arriving.{changed_landings, flies_on}
+use Rattle.sl_id_safety.proofs.Steps.QuietEvents.{IsOrderly, LeavesRest, begins, leaves_by, orderly}
+use Rattle.sl_id_safety.proofs.Steps.IdsStayStill.{IsStill, given_first, given_stays, with_running}
+use Rattle.sl_id_safety.specs.Steps.EventParts.{between}
+use Rattle.sl_run_law.proofs.Landing.OneArrival.{changed_landings, flies_on}
 use Rattle.sl_run_law.specs.Landing.Landings.{LandingsAreWritten}
-use Rattle.sl_plain.proofs.Lists.{contains_cases}
-use Rattle.sl_plain.proofs.Numbers.{number_itself}
+use Rattle.sl_words.proofs.Lists.{contains_cases}
+use Rattle.sl_words.proofs.Numbers.{number_itself}
 use Rattle.sl_run.specs.Events.{add_landing, after_crash, after_effects, after_reset, after_restart, after_start, after_step, after_test, change_call, fated, first_change, flight_at, input_of, land_whole, machine_of, may_happen, sampled_more, sectors_left, take_step, torn_bytes, with_entry, write_bytes}
 use Rattle.sl_run.specs.Runs.{Happening}
 use Rattle.sl_run.specs.Safety.{LawfulRun, world_at}
@@ -19,13 +19,13 @@ use Rattle.sl_run.specs.Worlds.{Course, Daemon, Dropped, Landed, Landing, Machin
 use Rattle.sl_run.specs.declared.event.Event.TheVariants.{AnswerCall, Crash, Do, DropWrite, ExitOf, GiveAsk, GiveCommand, GiveLvm, Land, Pass, Reset, Restart, Sample, SpawnedOf, StartDaemon, Tear, Test, WakeUp}
 use Rattle.sl_run.specs.declared.event.Event.{Event}
 use Rattle.sl_run.specs.declared.header.Header.{Header}
-use Rattle.sl_run_law.proofs.Going.{event_goes}
+use Rattle.sl_run_law.proofs.WorldsGoOn.{event_goes}
 use Rattle.sl_run_law.proofs.Guards.{starts}
-use Rattle.sl_run_law.proofs.Tracking.{event_tracks, step_tracks}
-use Rattle.sl_run_law.proofs.Walking.{Asked, each_first, each_step}
-use Rattle.sl_run_law.specs.Courses.{Continues, Follow, ListGoes, Tracks}
-use Rattle.sl_run_law.specs.Fates.{AreDistinct, EachDistinct, Every}
-use Rattle.sl_run_law.specs.Going.{Goes, time_of}
+use Rattle.sl_run_law.proofs.CoursesGoOn.{event_tracks, step_tracks}
+use Rattle.sl_run_law.proofs.MachineWalk.{Asked, each_first, each_step}
+use Rattle.sl_run_law.specs.CoursesGoOn.{Continues, Follow, ListGoes, Tracks}
+use Rattle.sl_run_law.specs.FatesStay.{AreDistinct, EachDistinct, Every}
+use Rattle.sl_run_law.specs.WorldsGoOn.{Goes, time_of}
 use Rattle.sl_run_law.specs.Machines.{EachMachine}
 use Rattle.sl_trace.specs.declared.effects.Effects.{Effects}
 use Rattle.sl_trace.specs.declared.effects.Entry.{Entry}

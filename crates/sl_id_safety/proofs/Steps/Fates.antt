@@ -3,12 +3,12 @@ use Rattle.std.proofs.lemmas.Bool.{and_from, or_left, or_right}
 use Rattle.sl_id_safety.proofs.State.FindingFrames.{moved}
 use Rattle.sl_id_safety.proofs.State.Frames.{flying_of, free_landed_by, free_of, is_running, landed_as, open_while}
 use Rattle.sl_id_safety.specs.State.IdStates.{claim_may_land, deciding_sample, index_of, join_course, own_courses, runs_still}
-use Rattle.sl_id_safety.proofs.Steps.Fating.{Turns, call_stays, claim_at, deciding_turned, has_landed, join_turned, pends, read_or, turned}
+use Rattle.sl_id_safety.proofs.Steps.FateChanges.{Turns, call_stays, claim_at, deciding_turned, has_landed, join_turned, pends, read_or, turned}
 use Rattle.sl_run.specs.Events.{fated}
 use Rattle.sl_run.specs.Safety.{Found, SessionId, free_landed, has_write_in_flight, is_over, trace_of, was_reset}
 use Rattle.sl_run.specs.Worlds.{Course, Fate, In_flight, Machine, World, history_of, is_in_flight, is_landed, is_write_course, may_land}
-use Rattle.sl_run_law.proofs.Coursing.{changed_if}
-use Rattle.sl_run_law.specs.Fates.{Every}
+use Rattle.sl_run_law.proofs.CourseLists.{changed_if}
+use Rattle.sl_run_law.specs.FatesStay.{Every}
 use Rattle.sl_trace.specs.Sessions.{calls_of, ended_after, free_write, refused_after}
 use Rattle.sl_trace.specs.Traces.{Submitted}
 use Rattle.sl_trace.specs.declared.effects.JoinStep.TheVariants.{ClaimWrite}

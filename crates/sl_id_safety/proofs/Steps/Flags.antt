@@ -4,15 +4,15 @@ use Rattle.sl_id_safety.proofs.State.Frames.{flying_of, is_running, open_while}
 use Rattle.sl_id_safety.specs.State.IdStates.{claim_may_land, deciding_sample, join_course, own_courses, runs_still}
 use Rattle.sl_id_safety.proofs.Steps.Frees.{free_stays, silent_calls_own}
 use Rattle.sl_id_safety.proofs.Steps.OwnCalls.{IsFresh, IsKept, IsSilent, JoinGoes, Through, closed, closes, find_mapped, join_goes, kept, knows, step_as}
-use Rattle.sl_id_safety.proofs.Steps.Seeing.{deciding_stays}
-use Rattle.sl_plain.proofs.Lists.{any_of}
-use Rattle.sl_plain.proofs.Options.{none_is}
-use Rattle.sl_plain.proofs.Truth.{left_is_false}
+use Rattle.sl_id_safety.proofs.Steps.ShownStays.{deciding_stays}
+use Rattle.sl_words.proofs.Lists.{any_of}
+use Rattle.sl_words.proofs.Options.{none_is}
+use Rattle.sl_words.proofs.Truth.{left_is_false}
 use Rattle.sl_run.specs.Runs.{Happening}
 use Rattle.sl_run.specs.Safety.{Found, SessionId, free_landed, has_write_in_flight, is_over, trace_of, was_reset}
 use Rattle.sl_run.specs.Worlds.{Course, Program, World, is_in_flight, is_write_course, may_land}
 use Rattle.sl_run.specs.declared.header.Header.{Header}
-use Rattle.sl_trace_law.proofs.Sessions.Staying.{ended_more, refused_apart, refused_more}
+use Rattle.sl_run_law.proofs.Sessions.MarksStay.{ended_more, refused_apart, refused_more}
 use Rattle.sl_trace.specs.Sessions.{ended_after, is_join_call, joined_after, refused_after, removed_after}
 use Rattle.sl_trace.specs.declared.session.Session.{Session}
 use Rattle.sl_trace.specs.Traces.{Trace}

@@ -1,28 +1,28 @@
 -- Whether the free of a session has landed stays through an entry.
 use Rattle.sl_run_law.proofs.Course.Daemons.{every_has}
-use Rattle.sl_run_law.specs.Course.Stamping.{IsCourseOf, stamp_in}
-use Rattle.sl_run_law.proofs.Course.Distinct.{each_distinct}
-use Rattle.sl_run_law.proofs.Front.Having.{contains_append}
+use Rattle.sl_run_law.specs.Course.CallStamps.{IsCourseOf, stamp_in}
+use Rattle.sl_run_law.proofs.Course.CallsAreDistinct.{each_distinct}
+use Rattle.sl_run_law.proofs.Front.JoinedLists.{contains_append}
 use Rattle.sl_id_safety.proofs.State.Frames.{free_landed_by, free_of, landed_as}
 use Rattle.sl_id_safety.specs.State.IdStates.{own_courses}
 use Rattle.sl_id_safety.proofs.Steps.OwnCalls.{IsFresh, IsKept, IsSilent, Through, closed, closes, kept, knows}
-use Rattle.sl_run_law.proofs.Landing.Listing.{one_call}
+use Rattle.sl_run_law.proofs.Landing.CallLists.{one_call}
 use Rattle.sl_run.proofs.LawFacts.{orderly-front}
 use Rattle.sl_run.specs.Lawful.{Orderly}
 use Rattle.sl_run.specs.LawfulDelta.{LawfulDeltaCall}
-use Rattle.sl_run.specs.Saying.{cut_at}
-use Rattle.sl_run_law.proofs.Place.Finding.{partner_of}
-use Rattle.sl_plain.proofs.Lists.{any_found, find_fails, find_inside, in_map, kept_inside}
+use Rattle.sl_run.specs.LawForms.{cut_at}
+use Rattle.sl_run_law.proofs.Place.FoundInLists.{partner_of}
+use Rattle.sl_words.proofs.Lists.{any_found, find_fails, find_inside, in_map, kept_inside}
 use Rattle.sl_run.specs.Runs.{Happening}
 use Rattle.sl_run.specs.Safety.{Found, SessionId, free_landed, is_course_of, setting_in, trace_of}
 use Rattle.sl_run.specs.Worlds.{Course, Program, Stamp, World, is_landed}
 use Rattle.sl_run.specs.declared.header.Header.{Header}
-use Rattle.sl_trace_law.proofs.Sessions.Growing.{mine_marked, other_next, to_all}
-use Rattle.sl_trace_law.proofs.Sessions.Making.{WasOpen, old_or_new, same_answered, was_marked}
-use Rattle.sl_trace_law.proofs.Sessions.Owning.{calls_were_lawful}
-use Rattle.sl_trace_law.proofs.Sessions.Silence.{stage_by}
-use Rattle.sl_trace_law.proofs.Sessions.Staying.{marks_stay}
-use Rattle.sl_trace_law.specs.Sessions.Promises.{IsSession, WasLawful, front_of, made_as}
+use Rattle.sl_run_law.proofs.Sessions.TraceGrowth.{mine_marked, other_next, to_all}
+use Rattle.sl_run_law.proofs.Sessions.CallsAreMade.{WasOpen, old_or_new, same_answered, was_marked}
+use Rattle.sl_run_law.proofs.Sessions.CallOwners.{calls_were_lawful}
+use Rattle.sl_run_law.proofs.Sessions.EndedAreSilent.{stage_by}
+use Rattle.sl_run_law.proofs.Sessions.MarksStay.{marks_stay}
+use Rattle.sl_run_law.specs.Sessions.SessionLaws.{IsSession, WasLawful, front_of, made_as}
 use Rattle.sl_trace.specs.Sessions.{calls_of, free_write, is_free_purpose, joined_after, refused_after, removed_after, stage_after, stage_in, stage_of}
 use Rattle.sl_trace.specs.declared.session.Session.{Session}
 use Rattle.sl_trace.specs.declared.stage.Stage.TheVariants.{Looking, Standing}
@@ -36,7 +36,7 @@ use Rattle.sl_trace.specs.declared.effects.Purpose.{Purpose}
 use Rattle.sl_trace.specs.declared.input.Answer.{Answer}
 use Rattle.sl_trace.specs.declared.input.Input.TheVariants.{Answer as Told, Exit, Line, Number, Spawned, Wake}
 use Rattle.sl_trace.specs.declared.input.Input.{Input}
-use Rattle.sl_run_law.proofs.Watchdog.Finding.{call_inside, call_owner}
+use Rattle.sl_run_law.proofs.Watchdog.FoundCalls.{call_inside, call_owner}
 use Rattle.sl_words.proofs.CaseLaws.{false_is_true, is_false, not_both, some_value, true_is_false}
 use Rattle.sl_words.proofs.WordLaws.{and_true}
 use Rattle.sl_words.specs.Words.{some_is}

@@ -1,15 +1,15 @@
 -- What lands at the sector of an id is a delta record, and says what was written.
 use Rattle.sl_area.specs.Layouts.{Layout, layout_with, record_in, sector_with}
 use Rattle.sl_area.specs.Places.{in_area}
-use Rattle.sl_run_law.proofs.Front.Going.{last_event}
+use Rattle.sl_run_law.proofs.Front.RunsFromFronts.{last_event}
 use Rattle.sl_id_safety.specs.State.IdStates.{content_of, said_by}
-use Rattle.sl_id_safety.specs.State.Promises.{IsIdPlace}
+use Rattle.sl_id_safety.specs.State.StateLaws.{IsIdPlace}
 use Rattle.sl_id_safety.proofs.Steps.EventFrames.{StayDistinct, after_event, first_tracks, second_tracks, step_rest}
 use Rattle.sl_id_safety.proofs.Steps.OtherSessions.{goes_has}
-use Rattle.sl_id_safety.specs.Steps.Parts.{between}
-use Rattle.sl_run_law.proofs.Landing.Listing.{one_call}
+use Rattle.sl_id_safety.specs.Steps.EventParts.{between}
+use Rattle.sl_run_law.proofs.Landing.CallLists.{one_call}
 use Rattle.sl_run_law.specs.Landing.Landings.{IsWrittenBy}
-use Rattle.sl_run_law.proofs.Place.Reading.{IsPromised, digest_is, layout_is, traced, writes_record}
+use Rattle.sl_run_law.proofs.Place.TracesOnMachines.{IsPromised, digest_is, layout_is, traced, writes_record}
 use Rattle.sl_run_law.proofs.Place.Seats.{delta_within, sized_in}
 use Rattle.sl_run_law.proofs.Place.Sizes.{sector_fits, sized}
 use Rattle.sl_run_law.specs.Place.Homes.{IsDeltaLanding, LockspacesHoldDeltas}

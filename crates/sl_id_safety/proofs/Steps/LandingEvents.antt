@@ -1,23 +1,23 @@
 -- The events in which a write lands or is dropped, as steps of an id.
-use Rattle.sl_run_law.proofs.Front.Going.{last_event}
+use Rattle.sl_run_law.proofs.Front.RunsFromFronts.{last_event}
 use Rattle.sl_id_safety.proofs.State.FindingFrames.{find_passes}
-use Rattle.sl_run_law.proofs.Place.Finding.{place_is}
+use Rattle.sl_run_law.proofs.Place.FoundInLists.{place_is}
 use Rattle.sl_id_safety.proofs.State.SectorFrames.{SameSector, history_grows}
 use Rattle.sl_id_safety.proofs.State.StateFrames.{one_step}
 use Rattle.sl_id_safety.proofs.State.WriterFrames.{writer_stays}
 use Rattle.sl_id_safety.specs.State.IdStates.{id_state, said_by}
-use Rattle.sl_id_safety.specs.State.Promises.{IsIdPlace}
-use Rattle.sl_id_safety.proofs.Steps.Acting.{lands_here}
+use Rattle.sl_id_safety.specs.State.StateLaws.{IsIdPlace}
+use Rattle.sl_id_safety.proofs.Steps.RenewalLandings.{lands_here}
 use Rattle.sl_id_safety.proofs.Steps.CallEvents.{CallEvent, Flies, IsDone, IsFlyingWrite, do_flies, do_landed_between, do_write_between, drop_between, drop_flies, fate_event, flight_is, land_between, land_flies, landing_event, landing_of_call, tear_between, tear_flies}
 use Rattle.sl_id_safety.proofs.Steps.Callers.{Caller, Write, its_caller}
 use Rattle.sl_id_safety.proofs.Steps.EventFrames.{first_keeps, first_writers, left_has_call}
 use Rattle.sl_id_safety.proofs.Steps.HereDeltas.{delta_here, says_nothing, says_written}
-use Rattle.sl_id_safety.proofs.Steps.Landed.{RestsOn, elsewhere}
-use Rattle.sl_id_safety.proofs.Steps.Landings.{Here, IsTorn, IsWhole}
+use Rattle.sl_id_safety.proofs.Steps.LandingsElsewhere.{RestsOn, elsewhere}
+use Rattle.sl_id_safety.proofs.Steps.LandingsHere.{Here, IsTorn, IsWhole}
 use Rattle.sl_id_safety.proofs.Steps.OwnSeqs.{writer_is}
-use Rattle.sl_id_safety.proofs.Steps.Quiet.{still_passes}
-use Rattle.sl_id_safety.proofs.Steps.Still.{StaysStill}
-use Rattle.sl_id_safety.specs.Steps.Parts.{IsLandingEvent, LandingsGoOn, between, state_between}
+use Rattle.sl_id_safety.proofs.Steps.QuietEvents.{still_passes}
+use Rattle.sl_id_safety.proofs.Steps.IdsStayStill.{StaysStill}
+use Rattle.sl_id_safety.specs.Steps.EventParts.{IsLandingEvent, LandingsGoOn, between, state_between}
 use Rattle.sl_ids.proofs.DerivedLaws.{watchdogs}
 use Rattle.sl_ids.proofs.WholeRuns.{reached_kept}
 use Rattle.sl_ids.specs.Guards.{terms_of}
@@ -25,8 +25,8 @@ use Rattle.sl_ids.specs.Invariant.{Invariant}
 use Rattle.sl_ids.specs.Runs.{IsBounded, Later}
 use Rattle.sl_ids.specs.Steps.{Passes, Step}
 use Rattle.sl_ids.specs.Terms.{Terms}
-use Rattle.sl_plain.proofs.Lists.{contains_first}
-use Rattle.sl_plain.proofs.Numbers.{refl_le}
+use Rattle.sl_words.proofs.Lists.{contains_first}
+use Rattle.sl_words.proofs.Numbers.{refl_le}
 use Rattle.sl_run.specs.Events.{fated, flight_at, may_happen, next_step, spells_something, torn_bytes, write_bytes}
 use Rattle.sl_run.specs.Runs.{Happening}
 use Rattle.sl_run.specs.Safety.{LawfulRun, world_at}

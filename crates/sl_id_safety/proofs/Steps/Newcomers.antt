@@ -1,31 +1,31 @@
 -- A session that begins with an entry has done nothing.
 use Rattle.sl_run_law.proofs.Course.Daemons.{every_has}
-use Rattle.sl_run_law.proofs.Course.Pairing.{pairs_length}
-use Rattle.sl_run_law.proofs.Course.Stamped.{entries_are_stamped}
-use Rattle.sl_run_law.specs.Course.Stamping.{IsStampOf, stamp_in}
-use Rattle.sl_run_law.proofs.Front.Having.{contains_append}
-use Rattle.sl_id_safety.proofs.State.Begun.{BeganAt, late_call}
-use Rattle.sl_id_safety.proofs.State.Bridge.{IsKnown, known}
+use Rattle.sl_run_law.proofs.Course.PairwiseLists.{pairs_length}
+use Rattle.sl_run_law.proofs.Course.EntriesAreStamped.{entries_are_stamped}
+use Rattle.sl_run_law.specs.Course.CallStamps.{IsStampOf, stamp_in}
+use Rattle.sl_run_law.proofs.Front.JoinedLists.{contains_append}
+use Rattle.sl_id_safety.proofs.State.BeginsWhereEnded.{BeganAt, late_call}
+use Rattle.sl_id_safety.proofs.State.TraceBridge.{IsKnown, known}
 use Rattle.sl_id_safety.proofs.State.FindingFrames.{find_passes, found_on, session_on, session_with}
-use Rattle.sl_id_safety.proofs.State.Keeping.{own_call}
-use Rattle.sl_id_safety.proofs.State.Proven.{grounds}
+use Rattle.sl_id_safety.proofs.State.CallLaws.{own_call}
+use Rattle.sl_id_safety.proofs.State.SessionFacts.{grounds}
 use Rattle.sl_id_safety.proofs.State.SampleFrames.{showed}
 use Rattle.sl_id_safety.specs.State.IdStates.{blank, deciding_sample, has_begun, is_sector_of, join_course, own_courses, session_named_so, standing_by, standing_of, watched_bytes}
-use Rattle.sl_id_safety.proofs.Steps.Carrying.{after, kept_early, stamp_of, stepped}
-use Rattle.sl_id_safety.proofs.Steps.Counted.{shown_course}
+use Rattle.sl_id_safety.proofs.Steps.EntryCarries.{after, kept_early, stamp_of, stepped}
+use Rattle.sl_id_safety.proofs.Steps.RenewalsAboveClaims.{shown_course}
 use Rattle.sl_id_safety.proofs.Steps.EventFrames.{after_event, entry_of}
 use Rattle.sl_id_safety.proofs.Steps.Frees.{not_less}
 use Rattle.sl_id_safety.proofs.Steps.OtherSessions.{IsOfEntry}
 use Rattle.sl_id_safety.proofs.Steps.OwnCalls.{IsKept, closed, fresh_of, kept, own_after}
 use Rattle.sl_id_safety.proofs.Steps.OwnSessions.{NewAreBlank}
-use Rattle.sl_id_safety.proofs.Steps.Seeing.{first_there, past_none}
+use Rattle.sl_id_safety.proofs.Steps.ShownStays.{first_there, past_none}
 use Rattle.sl_id_safety.proofs.Steps.StepFrames.{IsEntry, IsNewCourse, entered, step_runs}
-use Rattle.sl_id_safety.proofs.Steps.Still.{with_running}
-use Rattle.sl_id_safety.specs.Steps.Parts.{between}
+use Rattle.sl_id_safety.proofs.Steps.IdsStayStill.{with_running}
+use Rattle.sl_id_safety.specs.Steps.EventParts.{between}
 use Rattle.sl_ids.specs.State.{Session as IdSession}
 use Rattle.sl_run_law.proofs.Moment.Stamps.{made_is_stamp}
-use Rattle.sl_run_law.specs.Moment.Moments.{Of_stamp}
-use Rattle.sl_plain.proofs.Lists.{contains_none, in_map, kept_inside}
+use Rattle.sl_run_law.specs.Moment.MomentsFollowSteps.{Of_stamp}
+use Rattle.sl_words.proofs.Lists.{contains_none, in_map, kept_inside}
 use Rattle.sl_run.specs.Events.{machine_of}
 use Rattle.sl_run.specs.Runs.{Happening}
 use Rattle.sl_run.specs.Safety.{Found, IsSession, LawfulRun, SessionId, is_course_of, session_of_world, setting_in, trace_of, world_at}
@@ -36,7 +36,7 @@ use Rattle.sl_trace.specs.declared.session.Session.{Session}
 use Rattle.sl_trace.specs.Traces.{Setting, Trace}
 use Rattle.sl_trace.specs.declared.effects.Entry.{Entry}
 use Rattle.sl_trace.specs.declared.effects.JoinStep.TheVariants.{DecidingRead}
-use Rattle.sl_run_law.proofs.Watchdog.Numbering.{begun_is, either_place}
+use Rattle.sl_run_law.proofs.Watchdog.TraceNumbers.{begun_is, either_place}
 use Rattle.sl_words.proofs.CaseLaws.{none_some, some_value}
 use Rattle.std.proofs.Common.{ap, arith, inl, inr, refl, subst, sym, ◌∙◌}
 use Rattle.std.specs.Prelude.{Bool, Contains, List, None, Option, Some, cond, false, find, is_none, is_some, length, map, option_map, slice_get, true, [], ℕ, ◌&&◌, ◌++◌, ◌+◌, ◌==◌, ◌||◌, ◌∷◌, ◌≡◌, ◌≤◌, ◌⊎◌}

@@ -1,6 +1,6 @@
 -- The sessions of other daemons stay as they were through an entry.
-use Rattle.sl_run_law.proofs.Course.Resetting.{step_resets}
-use Rattle.sl_run_law.specs.Course.Promises.{MachinesMirror}
+use Rattle.sl_run_law.proofs.Course.ResetsBeforeNow.{step_resets}
+use Rattle.sl_run_law.specs.Course.CourseLaws.{MachinesMirror}
 use Rattle.sl_id_safety.proofs.State.CallFrames.{elsewhere_same}
 use Rattle.sl_id_safety.proofs.State.FindingFrames.{find_passes, found_on, is_found, moved, own_untouched, same_moved, session_on}
 use Rattle.sl_id_safety.proofs.State.Frames.{is_running, of_daemon}
@@ -9,13 +9,13 @@ use Rattle.sl_id_safety.specs.State.IdStates.{own_courses, session_at, session_n
 use Rattle.sl_id_safety.proofs.Steps.CallEvents.{answer_flies, do_flies}
 use Rattle.sl_id_safety.proofs.Steps.EventFrames.{StayDistinct, after_event, between_distinct, first_tracks, step_sector}
 use Rattle.sl_id_safety.proofs.Steps.StepFrames.{IsEntry, IsNewCourse, other_found, step_runs, step_submits}
-use Rattle.sl_id_safety.specs.Steps.Parts.{between}
+use Rattle.sl_id_safety.specs.Steps.EventParts.{between}
 use Rattle.sl_ids.specs.State.{SessionId as IdName}
-use Rattle.sl_run_law.proofs.Landing.Listing.{one_call}
+use Rattle.sl_run_law.proofs.Landing.CallLists.{one_call}
 use Rattle.sl_run_law.specs.Landing.Landings.{LandingsAreWritten}
-use Rattle.sl_run_law.proofs.Front.Going.{last_event}
-use Rattle.sl_plain.proofs.Lists.{contains_cases, contains_first, contains_more, contains_none}
-use Rattle.sl_plain.proofs.Options.{then_value}
+use Rattle.sl_run_law.proofs.Front.RunsFromFronts.{last_event}
+use Rattle.sl_words.proofs.Lists.{contains_cases, contains_first, contains_more, contains_none}
+use Rattle.sl_words.proofs.Options.{then_value}
 use Rattle.sl_run.specs.Events.{after_step, close_answered, done_input, if_running, input_at, input_of, machine_of, may_happen, new_course, ok_input}
 use Rattle.sl_run.specs.Runs.{Happening}
 use Rattle.sl_run.specs.Safety.{Found, LawfulRun, SessionId, is_course_of, session_of_world, world_at}
@@ -23,10 +23,10 @@ use Rattle.sl_run.specs.Worlds.{Course, Daemon, Machine, Program, Stamp, World, 
 use Rattle.sl_run.specs.declared.event.Event.TheVariants.{AnswerCall, Crash, Do, DropWrite, ExitOf, GiveAsk, GiveCommand, GiveLvm, Land, Pass, Reset, Restart, Sample, SpawnedOf, StartDaemon, Tear, Test, WakeUp}
 use Rattle.sl_run.specs.declared.event.Event.{Event}
 use Rattle.sl_run.specs.declared.header.Header.{Header}
-use Rattle.sl_run_law.proofs.Tracking.{told}
-use Rattle.sl_run_law.specs.Courses.{Continues, Follow, ListGoes}
-use Rattle.sl_run_law.specs.Fates.{AreDistinct, Every}
-use Rattle.sl_run_law.proofs.Front.Having.{contains_right}
+use Rattle.sl_run_law.proofs.CoursesGoOn.{told}
+use Rattle.sl_run_law.specs.CoursesGoOn.{Continues, Follow, ListGoes}
+use Rattle.sl_run_law.specs.FatesStay.{AreDistinct, Every}
+use Rattle.sl_run_law.proofs.Front.JoinedLists.{contains_right}
 use Rattle.sl_trace.specs.Traces.{is_ok_answer}
 use Rattle.sl_trace.specs.declared.effects.Call.{Call}
 use Rattle.sl_trace.specs.declared.effects.Effects.{Effects}

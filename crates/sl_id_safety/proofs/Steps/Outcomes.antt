@@ -4,16 +4,16 @@ use Rattle.sl_run_law.proofs.Course.Daemons.{every_has}
 use Rattle.sl_id_safety.proofs.State.SampleFrames.{IsJoinCourse, join_is, joining_is}
 use Rattle.sl_id_safety.specs.State.Facts.{HasClaimed, HasWatched, is_reading_step}
 use Rattle.sl_id_safety.specs.State.IdStates.{claim_bytes, comes_before, deciding_sample, join_course, own_courses, refused_stamp, sample_showing, verifying_sample, watched_bytes}
-use Rattle.sl_id_safety.proofs.Steps.Sampled.{join_sampled, keeps_rest, sampled_found, turned}
+use Rattle.sl_id_safety.proofs.Steps.SampleKeepsRest.{join_sampled, keeps_rest, sampled_found, turned}
 use Rattle.sl_run.specs.Events.{sample_at, sampled_more, sectors_of, write_bytes}
 use Rattle.sl_run.specs.Safety.{Found, SessionId}
 use Rattle.sl_run.specs.Worlds.{Course, Landing, Sampling, Stamp, World, content, first_landing, flight_of, history_of, landed_at, sector_size}
 use Rattle.sl_run.specs.declared.header.Header.{Header}
-use Rattle.sl_run_law.proofs.Answered.{flight_waits}
-use Rattle.sl_run_law.proofs.Coursing.{changed_if}
-use Rattle.sl_run_law.specs.Fates.{AreDistinct, Every}
-use Rattle.sl_run_law.proofs.Sample.Flying.{IsOne, all_one}
-use Rattle.sl_run_law.proofs.Sample.Numbering.{newest_number}
+use Rattle.sl_run_law.proofs.AnswersStay.{flight_waits}
+use Rattle.sl_run_law.proofs.CourseLists.{changed_if}
+use Rattle.sl_run_law.specs.FatesStay.{AreDistinct, Every}
+use Rattle.sl_run_law.proofs.Sample.OnlyCall.{IsOne, all_one}
+use Rattle.sl_run_law.proofs.Sample.LandingNumbers.{newest_number}
 use Rattle.sl_run_law.specs.Sample.Samples.{numbered_landing}
 use Rattle.sl_trace.specs.Sessions.{is_join_call}
 use Rattle.sl_trace.specs.declared.effects.JoinStep.TheVariants.{ClaimWrite, DecidingRead, FirstRead, VerifyRead}

@@ -1,23 +1,23 @@
 -- What an entry makes of the calls of a session of the daemon that takes it: each stays, or is answered, and new ones stand in front.
-use Rattle.sl_run_law.proofs.Course.Pairing.{every_filtered}
-use Rattle.sl_run_law.proofs.Front.Having.{contains_right}
-use Rattle.sl_id_safety.proofs.State.Bridge.{IsKnown, known}
+use Rattle.sl_run_law.proofs.Course.PairwiseLists.{every_filtered}
+use Rattle.sl_run_law.proofs.Front.JoinedLists.{contains_right}
+use Rattle.sl_id_safety.proofs.State.TraceBridge.{IsKnown, known}
 use Rattle.sl_id_safety.proofs.State.FindingFrames.{find_passes, own_mapped}
-use Rattle.sl_id_safety.proofs.State.Keeping.{own_call}
-use Rattle.sl_id_safety.proofs.State.Living.{rank_at}
-use Rattle.sl_id_safety.proofs.State.Proven.{grounds}
-use Rattle.sl_id_safety.proofs.State.Steps.{only}
+use Rattle.sl_id_safety.proofs.State.CallLaws.{own_call}
+use Rattle.sl_id_safety.proofs.State.JoiningCallOrder.{rank_at}
+use Rattle.sl_id_safety.proofs.State.SessionFacts.{grounds}
+use Rattle.sl_id_safety.proofs.State.JoiningSteps.{only}
 use Rattle.sl_id_safety.specs.State.IdStates.{join_course, own_courses, runs_still}
 use Rattle.sl_id_safety.proofs.Steps.StepFrames.{IsNewCourse, step_submits}
-use Rattle.sl_plain.proofs.Lists.{contains_map}
+use Rattle.sl_words.proofs.Lists.{contains_map}
 use Rattle.sl_run.specs.Events.{after_step, close_answered}
 use Rattle.sl_run.specs.Runs.{Happening}
 use Rattle.sl_run.specs.Safety.{Found, IsSession, LawfulRun, SessionId, is_course_of, was_reset, world_at}
 use Rattle.sl_run.specs.Worlds.{Course, Daemon, In_flight, Machine, Program, Sampling, Stamp, World}
 use Rattle.sl_run.specs.declared.header.Header.{Header}
-use Rattle.sl_run_law.proofs.Coursing.{changed_if}
-use Rattle.sl_run_law.proofs.Tracking.{told}
-use Rattle.sl_run_law.specs.Fates.{Every}
+use Rattle.sl_run_law.proofs.CourseLists.{changed_if}
+use Rattle.sl_run_law.proofs.CoursesGoOn.{told}
+use Rattle.sl_run_law.specs.FatesStay.{Every}
 use Rattle.sl_trace.specs.Sessions.{calls_of, ended_after, free_write, is_join_call, joined_after, session_numbered}
 use Rattle.sl_trace.specs.declared.session.Session.{Session}
 use Rattle.sl_trace.specs.Traces.{Submitted, is_ok_answer}

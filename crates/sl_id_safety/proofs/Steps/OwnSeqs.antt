@@ -1,25 +1,25 @@
 -- The seqs of what has landed for a session: each is less than that of a renewal or a free of it in flight.
-use Rattle.sl_run_law.proofs.Landing.Listing.{one_call}
+use Rattle.sl_run_law.proofs.Landing.CallLists.{one_call}
 use Rattle.sl_run_law.proofs.Landing.Writers.{writer_settled}
 use Rattle.sl_run_law.proofs.Place.Sizes.{sector_fits}
-use Rattle.sl_plain.proofs.Lists.{contains_cases, contains_first, contains_more, contains_none, kept, kept_inside}
+use Rattle.sl_words.proofs.Lists.{contains_cases, contains_first, contains_more, contains_none, kept, kept_inside}
 use Rattle.std.proofs.lemmas.Bool.{and_from, eq-eqb, eqb-true}
 use Rattle.sl_area.specs.Layouts.{Layout, layout_with, record_in}
 use Rattle.sl_area.specs.Places.{fresh_delta}
-use Rattle.sl_run_law.proofs.Front.Having.{contains_append}
-use Rattle.sl_id_safety.proofs.State.Bridge.{Grounds}
+use Rattle.sl_run_law.proofs.Front.JoinedLists.{contains_append}
+use Rattle.sl_id_safety.proofs.State.TraceBridge.{Grounds}
 use Rattle.sl_id_safety.proofs.State.FindingFrames.{find_passes}
-use Rattle.sl_id_safety.proofs.State.Keeping.{own_call}
+use Rattle.sl_id_safety.proofs.State.CallLaws.{own_call}
 use Rattle.sl_id_safety.proofs.State.StateFrames.{name_is}
 use Rattle.sl_id_safety.proofs.State.WriterFrames.{call_of, call_there}
 use Rattle.sl_id_safety.specs.State.IdStates.{content_of, holder_at, name_of, own_courses, said_by, same_name, seq_left, submitter_of, submitter_on, writer_of}
-use Rattle.sl_id_safety.proofs.State.Starts.{said_first}
-use Rattle.sl_id_safety.specs.State.Promises.{IsIdPlace}
-use Rattle.sl_id_safety.proofs.Steps.Fating.{seq_at}
+use Rattle.sl_id_safety.proofs.State.IdsStart.{said_first}
+use Rattle.sl_id_safety.specs.State.StateLaws.{IsIdPlace}
+use Rattle.sl_id_safety.proofs.Steps.FateChanges.{seq_at}
 use Rattle.sl_id_safety.proofs.Steps.OwnWrites.{IsRenewing, above_given, rises_above}
 use Rattle.sl_ids.specs.State.{Content, SessionId as IdName}
 use Rattle.sl_run_law.specs.Landing.Landings.{HasWriter, LandingsAreWritten}
-use Rattle.sl_run_law.proofs.Place.Reading.{IsPromised, header_is, layout_is, reads_back}
+use Rattle.sl_run_law.proofs.Place.TracesOnMachines.{IsPromised, header_is, layout_is, reads_back}
 use Rattle.sl_run_law.proofs.Place.Seats.{delta_in_is, sized_in}
 use Rattle.sl_run.specs.Runs.{Happening}
 use Rattle.sl_run.specs.Safety.{Found, LawfulRun, SessionId, is_course_of, session_of_world, world_at}
@@ -27,7 +27,7 @@ use Rattle.sl_run.specs.Worlds.{Course, Landing, Machine, Program, World, first_
 use Rattle.sl_run.specs.declared.header.Header.{Header}
 use Rattle.sl_run.specs.declared.header.LockspaceLine.{LockspaceLine}
 use Rattle.sl_run.specs.declared.header.SessionLine.{SessionLine}
-use Rattle.sl_run_law.specs.Fates.{AreDistinct, EachDistinct}
+use Rattle.sl_run_law.specs.FatesStay.{AreDistinct, EachDistinct}
 use Rattle.sl_sector.specs.Spelling.{delta_in}
 use Rattle.sl_sector.specs.declared.sector.DeltaRec.{DeltaRec}
 use Rattle.sl_sector.specs.declared.sector.Rec.TheVariants.{DeltaIs}

@@ -1,9 +1,9 @@
 -- What an entry is to each session of the daemon that takes it, by what it is to the session's renewals.
-use Rattle.sl_run_law.specs.Course.Promises.{MachinesMirror}
+use Rattle.sl_run_law.specs.Course.CourseLaws.{MachinesMirror}
 use Rattle.sl_id_safety.proofs.State.Frames.{ended}
 use Rattle.sl_id_safety.proofs.State.SectorFrames.{SameSector}
 use Rattle.sl_id_safety.specs.State.IdStates.{blank, claim_may_land, deciding_sample, has_begun, id_state, is_sector_of, renewed_by_now, session_at, session_named_so, standing_by, standing_of}
-use Rattle.sl_id_safety.specs.State.Promises.{IsIdPlace}
+use Rattle.sl_id_safety.specs.State.StateLaws.{IsIdPlace}
 use Rattle.sl_ids.proofs.DerivedLaws.{watchdogs}
 use Rattle.sl_ids.proofs.WholeRuns.{reached_kept}
 use Rattle.sl_ids.specs.Guards.{terms_of}
@@ -12,16 +12,16 @@ use Rattle.sl_ids.specs.Runs.{Reached}
 use Rattle.sl_ids.specs.State.{Session as IdSession, SessionId as IdName, State}
 use Rattle.sl_ids.specs.Steps.{after_renewal}
 use Rattle.sl_ids.specs.Terms.{Terms}
-use Rattle.sl_id_safety.proofs.Steps.Carrying.{Carried, carried}
-use Rattle.sl_id_safety.proofs.Steps.Entering.{EntryActs, OwnSessionsAct}
+use Rattle.sl_id_safety.proofs.Steps.EntryCarries.{Carried, carried}
+use Rattle.sl_id_safety.proofs.Steps.EntriesGoOn.{EntryActs, OwnSessionsAct}
 use Rattle.sl_id_safety.proofs.Steps.EventFrames.{StayDistinct, after_event, step_sector}
 use Rattle.sl_id_safety.proofs.Steps.Flags.{last_one, over_stays, pending_before}
 use Rattle.sl_id_safety.proofs.Steps.OtherSessions.{IsOfEntry}
 use Rattle.sl_id_safety.proofs.Steps.OwnCalls.{Through}
-use Rattle.sl_id_safety.proofs.Steps.Standing.{acted, begun_stays, stands_on}
+use Rattle.sl_id_safety.proofs.Steps.EntryKeepsStanding.{acted, begun_stays, stands_on}
 use Rattle.sl_id_safety.proofs.Steps.StepFrames.{IsEntry}
-use Rattle.sl_id_safety.proofs.Steps.Turning.{Renewed, Renews_so, Turned, Turns, flags_stay, flags_turn}
-use Rattle.sl_id_safety.specs.Steps.Parts.{between, state_between}
+use Rattle.sl_id_safety.proofs.Steps.OneSessionTurns.{Renewed, Renews_so, Turned, Turns, flags_stay, flags_turn}
+use Rattle.sl_id_safety.specs.Steps.EventParts.{between, state_between}
 use Rattle.sl_run_law.specs.Landing.Landings.{LandingsAreWritten}
 use Rattle.sl_run.specs.Runs.{Happening}
 use Rattle.sl_run.specs.Safety.{Found, LawfulRun, SessionId, is_over, session_of_world, trace_of, world_at}

@@ -1,39 +1,39 @@
 -- A session's write of a delta record that is in flight: what it wrote before was answered, its free is its last, and its seqs rise.
 use Rattle.sl_run_law.proofs.Course.Daemons.{every_has}
-use Rattle.sl_id_safety.proofs.Steps.Alive.{not_claim as other_step}
+use Rattle.sl_id_safety.proofs.Steps.JoiningIsAlive.{not_claim as other_step}
 use Rattle.sl_run_law.proofs.Place.Looks.{stands}
-use Rattle.sl_plain.proofs.Lists.{any_of, contains_cases, contains_map, contains_none, find_inside}
+use Rattle.sl_words.proofs.Lists.{any_of, contains_cases, contains_map, contains_none, find_inside}
 use Rattle.std.proofs.lemmas.Bool.{and_from, eq-eqb, or_left}
-use Rattle.sl_run_law.specs.Course.Stamping.{IsCourseOf}
-use Rattle.sl_id_safety.proofs.State.Bridge.{Grounds, known}
-use Rattle.sl_id_safety.proofs.State.Claiming.{done_of, record_is}
+use Rattle.sl_run_law.specs.Course.CallStamps.{IsCourseOf}
+use Rattle.sl_id_safety.proofs.State.TraceBridge.{Grounds, known}
+use Rattle.sl_id_safety.proofs.State.ClaimsHaveDecided.{done_of, record_is}
 use Rattle.sl_id_safety.proofs.State.FindingFrames.{moved}
 use Rattle.sl_id_safety.proofs.State.Frames.{free_landed_by, free_of, landed_as}
-use Rattle.sl_id_safety.proofs.State.Keeping.{IsOwnCall, own_call}
-use Rattle.sl_id_safety.proofs.State.Listing.{EveryTail, stands_there, tail_at}
-use Rattle.sl_run_law.specs.Fates.{Every}
-use Rattle.sl_id_safety.proofs.State.Living.{InPlace, is_joining}
-use Rattle.sl_id_safety.proofs.State.Renewing.{none_joining}
-use Rattle.sl_id_safety.proofs.State.Rising.{HasLess, IsShaped, OfClaim, OfLast, Renews, Rises, Shaped, all_renew, all_rise, all_shaped, shape}
-use Rattle.sl_id_safety.proofs.State.Steps.{places, ranks_of}
+use Rattle.sl_id_safety.proofs.State.CallLaws.{IsOwnCall, own_call}
+use Rattle.sl_id_safety.proofs.State.PairedLists.{EveryTail, stands_there, tail_at}
+use Rattle.sl_run_law.specs.FatesStay.{Every}
+use Rattle.sl_id_safety.proofs.State.JoiningCallOrder.{InPlace, is_joining}
+use Rattle.sl_id_safety.proofs.State.RenewalsHaveVerified.{none_joining}
+use Rattle.sl_id_safety.proofs.State.SeqsRise.{HasLess, IsShaped, OfClaim, OfLast, Renews, Rises, Shaped, all_renew, all_rise, all_shaped, shape}
+use Rattle.sl_id_safety.proofs.State.JoiningSteps.{places, ranks_of}
 use Rattle.sl_id_safety.proofs.State.Tails.{IsLater, front_at}
-use Rattle.sl_id_safety.proofs.State.Verifying.{answered_in_turn, delta_purpose, written_there}
+use Rattle.sl_id_safety.proofs.State.VerifyReads.{answered_in_turn, delta_purpose, written_there}
 use Rattle.sl_id_safety.specs.State.Facts.{RenewalsHaveVerified}
 use Rattle.sl_id_safety.specs.State.IdStates.{own_courses, verifying_sample}
 use Rattle.sl_id_safety.proofs.Steps.Fates.{FliesAt, one_fate}
-use Rattle.sl_id_safety.proofs.Steps.Fating.{Turns, turned}
-use Rattle.sl_run_law.proofs.Place.Finding.{finds, partner, partner_of}
+use Rattle.sl_id_safety.proofs.Steps.FateChanges.{Turns, turned}
+use Rattle.sl_run_law.proofs.Place.FoundInLists.{finds, partner, partner_of}
 use Rattle.sl_run.specs.Events.{fated}
 use Rattle.sl_run.specs.Runs.{Happening}
 use Rattle.sl_run.specs.Safety.{Found, LawfulRun, SessionId, free_landed, has_write_in_flight, is_over, session_of_world, setting_in, trace_of, world_at}
 use Rattle.sl_run.specs.Worlds.{Course, Fate, Machine, Program, Sampling, World, is_landed, is_write_course}
 use Rattle.sl_run.specs.declared.header.Header.{Header}
-use Rattle.sl_run_law.proofs.Coursing.{changed_if}
+use Rattle.sl_run_law.proofs.CourseLists.{changed_if}
 use Rattle.sl_sector.specs.declared.sector.DeltaRec.{DeltaRec}
 use Rattle.sl_sector.specs.declared.sector.Rec.TheVariants.{DeltaIs}
-use Rattle.sl_trace_law.proofs.Sessions.Covering.{joinings_are_in_turn}
-use Rattle.sl_trace_law.proofs.Sessions.Silence.{stage_by}
-use Rattle.sl_trace_law.specs.Sessions.Promises.{all_done, fits, fits_as, is_in_turn}
+use Rattle.sl_run_law.proofs.Sessions.WritesAreCovered.{joinings_are_in_turn}
+use Rattle.sl_run_law.proofs.Sessions.EndedAreSilent.{stage_by}
+use Rattle.sl_run_law.specs.Sessions.SessionLaws.{all_done, fits, fits_as, is_in_turn}
 use Rattle.sl_trace.specs.Sessions.{calls_of, delta_of_record, delta_written, free_write, given_number, is_delta_purpose, is_free_purpose, is_join_call, joined_after, last_delta, refused_after, removed_after, seq_in, stage_in, stage_of}
 use Rattle.sl_trace.specs.declared.session.Session.{Session}
 use Rattle.sl_trace.specs.declared.stage.Stage.TheVariants.{Standing}

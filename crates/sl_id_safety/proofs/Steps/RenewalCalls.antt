@@ -1,25 +1,25 @@
 -- The call of a renewal that an entry answers ok: it has landed at the session's sector, after it was submitted.
 use Rattle.sl_area.specs.Places.{delta_offset}
-use Rattle.sl_run_law.proofs.Course.Distinct.{each_distinct}
-use Rattle.sl_run_law.specs.Course.Stamping.{AnswersAgree, IsAnsweredAs, IsCourseOf, stamp_in}
-use Rattle.sl_run_law.proofs.Front.Having.{placed_at}
-use Rattle.sl_id_safety.proofs.State.Keeping.{is_at_own, is_place, own_call}
+use Rattle.sl_run_law.proofs.Course.CallsAreDistinct.{each_distinct}
+use Rattle.sl_run_law.specs.Course.CallStamps.{AnswersAgree, IsAnsweredAs, IsCourseOf, stamp_in}
+use Rattle.sl_run_law.proofs.Front.JoinedLists.{placed_at}
+use Rattle.sl_id_safety.proofs.State.CallLaws.{is_at_own, is_place, own_call}
 use Rattle.sl_id_safety.specs.State.IdStates.{index_of, is_left_by, is_sector_of, own_courses}
 use Rattle.sl_id_safety.proofs.Steps.Frees.{trace_calls}
 use Rattle.sl_id_safety.proofs.Steps.OwnCalls.{Through, knows}
-use Rattle.sl_run_law.proofs.Landing.Listing.{one_call}
-use Rattle.sl_run_law.proofs.Landing.Proven.{done_writes_have_landed, landings_are_written}
-use Rattle.sl_run_law.proofs.Landing.Remaining.{landed_are_there}
+use Rattle.sl_run_law.proofs.Landing.CallLists.{one_call}
+use Rattle.sl_run_law.proofs.Landing.LandingLaws.{done_writes_have_landed, landings_are_written}
+use Rattle.sl_run_law.proofs.Landing.LandedRemain.{landed_are_there}
 use Rattle.sl_run_law.specs.Landing.Landings.{HasWriter}
-use Rattle.sl_run_law.proofs.Place.Finding.{partner_of, place_is}
-use Rattle.sl_plain.proofs.Lists.{contains_cases, contains_first, contains_map, contains_more, contains_none, find_inside, kept_inside}
+use Rattle.sl_run_law.proofs.Place.FoundInLists.{partner_of, place_is}
+use Rattle.sl_words.proofs.Lists.{contains_cases, contains_first, contains_map, contains_more, contains_none, find_inside, kept_inside}
 use Rattle.sl_run.specs.Runs.{Happening}
 use Rattle.sl_run.specs.Safety.{Found, SessionId, is_course_of, trace_of, world_at}
 use Rattle.sl_run.specs.Worlds.{Course, Landing, Program, Stamp, World, is_write_course, landed_at, machine_at}
 use Rattle.sl_run.specs.declared.header.Header.{Header}
-use Rattle.sl_run_law.proofs.Sample.Numbering.{newest_number, number_stays}
+use Rattle.sl_run_law.proofs.Sample.LandingNumbers.{newest_number, number_stays}
 use Rattle.sl_run_law.specs.Sample.Samples.{numbered_landing}
-use Rattle.sl_trace_law.proofs.Sessions.Making.{old_stays, same_answered}
+use Rattle.sl_run_law.proofs.Sessions.CallsAreMade.{old_stays, same_answered}
 use Rattle.sl_trace.specs.Sessions.{calls_of, is_delta_purpose, is_join_call, is_renewal, is_survey_purpose}
 use Rattle.sl_trace.specs.Traces.{Answered, Submitted, Trace, answer_of, answered_in, is_write, mark, same_place, submitted}
 use Rattle.sl_trace.specs.declared.effects.Entry.{Entry}
@@ -27,10 +27,10 @@ use Rattle.sl_trace.specs.declared.effects.JoinStep.TheVariants.{ClaimWrite, Fir
 use Rattle.sl_trace.specs.declared.effects.Purpose.TheVariants.{Joining, Renewal}
 use Rattle.sl_trace.specs.declared.effects.Purpose.{Purpose}
 use Rattle.sl_trace.specs.declared.input.Answer.TheVariants.{Written}
-use Rattle.sl_run_law.proofs.Watchdog.Finding.{call_inside}
+use Rattle.sl_run_law.proofs.Watchdog.FoundCalls.{call_inside}
 use Rattle.sl_run_law.proofs.Watchdog.Readings.{Counts, IsTold, NextRenewal, Stays, next_renewal, told}
-use Rattle.sl_run_law.proofs.Watchdog.Renewing.{IsOpenRenewal}
-use Rattle.sl_run_law.specs.Watchdog.Acting.{renewal_in}
+use Rattle.sl_run_law.proofs.Watchdog.OneOpenRenewal.{IsOpenRenewal}
+use Rattle.sl_run_law.specs.Watchdog.ActingTimes.{renewal_in}
 use Rattle.sl_words.proofs.CaseLaws.{false_is_true, no_value, not_both, none_some, one_value, some_value, true_is_false}
 use Rattle.std.proofs.Common.{ap, arith, inl, inr, refl, subst, sym, tests, ◌∙◌}
 use Rattle.std.proofs.lemmas.Bool.{eq-eqb, eqb-true}

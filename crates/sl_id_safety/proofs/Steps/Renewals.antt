@@ -1,15 +1,15 @@
 -- Through an entry a session acts since when it did, unless a renewal of it counts.
-use Rattle.sl_run_law.specs.Course.Stamping.{stamp_in}
+use Rattle.sl_run_law.specs.Course.CallStamps.{stamp_in}
 use Rattle.sl_id_safety.specs.State.IdStates.{claim_bytes, has_begun, is_sector_of, join_course, renewed_by_now, verifying_sample}
-use Rattle.sl_id_safety.specs.State.Promises.{IsIdPlace}
+use Rattle.sl_id_safety.specs.State.StateLaws.{IsIdPlace}
 use Rattle.sl_id_safety.proofs.Steps.EventFrames.{after_event}
 use Rattle.sl_id_safety.proofs.Steps.OtherSessions.{IsOfEntry}
 use Rattle.sl_id_safety.proofs.Steps.OwnCalls.{Through, join_goes, knows}
 use Rattle.sl_id_safety.proofs.Steps.OwnSessions.{None_counts, RenewalGoes, RenewalsGo}
-use Rattle.sl_id_safety.proofs.Steps.Seeing.{verifying_stays}
-use Rattle.sl_id_safety.proofs.Steps.Standing.{has_read, registered_by}
+use Rattle.sl_id_safety.proofs.Steps.ShownStays.{verifying_stays}
+use Rattle.sl_id_safety.proofs.Steps.EntryKeepsStanding.{has_read, registered_by}
 use Rattle.sl_id_safety.proofs.Steps.StepFrames.{IsEntry}
-use Rattle.sl_id_safety.specs.Steps.Parts.{between, state_between}
+use Rattle.sl_id_safety.specs.Steps.EventParts.{between, state_between}
 use Rattle.sl_ids.specs.Guards.{terms_of}
 use Rattle.sl_ids.specs.Runs.{Reached}
 use Rattle.sl_run.proofs.LawFacts.{orderly-front}
@@ -19,9 +19,9 @@ use Rattle.sl_run.specs.Runs.{Happening}
 use Rattle.sl_run.specs.Safety.{Found, LawfulRun, SessionId, session_of_world, setting_in, trace_of, world_at}
 use Rattle.sl_run.specs.Worlds.{Course, Program, Sampling, Stamp, World}
 use Rattle.sl_run.specs.declared.header.Header.{Header}
-use Rattle.sl_trace_law.proofs.Sessions.Owning.{session_more}
-use Rattle.sl_trace_law.proofs.Sessions.Staying.{joined_more}
-use Rattle.sl_trace_law.specs.Sessions.Promises.{IsSession}
+use Rattle.sl_run_law.proofs.Sessions.CallOwners.{session_more}
+use Rattle.sl_run_law.proofs.Sessions.MarksStay.{joined_more}
+use Rattle.sl_run_law.specs.Sessions.SessionLaws.{IsSession}
 use Rattle.sl_trace.specs.Sessions.{joined_after}
 use Rattle.sl_trace.specs.declared.session.Session.{Session}
 use Rattle.sl_trace.specs.Traces.{Setting, Submitted, Trace}
@@ -29,8 +29,8 @@ use Rattle.sl_trace.specs.declared.effects.Entry.{Entry}
 use Rattle.sl_trace.specs.declared.effects.JoinStep.TheVariants.{VerifyRead}
 use Rattle.sl_run_law.proofs.Watchdog.Joins.{joins_now}
 use Rattle.sl_run_law.proofs.Watchdog.Readings.{Counts, NextRenewal, Stays, next_renewal}
-use Rattle.sl_run_law.proofs.Watchdog.Renewing.{IsOpenRenewal, told_is_open}
-use Rattle.sl_run_law.specs.Watchdog.Acting.{acting_stamp, registering_entry, renewal_entry, renewal_in}
+use Rattle.sl_run_law.proofs.Watchdog.OneOpenRenewal.{IsOpenRenewal, told_is_open}
+use Rattle.sl_run_law.specs.Watchdog.ActingTimes.{acting_stamp, registering_entry, renewal_entry, renewal_in}
 use Rattle.sl_words.proofs.CaseLaws.{none_some, some_value}
 use Rattle.std.proofs.Common.{ap, arith, refl, subst, sym, tests, ◌∙◌}
 use Rattle.std.specs.Option.{option_map_or}

@@ -1,34 +1,34 @@
 -- A read that is sampled, as a step of an id: its session decides, or verifies its claim, or nothing changes.
-use Rattle.sl_run_law.proofs.Course.Distinct.{each_distinct}
-use Rattle.sl_run_law.proofs.Course.Mirrored.{machines_mirror}
-use Rattle.sl_run_law.proofs.Front.Going.{last_event}
-use Rattle.sl_id_safety.proofs.State.Bridge.{known}
+use Rattle.sl_run_law.proofs.Course.CallsAreDistinct.{each_distinct}
+use Rattle.sl_run_law.proofs.Course.MachinesMirror.{machines_mirror}
+use Rattle.sl_run_law.proofs.Front.RunsFromFronts.{last_event}
+use Rattle.sl_id_safety.proofs.State.TraceBridge.{known}
 use Rattle.sl_id_safety.proofs.State.CallFrames.{ChangesCall, caller, caller_found, others_same}
 use Rattle.sl_id_safety.proofs.State.FindingFrames.{find_passes, found_moves, found_on, moved}
 use Rattle.sl_id_safety.proofs.State.LandingFrames.{same_landings}
-use Rattle.sl_id_safety.proofs.State.Proven.{deciding_reads_have_watched, grounds, join_reads_are_own, verify_reads_have_claimed}
+use Rattle.sl_id_safety.proofs.State.SessionFacts.{deciding_reads_have_watched, grounds, join_reads_are_own, verify_reads_have_claimed}
 use Rattle.sl_id_safety.proofs.State.SampleFrames.{read_is_own}
 use Rattle.sl_id_safety.proofs.State.SectorFrames.{SameSector, sector_same, session_same_if}
 use Rattle.sl_id_safety.proofs.State.StateFrames.{agree_on, name_cases, one_step}
 use Rattle.sl_id_safety.specs.State.IdStates.{blank, deciding_sample, has_begun, id_state, is_sector_of, name_of, own_courses, session_at, session_named_so, standing_by, standing_of, verifying_sample}
-use Rattle.sl_id_safety.specs.State.Promises.{IsIdPlace}
-use Rattle.sl_id_safety.proofs.Steps.Alive.{IsReading}
-use Rattle.sl_id_safety.proofs.Steps.Around.{SamplesOne}
+use Rattle.sl_id_safety.specs.State.StateLaws.{IsIdPlace}
+use Rattle.sl_id_safety.proofs.Steps.JoiningIsAlive.{IsReading}
+use Rattle.sl_id_safety.proofs.Steps.AroundSamples.{SamplesOne}
 use Rattle.sl_id_safety.proofs.Steps.CallEvents.{CallEvent, do_flies, do_read_between, flight_is, sample_between, sample_event, sample_flies}
-use Rattle.sl_id_safety.proofs.Steps.Deciding.{DecidesNow, decides}
+use Rattle.sl_id_safety.proofs.Steps.SampledDecides.{DecidesNow, decides}
 use Rattle.sl_id_safety.proofs.Steps.EndingSteps.{first_sector, holds_there}
 use Rattle.sl_id_safety.proofs.Steps.Outcomes.{Decides_now, IsSampledCall, Outcome, Stays, Verifies_now, outcome}
-use Rattle.sl_id_safety.proofs.Steps.Sampled.{sampled_found, stands_sampled, stands_with}
-use Rattle.sl_id_safety.proofs.Steps.Verifying.{VerifiesNow, verifies}
-use Rattle.sl_id_safety.specs.Steps.Parts.{IsSamplingEvent, SamplingsGoOn, between, state_between}
+use Rattle.sl_id_safety.proofs.Steps.SampleKeepsRest.{sampled_found, stands_sampled, stands_with}
+use Rattle.sl_id_safety.proofs.Steps.SampledVerifies.{VerifiesNow, verifies}
+use Rattle.sl_id_safety.specs.Steps.EventParts.{IsSamplingEvent, SamplingsGoOn, between, state_between}
 use Rattle.sl_ids.specs.Guards.{terms_of}
 use Rattle.sl_ids.specs.Invariant.{Invariant}
 use Rattle.sl_ids.specs.Runs.{IsBounded, Later}
 use Rattle.sl_ids.specs.State.{Session as IdSession, SessionId as IdName}
 use Rattle.sl_ids.specs.Steps.{Decides, Verifies}
-use Rattle.sl_run_law.proofs.Landing.Proven.{landings_are_written}
-use Rattle.sl_plain.proofs.Lists.{kept}
-use Rattle.sl_plain.proofs.Numbers.{refl_le}
+use Rattle.sl_run_law.proofs.Landing.LandingLaws.{landings_are_written}
+use Rattle.sl_words.proofs.Lists.{kept}
+use Rattle.sl_words.proofs.Numbers.{refl_le}
 use Rattle.sl_run.specs.Events.{change_call, may_happen, sampled_more, sectors_left, sectors_of}
 use Rattle.sl_run.specs.Runs.{Happening}
 use Rattle.sl_run.specs.Safety.{Found, LawfulRun, SessionId, is_course_of, session_of_world, world_at}
@@ -36,8 +36,8 @@ use Rattle.sl_run.specs.Worlds.{Course, Machine, Program, World, flight_of, is_o
 use Rattle.sl_run.specs.declared.event.Event.TheVariants.{AnswerCall, Crash, Do, DropWrite, ExitOf, GiveAsk, GiveCommand, GiveLvm, Land, Pass, Reset, Restart, Sample, SpawnedOf, StartDaemon, Tear, Test, WakeUp}
 use Rattle.sl_run.specs.declared.event.Event.{Event}
 use Rattle.sl_run.specs.declared.header.Header.{Header}
-use Rattle.sl_run_law.specs.Fates.{AreDistinct, EachDistinct}
-use Rattle.sl_run_law.proofs.Sample.Proven.{sampled_are_sectors}
+use Rattle.sl_run_law.specs.FatesStay.{AreDistinct, EachDistinct}
+use Rattle.sl_run_law.proofs.Sample.SampleLaws.{sampled_are_sectors}
 use Rattle.sl_trace.specs.Sessions.{is_join_call}
 use Rattle.sl_trace.specs.declared.effects.JoinStep.TheVariants.{DecidingRead, VerifyRead}
 use Rattle.sl_trace.specs.declared.effects.JoinStep.{JoinStep}

@@ -5,15 +5,15 @@ use Rattle.sl_id_safety.proofs.State.SectorFrames.{seqs_same}
 use Rattle.sl_id_safety.proofs.State.StateFrames.{name_is, name_itself}
 use Rattle.sl_id_safety.specs.State.IdStates.{id_state, index_of, is_left_by, name_of, said_by, same_name, seq_left, standing_of, writer_of}
 use Rattle.sl_id_safety.proofs.Steps.Callers.{Caller, Write, counts, now_stands, writer}
-use Rattle.sl_id_safety.proofs.Steps.Fating.{seq_at}
+use Rattle.sl_id_safety.proofs.Steps.FateChanges.{seq_at}
 use Rattle.sl_id_safety.proofs.Steps.OwnSeqs.{FirstIsOther}
 use Rattle.sl_ids.specs.Invariant.{HasBase, Invariant}
 use Rattle.sl_ids.specs.State.{Content, SessionId as IdName, State}
 use Rattle.sl_ids.specs.Terms.{Terms}
-use Rattle.sl_plain.proofs.Lists.{contains_cases, contains_first, contains_more, contains_none}
+use Rattle.sl_words.proofs.Lists.{contains_cases, contains_first, contains_more, contains_none}
 use Rattle.sl_run.specs.Safety.{Found, SessionId}
 use Rattle.sl_run.specs.Worlds.{Fate, Landing, World, first_landing, history_of, landed_at}
-use Rattle.sl_run_law.proofs.Sample.Numbering.{newest_number, number_below, number_stays}
+use Rattle.sl_run_law.proofs.Sample.LandingNumbers.{newest_number, number_below, number_stays}
 use Rattle.sl_run_law.specs.Sample.Samples.{numbered_landing}
 use Rattle.sl_trace.specs.Sessions.{given_number}
 use Rattle.sl_words.proofs.CaseLaws.{none_some, one_value, true_is_false}

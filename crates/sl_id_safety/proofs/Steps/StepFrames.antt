@@ -1,15 +1,15 @@
 -- An entry of a daemon: what its step makes of its machine, and that the sessions of all other daemons stay as they were.
-use Rattle.sl_run_law.proofs.Course.Changing.{changed_here}
+use Rattle.sl_run_law.proofs.Course.OneMachineChanges.{changed_here}
 use Rattle.sl_run_law.proofs.Course.Daemons.{daemons_are, step_ended}
-use Rattle.sl_run_law.proofs.Front.Going.{last_event}
+use Rattle.sl_run_law.proofs.Front.RunsFromFronts.{last_event}
 use Rattle.sl_id_safety.proofs.State.FindingFrames.{IsFound, changed_elsewhere, is_found, moved, moves_by, session_on, session_with}
 use Rattle.sl_id_safety.proofs.Steps.CallEvents.{answer_flies, do_flies}
 use Rattle.sl_id_safety.proofs.Steps.EventFrames.{after_event, entry_of}
-use Rattle.sl_id_safety.proofs.Steps.Still.{with_running}
-use Rattle.sl_id_safety.specs.Steps.Parts.{between}
-use Rattle.sl_run_law.proofs.Landing.Stepping.{same_daemon}
-use Rattle.sl_plain.proofs.Lists.{contains_first, contains_more}
-use Rattle.sl_plain.proofs.Options.{then_value}
+use Rattle.sl_id_safety.proofs.Steps.IdsStayStill.{with_running}
+use Rattle.sl_id_safety.specs.Steps.EventParts.{between}
+use Rattle.sl_run_law.proofs.Landing.CallsOfStep.{same_daemon}
+use Rattle.sl_words.proofs.Lists.{contains_first, contains_more}
+use Rattle.sl_words.proofs.Options.{then_value}
 use Rattle.sl_run.specs.Events.{after_step, close_answered, daemon_number, if_running, input_at, input_of, machine_of, may_happen, new_course, take_step, with_entry}
 use Rattle.sl_run.specs.Runs.{Happening}
 use Rattle.sl_run.specs.Safety.{Found, LawfulRun, SessionId, world_at}
@@ -17,10 +17,10 @@ use Rattle.sl_run.specs.Worlds.{Course, Daemon, Machine, Program, Stamp, World, 
 use Rattle.sl_run.specs.declared.event.Event.TheVariants.{AnswerCall, Crash, Do, DropWrite, ExitOf, GiveAsk, GiveCommand, GiveLvm, Land, Pass, Reset, Restart, Sample, SpawnedOf, StartDaemon, Tear, Test, WakeUp}
 use Rattle.sl_run.specs.declared.event.Event.{Event}
 use Rattle.sl_run.specs.declared.header.Header.{Header}
-use Rattle.sl_run_law.proofs.Walking.{Asked, each_first}
-use Rattle.sl_run_law.specs.Fates.{Every}
+use Rattle.sl_run_law.proofs.MachineWalk.{Asked, each_first}
+use Rattle.sl_run_law.specs.FatesStay.{Every}
 use Rattle.sl_run_law.specs.Machines.{EachMachine}
-use Rattle.sl_trace_law.proofs.Sessions.Owning.{session_more}
+use Rattle.sl_run_law.proofs.Sessions.CallOwners.{session_more}
 use Rattle.sl_trace.specs.Sessions.{session_numbered}
 use Rattle.sl_trace.specs.declared.effects.Call.{Call}
 use Rattle.sl_trace.specs.declared.effects.Effects.{Effects}

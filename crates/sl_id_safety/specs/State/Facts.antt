@@ -1,8 +1,8 @@
 -- What a lawful run knows of one session and its own sector: what stands behind its claim, its verify read, each renewal and its free.
 use Rattle.sl_area.specs.Layouts.{record_in}
-use Rattle.sl_clocks.specs.Points.{reading}
+use Rattle.sl_ids.specs.Clocks.Points.{reading}
 use Rattle.sl_id_safety.specs.State.IdStates.{deciding_sample, generation_by, is_sector_of, join_course, own_courses, verifying_sample}
-use Rattle.sl_run_law.specs.Moment.Moments.{point_of}
+use Rattle.sl_run_law.specs.Moment.MomentsFollowSteps.{point_of}
 use Rattle.sl_run.specs.Runs.{Happening}
 use Rattle.sl_run.specs.Safety.{Found, IsSession, LawfulRun, SessionId, is_over, world_at}
 use Rattle.sl_run.specs.Worlds.{Course, Program, Sampling, Stamp, World, is_landed}

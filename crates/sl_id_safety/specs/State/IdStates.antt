@@ -5,7 +5,7 @@
 -- of its machine and the trace of its daemon, so that a world alone tells the state, and no history beside it.
 use Rattle.sl_area.specs.Layouts.{Layout, record_in}
 use Rattle.sl_area.specs.Places.{delta_offset}
-use Rattle.sl_run_law.specs.Course.Stamping.{stamp_in}
+use Rattle.sl_run_law.specs.Course.CallStamps.{stamp_in}
 use Rattle.sl_ids.specs.State.{Claimed as Claim_kind, Content, Free as Free_kind, Kind, Landing as IdLanding, Live as Live_kind, Session as IdSession, SessionId as IdName, State}
 use Rattle.sl_ids.specs.Listed.{no_landing}
 use Rattle.sl_run.specs.Events.{write_bytes}
@@ -21,7 +21,7 @@ use Rattle.sl_trace.specs.declared.session.Session.{Session}
 use Rattle.sl_trace.specs.Traces.{same_place}
 use Rattle.sl_trace.specs.declared.effects.JoinStep.TheVariants.{ClaimWrite, DecidingRead, FirstRead, VerifyRead}
 use Rattle.sl_trace.specs.declared.effects.JoinStep.{JoinStep}
-use Rattle.sl_run_law.specs.Watchdog.Acting.{acting_stamp}
+use Rattle.sl_run_law.specs.Watchdog.ActingTimes.{acting_stamp}
 use Rattle.sl_words.specs.Words.{choose, first_given, first_of_list, greatest, some_is}
 use Rattle.std.specs.List.{enumerate_from}
 use Rattle.std.specs.Option.{option_map_or}

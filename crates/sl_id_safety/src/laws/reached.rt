@@ -1,6 +1,6 @@
 //! What a lawful run makes of an id, from its start on.
 
-ghost use Rattle.sl_id_safety.specs.Reached.Reaching.{IdsAreReached, IdsGoOn};
+ghost use Rattle.sl_id_safety.specs.Reached.IdsAreReached.{IdsAreReached, IdsGoOn};
 
 /// From front to front it goes on by its steps.
 pub fn ids_go_on()

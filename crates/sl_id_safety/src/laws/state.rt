@@ -1,7 +1,7 @@
 //! What a lawful run makes of an id.
 
 ghost use Rattle.sl_id_safety.specs.State.Facts.{ClaimsHaveDecided, DecidingReadsHaveWatched, DeltaWritesComeInTurn, JoinReadsAreOwn, RenewalsHaveVerified, SessionsFollow, VerifyReadsHaveClaimed};
-ghost use Rattle.sl_id_safety.specs.State.Promises.{IdsAreBounded, IdsStart};
+ghost use Rattle.sl_id_safety.specs.State.StateLaws.{IdsAreBounded, IdsStart};
 
 /// A read of a joining reads the session's own sector.
 pub fn join_reads_are_own()

@@ -1,6 +1,6 @@
 //! How the events of a lawful run are steps of an id.
 
-ghost use Rattle.sl_id_safety.specs.Steps.Parts.{BetweenIsBounded, EndingsGoOn, EntriesGoOn, LandingsGoOn, OwnStepsGoOn, QuietChangesGoOn, SamplingsGoOn};
+ghost use Rattle.sl_id_safety.specs.Steps.EventParts.{BetweenIsBounded, EndingsGoOn, EntriesGoOn, LandingsGoOn, OwnStepsGoOn, QuietChangesGoOn, SamplingsGoOn};
 
 /// The bounds hold between an event's first change and its step.
 pub fn between_is_bounded()

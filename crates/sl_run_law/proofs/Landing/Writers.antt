@@ -1,20 +1,20 @@
 -- Each landing has its writer.
 use Rattle.sl_area.specs.Layouts.{Layout, record_in, sector_with}
-use Rattle.sl_run_law.specs.Course.Promises.{CallsAreDistinct}
-use Rattle.sl_run_law.proofs.Landing.Arriving.{Arrival, IsPart, IsWhole, Lands, first_lands}
-use Rattle.sl_run_law.proofs.Landing.Making.{AreBefore, distinct_at, fate_kept, run_made_before}
-use Rattle.sl_run_law.proofs.Landing.Ordering.{IsPast, run_orders}
-use Rattle.sl_run_law.proofs.Landing.Passing.{event_later, first_later, step_landings, world_first, world_keeps, world_then}
-use Rattle.sl_run_law.proofs.Landing.Stepping.{Step, event_makes, step_makes}
-use Rattle.sl_run_law.proofs.Landing.Turning.{flight_number}
+use Rattle.sl_run_law.specs.Course.CourseLaws.{CallsAreDistinct}
+use Rattle.sl_run_law.proofs.Landing.OneArrival.{Arrival, IsPart, IsWhole, Lands, first_lands}
+use Rattle.sl_run_law.proofs.Landing.CallsMadeBefore.{AreBefore, distinct_at, fate_kept, run_made_before}
+use Rattle.sl_run_law.proofs.Landing.LandingOrder.{IsPast, run_orders}
+use Rattle.sl_run_law.proofs.Landing.OneEvent.{event_later, first_later, step_landings, world_first, world_keeps, world_then}
+use Rattle.sl_run_law.proofs.Landing.CallsOfStep.{Step, event_makes, step_makes}
+use Rattle.sl_run_law.proofs.Landing.CallsBeforeStep.{flight_number}
 use Rattle.sl_run_law.specs.Landing.Landings.{HasWriter, IsWrittenBy, LandingsAreWritten, LeftBy}
-use Rattle.sl_plain.proofs.Lists.{contains_cases, contains_map, contains_none, find_inside}
+use Rattle.sl_words.proofs.Lists.{contains_cases, contains_map, contains_none, find_inside}
 use Rattle.sl_run.specs.Events.{change_call, fated, first_change, input_of, machine_of, may_happen, spells_something}
 use Rattle.sl_run.specs.Safety.{world_at}
 use Rattle.sl_run.specs.Worlds.{Course, Fate, Landed, Landing, Machine, Stamp, Torn, World, flight_of, is_in_flight, is_of_running, is_open, machine_at, may_land, stamp_now, world_with}
 use Rattle.sl_run.specs.declared.event.Event.{Event}
-use Rattle.sl_run_law.proofs.Coursing.{changed_if}
-use Rattle.sl_run_law.specs.Fates.{EachDistinct}
+use Rattle.sl_run_law.proofs.CourseLists.{changed_if}
+use Rattle.sl_run_law.specs.FatesStay.{EachDistinct}
 use Rattle.sl_sector.specs.declared.sector.Rec.{Rec}
 use Rattle.sl_trace.specs.Traces.{is_write, record_of}
 use Rattle.sl_trace.specs.declared.effects.Call.{Call}

@@ -1,8 +1,8 @@
 -- What a machine keeps is among its stamps.
-use Rattle.sl_run_law.proofs.Front.Having.{contains_left, contains_right, in_flat}
-use Rattle.sl_run_law.proofs.Moment.Adding.{daemon_stamps}
-use Rattle.sl_run_law.specs.Moment.Moments.{stamps_on}
-use Rattle.sl_plain.proofs.Lists.{contains_cases, contains_first, contains_map, contains_more, contains_none}
+use Rattle.sl_run_law.proofs.Front.JoinedLists.{contains_left, contains_right, in_flat}
+use Rattle.sl_run_law.proofs.Moment.AddedNow.{daemon_stamps}
+use Rattle.sl_run_law.specs.Moment.MomentsFollowSteps.{stamps_on}
+use Rattle.sl_words.proofs.Lists.{contains_cases, contains_first, contains_map, contains_more, contains_none}
 use Rattle.sl_run.specs.Worlds.{Course, Daemon, Machine, Stamp, daemons_on}
 use Rattle.std.proofs.Common.{inl, inr, subst, sym}
 use Rattle.std.specs.List.{cons_option}

@@ -1,11 +1,11 @@
 -- What stands at a place at first: a record of a lockspace's area, or of a resource's, or zeros, which spell nothing.
 use Rattle.sl_area.specs.Layouts.{Layout, layout_with, record_in, sector_with}
 use Rattle.sl_area.specs.Places.{area_sectors, fresh_block, fresh_block_at, fresh_delta, fresh_leader, fresh_pair, in_area, leader_record, no_request, no_value}
-use Rattle.sl_run_law.proofs.Landing.Initial.{a_moment, below, fresh_delta_is, initial_is_record, member_delta_is, up_to, within}
-use Rattle.sl_run_law.proofs.Place.Finding.{same_read, same_text}
+use Rattle.sl_run_law.proofs.Landing.InitialRecords.{a_moment, below, fresh_delta_is, initial_is_record, member_delta_is, up_to, within}
+use Rattle.sl_run_law.proofs.Place.FoundInLists.{same_read, same_text}
 use Rattle.sl_run_law.proofs.Place.Sizes.{sector_fits, sized}
-use Rattle.sl_plain.proofs.Lists.{find_inside}
-use Rattle.sl_plain.proofs.Numbers.{one_least}
+use Rattle.sl_words.proofs.Lists.{find_inside}
+use Rattle.sl_words.proofs.Numbers.{one_least}
 use Rattle.sl_run.specs.Headers.{IsHeader}
 use Rattle.sl_run.specs.Worlds.{initial_bytes, initial_delta, initial_of_lockspace, initial_of_resource, initial_record, member_delta}
 use Rattle.sl_run.specs.declared.header.FirstReading.{FirstReading}

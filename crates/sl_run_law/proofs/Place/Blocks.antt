@@ -9,14 +9,14 @@ use Rattle.sl_run.specs.Safety.{LawfulRun, world_at}
 use Rattle.sl_run.specs.Worlds.{Daemon, Machine, Program, World, daemons_on, machine_at}
 use Rattle.sl_run.specs.declared.header.Header.{Header}
 use Rattle.sl_run_law.proofs.Place.Areas.{is_within}
-use Rattle.sl_run_law.proofs.Place.Reading.{IsPromised, IsRead, IsShown, read_of, sector_shown}
-use Rattle.sl_run_law.proofs.Place.Rights.{area_place, phase_place}
+use Rattle.sl_run_law.proofs.Place.TracesOnMachines.{IsPromised, IsRead, IsShown, read_of, sector_shown}
+use Rattle.sl_run_law.proofs.Place.ReadsInPlace.{area_place, phase_place}
 use Rattle.sl_run_law.proofs.Place.Sizes.{IsSized, sector_has_bytes, slot_below}
 use Rattle.sl_trace.specs.Leases.{blocks_bytes, is_area_read, is_block_read, spot_of_call}
 use Rattle.sl_trace.specs.Traces.{Submitted, gave, submitted}
 use Rattle.sl_trace.specs.declared.effects.Op.TheVariants.{ReadSectors}
 use Rattle.sl_trace.specs.declared.session.Session.{Session}
-use Rattle.sl_trace_law.specs.Sessions.Promises.{IsSession}
+use Rattle.sl_run_law.specs.Sessions.SessionLaws.{IsSession}
 use Rattle.sl_words.proofs.CaseLaws.{none_some, some_value}
 use Rattle.sl_words.specs.Words.{choose}
 use Rattle.std.proofs.Common.{ap, arith, refl, subst, sym, ◌∙◌}

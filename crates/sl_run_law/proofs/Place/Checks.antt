@@ -3,8 +3,8 @@ use Rattle.sl_area.specs.Layouts.{Layout, Sizes, record_in}
 use Rattle.sl_area.specs.Places.{block_offset, delta_offset, in_area}
 use Rattle.sl_run.specs.LawfulArea.{record_offset}
 use Rattle.sl_run_law.proofs.Place.Areas.{lockspace_aligned}
-use Rattle.sl_run_law.proofs.Place.Proven.{lockspaces_hold_deltas, promised}
-use Rattle.sl_run_law.proofs.Place.Reading.{reads_back, session_inside}
+use Rattle.sl_run_law.proofs.Place.PlaceLaws.{lockspaces_hold_deltas, promised}
+use Rattle.sl_run_law.proofs.Place.TracesOnMachines.{reads_back, session_inside}
 use Rattle.sl_run_law.proofs.Place.Seats.{sized_in}
 use Rattle.sl_run_law.proofs.Place.Sizes.{IsSized, begins_at_sector, one_slot, sector_fits, sector_has_bytes}
 use Rattle.sl_run_law.specs.Place.Homes.{IsDeltaLanding, IsLeaseLanding}

@@ -1,11 +1,11 @@
 -- Of each daemon of a lawful run: each entry came at a later step than the one before, and it is given the header's sessions or none.
 use Rattle.sl_area.specs.Layouts.{Layout, layout_with}
-use Rattle.sl_run_law.proofs.Course.Matching.{found_below}
-use Rattle.sl_run_law.specs.Course.Stamping.{stamp_in}
-use Rattle.sl_run_law.proofs.Front.Going.{IsKeptInRuns, IsLast, last_event, run_keeps}
-use Rattle.sl_plain.proofs.Lists.{contains_cases, contains_more, contains_none, same_place_in}
-use Rattle.sl_plain.proofs.Numbers.{less_than_next, lt_then_le}
-use Rattle.sl_plain.proofs.Options.{else_some}
+use Rattle.sl_run_law.proofs.Course.MatchedCall.{found_below}
+use Rattle.sl_run_law.specs.Course.CallStamps.{stamp_in}
+use Rattle.sl_run_law.proofs.Front.RunsFromFronts.{IsKeptInRuns, IsLast, last_event, run_keeps}
+use Rattle.sl_words.proofs.Lists.{contains_cases, contains_more, contains_none, same_place_in}
+use Rattle.sl_words.proofs.Numbers.{less_than_next, lt_then_le}
+use Rattle.sl_words.proofs.Options.{else_some}
 use Rattle.sl_run.specs.Events.{after_effects, after_step, first_change, input_of, machine_of, next_step, take_step, with_entry}
 use Rattle.sl_run.specs.Runs.{Happening}
 use Rattle.sl_run.specs.Safety.{LawfulRun, world_at}
@@ -13,8 +13,8 @@ use Rattle.sl_run.specs.Worlds.{Daemon, Machine, Program, Stamp, World, daemons_
 use Rattle.sl_run.specs.declared.event.Event.{Event}
 use Rattle.sl_run.specs.declared.header.Header.{Header}
 use Rattle.sl_run.specs.declared.header.SessionLine.{SessionLine}
-use Rattle.sl_run_law.proofs.Going.{first_goes, run_goes}
-use Rattle.sl_run_law.proofs.Walking.{Asked, each_first, each_step, each_then, index, number_within}
+use Rattle.sl_run_law.proofs.WorldsGoOn.{first_goes, run_goes}
+use Rattle.sl_run_law.proofs.MachineWalk.{Asked, each_first, each_step, each_then, index, number_within}
 use Rattle.sl_run_law.specs.Machines.{EachMachine}
 use Rattle.sl_trace.specs.declared.effects.Effects.{Effects}
 use Rattle.sl_trace.specs.declared.effects.Entry.{Entry}

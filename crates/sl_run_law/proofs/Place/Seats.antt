@@ -1,19 +1,19 @@
 -- Where a landing is at home, and where a session is: one that writes its sector has the area of its lockspace.
 use Rattle.sl_area.specs.Layouts.{Layout, Sizes, record_in}
 use Rattle.sl_area.specs.Places.{delta_offset, in_area, is_base, sector_of}
-use Rattle.sl_run_law.specs.Course.Stamping.{stamp_in}
+use Rattle.sl_run_law.specs.Course.CallStamps.{stamp_in}
 use Rattle.sl_run.specs.LawfulArea.{is_delta_record}
 use Rattle.sl_run_law.proofs.Place.Areas.{is_base_aligned, is_within, lockspace_aligned, same_base}
 use Rattle.sl_run_law.proofs.Place.Beginnings.{In_lockspace, In_resource, IsInitial, read_first}
 use Rattle.sl_run_law.proofs.Place.Daemons.{daemons_are_fine, stamp_order}
-use Rattle.sl_run_law.proofs.Place.Finding.{given_by, same_text}
+use Rattle.sl_run_law.proofs.Place.FoundInLists.{given_by, same_text}
 use Rattle.sl_run_law.proofs.Place.Looks.{Look}
-use Rattle.sl_run_law.proofs.Place.Numbering.{Of_command, Of_setting, Origin, origin_of}
-use Rattle.sl_run_law.proofs.Place.Reading.{IsPromised, IsShown, header_is, layout_is, one_sector, read_of, reads_back, sector_shown}
+use Rattle.sl_run_law.proofs.Place.SessionNumbers.{Of_command, Of_setting, Origin, origin_of}
+use Rattle.sl_run_law.proofs.Place.TracesOnMachines.{IsPromised, IsShown, header_is, layout_is, one_sector, read_of, reads_back, sector_shown}
 use Rattle.sl_run_law.proofs.Place.Sizes.{IsSized, sector_fits, sector_has_bytes, sized, slot_below}
 use Rattle.sl_run_law.specs.Place.Homes.{IsDeltaLanding, IsLeaseLanding}
-use Rattle.sl_plain.proofs.Lists.{contains_none, find_inside}
-use Rattle.sl_plain.proofs.Numbers.{at_least_first, next_is_most, no_times_more, one_least}
+use Rattle.sl_words.proofs.Lists.{contains_none, find_inside}
+use Rattle.sl_words.proofs.Numbers.{at_least_first, next_is_most, no_times_more, one_least}
 use Rattle.sl_run.specs.Events.{sectors_of}
 use Rattle.sl_run.specs.Headers.{IsHeader}
 use Rattle.sl_run.specs.Runs.{Happening}

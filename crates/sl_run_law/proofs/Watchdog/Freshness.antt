@@ -2,11 +2,11 @@
 use Rattle.sl_run.proofs.LawFacts.{orderly-front}
 use Rattle.sl_run.specs.Lawful.{Orderly}
 use Rattle.sl_run.specs.LawfulWatchdog.{acts_until, is_covered}
-use Rattle.sl_plain.proofs.Lists.{contains_first, contains_more, find_inside, got_inside}
-use Rattle.sl_trace_law.proofs.Sessions.Joining.{joined_before}
-use Rattle.sl_trace_law.proofs.Sessions.Silence.{stage_by}
-use Rattle.sl_trace_law.proofs.Sessions.Staying.{refused_apart, removed_more}
-use Rattle.sl_trace_law.specs.Sessions.Promises.{IsSession}
+use Rattle.sl_words.proofs.Lists.{contains_first, contains_more, find_inside, got_inside}
+use Rattle.sl_run_law.proofs.Sessions.JoiningsInTurn.{joined_before}
+use Rattle.sl_run_law.proofs.Sessions.EndedAreSilent.{stage_by}
+use Rattle.sl_run_law.proofs.Sessions.MarksStay.{refused_apart, removed_more}
+use Rattle.sl_run_law.specs.Sessions.SessionLaws.{IsSession}
 use Rattle.sl_trace.specs.Sessions.{calls_of, free_write, has_open_write, is_covered_stage, joined_after, last_renewal, refused_after, removed_after, session_numbered, sessions, stage_in}
 use Rattle.sl_trace.specs.declared.session.Session.{Session}
 use Rattle.sl_trace.specs.declared.stage.Stage.TheVariants.{Looking}
@@ -16,12 +16,12 @@ use Rattle.sl_trace.specs.Connections.{Connection, connections, given_connection
 use Rattle.sl_trace.specs.Traces.{Setting, Submitted, Trace}
 use Rattle.sl_trace.specs.declared.effects.Entry.{Entry}
 use Rattle.sl_trace.specs.declared.input.Given.{Given}
-use Rattle.sl_run_law.proofs.Watchdog.Becoming.{was_covered}
-use Rattle.sl_run_law.proofs.Watchdog.Finding.{call_inside, none_of, open_write}
+use Rattle.sl_run_law.proofs.Watchdog.ConnectionNeeded.{was_covered}
+use Rattle.sl_run_law.proofs.Watchdog.FoundCalls.{call_inside, none_of, open_write}
 use Rattle.sl_run_law.proofs.Watchdog.Joins.{joins_now, was_session}
-use Rattle.sl_run_law.proofs.Watchdog.Numbering.{given_jobless, given_one}
-use Rattle.sl_run_law.proofs.Watchdog.Renewing.{renewal_grows}
-use Rattle.sl_run_law.proofs.Watchdog.Standing.{covered_open, written_after}
+use Rattle.sl_run_law.proofs.Watchdog.TraceNumbers.{given_jobless, given_one}
+use Rattle.sl_run_law.proofs.Watchdog.OneOpenRenewal.{renewal_grows}
+use Rattle.sl_run_law.proofs.Watchdog.ConnectionStands.{covered_open, written_after}
 use Rattle.sl_words.proofs.CaseLaws.{false_is_true, no_value, none_some}
 use Rattle.std.proofs.Common.{ap, arith, refl, subst, sym}
 use Rattle.std.proofs.lemmas.Bool.{leb-false, not-true}

@@ -1,10 +1,10 @@
 -- A session joins by the answer of its first renewal: from that entry on the renewal counts.
 use Rattle.sl_run.proofs.LawFacts.{orderly-front}
 use Rattle.sl_run.specs.Lawful.{Orderly}
-use Rattle.sl_plain.proofs.Lists.{contains_cases, contains_first, contains_more, contains_none, find_inside, got_inside}
-use Rattle.sl_trace_law.proofs.Sessions.Joining.{joined_before}
-use Rattle.sl_trace_law.proofs.Sessions.Making.{SameCall, old_or_new, same_answered}
-use Rattle.sl_trace_law.specs.Sessions.Promises.{IsSession}
+use Rattle.sl_words.proofs.Lists.{contains_cases, contains_first, contains_more, contains_none, find_inside, got_inside}
+use Rattle.sl_run_law.proofs.Sessions.JoiningsInTurn.{joined_before}
+use Rattle.sl_run_law.proofs.Sessions.CallsAreMade.{SameCall, old_or_new, same_answered}
+use Rattle.sl_run_law.specs.Sessions.SessionLaws.{IsSession}
 use Rattle.sl_trace.specs.Sessions.{calls_of, is_call_of, is_join_call, is_join_done, is_joined, is_renewal, joined_after, last_renewal, recovery_of, removed_after, renewed_by, renewing, sessions, shows_other}
 use Rattle.sl_trace.specs.declared.session.Begun.{Begun}
 use Rattle.sl_trace.specs.declared.session.Renewing.{Renewing}
@@ -20,12 +20,12 @@ use Rattle.sl_trace.specs.declared.input.Answer.TheVariants.{Written}
 use Rattle.sl_trace.specs.declared.input.Answer.{Answer}
 use Rattle.sl_trace.specs.declared.input.Input.TheVariants.{Answer as Told, Exit, Line, Number, Spawned, Wake}
 use Rattle.sl_trace.specs.declared.input.Input.{Input}
-use Rattle.sl_run_law.proofs.Watchdog.Finding.{call_owner}
-use Rattle.sl_run_law.proofs.Watchdog.Numbering.{call_found, given_first, given_later}
+use Rattle.sl_run_law.proofs.Watchdog.FoundCalls.{call_owner}
+use Rattle.sl_run_law.proofs.Watchdog.TraceNumbers.{call_found, given_first, given_later}
 use Rattle.sl_run_law.proofs.Watchdog.Readings.{Counts, NextRenewal, Stays, after_by, in_by, next_renewal}
-use Rattle.sl_run_law.proofs.Watchdog.Renewing.{IsOpenRenewal, told_is_open}
-use Rattle.sl_run_law.proofs.Watchdog.Standing.{older_call}
-use Rattle.sl_run_law.specs.Watchdog.Acting.{renewal_entry, renewal_in, renewal_told}
+use Rattle.sl_run_law.proofs.Watchdog.OneOpenRenewal.{IsOpenRenewal, told_is_open}
+use Rattle.sl_run_law.proofs.Watchdog.ConnectionStands.{older_call}
+use Rattle.sl_run_law.specs.Watchdog.ActingTimes.{renewal_entry, renewal_in, renewal_told}
 use Rattle.sl_words.proofs.CaseLaws.{false_is_true, no_value, none_some, one_value, some_value, true_is_false}
 use Rattle.sl_words.proofs.WordLaws.{choose_some}
 use Rattle.sl_words.specs.Words.{choose}

@@ -1,16 +1,16 @@
 -- What is kept of each machine under its watchdog.
-use Rattle.sl_clocks.specs.Watchdog.{IsConnected}
+use Rattle.sl_ids.specs.Clocks.Watchdog.{IsConnected}
 use Rattle.sl_run_law.specs.Course.Mirrors.{since_restart}
-use Rattle.sl_run_law.specs.Moment.Moments.{point_of}
-use Rattle.sl_plain.proofs.Lists.{contains_cases, contains_first, contains_more, contains_none}
+use Rattle.sl_run_law.specs.Moment.MomentsFollowSteps.{point_of}
+use Rattle.sl_words.proofs.Lists.{contains_cases, contains_first, contains_more, contains_none}
 use Rattle.sl_run.specs.Worlds.{Course, Daemon, Machine, Stamp, daemons_on, may_land, resets_after}
-use Rattle.sl_trace_law.specs.Sessions.Promises.{IsSession}
+use Rattle.sl_run_law.specs.Sessions.SessionLaws.{IsSession}
 use Rattle.sl_trace.specs.Sessions.{has_open_write}
 use Rattle.sl_trace.specs.declared.session.Session.{Session}
 use Rattle.sl_time.specs.Times.{TimingNumbers, reading_of}
 use Rattle.sl_run_law.proofs.Watchdog.Freshness.{IsFresh}
 use Rattle.sl_run_law.proofs.Watchdog.Stamps.{GivenNow}
-use Rattle.sl_run_law.specs.Watchdog.Acting.{acting_stamp}
+use Rattle.sl_run_law.specs.Watchdog.ActingTimes.{acting_stamp}
 use Rattle.sl_words.proofs.CaseLaws.{none_some, some_value}
 use Rattle.sl_words.specs.Words.{first_of_list}
 use Rattle.std.proofs.Common.{ap, arith, inl, inr, refl, subst, sym, ◌∙◌}

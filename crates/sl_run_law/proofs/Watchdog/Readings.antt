@@ -1,6 +1,6 @@
 -- Nothing in a trace has a later reading than its newest entry.
-use Rattle.sl_plain.proofs.Lists.{contains_none, find_inside}
-use Rattle.sl_trace_law.proofs.Sessions.Making.{old_or_new, was_marked}
+use Rattle.sl_words.proofs.Lists.{contains_none, find_inside}
+use Rattle.sl_run_law.proofs.Sessions.CallsAreMade.{old_or_new, was_marked}
 use Rattle.sl_trace.specs.Sessions.{begun_in, is_call_of, is_joined, is_renewal, last_renewal, recovers, renewed_by, renewing, session_numbered, sessions, shows_other}
 use Rattle.sl_trace.specs.declared.session.Begun.{Begun}
 use Rattle.sl_trace.specs.declared.session.Renewing.{Renewing}
@@ -13,8 +13,8 @@ use Rattle.sl_trace.specs.declared.input.Answer.TheVariants.{Failed, Read, Writt
 use Rattle.sl_trace.specs.declared.input.Given.{Given}
 use Rattle.sl_trace.specs.declared.input.Input.TheVariants.{Answer as Told, Exit, Line, Number, Spawned, Wake}
 use Rattle.sl_trace.specs.declared.input.Input.{Input}
-use Rattle.sl_run_law.specs.Watchdog.Acting.{renewal_in, renewal_told}
-use Rattle.sl_run_law.proofs.Watchdog.Numbering.{begun_is, either_place, given_one}
+use Rattle.sl_run_law.specs.Watchdog.ActingTimes.{renewal_in, renewal_told}
+use Rattle.sl_run_law.proofs.Watchdog.TraceNumbers.{begun_is, either_place, given_one}
 use Rattle.sl_words.proofs.CaseLaws.{none_some}
 use Rattle.sl_words.proofs.WordLaws.{and_true, choose_some}
 use Rattle.sl_words.specs.Words.{choose, greatest}

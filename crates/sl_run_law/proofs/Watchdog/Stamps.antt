@@ -1,14 +1,14 @@
 -- The stamp from which a session's connection counts, and its reading.
-use Rattle.sl_run_law.proofs.Course.Matching.{newest_stamp, stamp_stays}
-use Rattle.sl_run_law.specs.Course.Stamping.{IsStampOf, IsStamped, Pairwise, stamp_in}
+use Rattle.sl_run_law.proofs.Course.MatchedCall.{newest_stamp, stamp_stays}
+use Rattle.sl_run_law.specs.Course.CallStamps.{IsStampOf, IsStamped, Pairwise, stamp_in}
 use Rattle.sl_run.proofs.LawFacts.{orderly-front}
 use Rattle.sl_run.specs.Lawful.{Orderly}
 use Rattle.sl_run.specs.LawfulWatchdog.{acts_until, is_covered}
-use Rattle.sl_plain.proofs.Lists.{contains_first, contains_more, contains_none, find_inside}
+use Rattle.sl_words.proofs.Lists.{contains_first, contains_more, contains_none, find_inside}
 use Rattle.sl_run.specs.Worlds.{Daemon, Stamp}
-use Rattle.sl_trace_law.proofs.Sessions.Joining.{joined_before}
-use Rattle.sl_trace_law.proofs.Sessions.Making.{old_or_new, was_marked}
-use Rattle.sl_trace_law.specs.Sessions.Promises.{IsSession}
+use Rattle.sl_run_law.proofs.Sessions.JoiningsInTurn.{joined_before}
+use Rattle.sl_run_law.proofs.Sessions.CallsAreMade.{old_or_new, was_marked}
+use Rattle.sl_run_law.specs.Sessions.SessionLaws.{IsSession}
 use Rattle.sl_trace.specs.Sessions.{joined_after, last_renewal}
 use Rattle.sl_trace.specs.declared.session.Session.{Session}
 use Rattle.sl_time.specs.Times.{fail, reading_of}
@@ -16,12 +16,12 @@ use Rattle.sl_trace.specs.Connections.{last_registering, registers}
 use Rattle.sl_trace.specs.Traces.{Setting, Submitted, Trace, mark, submitted}
 use Rattle.sl_trace.specs.declared.effects.Entry.{Entry}
 use Rattle.sl_trace.specs.declared.input.Given.{Given}
-use Rattle.sl_run_law.proofs.Watchdog.Becoming.{was_covered}
+use Rattle.sl_run_law.proofs.Watchdog.ConnectionNeeded.{was_covered}
 use Rattle.sl_run_law.proofs.Watchdog.Freshness.{acts_joined, acts_joining, nothing_covered}
 use Rattle.sl_run_law.proofs.Watchdog.Joins.{has_renewal}
-use Rattle.sl_run_law.proofs.Watchdog.Numbering.{given_first, given_one}
+use Rattle.sl_run_law.proofs.Watchdog.TraceNumbers.{given_first, given_one}
 use Rattle.sl_run_law.proofs.Watchdog.Readings.{Counts, NextRenewal, Stays, next_renewal, told}
-use Rattle.sl_run_law.specs.Watchdog.Acting.{acting_stamp, registering_entry, renewal_entry}
+use Rattle.sl_run_law.specs.Watchdog.ActingTimes.{acting_stamp, registering_entry, renewal_entry}
 use Rattle.sl_words.proofs.CaseLaws.{false_is_true, none_some, some_value}
 use Rattle.std.proofs.Common.{ap, inl, inr, refl, subst, sym, ◌∙◌}
 use Rattle.std.specs.List.{list_any}

@@ -1,7 +1,7 @@
 -- Waits on a machine, from one of its stamps to another, as moments. A joining, a watch and a silence each wait from the stamp of an
 -- answer to that of a submission; what a read saw before the answer, and what one saw after the submission, lies further apart still.
-use Rattle.sl_clocks.specs.Watchdog.{MayAct}
-use Rattle.sl_run_law.specs.Moment.Moments.{IsKept, point_of, stamps_on}
+use Rattle.sl_ids.specs.Clocks.Watchdog.{MayAct}
+use Rattle.sl_run_law.specs.Moment.MomentsFollowSteps.{IsKept, point_of, stamps_on}
 use Rattle.sl_run.specs.Runs.{Happening}
 use Rattle.sl_run.specs.Safety.{LawfulRun, world_at}
 use Rattle.sl_run.specs.Worlds.{Machine, Program, Stamp, World, machine_at}

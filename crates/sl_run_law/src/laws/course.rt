@@ -1,6 +1,6 @@
 //! What a lawful run promises of calls and daemons.
 
-ghost use Rattle.sl_run_law.specs.Course.Promises.{CallsAreDistinct, CoursesAreCalls, CoursesHaveDaemons, DaemonNamesAreApart, DaemonsAreOfWorld, EntriesAreStamped, MachinesMirror};
+ghost use Rattle.sl_run_law.specs.Course.CourseLaws.{CallsAreDistinct, CoursesAreCalls, CoursesHaveDaemons, DaemonNamesAreApart, DaemonsAreOfWorld, EntriesAreStamped, MachinesMirror};
 
 /// Each entry of a daemon has its stamp.
 pub fn entries_are_stamped()

@@ -1,6 +1,6 @@
 //! Fronts of lawful runs are lawful, and each event of a run has one step.
 
-ghost use Rattle.sl_run_law.specs.Front.Fronts.{EventsHaveOneStep, FrontsAreLawful};
+ghost use Rattle.sl_run_law.specs.Front.LawfulFronts.{EventsHaveOneStep, FrontsAreLawful};
 
 /// Each front of a lawful run is a lawful run.
 pub fn fronts_are_lawful()

@@ -1,7 +1,7 @@
 //! What a lawful run promises of moments and clocks.
 
-ghost use Rattle.sl_run_law.specs.Moment.Fronts.{FrontsGoOn, MomentsFollowFronts, StampsDriftFromFronts};
-ghost use Rattle.sl_run_law.specs.Moment.Moments.{KeptIsPast, MomentsFollowSteps, StampsDrift, StampsDriftToNow};
+ghost use Rattle.sl_run_law.specs.Moment.FrontMoments.{FrontsGoOn, MomentsFollowFronts, StampsDriftFromFronts};
+ghost use Rattle.sl_run_law.specs.Moment.MomentsFollowSteps.{KeptIsPast, MomentsFollowSteps, StampsDrift, StampsDriftToNow};
 ghost use Rattle.sl_run_law.specs.Moment.Orders.{EntriesAreInOrder, EntriesAreWaits, MachinesAreInOrder};
 ghost use Rattle.sl_run_law.specs.Moment.Waits.{ClaimsAreBounded, DeadWaits, JoinMaxWaits, PendingAreBounded, SilencesAreLong, TakeOverWaits, VerifyReadsAreLate, WatchesAreLong};
 

@@ -1,6 +1,6 @@
 //! What watchdogs promise of a lawful run.
 
-ghost use Rattle.sl_run_law.specs.Watchdog.Promises.{CoveredAreConnected, WritersMayAct, WritesInFlightAreCovered};
+ghost use Rattle.sl_run_law.specs.Watchdog.WatchdogLaws.{CoveredAreConnected, WritersMayAct, WritesInFlightAreCovered};
 
 /// A session whose connection must stand is connected.
 pub fn covered_are_connected()

@@ -1,18 +1,18 @@
 -- A ballot that has ended in a trace has ended in the history: the read that ended it stands in the whole trace as it stood then.
-use Rattle.sl_safety.proofs.Ballot.Ended.{AnsweredBy, EndingRead, ballot_ended}
+use Rattle.sl_safety.proofs.Ballot.BallotsEnd.{AnsweredBy, EndingRead, ballot_ended}
 use Rattle.sl_safety.specs.Ballot.Endings.{EndedBallotsEnd, holder_as}
 use Rattle.sl_ballots.specs.Ballots.{BallotEnded}
-use Rattle.sl_trace_law.proofs.Leases.AnswerLaws.{answers_within}
-use Rattle.sl_trace_law.proofs.Leases.EndLaws.{ended}
-use Rattle.sl_trace_law.specs.Leases.Ways.{Ended, lease_among}
+use Rattle.sl_run_law.proofs.Leases.AnswerLaws.{answers_within}
+use Rattle.sl_run_law.proofs.Leases.EndLaws.{ended}
+use Rattle.sl_run_law.specs.Leases.Ways.{Ended, lease_among}
 use Rattle.sl_trace.specs.Ballots.{value_of}
 use Rattle.sl_trace.specs.Leases.{Phase2_read, is_at, lease_calls}
 use Rattle.sl_run_law.proofs.Place.Daemons.{daemons_are_fine, stamp_order}
-use Rattle.sl_run_law.proofs.Place.Reading.{session_inside}
-use Rattle.sl_plain.proofs.Numbers.{below_suc}
-use Rattle.sl_history.proofs.Resources.Looking.{given_told}
-use Rattle.sl_history.specs.Resources.Promises.{history_of_line, spot_of_line}
-use Rattle.sl_history.specs.Resources.Sending.{holder_of}
+use Rattle.sl_run_law.proofs.Place.TracesOnMachines.{session_inside}
+use Rattle.sl_words.proofs.Numbers.{below_suc}
+use Rattle.sl_safety.proofs.Resources.AnsweredReads.{given_told}
+use Rattle.sl_safety.specs.Resources.HistoryLaws.{history_of_line, spot_of_line}
+use Rattle.sl_safety.specs.Resources.SentCalls.{holder_of}
 use Rattle.sl_run.specs.Safety.{Found, setting_in, trace_of, world_at}
 use Rattle.sl_run.specs.Worlds.{World}
 use Rattle.sl_sector.specs.declared.sector.Block.{Block}
@@ -25,7 +25,7 @@ use Rattle.sl_words.proofs.CaseLaws.{one_value}
 use Rattle.std.proofs.Common.{ap, subst, sym, ◌∙◌}
 use Rattle.std.specs.Prelude.{List, Option, Some, length, ℕ, ◌++◌, ◌<◌, ◌∷◌, ◌≡◌, ◌≤◌}
 use Rattle.sl_safety.proofs.Ballot.ReadsIn.{call_in, read_in}
-use Rattle.sl_trace_law.proofs.Leases.AgeLaws.{aged_block}
+use Rattle.sl_run_law.proofs.Leases.AgeLaws.{aged_block}
 
 -- ---- in the whole trace
 

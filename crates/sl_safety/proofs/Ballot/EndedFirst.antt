@@ -1,5 +1,5 @@
 -- A read of phase 2 that is made once more: the first one, too, was submitted after the block was answered ok.
-use Rattle.sl_history.proofs.Resources.Again.{AgainRests, again_rests, one_kind, same_at}
+use Rattle.sl_safety.proofs.Resources.RepeatedReads.{AgainRests, again_rests, one_kind, same_at}
 use Rattle.sl_run.specs.Lawful.{Orderly}
 use Rattle.sl_run.specs.LawfulBlock.{FirstAfter, ReadAfter}
 use Rattle.sl_safety.proofs.Ballot.ReadsIn.{CallIn, call_in}
@@ -9,15 +9,15 @@ use Rattle.sl_trace.specs.Sessions.{session_numbered}
 use Rattle.sl_trace.specs.Traces.{Setting, Submitted, Trace, submitted}
 use Rattle.sl_trace.specs.declared.effects.Spot.{Spot}
 use Rattle.sl_trace.specs.declared.session.Session.{Session}
-use Rattle.sl_trace_law.proofs.Leases.RestLaws.{phase2_is_read}
-use Rattle.sl_trace_law.proofs.Leases.SpotLaws.{areas_are_apart}
-use Rattle.sl_trace_law.specs.Leases.Ways.{Of_mode, Of_phase1, Of_phase2, Phase2ReadRests, Way, lease_among}
+use Rattle.sl_run_law.proofs.Leases.RestLaws.{phase2_is_read}
+use Rattle.sl_run_law.proofs.Leases.SpotLaws.{areas_are_apart}
+use Rattle.sl_run_law.specs.Leases.Ways.{Of_mode, Of_phase1, Of_phase2, Phase2ReadRests, Way, lease_among}
 use Rattle.sl_words.proofs.CaseLaws.{one_value, some_value}
 use Rattle.sl_words.specs.Words.{first_of_list}
 use Rattle.std.proofs.Common.{ap, append_assoc, inl, inr, refl, subst, sym, ◌∙◌}
 use Rattle.std.specs.Prelude.{List, None, Option, Some, cond, find, is_some, true, [], ◌++◌, ◌∷◌, ◌≡◌, ◌≤◌}
-use Rattle.sl_trace_law.proofs.Leases.NumberLaws.{number_is_place}
-use Rattle.sl_trace_law.proofs.Leases.ComingLaws.{blocks_come}
+use Rattle.sl_run_law.proofs.Leases.NumberLaws.{number_is_place}
+use Rattle.sl_run_law.proofs.Leases.ComingLaws.{blocks_come}
 
 -- ---- a read writes no block
 

@@ -1,8 +1,8 @@
 -- The calls of a front of a trace, in the whole of it: they stand at its end, in the same order, each with the answer that it had, if it
 -- had one.
-use Rattle.sl_run_law.specs.Course.Stamping.{Pairwise}
+use Rattle.sl_run_law.specs.Course.CallStamps.{Pairwise}
 use Rattle.sl_trace.specs.Leases.{block_submitted, block_written}
-use Rattle.sl_trace_law.proofs.Sessions.Making.{same_answered}
+use Rattle.sl_run_law.proofs.Sessions.CallsAreMade.{same_answered}
 use Rattle.sl_trace.specs.Traces.{Answered, Submitted, Trace, answer_of, answered_in, mark, new_call, submitted}
 use Rattle.sl_trace.specs.declared.effects.Call.{Call}
 use Rattle.sl_trace.specs.declared.effects.Entry.{Entry}
@@ -15,7 +15,7 @@ use Rattle.std.proofs.Common.{ap, append_assoc, arith, inl, inr, refl, sym, ◌�
 use Rattle.std.proofs.lemmas.List.{map-append}
 use Rattle.std.specs.Option.{option_or}
 use Rattle.std.specs.Prelude.{Bool, List, None, Option, Some, cond, false, find, fold, is_some, length, map, true, [], ℕ, ◌++◌, ◌==◌, ◌∷◌, ◌≡◌, ◌≤◌, ◌⊎◌}
-use Rattle.sl_trace_law.specs.Leases.Fronts.{Aged, AllAged}
+use Rattle.sl_run_law.specs.Leases.CallFronts.{Aged, AllAged}
 
 -- ---- a call and what became of it
 

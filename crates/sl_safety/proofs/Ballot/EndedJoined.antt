@@ -1,32 +1,33 @@
 -- Who ends a ballot has written its block, and so has verified the leader of a resource there: the area is a resource's, and the session
 -- has joined its lockspace.
 use Rattle.sl_area.specs.Layouts.{Layout}
-use Rattle.sl_safety.proofs.Ballot.Ended.{EndingRead}
+use Rattle.sl_safety.proofs.Ballot.BallotsEnd.{EndingRead}
 use Rattle.sl_safety.proofs.Ballot.EndedAll.{ends_in}
-use Rattle.sl_history.proofs.Giving.Hosts.{written_in}
-use Rattle.sl_history.proofs.Resources.Stands.{stands_at}
+use Rattle.sl_safety.proofs.GivenReads.BlocksNameHosts.{written_in}
+use Rattle.sl_safety.proofs.Resources.TraceCalls.{stands_at}
 use Rattle.sl_safety.specs.Ballot.Enders.{EndersAreJoined}
 use Rattle.sl_run.specs.LawfulArea.{LawfulAreaWrite}
-use Rattle.sl_trace_law.proofs.Leases.EndLaws.{ended}
-use Rattle.sl_trace_law.specs.Leases.Ways.{lease_among}
+use Rattle.sl_run_law.proofs.Leases.EndLaws.{ended}
+use Rattle.sl_run_law.specs.Leases.Ways.{lease_among}
 use Rattle.sl_trace.specs.Leases.{block_of_record, is_on, lease_calls, spot_of_call}
-use Rattle.sl_run_law.proofs.Place.Homing.{at_home}
-use Rattle.sl_run_law.proofs.Place.Leased.{IsLeased, verified_leased}
-use Rattle.sl_run_law.proofs.Place.Proven.{promised}
-use Rattle.sl_run_law.proofs.Place.Reading.{call_law, lawful_daemon, session_inside}
-use Rattle.sl_history.proofs.Resources.Above.{is_among}
-use Rattle.sl_history.proofs.Resources.Calls.{IsOwned, block_works, made_of, numbers_meant, owned, record_sent, worker_joined}
-use Rattle.sl_history.proofs.Resources.Owning.{session_as, spot_is}
-use Rattle.sl_history.proofs.Resources.Standing.{parts}
-use Rattle.sl_history.specs.Resources.Promises.{spot_of_line}
-use Rattle.sl_history.specs.Resources.Sending.{Sent, all_sent, is_joined_there, sender_of, writes_block}
+use Rattle.sl_run_law.proofs.Place.LandingsAtHome.{at_home}
+use Rattle.sl_run_law.proofs.Place.VerifiedAreas.{IsLeased, verified_leased}
+use Rattle.sl_run_law.proofs.Place.PlaceLaws.{promised}
+use Rattle.sl_run_law.proofs.Place.TracesOnMachines.{call_law, lawful_daemon, session_inside}
+use Rattle.sl_safety.proofs.Resources.BlockOrigins.{is_among}
+use Rattle.sl_safety.proofs.Resources.Calls.{IsOwned, made_of, owned}
+use Rattle.sl_safety.proofs.Resources.StepsNameCalls.{block_works, numbers_meant, record_sent, worker_joined}
+use Rattle.sl_safety.proofs.Resources.OwnBlocks.{session_as, spot_is}
+use Rattle.sl_safety.proofs.Resources.CallParts.{parts}
+use Rattle.sl_safety.specs.Resources.HistoryLaws.{spot_of_line}
+use Rattle.sl_safety.specs.Resources.SentCalls.{Sent, all_sent, is_joined_there, sender_of, writes_block}
 use Rattle.sl_run.specs.Runs.{Happening}
 use Rattle.sl_run.specs.Safety.{Found, IsSession, LawfulRun, SessionId, setting_in, trace_of, world_at}
 use Rattle.sl_run.specs.Worlds.{Program, World}
 use Rattle.sl_run.specs.declared.header.Header.{Header}
 use Rattle.sl_run.specs.declared.header.ResourceLine.{ResourceLine}
 use Rattle.sl_sector.specs.declared.sector.Block.{Block}
-use Rattle.sl_trace_law.specs.Sessions.Promises.{front_of, made_as}
+use Rattle.sl_run_law.specs.Sessions.SessionLaws.{front_of, made_as}
 use Rattle.sl_trace.specs.Sessions.{session_numbered}
 use Rattle.sl_trace.specs.declared.session.Session.{Session}
 use Rattle.sl_trace.specs.Traces.{Setting, Submitted, Trace, record_of, submitted}

@@ -4,19 +4,19 @@ use Rattle.sl_safety.specs.Ballot.Endings.{EndedBallotsEnd, HostsJoin}
 use Rattle.sl_safety.specs.Ballot.Reasons.{HistoriesKeepTheirBallots}
 use Rattle.sl_ballots.specs.Ballots.{IsPhase2, Mode_only, Phase, Phase_1, Phase_2}
 use Rattle.sl_ballots.specs.History.{History}
-use Rattle.sl_trace_law.specs.Leases.Ways.{Of_mode, Of_phase1, Of_phase2, Way}
+use Rattle.sl_run_law.specs.Leases.Ways.{Of_mode, Of_phase1, Of_phase2, Way}
 use Rattle.sl_trace.specs.Leases.{Phase1_write, Phase2_write, StepKind, is_at}
-use Rattle.sl_history.proofs.Resources.Above.{WrittenAt, written_at}
-use Rattle.sl_history.proofs.Giving.Hosts.{own_host}
-use Rattle.sl_history.proofs.Resources.Bases.{Based, based}
-use Rattle.sl_history.proofs.Resources.Calls.{worker_joined}
-use Rattle.sl_history.proofs.Resources.Calls.{block_works as block_is_work}
-use Rattle.sl_history.proofs.Resources.Founding.{have_bases}
-use Rattle.sl_history.proofs.Resources.Opening.{mode_of, phase1_of}
-use Rattle.sl_history.proofs.Resources.Standing.{Standing, standing}
-use Rattle.sl_history.specs.Resources.Histories.{is_host}
-use Rattle.sl_history.specs.Resources.Promises.{NamesDiffer, history_of_line, spot_of_line}
-use Rattle.sl_history.specs.Resources.Sending.{Sent, sender_of, sent_at, writes_block}
+use Rattle.sl_safety.proofs.Resources.BlockOrigins.{WrittenAt, written_at}
+use Rattle.sl_safety.proofs.GivenReads.BlocksNameHosts.{own_host}
+use Rattle.sl_safety.proofs.Resources.Bases.{Based, based}
+use Rattle.sl_safety.proofs.Resources.StepsNameCalls.{worker_joined}
+use Rattle.sl_safety.proofs.Resources.StepsNameCalls.{block_works as block_is_work}
+use Rattle.sl_safety.proofs.Resources.WritesHaveBases.{have_bases}
+use Rattle.sl_safety.proofs.Resources.PhaseOne.{mode_of, phase1_of}
+use Rattle.sl_safety.proofs.Resources.CallParts.{Standing, standing}
+use Rattle.sl_safety.specs.Resources.Histories.{is_host}
+use Rattle.sl_safety.specs.Resources.HistoryLaws.{NamesDiffer, history_of_line, spot_of_line}
+use Rattle.sl_safety.specs.Resources.SentCalls.{Sent, sender_of, sent_at, writes_block}
 use Rattle.sl_run.specs.Runs.{Happening}
 use Rattle.sl_run.specs.Safety.{LawfulRun, world_at}
 use Rattle.sl_run.specs.Worlds.{Program, World}

@@ -1,9 +1,9 @@
 -- A session that works on a resource has a host's id.
 use Rattle.sl_safety.specs.Ballot.Endings.{HostsJoin}
-use Rattle.sl_history.proofs.Giving.Hosts.{own_host}
-use Rattle.sl_history.proofs.Resources.Standing.{Standing}
-use Rattle.sl_history.specs.Resources.Histories.{is_host}
-use Rattle.sl_history.specs.Resources.Sending.{Sent, is_joined_there, sender_of}
+use Rattle.sl_safety.proofs.GivenReads.BlocksNameHosts.{own_host}
+use Rattle.sl_safety.proofs.Resources.CallParts.{Standing}
+use Rattle.sl_safety.specs.Resources.Histories.{is_host}
+use Rattle.sl_safety.specs.Resources.SentCalls.{Sent, is_joined_there, sender_of}
 use Rattle.sl_run.specs.Worlds.{World}
 use Rattle.std.proofs.Common.{ap, sym, ◌∙◌}
 use Rattle.std.specs.Prelude.{List, true, ℕ, ◌≡◌}

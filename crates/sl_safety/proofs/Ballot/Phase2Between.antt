@@ -1,19 +1,19 @@
 -- Between a block and the next of its session: the block was answered ok, and then a read was submitted, before which the block is the
 -- session's last.
 use Rattle.sl_safety.proofs.Ballot.Phase2Last.{OwnLast, one_block}
-use Rattle.sl_run_law.specs.Course.Stamping.{AnswersAgree, IsAnsweredAs, IsCourseOf, stamp_in}
+use Rattle.sl_run_law.specs.Course.CallStamps.{AnswersAgree, IsAnsweredAs, IsCourseOf, stamp_in}
 use Rattle.sl_run.specs.LawfulBlock.{ReadAfter}
 use Rattle.sl_trace.specs.Leases.{is_on}
 use Rattle.sl_run_law.proofs.Place.Daemons.{daemons_are_fine, stamp_order}
-use Rattle.sl_run_law.proofs.Place.Finding.{finds}
-use Rattle.sl_plain.proofs.Lists.{find_inside}
-use Rattle.sl_plain.proofs.Numbers.{both_ways, trans_lt}
-use Rattle.sl_history.proofs.Resources.Calls.{block_at_step}
-use Rattle.sl_history.proofs.Resources.Lasts.{last_is_last}
-use Rattle.sl_history.proofs.Resources.Owning.{before_is, is_before}
-use Rattle.sl_history.proofs.Resources.Standing.{Standing}
-use Rattle.sl_history.specs.Resources.Promises.{history_of_line, spot_of_line}
-use Rattle.sl_history.specs.Resources.Sending.{Sent, all_sent, is_block_before, last_block_before, sender_of, step_of, writes_block}
+use Rattle.sl_run_law.proofs.Place.FoundInLists.{finds}
+use Rattle.sl_words.proofs.Lists.{find_inside}
+use Rattle.sl_words.proofs.Numbers.{both_ways, trans_lt}
+use Rattle.sl_safety.proofs.Resources.StepsNameCalls.{block_at_step}
+use Rattle.sl_safety.proofs.Resources.LastIsLast.{last_is_last}
+use Rattle.sl_safety.proofs.Resources.OwnBlocks.{before_is, is_before}
+use Rattle.sl_safety.proofs.Resources.CallParts.{Standing}
+use Rattle.sl_safety.specs.Resources.HistoryLaws.{history_of_line, spot_of_line}
+use Rattle.sl_safety.specs.Resources.SentCalls.{Sent, all_sent, is_block_before, last_block_before, sender_of, step_of, writes_block}
 use Rattle.sl_run.specs.Runs.{Happening}
 use Rattle.sl_run.specs.Safety.{LawfulRun, world_at}
 use Rattle.sl_run.specs.Worlds.{Course, Daemon, Machine, Program, Stamp, World, daemons_on, machine_at}

@@ -3,7 +3,7 @@
 use Rattle.sl_safety.proofs.Ballot.KeptBallots.{Phase2sAre}
 use Rattle.sl_safety.proofs.Ballot.Phase2Apart.{host_there}
 use Rattle.sl_safety.proofs.Ballot.Phase2Between.{Acked, last_between, ok_is}
-use Rattle.sl_history.proofs.Giving.Hosts.{block_host, own_host}
+use Rattle.sl_safety.proofs.GivenReads.BlocksNameHosts.{block_host, own_host}
 use Rattle.sl_safety.proofs.Ballot.Phase2Last.{OwnLast, own_last}
 use Rattle.sl_safety.proofs.Ballot.Phase2Ones.{base_is, is_one, last_wrote, own_of_last, written_there}
 use Rattle.sl_safety.proofs.Ballot.Phase2Shows.{OwnRead, is_clean, start}
@@ -12,22 +12,22 @@ use Rattle.sl_safety.proofs.Ballot.ReasonFronted.{fronted, name_at_front}
 use Rattle.sl_safety.specs.Ballot.Endings.{HostsJoin, holder_as}
 use Rattle.sl_ballots.specs.Ballots.{IsClean, IsPhase1, IsPhase2, ProposesItself, ProposesSeen}
 use Rattle.sl_ballots.specs.History.{History}
-use Rattle.sl_run_law.specs.Course.Stamping.{AnswersAgree, IsAnsweredAs, IsCourseOf}
+use Rattle.sl_run_law.specs.Course.CallStamps.{AnswersAgree, IsAnsweredAs, IsCourseOf}
 use Rattle.sl_run.specs.LawfulArea.{is_area_work}
-use Rattle.sl_run.specs.Saying.{cut_at}
-use Rattle.sl_trace_law.proofs.Leases.RestLaws.{phase2_follows}
-use Rattle.sl_trace_law.specs.Leases.Ways.{Phase2Rests, lease_among}
+use Rattle.sl_run.specs.LawForms.{cut_at}
+use Rattle.sl_run_law.proofs.Leases.RestLaws.{phase2_follows}
+use Rattle.sl_run_law.specs.Leases.Ways.{Phase2Rests, lease_among}
 use Rattle.sl_trace.specs.Ballots.{ballot_blocks, moded_block, phase2_block, value_to_write}
 use Rattle.sl_trace.specs.Leases.{Phase1_write, Phase2_write, blocks_given, is_at}
-use Rattle.sl_plain.proofs.Numbers.{lt_then_le}
-use Rattle.sl_history.proofs.Resources.Above.{IsAmong, WrittenAt, answer_step, answered_before, is_among, line_aligned, reads_work, told_spot, written_at}
-use Rattle.sl_history.proofs.Resources.Calls.{block_works as block_is_work, worker_joined}
-use Rattle.sl_history.proofs.Resources.Founding.{is_last, writer_is, writes_at}
-use Rattle.sl_history.proofs.Resources.Owning.{block_is_lease, block_told, block_works, lease_is_work}
-use Rattle.sl_history.proofs.Resources.Standing.{Standing, standing}
-use Rattle.sl_history.specs.Resources.Histories.{history_block}
-use Rattle.sl_history.specs.Resources.Promises.{NamesDiffer, history_of_line, spot_of_line}
-use Rattle.sl_history.specs.Resources.Sending.{Sent, block_of_course, holder_of, is_joined_there, read_at, sender_of, step_of}
+use Rattle.sl_words.proofs.Numbers.{lt_then_le}
+use Rattle.sl_safety.proofs.Resources.BlockOrigins.{IsAmong, WrittenAt, answer_step, answered_before, is_among, line_aligned, reads_work, told_spot, written_at}
+use Rattle.sl_safety.proofs.Resources.StepsNameCalls.{block_works as block_is_work, worker_joined}
+use Rattle.sl_safety.proofs.Resources.WritesHaveBases.{is_last, writer_is, writes_at}
+use Rattle.sl_safety.proofs.Resources.OwnBlocks.{block_is_lease, block_told, block_works, lease_is_work}
+use Rattle.sl_safety.proofs.Resources.CallParts.{Standing, standing}
+use Rattle.sl_safety.specs.Resources.Histories.{history_block}
+use Rattle.sl_safety.specs.Resources.HistoryLaws.{NamesDiffer, history_of_line, spot_of_line}
+use Rattle.sl_safety.specs.Resources.SentCalls.{Sent, block_of_course, holder_of, is_joined_there, read_at, sender_of, step_of}
 use Rattle.sl_run.specs.Runs.{Happening}
 use Rattle.sl_run.specs.Safety.{Found, IsSession, LawfulRun, SessionId, world_at}
 use Rattle.sl_run.specs.Worlds.{Course, Daemon, Program, Stamp, World}
@@ -44,7 +44,7 @@ use Rattle.std.proofs.Common.{ap, append_assoc, subst, sym, ◌∙◌}
 use Rattle.std.specs.Option.{option_map_or}
 use Rattle.std.specs.Prelude.{Contains, List, Option, Some, is_some, option_and_then, true, ℕ, ◌++◌, ◌<◌, ◌∷◌, ◌≡◌, ◌≤◌, ◌⊎◌}
 use Rattle.sl_safety.proofs.Ballot.ReasonEvidence.{found_of_standing, sender_found}
-use Rattle.sl_history.proofs.Resources.Looks.{began_before}
+use Rattle.sl_safety.proofs.Resources.Looks.{began_before}
 use Rattle.sl_safety.proofs.Ballot.ReadsStand.{began_after, read_stands}
 use Rattle.sl_run.specs.LawfulBlock.{FirstAfter}
 use Rattle.sl_safety.proofs.Ballot.ReadsIn.{CallIn, call_in}

@@ -1,20 +1,20 @@
 -- The block that a session wrote last before a call of its lease, in its trace and in the history: they are one.
-use Rattle.sl_run_law.specs.Course.Stamping.{IsCourseOf, Pairwise}
+use Rattle.sl_run_law.specs.Course.CallStamps.{IsCourseOf, Pairwise}
 use Rattle.sl_run.specs.LawfulArea.{is_area_work}
-use Rattle.sl_trace_law.specs.Leases.Ways.{lease_among}
+use Rattle.sl_run_law.specs.Leases.Ways.{lease_among}
 use Rattle.sl_trace.specs.Leases.{block_of_record, block_written, is_lease_call, is_on}
 use Rattle.sl_run_law.specs.Moment.Orders.{CallsFall}
-use Rattle.sl_run_law.proofs.Place.Finding.{finds}
-use Rattle.sl_plain.proofs.Lists.{contains_cases, contains_first, contains_more, find_inside}
-use Rattle.sl_plain.proofs.Numbers.{below_next, both_ways, refl_le}
-use Rattle.sl_history.proofs.Resources.Above.{line_aligned}
-use Rattle.sl_history.proofs.Resources.Calls.{block_at_step}
-use Rattle.sl_history.proofs.Resources.Lasting.{kept_calls, lease_kept}
-use Rattle.sl_history.proofs.Resources.Latest.{calls_below, newest, sent_as}
-use Rattle.sl_history.proofs.Resources.Owning.{before_is, behind, is_before, is_behind, layout_at, lease_is_work, lease_test, made_before, number_at, passes_test, session_as, spot_at, spot_is, works, writes_write}
-use Rattle.sl_history.proofs.Resources.Standing.{Standing, sent_there}
-use Rattle.sl_history.specs.Resources.Promises.{spot_of_line}
-use Rattle.sl_history.specs.Resources.Sending.{Sent, all_sent, is_block_before, last_block_before, sender_of, sent_at, step_of, writes_block}
+use Rattle.sl_run_law.proofs.Place.FoundInLists.{finds}
+use Rattle.sl_words.proofs.Lists.{contains_cases, contains_first, contains_more, find_inside}
+use Rattle.sl_words.proofs.Numbers.{below_next, both_ways, refl_le}
+use Rattle.sl_safety.proofs.Resources.BlockOrigins.{line_aligned}
+use Rattle.sl_safety.proofs.Resources.StepsNameCalls.{block_at_step}
+use Rattle.sl_safety.proofs.Resources.LastBlock.{kept_calls, lease_kept}
+use Rattle.sl_safety.proofs.Resources.NewestCalls.{calls_below, newest, sent_as}
+use Rattle.sl_safety.proofs.Resources.OwnBlocks.{before_is, behind, is_before, is_behind, layout_at, lease_is_work, lease_test, made_before, number_at, passes_test, session_as, spot_at, spot_is, works, writes_write}
+use Rattle.sl_safety.proofs.Resources.CallParts.{Standing, sent_there}
+use Rattle.sl_safety.specs.Resources.HistoryLaws.{spot_of_line}
+use Rattle.sl_safety.specs.Resources.SentCalls.{Sent, all_sent, is_block_before, last_block_before, sender_of, sent_at, step_of, writes_block}
 use Rattle.sl_run.specs.Runs.{Happening}
 use Rattle.sl_run.specs.Safety.{LawfulRun, world_at}
 use Rattle.sl_run.specs.Worlds.{Course, Daemon, Program, World}

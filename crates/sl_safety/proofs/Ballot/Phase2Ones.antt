@@ -3,17 +3,17 @@ use Rattle.sl_safety.proofs.Ballot.Phase2Apart.{host_there}
 use Rattle.sl_safety.proofs.Ballot.Phase2Last.{OwnLast}
 use Rattle.sl_safety.specs.Ballot.Endings.{HostsJoin}
 use Rattle.sl_ballots.specs.Ballots.{IsPhase1}
-use Rattle.sl_trace_law.specs.Leases.Ways.{Of_mode, Of_phase1, Of_phase2, Way}
+use Rattle.sl_run_law.specs.Leases.Ways.{Of_mode, Of_phase1, Of_phase2, Way}
 use Rattle.sl_trace.specs.Leases.{Mode_cleared, Mode_set, Phase1_write, Phase2_write, block_of_record, block_written, is_at}
-use Rattle.sl_history.proofs.Resources.Above.{WrittenAt, block_by}
-use Rattle.sl_history.proofs.Resources.Bases.{Based, based}
-use Rattle.sl_history.proofs.Resources.Calls.{block_at_step, block_works as block_is_work, worker_joined}
-use Rattle.sl_history.proofs.Resources.Opening.{phase1_of}
-use Rattle.sl_history.proofs.Resources.Owning.{OwnWritten, base_by}
-use Rattle.sl_history.proofs.Resources.Standing.{Standing, standing}
-use Rattle.sl_history.specs.Resources.Histories.{base_of, is_host}
-use Rattle.sl_history.specs.Resources.Promises.{history_of_line, spot_of_line}
-use Rattle.sl_history.specs.Resources.Sending.{Sent, block_of_course, sent_at, step_of, writes_block}
+use Rattle.sl_safety.proofs.Resources.BlockOrigins.{WrittenAt, block_by}
+use Rattle.sl_safety.proofs.Resources.Bases.{Based, based}
+use Rattle.sl_safety.proofs.Resources.StepsNameCalls.{block_at_step, block_works as block_is_work, worker_joined}
+use Rattle.sl_safety.proofs.Resources.PhaseOne.{phase1_of}
+use Rattle.sl_safety.proofs.Resources.OwnBlocks.{OwnWritten, base_by}
+use Rattle.sl_safety.proofs.Resources.CallParts.{Standing, standing}
+use Rattle.sl_safety.specs.Resources.Histories.{base_of, is_host}
+use Rattle.sl_safety.specs.Resources.HistoryLaws.{history_of_line, spot_of_line}
+use Rattle.sl_safety.specs.Resources.SentCalls.{Sent, block_of_course, sent_at, step_of, writes_block}
 use Rattle.sl_run.specs.Runs.{Happening}
 use Rattle.sl_run.specs.Safety.{LawfulRun, world_at}
 use Rattle.sl_run.specs.Worlds.{Program, World}
@@ -26,7 +26,7 @@ use Rattle.sl_trace.specs.declared.effects.Spot.{Spot}
 use Rattle.std.proofs.Common.{ap, inl, inr, refl, sym, ◌∙◌}
 use Rattle.std.specs.Option.{option_map_or}
 use Rattle.std.specs.Prelude.{Contains, List, Some, is_some, option_and_then, true, ℕ, ◌≡◌, ◌⊎◌}
-use Rattle.sl_history.proofs.Resources.Again.{one_kind}
+use Rattle.sl_safety.proofs.Resources.RepeatedReads.{one_kind}
 
 -- ---- the base
 

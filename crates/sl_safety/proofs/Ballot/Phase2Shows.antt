@@ -4,20 +4,20 @@ use Rattle.sl_ballots.specs.Ballots.{IsClean}
 use Rattle.sl_ballots.specs.History.{History}
 use Rattle.sl_trace.specs.Ballots.{ballot_blocks, known_block, stop_of, with_own}
 use Rattle.sl_trace.specs.Leases.{blocks_given, is_on}
-use Rattle.sl_trace_law.specs.Leases.Ways.{lease_among}
-use Rattle.sl_plain.proofs.Numbers.{one_again, zero_is_least}
-use Rattle.sl_history.proofs.Giving.Hosts.{own_host}
-use Rattle.sl_history.proofs.Giving.Proven.{reads_are_given}
-use Rattle.sl_history.proofs.Resources.Above.{block_of_none, block_of_step}
-use Rattle.sl_history.proofs.Resources.Reading.{counted_at, counted_reads}
-use Rattle.sl_history.proofs.Resources.Shows.{IsOf, has_block, has_own, listed}
-use Rattle.sl_history.specs.Resources.Reads.{ReadBlocks}
-use Rattle.sl_history.proofs.Resources.Clear.{IsClear, IsWhole, all_whole, is_clear, taken_at}
-use Rattle.sl_history.proofs.Resources.Calls.{host_range}
-use Rattle.sl_history.proofs.Resources.Standing.{Standing}
-use Rattle.sl_history.specs.Resources.Histories.{history_block, is_host, no_block, own_before}
-use Rattle.sl_history.specs.Resources.Promises.{history_of_line, spot_of_line}
-use Rattle.sl_history.specs.Resources.Sending.{Sent, all_sent, began_at, block_of_course, holder_of, is_joined_there, read_at, sender_of}
+use Rattle.sl_run_law.specs.Leases.Ways.{lease_among}
+use Rattle.sl_words.proofs.Numbers.{one_again, zero_is_least}
+use Rattle.sl_safety.proofs.GivenReads.BlocksNameHosts.{own_host}
+use Rattle.sl_safety.proofs.GivenReads.ReadsAreGiven.{reads_are_given}
+use Rattle.sl_safety.proofs.Resources.BlockOrigins.{block_of_none, block_of_step}
+use Rattle.sl_safety.proofs.Resources.TraceReads.{counted_at, counted_reads}
+use Rattle.sl_safety.proofs.Resources.HistoryShows.{IsOf, has_block, has_own, listed}
+use Rattle.sl_safety.specs.Resources.Reads.{ReadBlocks}
+use Rattle.sl_safety.proofs.Resources.ClearBallots.{IsClear, IsWhole, all_whole, is_clear, taken_at}
+use Rattle.sl_safety.proofs.Resources.Calls.{host_range}
+use Rattle.sl_safety.proofs.Resources.CallParts.{Standing}
+use Rattle.sl_safety.specs.Resources.Histories.{history_block, is_host, no_block, own_before}
+use Rattle.sl_safety.specs.Resources.HistoryLaws.{history_of_line, spot_of_line}
+use Rattle.sl_safety.specs.Resources.SentCalls.{Sent, all_sent, began_at, block_of_course, holder_of, is_joined_there, read_at, sender_of}
 use Rattle.sl_run.specs.Runs.{Happening}
 use Rattle.sl_run.specs.Safety.{LawfulRun, world_at}
 use Rattle.sl_run.specs.Worlds.{Program, World}

@@ -1,18 +1,18 @@
 -- What phase 2 proposes in a trace it proposes in the history: its session, or the value of the greatest ballot that the read shows.
 use Rattle.sl_area.specs.Layouts.{Layout}
-use Rattle.sl_history.proofs.Giving.Told.{given_below}
+use Rattle.sl_safety.proofs.GivenReads.ReadsInTraces.{given_below}
 use Rattle.sl_safety.proofs.Ballot.Phase2Shows.{OwnRead, host_shown, none_shown, start}
 use Rattle.sl_safety.specs.Ballot.Endings.{holder_as}
 use Rattle.sl_ballots.specs.Ballots.{ProposesItself, ProposesSeen}
 use Rattle.sl_ballots.specs.History.{History}
 use Rattle.sl_trace.specs.Ballots.{ballot_blocks, value_to_write, whole_blocks, with_own}
-use Rattle.sl_plain.proofs.Lists.{contains_cases, contains_none}
-use Rattle.sl_plain.proofs.Numbers.{zero_is_least}
-use Rattle.sl_history.proofs.Resources.Owning.{layout_at}
-use Rattle.sl_history.proofs.Resources.Values.{Another, Itself, Proposes, proposes}
-use Rattle.sl_history.specs.Resources.Histories.{history_block, is_host}
-use Rattle.sl_history.specs.Resources.Promises.{history_of_line, spot_of_line}
-use Rattle.sl_history.specs.Resources.Sending.{Sent}
+use Rattle.sl_words.proofs.Lists.{contains_cases, contains_none}
+use Rattle.sl_words.proofs.Numbers.{zero_is_least}
+use Rattle.sl_safety.proofs.Resources.OwnBlocks.{layout_at}
+use Rattle.sl_safety.proofs.Resources.Values.{Another, Itself, Proposes, proposes}
+use Rattle.sl_safety.specs.Resources.Histories.{history_block, is_host}
+use Rattle.sl_safety.specs.Resources.HistoryLaws.{history_of_line, spot_of_line}
+use Rattle.sl_safety.specs.Resources.SentCalls.{Sent}
 use Rattle.sl_run.specs.Runs.{Happening}
 use Rattle.sl_run.specs.Safety.{LawfulRun, world_at}
 use Rattle.sl_run.specs.Worlds.{Program, World}
@@ -25,7 +25,7 @@ use Rattle.std.proofs.Common.{ap, arith, inl, inr, refl, subst, sym, ◌∙◌}
 use Rattle.std.proofs.lemmas.Bool.{and_from, le-leb}
 use Rattle.std.specs.List.{cons_option}
 use Rattle.std.specs.Prelude.{Bool, Contains, List, None, Option, Some, false, slice_get, suc, true, zero, [], ℕ, ◌+◌, ◌-◌, ◌<◌, ◌∷◌, ◌≡◌, ◌≤◌, ◌⊎◌}
-use Rattle.sl_trace_law.specs.Leases.Ways.{lease_among}
+use Rattle.sl_run_law.specs.Leases.Ways.{lease_among}
 
 -- ---- each block that the ballot goes by is of a host
 

@@ -1,6 +1,6 @@
 -- A read of a session's lease at a front of its trace, in the whole trace: it gave the same, by the calls of the lease before it.
-use Rattle.sl_history.proofs.Resources.Standing.{pair_parts}
-use Rattle.sl_run_law.specs.Course.Stamping.{Pairwise}
+use Rattle.sl_safety.proofs.Resources.CallParts.{pair_parts}
+use Rattle.sl_run_law.specs.Course.CallStamps.{Pairwise}
 use Rattle.sl_safety.proofs.Ballot.EndedGrown.{Alike, aged, all_aged, grown_to}
 use Rattle.sl_sector.specs.declared.sector.Block.{Block}
 use Rattle.sl_trace.specs.Leases.{blocks_given, is_lease_call, is_on, lease_calls}
@@ -8,14 +8,14 @@ use Rattle.sl_trace.specs.Traces.{Setting, Submitted, Trace, new_call, submitted
 use Rattle.sl_trace.specs.declared.effects.Call.{Call}
 use Rattle.sl_trace.specs.declared.effects.Spot.{Spot}
 use Rattle.sl_trace.specs.declared.session.Session.{Session}
-use Rattle.sl_trace_law.proofs.Leases.AgeLaws.{aged_lease, blocks_stay}
-use Rattle.sl_trace_law.specs.Leases.Fronts.{AllAged}
-use Rattle.sl_trace_law.specs.Leases.Ways.{lease_among}
+use Rattle.sl_run_law.proofs.Leases.AgeLaws.{aged_lease, blocks_stay}
+use Rattle.sl_run_law.specs.Leases.CallFronts.{AllAged}
+use Rattle.sl_run_law.specs.Leases.Ways.{lease_among}
 use Rattle.std.proofs.Common.{ap, append_assoc, refl, subst, sym, ◌∙◌}
 use Rattle.std.specs.Prelude.{List, Option, Some, true, [], ℕ, ◌++◌, ◌∷◌, ◌≡◌}
 use Rattle.sl_words.proofs.CaseLaws.{none_some, some_value}
 use Rattle.sl_words.specs.Words.{first_of_list}
-use Rattle.sl_history.proofs.Resources.Reading.{among_split, lease_parts}
+use Rattle.sl_safety.proofs.Resources.TraceReads.{among_split, lease_parts}
 
 -- ---- among all calls
 

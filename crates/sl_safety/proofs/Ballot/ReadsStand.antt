@@ -1,23 +1,24 @@
 -- A read of a session, as a call of the world: a read of the history, and when it began.
-use Rattle.sl_history.proofs.Resources.Reading.{began_alone, began_twice, counted_at, counted_reads}
+use Rattle.sl_safety.proofs.Resources.TraceReads.{began_alone, began_twice, counted_at, counted_reads}
 use Rattle.sl_safety.proofs.Ballot.Phase2Between.{Acked, acked_by}
-use Rattle.sl_history.specs.Resources.Promises.{spot_of_line}
+use Rattle.sl_safety.specs.Resources.HistoryLaws.{spot_of_line}
 use Rattle.sl_trace.specs.Sessions.{session_numbered}
-use Rattle.sl_history.proofs.Resources.Owning.{session_as}
-use Rattle.sl_run_law.proofs.Place.Proven.{promised}
-use Rattle.sl_trace_law.specs.Leases.Ways.{lease_among}
-use Rattle.sl_run_law.proofs.Place.Reading.{lawful_daemon, session_inside}
+use Rattle.sl_safety.proofs.Resources.OwnBlocks.{session_as}
+use Rattle.sl_run_law.proofs.Place.PlaceLaws.{promised}
+use Rattle.sl_run_law.specs.Leases.Ways.{lease_among}
+use Rattle.sl_run_law.proofs.Place.TracesOnMachines.{lawful_daemon, session_inside}
 use Rattle.sl_words.specs.Words.{first_of_list}
 use Rattle.sl_trace.specs.Leases.{blocks_given, is_again, is_on}
 use Rattle.std.proofs.Common.{ap, refl, subst, sym, ◌∙◌}
-use Rattle.sl_history.proofs.Resources.Stands.{StandsAt, stands_at}
+use Rattle.sl_safety.proofs.Resources.TraceCalls.{StandsAt, stands_at}
 use Rattle.sl_trace.specs.declared.effects.Spot.{Spot}
 use Rattle.sl_trace.specs.Traces.{Setting, Submitted, Trace, submitted}
-use Rattle.sl_history.specs.Resources.Sending.{Sent, began_at, is_joined_there, read_at, sender_of, step_of}
+use Rattle.sl_safety.specs.Resources.SentCalls.{Sent, began_at, is_joined_there, read_at, sender_of, step_of}
 use Rattle.sl_run.specs.declared.header.ResourceLine.{ResourceLine}
-use Rattle.sl_history.specs.Resources.Reads.{ReadBlocks}
-use Rattle.sl_history.proofs.Resources.Calls.{IsWork, found_read, numbers_meant, read_works}
-use Rattle.sl_run_law.specs.Course.Stamping.{IsCourseOf}
+use Rattle.sl_safety.specs.Resources.Reads.{ReadBlocks}
+use Rattle.sl_safety.proofs.Resources.Calls.{IsWork}
+use Rattle.sl_safety.proofs.Resources.StepsNameCalls.{found_read, numbers_meant, read_works}
+use Rattle.sl_run_law.specs.Course.CallStamps.{IsCourseOf}
 use Rattle.sl_run.specs.declared.header.Header.{Header}
 use Rattle.sl_run.specs.Runs.{Happening}
 use Rattle.sl_run.specs.Safety.{Found, IsSession, LawfulRun, SessionId, setting_in, trace_of, world_at}

@@ -9,26 +9,26 @@ use Rattle.sl_safety.proofs.Ballot.ReasonWrites.{free_before, leader_submitted, 
 use Rattle.sl_safety.specs.Ballot.Endings.{EndedBallotsEnd, HostsJoin, holder_as}
 use Rattle.sl_ballots.specs.Ballots.{BeginReason, Begun, Freed_before, LeaderSubmitted, Leads_itself, Lost_before, Never_led, Owner_over}
 use Rattle.sl_ballots.specs.History.{History, Owner as Holder}
-use Rattle.sl_run_law.specs.Course.Stamping.{stamp_in}
+use Rattle.sl_run_law.specs.Course.CallStamps.{stamp_in}
 use Rattle.sl_run.specs.LawfulArea.{is_area_work}
 use Rattle.sl_run.specs.LawfulBlock.{Block_above, Freed_before as Freed_in_trace, Leader_before, Leader_own, Lost_before as Lost_in_trace, Own_block}
 use Rattle.sl_run.specs.LawfulBlock.{BeginReason as TraceReason}
-use Rattle.sl_run.specs.Saying.{cut_at}
-use Rattle.sl_trace_law.specs.Leases.Fronts.{Submission}
+use Rattle.sl_run.specs.LawForms.{cut_at}
+use Rattle.sl_run_law.specs.Leases.CallFronts.{Submission}
 use Rattle.sl_trace.specs.Ballots.{owner_of, same_owner}
 use Rattle.sl_trace.specs.Leases.{ended_ballots, is_on, lease_calls, spot_of_call}
-use Rattle.sl_plain.proofs.Numbers.{refl_le}
-use Rattle.sl_history.proofs.Resources.Above.{line_aligned}
-use Rattle.sl_history.proofs.Resources.Calls.{block_at_step}
-use Rattle.sl_history.proofs.Resources.Owning.{works}
-use Rattle.sl_history.proofs.Resources.Founding.{writes_at}
-use Rattle.sl_history.proofs.Resources.Phases.{holder_as as named_alike}
-use Rattle.sl_history.proofs.Resources.Above.{block_of_step}
-use Rattle.sl_history.proofs.Resources.Reading.{IsWriter}
-use Rattle.sl_history.proofs.Resources.Shows.{Never, Once, Seen}
-use Rattle.sl_history.proofs.Resources.Standing.{Standing}
-use Rattle.sl_history.specs.Resources.Promises.{NamesDiffer, history_of_line, spot_of_line}
-use Rattle.sl_history.specs.Resources.Sending.{Sent, all_sent, block_of_course, holder_of, is_joined_there, sender_of, step_of}
+use Rattle.sl_words.proofs.Numbers.{refl_le}
+use Rattle.sl_safety.proofs.Resources.BlockOrigins.{line_aligned}
+use Rattle.sl_safety.proofs.Resources.StepsNameCalls.{block_at_step}
+use Rattle.sl_safety.proofs.Resources.OwnBlocks.{works}
+use Rattle.sl_safety.proofs.Resources.WritesHaveBases.{writes_at}
+use Rattle.sl_safety.proofs.Resources.Phases.{holder_as as named_alike}
+use Rattle.sl_safety.proofs.Resources.BlockOrigins.{block_of_step}
+use Rattle.sl_safety.proofs.Resources.TraceReads.{IsWriter}
+use Rattle.sl_safety.proofs.Resources.HistoryShows.{Never, Once, Seen}
+use Rattle.sl_safety.proofs.Resources.CallParts.{Standing}
+use Rattle.sl_safety.specs.Resources.HistoryLaws.{NamesDiffer, history_of_line, spot_of_line}
+use Rattle.sl_safety.specs.Resources.SentCalls.{Sent, all_sent, block_of_course, holder_of, is_joined_there, sender_of, step_of}
 use Rattle.sl_run.specs.Runs.{Happening}
 use Rattle.sl_run.specs.Safety.{LawfulRun, world_at}
 use Rattle.sl_run.specs.Worlds.{Program, World}
@@ -38,7 +38,7 @@ use Rattle.sl_sector.specs.declared.sector.Block.{Block}
 use Rattle.sl_sector.specs.declared.sector.Leader.{Leader}
 use Rattle.sl_sector.specs.declared.sector.Owner.{Owner}
 use Rattle.sl_trace.specs.Sessions.{me}
-use Rattle.sl_trace.specs.Watching.{counted_over}
+use Rattle.sl_trace.specs.Sightings.{counted_over}
 use Rattle.sl_trace.specs.Traces.{Setting, Trace}
 use Rattle.sl_words.proofs.CaseLaws.{true_is_false}
 use Rattle.sl_words.proofs.WordLaws.{and_true}

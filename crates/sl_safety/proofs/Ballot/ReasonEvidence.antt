@@ -1,24 +1,25 @@
 -- The entry of a step is the newest of the trace by that step. So what a session counted as over by that entry it has evidence of by that
 -- step, in the history's words.
 use Rattle.sl_ballots.specs.History.{Owner as Holder}
-use Rattle.sl_run_law.proofs.Course.Pairing.{pairs_length}
-use Rattle.sl_run_law.proofs.Course.Stamped.{entries_are_stamped}
-use Rattle.sl_run_law.specs.Course.Stamping.{IsStampOf, stamp_in}
-use Rattle.sl_run_law.proofs.Moment.Ordering.{entries_ordered, fall_front, fall_step}
+use Rattle.sl_run_law.proofs.Course.PairwiseLists.{pairs_length}
+use Rattle.sl_run_law.proofs.Course.EntriesAreStamped.{entries_are_stamped}
+use Rattle.sl_run_law.specs.Course.CallStamps.{IsStampOf, stamp_in}
+use Rattle.sl_run_law.proofs.Moment.MachinesInOrder.{entries_ordered, fall_front, fall_step}
 use Rattle.sl_run_law.specs.Moment.Orders.{Fall}
-use Rattle.sl_plain.proofs.Numbers.{le_itself}
-use Rattle.sl_history.proofs.Resources.Calls.{holder_named, in_world}
-use Rattle.sl_history.proofs.Resources.Standing.{Standing}
-use Rattle.sl_history.specs.Resources.Histories.{has_counted_over, trace_by}
-use Rattle.sl_history.specs.Resources.Promises.{NamesDiffer, history_of_line}
-use Rattle.sl_history.specs.Resources.Sending.{Sent, holder_of, is_joined_there, sender_of, step_of}
+use Rattle.sl_words.proofs.Numbers.{le_itself}
+use Rattle.sl_safety.proofs.Resources.Calls.{in_world}
+use Rattle.sl_safety.proofs.Resources.StepsNameCalls.{holder_named}
+use Rattle.sl_safety.proofs.Resources.CallParts.{Standing}
+use Rattle.sl_safety.specs.Resources.Histories.{has_counted_over, trace_by}
+use Rattle.sl_safety.specs.Resources.HistoryLaws.{NamesDiffer, history_of_line}
+use Rattle.sl_safety.specs.Resources.SentCalls.{Sent, holder_of, is_joined_there, sender_of, step_of}
 use Rattle.sl_run.specs.Runs.{Happening}
 use Rattle.sl_run.specs.Safety.{Found, LawfulRun, SessionId, session_of_world, world_at}
 use Rattle.sl_run.specs.Worlds.{Program, Stamp, World}
 use Rattle.sl_run.specs.declared.header.Header.{Header}
 use Rattle.sl_run.specs.declared.header.ResourceLine.{ResourceLine}
 use Rattle.sl_trace.specs.Sessions.{session_numbered}
-use Rattle.sl_trace.specs.Watching.{counted_over}
+use Rattle.sl_trace.specs.Sightings.{counted_over}
 use Rattle.sl_trace.specs.Traces.{Trace}
 use Rattle.sl_trace.specs.declared.effects.Entry.{Entry}
 use Rattle.sl_run_law.proofs.Watchdog.Stamps.{stamp_there}

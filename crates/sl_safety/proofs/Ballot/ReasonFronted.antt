@@ -6,17 +6,17 @@ use Rattle.sl_safety.specs.Ballot.Endings.{holder_as}
 use Rattle.sl_ballots.specs.History.{Owner as Holder}
 use Rattle.sl_run.specs.Lawful.{Orderly}
 use Rattle.sl_run.specs.LawfulArea.{is_area_work}
-use Rattle.sl_run.specs.Saying.{cut_at}
-use Rattle.sl_trace_law.proofs.Leases.FrontLaws.{lawful_there}
-use Rattle.sl_trace_law.proofs.Leases.NumberLaws.{number_is_place}
-use Rattle.sl_trace_law.specs.Leases.Fronts.{Submission}
-use Rattle.sl_plain.proofs.Options.{some_there}
-use Rattle.sl_history.proofs.Resources.Calls.{holder_is}
-use Rattle.sl_history.proofs.Resources.Standing.{Standing}
-use Rattle.sl_history.specs.Resources.Sending.{Sent, holder_of, sender_of}
+use Rattle.sl_run.specs.LawForms.{cut_at}
+use Rattle.sl_run_law.proofs.Leases.FrontLaws.{lawful_there}
+use Rattle.sl_run_law.proofs.Leases.NumberLaws.{number_is_place}
+use Rattle.sl_run_law.specs.Leases.CallFronts.{Submission}
+use Rattle.sl_words.proofs.Options.{some_there}
+use Rattle.sl_safety.proofs.Resources.Calls.{holder_is}
+use Rattle.sl_safety.proofs.Resources.CallParts.{Standing}
+use Rattle.sl_safety.specs.Resources.SentCalls.{Sent, holder_of, sender_of}
 use Rattle.sl_run.specs.Worlds.{World}
-use Rattle.sl_trace_law.proofs.Sessions.Owning.{owned}
-use Rattle.sl_trace_law.specs.Sessions.Promises.{IsSession}
+use Rattle.sl_run_law.proofs.Sessions.CallOwners.{owned}
+use Rattle.sl_run_law.specs.Sessions.SessionLaws.{IsSession}
 use Rattle.sl_trace.specs.Sessions.{generation_of, is_active, joined_after, leaving_job, me, recovery_of, removed_after, session_numbered}
 use Rattle.sl_trace.specs.declared.session.Session.{Session}
 use Rattle.sl_trace.specs.Traces.{Setting, Trace}

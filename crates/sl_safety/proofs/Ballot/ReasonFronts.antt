@@ -3,15 +3,15 @@
 use Rattle.sl_area.specs.Layouts.{Layout}
 use Rattle.sl_safety.proofs.Ballot.ReasonNames.{cut_keeps}
 use Rattle.sl_run.specs.Lawful.{Orderly}
-use Rattle.sl_run.specs.Saying.{cut_at}
+use Rattle.sl_run.specs.LawForms.{cut_at}
 use Rattle.sl_trace.specs.Leases.{Phase2_read, block_submitted, blocks_given, ended_ballot, ended_ballots, is_at, is_lease_call, is_on, lease_calls, value_in_end}
 use Rattle.sl_trace.specs.Ballots.{stop_of}
 use Rattle.sl_sector.specs.declared.sector.Block.{Block}
 use Rattle.sl_sector.specs.declared.sector.Owner.{Owner}
-use Rattle.sl_trace_law.proofs.Sessions.Growing.{mine_next, other_next, to_all, to_cut}
-use Rattle.sl_trace_law.specs.Sessions.Promises.{IsSession}
+use Rattle.sl_run_law.proofs.Sessions.TraceGrowth.{mine_next, other_next, to_all, to_cut}
+use Rattle.sl_run_law.specs.Sessions.SessionLaws.{IsSession}
 use Rattle.sl_trace.specs.Sessions.{calls_of, generation_of, is_survey_purpose, joined_after}
-use Rattle.sl_trace.specs.Watching.{counted_over, counts_over, evidence, evidence_in, look_of, sightings}
+use Rattle.sl_trace.specs.Sightings.{counted_over, counts_over, evidence, evidence_in, look_of, sightings}
 use Rattle.sl_trace.specs.declared.session.Session.{Session}
 use Rattle.sl_trace.specs.declared.sighting.Sighting.{Sighting}
 use Rattle.sl_trace.specs.Traces.{Setting, Submitted, Trace, new_call}

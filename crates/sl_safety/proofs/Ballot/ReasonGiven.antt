@@ -7,17 +7,17 @@ use Rattle.sl_ballots.specs.Ballots.{BeginReason}
 use Rattle.sl_ballots.specs.History.{History}
 use Rattle.sl_run.specs.LawfulBlock.{LawfulPhase1}
 use Rattle.sl_trace.specs.Leases.{Phase1_write, freed, is_at, lease_calls, lease_step, spot_of_call}
-use Rattle.sl_plain.proofs.Numbers.{above_zero}
-use Rattle.sl_history.proofs.Resources.Above.{block_by, line_aligned, told_spot}
-use Rattle.sl_history.proofs.Resources.Calls.{found_at, worker_joined}
-use Rattle.sl_history.proofs.Resources.Calls.{block_works as block_is_work}
-use Rattle.sl_history.proofs.Resources.Founding.{writer_is}
-use Rattle.sl_history.proofs.Resources.Opening.{one_write}
-use Rattle.sl_history.proofs.Resources.Owning.{block_is_lease, block_works, front_at, lease_is_work, written}
-use Rattle.sl_history.proofs.Resources.Standing.{Standing, standing}
-use Rattle.sl_history.specs.Resources.Histories.{history_block}
-use Rattle.sl_history.specs.Resources.Promises.{history_of_line, spot_of_line}
-use Rattle.sl_history.specs.Resources.Sending.{holder_of, sender_of, sent_at, step_of, writes_block}
+use Rattle.sl_words.proofs.Numbers.{above_zero}
+use Rattle.sl_safety.proofs.Resources.BlockOrigins.{block_by, line_aligned, told_spot}
+use Rattle.sl_safety.proofs.Resources.StepsNameCalls.{found_at, worker_joined}
+use Rattle.sl_safety.proofs.Resources.StepsNameCalls.{block_works as block_is_work}
+use Rattle.sl_safety.proofs.Resources.WritesHaveBases.{writer_is}
+use Rattle.sl_safety.proofs.Resources.PhaseOne.{one_write}
+use Rattle.sl_safety.proofs.Resources.OwnBlocks.{block_is_lease, block_works, front_at, lease_is_work, written}
+use Rattle.sl_safety.proofs.Resources.CallParts.{Standing, standing}
+use Rattle.sl_safety.specs.Resources.Histories.{history_block}
+use Rattle.sl_safety.specs.Resources.HistoryLaws.{history_of_line, spot_of_line}
+use Rattle.sl_safety.specs.Resources.SentCalls.{holder_of, sender_of, sent_at, step_of, writes_block}
 use Rattle.sl_run.specs.Safety.{world_at}
 use Rattle.sl_run.specs.Worlds.{World}
 use Rattle.sl_trace.specs.Traces.{Setting, Submitted, new_call}

@@ -1,22 +1,22 @@
 -- What a read of an area gives as the leader: the one that stood there at first, or one that was submitted before the answer.
 use Rattle.sl_area.specs.Layouts.{Layout, layout_with, record_in, sector_with}
 use Rattle.sl_area.specs.Places.{area_sectors, block_sectors, fresh_block, fresh_block_at, fresh_leader, fresh_pair, in_area, leader_of, leader_record, leader_spelled, no_request, no_value, sector_of}
-use Rattle.sl_run_law.proofs.Landing.Initial.{initial_is_record}
+use Rattle.sl_run_law.proofs.Landing.InitialRecords.{initial_is_record}
 use Rattle.sl_run.specs.LawfulArea.{IsAreaRead}
 use Rattle.sl_trace.specs.Leases.{is_area_read, is_on, leader_of_record, spot_of_call}
 use Rattle.sl_run_law.proofs.Place.Areas.{is_within}
 use Rattle.sl_run_law.proofs.Place.Beginnings.{zeros_at}
-use Rattle.sl_run_law.proofs.Place.Finding.{same_read}
-use Rattle.sl_run_law.proofs.Place.Leased.{and_two, leader_in_is, pair_leader_in_is}
-use Rattle.sl_run_law.proofs.Place.Proven.{promised}
-use Rattle.sl_run_law.proofs.Place.Reading.{IsRead, IsShown, header_is, layout_is, read_of, reads_back, sector_shown}
+use Rattle.sl_run_law.proofs.Place.FoundInLists.{same_read}
+use Rattle.sl_run_law.proofs.Place.VerifiedAreas.{and_two, leader_in_is, pair_leader_in_is}
+use Rattle.sl_run_law.proofs.Place.PlaceLaws.{promised}
+use Rattle.sl_run_law.proofs.Place.TracesOnMachines.{IsRead, IsShown, header_is, layout_is, read_of, reads_back, sector_shown}
 use Rattle.sl_run_law.proofs.Place.Seats.{sized_in}
 use Rattle.sl_run_law.proofs.Place.Sizes.{area_has_bytes, sector_fits, sized}
-use Rattle.sl_plain.proofs.Numbers.{no_times_more, refl_le, trans_lt}
-use Rattle.sl_history.proofs.Resources.Latest.{sent_as}
-use Rattle.sl_history.proofs.Resources.Looking.{IsLook, area_place, look_layout}
-use Rattle.sl_history.proofs.Resources.Standing.{sent_there}
-use Rattle.sl_history.specs.Resources.Sending.{Sent, all_sent, leader_of_course, step_of}
+use Rattle.sl_words.proofs.Numbers.{no_times_more, refl_le, trans_lt}
+use Rattle.sl_safety.proofs.Resources.NewestCalls.{sent_as}
+use Rattle.sl_safety.proofs.Resources.AnsweredReads.{IsLook, area_place, look_layout}
+use Rattle.sl_safety.proofs.Resources.CallParts.{sent_there}
+use Rattle.sl_safety.specs.Resources.SentCalls.{Sent, all_sent, leader_of_course, step_of}
 use Rattle.sl_run.specs.Events.{sectors_of}
 use Rattle.sl_run.specs.Headers.{IsHeader}
 use Rattle.sl_run.specs.Runs.{Happening}

@@ -3,15 +3,15 @@
 use Rattle.sl_run.proofs.LawFacts.{orderly-front}
 use Rattle.sl_run.specs.Lawful.{Orderly}
 use Rattle.sl_run.specs.LawfulDelta.{LawfulDeltaCall, LawfulJoinStep}
-use Rattle.sl_run.specs.Saying.{cut_at}
+use Rattle.sl_run.specs.LawForms.{cut_at}
 use Rattle.sl_run_law.proofs.Place.Looks.{reads_none}
 use Rattle.sl_sector.specs.declared.sector.DeltaRec.{DeltaRec}
-use Rattle.sl_trace_law.proofs.Sessions.Growing.{mine_marked, mine_next, other_next, to_all, to_cut}
-use Rattle.sl_trace_law.proofs.Sessions.Making.{same_answered}
-use Rattle.sl_trace_law.proofs.Sessions.Owning.{sessions_stay}
-use Rattle.sl_trace_law.proofs.Sessions.Silence.{stage_by}
-use Rattle.sl_trace_law.proofs.Sessions.Staying.{joined_more, stays}
-use Rattle.sl_trace_law.specs.Sessions.Promises.{IsSession}
+use Rattle.sl_run_law.proofs.Sessions.TraceGrowth.{mine_marked, mine_next, other_next, to_all, to_cut}
+use Rattle.sl_run_law.proofs.Sessions.CallsAreMade.{same_answered}
+use Rattle.sl_run_law.proofs.Sessions.CallOwners.{sessions_stay}
+use Rattle.sl_run_law.proofs.Sessions.EndedAreSilent.{stage_by}
+use Rattle.sl_run_law.proofs.Sessions.MarksStay.{joined_more, stays}
+use Rattle.sl_run_law.specs.Sessions.SessionLaws.{IsSession}
 use Rattle.sl_trace.specs.Sessions.{calls_of, delta_of_record, delta_written, free_write, generation_in, generation_of, given_number, joined_after, last_delta, refused_after, removed_after, session_numbered, stage_in}
 use Rattle.sl_trace.specs.declared.session.Session.{Session}
 use Rattle.sl_trace.specs.declared.stage.Stage.TheVariants.{Deciding, Verifying}

@@ -1,18 +1,18 @@
 -- The own block of a session, where it writes one: it wrote it before, or a read gave it; so it was submitted before, or is fresh.
-use Rattle.sl_trace_law.proofs.Leases.AgeLaws.{aged_block, aged_lease, found_stays}
-use Rattle.sl_trace_law.proofs.Leases.ComingLaws.{found_read}
-use Rattle.sl_trace_law.specs.Leases.Fronts.{AllAged}
-use Rattle.sl_trace_law.specs.Leases.Ways.{lease_among}
+use Rattle.sl_run_law.proofs.Leases.AgeLaws.{aged_block, aged_lease, found_stays}
+use Rattle.sl_run_law.proofs.Leases.ComingLaws.{found_read}
+use Rattle.sl_run_law.specs.Leases.CallFronts.{AllAged}
+use Rattle.sl_run_law.specs.Leases.Ways.{lease_among}
 use Rattle.sl_trace.specs.Leases.{block_submitted, is_on, last_blocks, lease_calls, own_block, own_or_read}
-use Rattle.sl_history.proofs.Resources.Above.{line_aligned}
-use Rattle.sl_history.proofs.Resources.Positive.{found_seen}
-use Rattle.sl_history.proofs.Resources.Reading.{IsWriter}
-use Rattle.sl_history.specs.Resources.Promises.{spot_of_line}
+use Rattle.sl_safety.proofs.Resources.BlockOrigins.{line_aligned}
+use Rattle.sl_safety.proofs.Resources.NumbersAboveZero.{found_seen}
+use Rattle.sl_safety.proofs.Resources.TraceReads.{IsWriter}
+use Rattle.sl_safety.specs.Resources.HistoryLaws.{spot_of_line}
 use Rattle.sl_run.specs.declared.header.ResourceLine.{ResourceLine}
-use Rattle.sl_history.proofs.Resources.Owning.{own_written}
-use Rattle.sl_history.proofs.Resources.Shows.{Once, Seen}
-use Rattle.sl_history.proofs.Resources.Standing.{Standing}
-use Rattle.sl_history.specs.Resources.Sending.{Sent, all_sent, block_of_course, step_of}
+use Rattle.sl_safety.proofs.Resources.OwnBlocks.{own_written}
+use Rattle.sl_safety.proofs.Resources.HistoryShows.{Once, Seen}
+use Rattle.sl_safety.proofs.Resources.CallParts.{Standing}
+use Rattle.sl_safety.specs.Resources.SentCalls.{Sent, all_sent, block_of_course, step_of}
 use Rattle.sl_run.specs.Runs.{Happening}
 use Rattle.sl_run.specs.Safety.{world_at}
 use Rattle.sl_run.specs.Worlds.{Program}

@@ -3,23 +3,23 @@
 use Rattle.sl_area.specs.Layouts.{Layout}
 use Rattle.sl_area.specs.Places.{BlocksRead, fresh_leader, greatest_lver, leader_made, leader_of, leader_read, pairs_of}
 use Rattle.sl_safety.proofs.Ballot.ReasonLeaders.{IsUnled, LeaderSeen, Led, Unled, leader_looked}
-use Rattle.sl_run_law.proofs.Front.Having.{placed_at}
+use Rattle.sl_run_law.proofs.Front.JoinedLists.{placed_at}
 use Rattle.sl_run.specs.LawfulBlock.{AreaRead}
-use Rattle.sl_trace_law.proofs.Leases.AgeLaws.{BecameAmong, aged_lease, answer_stays, became_among, blocks_stay}
-use Rattle.sl_trace_law.specs.Leases.Fronts.{Aged, AllAged}
+use Rattle.sl_run_law.proofs.Leases.AgeLaws.{BecameAmong, aged_lease, answer_stays, became_among, blocks_stay}
+use Rattle.sl_run_law.specs.Leases.CallFronts.{Aged, AllAged}
 use Rattle.sl_trace.specs.Leases.{blocks_given, is_area_read, is_on, leader_given, read_given, spot_of_call}
-use Rattle.sl_run_law.proofs.Place.Finding.{given_by}
-use Rattle.sl_run_law.proofs.Place.Reading.{answer_gave}
-use Rattle.sl_plain.proofs.Numbers.{lt_then_le}
-use Rattle.sl_history.proofs.Resources.Above.{IsAmong, answer_step, answered_before, line_aligned, older_look, reads_work}
-use Rattle.sl_history.proofs.Resources.Reading.{IsWriter, among_split, seen_before}
-use Rattle.sl_history.specs.Resources.Promises.{spot_of_line}
+use Rattle.sl_run_law.proofs.Place.FoundInLists.{given_by}
+use Rattle.sl_run_law.proofs.Place.TracesOnMachines.{answer_gave}
+use Rattle.sl_words.proofs.Numbers.{lt_then_le}
+use Rattle.sl_safety.proofs.Resources.BlockOrigins.{IsAmong, answer_step, answered_before, line_aligned, older_look, reads_work}
+use Rattle.sl_safety.proofs.Resources.TraceReads.{IsWriter, among_split, seen_before}
+use Rattle.sl_safety.specs.Resources.HistoryLaws.{spot_of_line}
 use Rattle.sl_run.specs.declared.header.ResourceLine.{ResourceLine}
 use Rattle.sl_words.proofs.CaseLaws.{none_some, some_value}
-use Rattle.sl_history.proofs.Resources.Owning.{layout_at, spot_is}
-use Rattle.sl_history.proofs.Resources.Shows.{Seen}
-use Rattle.sl_history.proofs.Resources.Standing.{Standing}
-use Rattle.sl_history.specs.Resources.Sending.{Sent, step_of}
+use Rattle.sl_safety.proofs.Resources.OwnBlocks.{layout_at, spot_is}
+use Rattle.sl_safety.proofs.Resources.HistoryShows.{Seen}
+use Rattle.sl_safety.proofs.Resources.CallParts.{Standing}
+use Rattle.sl_safety.specs.Resources.SentCalls.{Sent, step_of}
 use Rattle.sl_run.specs.Runs.{Happening}
 use Rattle.sl_run.specs.Safety.{world_at}
 use Rattle.sl_run.specs.Worlds.{Program, World}
@@ -32,7 +32,7 @@ use Rattle.sl_words.specs.Words.{choose, present}
 use Rattle.std.proofs.Common.{ap, inl, inr, refl, subst, sym, ◌∙◌}
 use Rattle.std.specs.Prelude.{Bool, Contains, List, None, Option, Some, false, find, nat_lt, option_and_then, slice_get, true, ℕ, ◌==◌, ◌≡◌, ◌≤◌, ◌⊎◌}
 use Rattle.sl_sector.specs.declared.sector.PairBlock.{PairBlock}
-use Rattle.sl_trace_law.specs.Leases.Ways.{lease_among}
+use Rattle.sl_run_law.specs.Leases.Ways.{lease_among}
 
 -- ---- what was seen once
 

@@ -2,20 +2,20 @@
 -- writes a block.
 use Rattle.sl_ballots.specs.Ballots.{LeaderSubmitted}
 use Rattle.sl_ballots.specs.History.{History, Leader as HistoryLeader, Owner as Holder}
-use Rattle.sl_run_law.specs.Course.Stamping.{IsCourseOf}
+use Rattle.sl_run_law.specs.Course.CallStamps.{IsCourseOf}
 use Rattle.sl_run.specs.LawfulArea.{is_area_work}
-use Rattle.sl_trace_law.proofs.Leases.AgeLaws.{aged_lease, became}
-use Rattle.sl_trace_law.specs.Leases.Fronts.{AllAged}
+use Rattle.sl_run_law.proofs.Leases.AgeLaws.{aged_lease, became}
+use Rattle.sl_run_law.specs.Leases.CallFronts.{AllAged}
 use Rattle.sl_trace.specs.Leases.{is_block_read, is_free_write, is_lease_call, is_on, leader_of_record, leader_written, lease_calls}
-use Rattle.sl_run_law.proofs.Place.Finding.{partner_of}
-use Rattle.sl_history.proofs.Resources.Above.{is_among}
-use Rattle.sl_history.proofs.Resources.Calls.{leader_at_step}
-use Rattle.sl_history.proofs.Resources.Latest.{sent_as}
-use Rattle.sl_history.proofs.Resources.Owning.{is_behind, layout_at, lease_is_work, made_before, number_at, spot_at, spot_is, works}
-use Rattle.sl_history.proofs.Resources.Standing.{Standing, sent_there}
-use Rattle.sl_history.specs.Resources.Histories.{history_leader, no_leader}
-use Rattle.sl_history.specs.Resources.Promises.{history_of_line, spot_of_line}
-use Rattle.sl_history.specs.Resources.Sending.{Sent, all_sent, leader_of_course, sent_at, step_of, writes_leader}
+use Rattle.sl_run_law.proofs.Place.FoundInLists.{partner_of}
+use Rattle.sl_safety.proofs.Resources.BlockOrigins.{is_among}
+use Rattle.sl_safety.proofs.Resources.StepsNameCalls.{leader_at_step}
+use Rattle.sl_safety.proofs.Resources.NewestCalls.{sent_as}
+use Rattle.sl_safety.proofs.Resources.OwnBlocks.{is_behind, layout_at, lease_is_work, made_before, number_at, spot_at, spot_is, works}
+use Rattle.sl_safety.proofs.Resources.CallParts.{Standing, sent_there}
+use Rattle.sl_safety.specs.Resources.Histories.{history_leader, no_leader}
+use Rattle.sl_safety.specs.Resources.HistoryLaws.{history_of_line, spot_of_line}
+use Rattle.sl_safety.specs.Resources.SentCalls.{Sent, all_sent, leader_of_course, sent_at, step_of, writes_leader}
 use Rattle.sl_run.specs.Runs.{Happening}
 use Rattle.sl_run.specs.Safety.{LawfulRun, world_at}
 use Rattle.sl_run.specs.Worlds.{Program, World}

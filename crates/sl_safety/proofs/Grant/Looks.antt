@@ -1,13 +1,13 @@
 -- What a session's read of blocks shows in the history: of each host whose block it gave, whole and as it gave it; of no host, the block
 -- of step 0.
-use Rattle.sl_safety.proofs.Grant.Stepping.{IsAt, LookThere}
+use Rattle.sl_safety.proofs.Grant.HistorySteps.{IsAt, LookThere}
 use Rattle.sl_trace.specs.Leases.{block_of_host}
-use Rattle.sl_plain.proofs.Lists.{contains_first, contains_more}
-use Rattle.sl_history.proofs.Giving.Proven.{reads_are_given}
-use Rattle.sl_history.proofs.Resources.Above.{block_of_none, own_there}
-use Rattle.sl_history.proofs.Resources.Shows.{HasBlock, IsOf, has_block}
-use Rattle.sl_history.specs.Resources.Histories.{is_host, no_block}
-use Rattle.sl_history.specs.Resources.Promises.{history_of_line}
+use Rattle.sl_words.proofs.Lists.{contains_first, contains_more}
+use Rattle.sl_safety.proofs.GivenReads.ReadsAreGiven.{reads_are_given}
+use Rattle.sl_safety.proofs.Resources.BlockOrigins.{block_of_none, own_there}
+use Rattle.sl_safety.proofs.Resources.HistoryShows.{HasBlock, IsOf, has_block}
+use Rattle.sl_safety.specs.Resources.Histories.{is_host, no_block}
+use Rattle.sl_safety.specs.Resources.HistoryLaws.{history_of_line}
 use Rattle.sl_run.specs.Runs.{Happening}
 use Rattle.sl_run.specs.Safety.{Found, SessionId, world_at}
 use Rattle.sl_run.specs.Worlds.{Program}

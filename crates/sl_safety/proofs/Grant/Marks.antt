@@ -3,21 +3,21 @@
 use Rattle.sl_area.specs.Layouts.{Layout}
 use Rattle.sl_safety.proofs.Ballot.ReasonNames.{cut_keeps}
 use Rattle.sl_safety.specs.Ballot.Endings.{IsEntryAt}
-use Rattle.sl_safety.proofs.Grant.Backing.{IsBacked}
-use Rattle.sl_safety.proofs.Grant.Exclusive.{IsToldOf}
+use Rattle.sl_safety.proofs.Grant.SharedBacking.{IsBacked}
+use Rattle.sl_safety.proofs.Grant.ExclusiveGrants.{IsToldOf}
 use Rattle.sl_safety.proofs.Grant.Names.{StoodAt, stood_at}
-use Rattle.sl_safety.proofs.Grant.Owned.{BlockTold, ends_within}
-use Rattle.sl_safety.proofs.Grant.Stepping.{IsAt}
-use Rattle.sl_safety.proofs.Grant.Telling.{IsFront, OfLease, in_lease, lease_was, whole_of}
-use Rattle.sl_run.specs.Saying.{cut_at}
-use Rattle.sl_trace_law.proofs.Leases.GrantLaws.{modes_follow}
-use Rattle.sl_trace_law.specs.Leases.Holding.{ModeRests}
+use Rattle.sl_safety.proofs.Grant.BlocksInTraces.{BlockTold, ends_within}
+use Rattle.sl_safety.proofs.Grant.HistorySteps.{IsAt}
+use Rattle.sl_safety.proofs.Grant.CallsOfWorlds.{IsFront, OfLease, in_lease, lease_was, whole_of}
+use Rattle.sl_run.specs.LawForms.{cut_at}
+use Rattle.sl_run_law.proofs.Leases.GrantLaws.{modes_follow}
+use Rattle.sl_run_law.specs.Leases.ModesRest.{ModeRests}
 use Rattle.sl_trace.specs.Leases.{Mode_set, block_of_record, has_shared_on, is_at, spot_of_call}
-use Rattle.sl_history.proofs.Resources.Above.{line_aligned}
-use Rattle.sl_history.proofs.Resources.Calls.{split}
-use Rattle.sl_history.proofs.Resources.Owning.{spot_is}
-use Rattle.sl_history.specs.Resources.Promises.{spot_of_line}
-use Rattle.sl_history.specs.Resources.Sending.{is_joined_there}
+use Rattle.sl_safety.proofs.Resources.BlockOrigins.{line_aligned}
+use Rattle.sl_safety.proofs.Resources.Calls.{split}
+use Rattle.sl_safety.proofs.Resources.OwnBlocks.{spot_is}
+use Rattle.sl_safety.specs.Resources.HistoryLaws.{spot_of_line}
+use Rattle.sl_safety.specs.Resources.SentCalls.{is_joined_there}
 use Rattle.sl_run.specs.Runs.{Happening}
 use Rattle.sl_run.specs.Safety.{Found, IsSession, LawfulRun, SessionId, found_generation, setting_in, trace_of, world_at}
 use Rattle.sl_run.specs.Worlds.{Program}

@@ -2,23 +2,23 @@
 use Rattle.sl_safety.proofs.Ballot.ReasonNames.{cut_keeps, generation_stays}
 use Rattle.sl_safety.specs.Ballot.Endings.{holder_as}
 use Rattle.sl_ballots.specs.History.{Owner as Holder}
-use Rattle.sl_safety.proofs.Grant.Telling.{IsFront, OfLease, whole_of}
+use Rattle.sl_safety.proofs.Grant.CallsOfWorlds.{IsFront, OfLease, whole_of}
 use Rattle.sl_run.proofs.LawFacts.{orderly-front}
 use Rattle.sl_run.specs.Lawful.{Orderly}
 use Rattle.sl_run.specs.LawfulArea.{is_area_work}
-use Rattle.sl_run_law.proofs.Place.Reading.{call_law, owner_of}
-use Rattle.sl_history.proofs.Resources.Calls.{IsOwned, found_of, made_of, owner_found, stood}
-use Rattle.sl_history.proofs.Resources.Owning.{lease_is_work}
-use Rattle.sl_history.proofs.Resources.Calls.{holder_is}
-use Rattle.sl_history.specs.Resources.Sending.{Sent, holder_of, sender_of}
+use Rattle.sl_run_law.proofs.Place.TracesOnMachines.{call_law, owner_of}
+use Rattle.sl_safety.proofs.Resources.Calls.{IsOwned, found_of, made_of, owner_found, stood}
+use Rattle.sl_safety.proofs.Resources.OwnBlocks.{lease_is_work}
+use Rattle.sl_safety.proofs.Resources.Calls.{holder_is}
+use Rattle.sl_safety.specs.Resources.SentCalls.{Sent, holder_of, sender_of}
 use Rattle.sl_run.specs.Runs.{Happening}
 use Rattle.sl_run.specs.Safety.{Found, IsSession, LawfulRun, SessionId, found_generation, setting_in, trace_of, world_at}
 use Rattle.sl_run.specs.Worlds.{Program}
 use Rattle.sl_run.specs.declared.header.Header.{Header}
-use Rattle.sl_trace_law.proofs.Sessions.Making.{calls_are_made}
-use Rattle.sl_trace_law.proofs.Sessions.Owning.{sessions_stay}
-use Rattle.sl_trace_law.proofs.Sessions.Staying.{joined_more, stays}
-use Rattle.sl_trace_law.specs.Sessions.Promises.{front_of}
+use Rattle.sl_run_law.proofs.Sessions.CallsAreMade.{calls_are_made}
+use Rattle.sl_run_law.proofs.Sessions.CallOwners.{sessions_stay}
+use Rattle.sl_run_law.proofs.Sessions.MarksStay.{joined_more, stays}
+use Rattle.sl_run_law.specs.Sessions.SessionLaws.{front_of}
 use Rattle.sl_trace.specs.Sessions.{generation_of, joined_after, me, session_numbered}
 use Rattle.sl_trace.specs.Traces.{Setting, Submitted, Trace}
 use Rattle.sl_trace.specs.declared.effects.Spot.{Spot}

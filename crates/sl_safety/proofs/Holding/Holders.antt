@@ -1,18 +1,18 @@
 -- Whose the holdings of a world are: each is one of its machine's daemon since the last restart, whose trace is lawful, or the orphan of one.
-use Rattle.sl_run_law.proofs.Course.Keeping.{lawful_on}
-use Rattle.sl_run_law.proofs.Course.Mirrored.{machines_mirror}
-use Rattle.sl_run_law.proofs.Course.Mirroring.{none_if}
+use Rattle.sl_run_law.proofs.Course.MachinesKeep.{lawful_on}
+use Rattle.sl_run_law.proofs.Course.MachinesMirror.{machines_mirror}
+use Rattle.sl_run_law.proofs.Course.MirrorsTurn.{none_if}
 use Rattle.sl_run_law.specs.Course.Mirrors.{Held_on, IsLeft, Mirrors, Orphaned, since_restart}
-use Rattle.sl_run_law.proofs.Front.Having.{contains_flat}
-use Rattle.sl_safety.proofs.Holding.Agreeing.{one_daemon_agrees}
-use Rattle.sl_safety.proofs.Holding.Standing.{held_of, holders_stand}
-use Rattle.sl_safety.specs.Holding.Granting.{HeldUnder}
+use Rattle.sl_run_law.proofs.Front.JoinedLists.{contains_flat}
+use Rattle.sl_safety.proofs.Holding.OneDaemonAgrees.{one_daemon_agrees}
+use Rattle.sl_safety.proofs.Holding.HoldersStand.{held_of, holders_stand}
+use Rattle.sl_safety.specs.Holding.HoldingOrigins.{HeldUnder}
 use Rattle.sl_safety.specs.Holding.Holders.{HeldBy, HoldingsAreHeld, OneMachineAgrees, RestsOn}
 use Rattle.sl_run.specs.Lawful.{Orderly}
-use Rattle.sl_trace_law.proofs.Leases.NumberLaws.{number_is_place}
-use Rattle.sl_plain.proofs.Lists.{contains_cases, contains_none, got_inside, in_map}
-use Rattle.sl_plain.proofs.Numbers.{one_less}
-use Rattle.sl_plain.proofs.Options.{else_some}
+use Rattle.sl_run_law.proofs.Leases.NumberLaws.{number_is_place}
+use Rattle.sl_words.proofs.Lists.{contains_cases, contains_none, got_inside, in_map}
+use Rattle.sl_words.proofs.Numbers.{one_less}
+use Rattle.sl_words.proofs.Options.{else_some}
 use Rattle.sl_run.specs.Conflicts.{Holding, world_holdings}
 use Rattle.sl_run.specs.Runs.{Happening}
 use Rattle.sl_run.specs.Safety.{Found, LawfulRun, SessionId, free_landed, has_write_in_flight, is_course_of, is_over, session_of_world, was_reset, world_at}
@@ -22,7 +22,7 @@ use Rattle.sl_trace.specs.Sessions.{calls_of, ended_after, free_write, is_joined
 use Rattle.sl_trace.specs.declared.session.Session.{Session}
 use Rattle.sl_trace.specs.Traces.{Setting, Submitted, Trace, holdings, is_shared, no_process, same_place}
 use Rattle.sl_trace.specs.declared.effects.Grant.{Grant}
-use Rattle.sl_run_law.proofs.Watchdog.Promising.{itself}
+use Rattle.sl_run_law.proofs.Watchdog.WritersMayAct.{itself}
 use Rattle.sl_words.proofs.CaseLaws.{false_is_true, is_false, one_value}
 use Rattle.sl_words.proofs.ListLaws.{first_and_others}
 use Rattle.sl_words.proofs.WordLaws.{and_true}

@@ -1,9 +1,9 @@
 -- Places and areas as equations, and the holdings of a session on an area.
 use Rattle.sl_area.specs.Layouts.{Layout}
-use Rattle.sl_trace_law.proofs.Leases.SpotLaws.{areas_are_apart}
+use Rattle.sl_run_law.proofs.Leases.SpotLaws.{areas_are_apart}
 use Rattle.sl_trace.specs.Leases.{has_shared_on, holdings_on, is_on, spot_of_call}
-use Rattle.sl_plain.proofs.Lists.{contains_cases, contains_none, find_inside, kept, kept_inside}
-use Rattle.sl_plain.proofs.Numbers.{none_off}
+use Rattle.sl_words.proofs.Lists.{contains_cases, contains_none, find_inside, kept, kept_inside}
+use Rattle.sl_words.proofs.Numbers.{none_off}
 use Rattle.sl_trace.specs.Sessions.{holdings_of}
 use Rattle.sl_trace.specs.declared.session.Session.{Session}
 use Rattle.sl_trace.specs.Traces.{Submitted, Trace, holdings, is_shared, new_call, same_place, spot_of_grant}

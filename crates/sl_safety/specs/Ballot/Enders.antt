@@ -1,8 +1,8 @@
 -- Whose ballots end: only a joined session of a resource's lockspace ends a ballot on the resource's area.
 use Rattle.sl_area.specs.Places.{is_base}
 use Rattle.sl_trace.specs.Leases.{ended_ballots, lease_calls}
-use Rattle.sl_history.specs.Resources.Promises.{spot_of_line}
-use Rattle.sl_history.specs.Resources.Sending.{is_joined_there}
+use Rattle.sl_safety.specs.Resources.HistoryLaws.{spot_of_line}
+use Rattle.sl_safety.specs.Resources.SentCalls.{is_joined_there}
 use Rattle.sl_run.specs.Runs.{Happening}
 use Rattle.sl_run.specs.Safety.{Found, IsSession, LawfulRun, SessionId, setting_in, trace_of, world_at}
 use Rattle.sl_run.specs.Worlds.{Program}

@@ -1,11 +1,11 @@
 -- Ballots that end in a session's trace end in the history of the resource.
 use Rattle.sl_ballots.specs.Ballots.{BallotEnded}
 use Rattle.sl_ballots.specs.History.{Owner as Holder}
-use Rattle.sl_run_law.specs.Course.Stamping.{stamp_in}
+use Rattle.sl_run_law.specs.Course.CallStamps.{stamp_in}
 use Rattle.sl_trace.specs.Leases.{ended_ballots, lease_calls}
-use Rattle.sl_history.specs.Resources.Histories.{is_host}
-use Rattle.sl_history.specs.Resources.Promises.{NamesDiffer, history_of_line, spot_of_line}
-use Rattle.sl_history.specs.Resources.Sending.{holder_of, is_joined_there}
+use Rattle.sl_safety.specs.Resources.Histories.{is_host}
+use Rattle.sl_safety.specs.Resources.HistoryLaws.{NamesDiffer, history_of_line, spot_of_line}
+use Rattle.sl_safety.specs.Resources.SentCalls.{holder_of, is_joined_there}
 use Rattle.sl_run.specs.Runs.{Happening}
 use Rattle.sl_run.specs.Safety.{Found, IsSession, LawfulRun, SessionId, setting_in, trace_of, world_at}
 use Rattle.sl_run.specs.Worlds.{Program, Stamp, World}

@@ -3,8 +3,8 @@ use Rattle.sl_safety.specs.Ballot.Endings.{HostsJoin}
 use Rattle.sl_ballots.specs.Ballots.{BeginReason, KeepsBallots}
 use Rattle.sl_ballots.specs.History.{History}
 use Rattle.sl_trace.specs.Leases.{Phase1_write, is_at}
-use Rattle.sl_history.specs.Resources.Promises.{NamesDiffer, history_of_line, spot_of_line}
-use Rattle.sl_history.specs.Resources.Sending.{Sent, sent_at, writes_block}
+use Rattle.sl_safety.specs.Resources.HistoryLaws.{NamesDiffer, history_of_line, spot_of_line}
+use Rattle.sl_safety.specs.Resources.SentCalls.{Sent, sent_at, writes_block}
 use Rattle.sl_run.specs.Runs.{Happening}
 use Rattle.sl_run.specs.Safety.{LawfulRun, world_at}
 use Rattle.sl_run.specs.Worlds.{Program}

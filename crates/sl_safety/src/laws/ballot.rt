@@ -2,7 +2,7 @@
 
 ghost use Rattle.sl_safety.specs.Ballot.Enders.{EndersAreJoined};
 ghost use Rattle.sl_safety.specs.Ballot.Endings.{EndedBallotsEnd};
-ghost use Rattle.sl_safety.specs.Ballot.Leading.{LeadersFollowBallots};
+ghost use Rattle.sl_safety.specs.Ballot.LeadersFollowBallots.{LeadersFollowBallots};
 ghost use Rattle.sl_safety.specs.Ballot.Reasons.{HistoriesKeepTheirBallots, InstancesHaveReasons};
 
 /// A ballot that has ended in a session's trace has ended in the history.

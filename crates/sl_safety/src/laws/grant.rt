@@ -1,6 +1,6 @@
 //! What a lawful run promises of its grants, in the history of their resource.
 
-ghost use Rattle.sl_safety.specs.Grant.Granted.{ExclusiveGrantsAre, ExclusivesAreKept, SharedAreShared, SharedAreUnder};
+ghost use Rattle.sl_safety.specs.Grant.HistoryGrants.{ExclusiveGrantsAre, ExclusivesAreKept, SharedAreShared, SharedAreUnder};
 
 /// Each exclusive grant of a trace is one of the history of its resource: its session won the instance, had not freed it, and had looked
 /// at all blocks after the instance had begun.

@@ -1,8 +1,8 @@
 //! What a lawful trace and a lawful run promise of holdings.
 
-ghost use Rattle.sl_safety.specs.Holding.Granting.{ExclusivesAreUnfreed, HoldersStand, HoldingsAreGranted, OneDaemonAgrees, SharedHoldingsBegin, SharedRunsBegin};
+ghost use Rattle.sl_safety.specs.Holding.HoldingOrigins.{ExclusivesAreUnfreed, HoldersStand, HoldingsAreGranted, OneDaemonAgrees, SharedHoldingsBegin, SharedRunsBegin};
 ghost use Rattle.sl_safety.specs.Holding.Holders.{HoldingsAreHeld, OneMachineAgrees};
-ghost use Rattle.sl_run.specs.Reach.{HoldersHoldOnce};
+ghost use Rattle.sl_run.specs.HeldOverTime.{HoldersHoldOnce};
 
 /// Each holding was granted by an entry, from which on it stood.
 pub fn holdings_are_granted()

@@ -1,7 +1,7 @@
 //! What every lawful run keeps of the values of resources.
 
 ghost use Rattle.sl_run.specs.Values.{ValueTheorem};
-ghost use Rattle.sl_safety.specs.Value.Writing.{HoldersKeepValues, OneWritesValue};
+ghost use Rattle.sl_safety.specs.Value.ValueWrites.{HoldersKeepValues, OneWritesValue};
 
 /// At most one write of a resource's value is in flight.
 pub fn one_writes_value()

@@ -1,4 +1,4 @@
-use Rattle.sl_daemon.specs.Daemons.{begun_with}
+use Rattle.sl_world_state.specs.Daemons.{begun_with}
 use Rattle.machines.proofs.cells.push_told_of_both.Given as goal
 
 -- the setting that the second site and header make

@@ -1,5 +1,5 @@
-use Rattle.sl_daemon.specs.Daemons.{begun_with}
-use Rattle.sl_host_step.specs.Serving.{whole_commands}
+use Rattle.sl_world_state.specs.Daemons.{begun_with}
+use Rattle.sl_host_step.specs.HostServes.{whole_commands}
 use Rattle.machines.proofs.cells.told.Given as goal
 
 -- the setting that the first site and header make

@@ -1,5 +1,5 @@
 use Rattle.sl_cell.proofs.AuditLaws.{idles_at_end}
-use Rattle.sl_cell.proofs.Fronts.{all_more}
+use Rattle.sl_cell.proofs.ListFronts.{all_more}
 use Rattle.sl_cell.proofs.audit.check_all_idles.Goals as goal
 use Rattle.sl_cell.specs.Audits.{AreIdleTrue, all_calls}
 use Rattle.std.proofs.Common.{arith, subst}

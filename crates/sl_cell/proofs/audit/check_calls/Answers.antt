@@ -2,7 +2,7 @@ use Rattle.sl_cell.proofs.AuditLaws.{calls_at_end, seats_more}
 use Rattle.sl_cell.proofs.CaseLaws.{err_on, seats_stop}
 use Rattle.sl_cell.proofs.audit.check_calls.Goals as goal
 use Rattle.sl_cell.specs.Audits.{all_calls}
-use Rattle.sl_cell.specs.Cases.{IsCase, Stops}
+use Rattle.sl_cell.specs.DifferenceCases.{IsCase, Stops}
 use Rattle.std.proofs.Common.{arith, take}
 
 pub loop-seat-preserved : goal.loop-seat-preserved

@@ -2,7 +2,7 @@ use Rattle.sl_cell.proofs.AuditLaws.{seat_at_end, seat_more, seen_more}
 use Rattle.sl_cell.proofs.CaseLaws.{err_on, seat_stops}
 use Rattle.sl_cell.proofs.audit.check_seat.Goals as goal
 use Rattle.sl_cell.specs.Audits.{IsLater, sees}
-use Rattle.sl_cell.specs.Cases.{FaultIn, Stops}
+use Rattle.sl_cell.specs.DifferenceCases.{FaultIn, Stops}
 use Rattle.std.proofs.Common.{ap, arith, subst, sym, take, ◌++◌, ◌∙◌}
 
 pub loop-made-preserved : goal.loop-made-preserved

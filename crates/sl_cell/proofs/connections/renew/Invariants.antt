@@ -1,4 +1,4 @@
-use Rattle.sl_cell.proofs.Mapped.{front_mapped}
+use Rattle.sl_cell.proofs.MappedLists.{front_mapped}
 use Rattle.sl_cell.proofs.connections.renew.Given as goal
 use Rattle.sl_trace.specs.Connections.{renewed_connection}
 use Rattle.std.proofs.Common.{vec_len, ◌≡◌}

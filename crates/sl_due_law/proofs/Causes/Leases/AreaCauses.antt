@@ -2,7 +2,7 @@
 use Rattle.sl_area.specs.Places.{BlocksRead, blocks_of, blocks_part, leader_read}
 use Rattle.sl_due_law.proofs.Causes.AnsweredJobs.{with_spot}
 use Rattle.sl_due_law.proofs.Causes.Leases.GivenBlocks.{AreaRead, blocks_give, leader_gives}
-use Rattle.sl_due_law.proofs.Causes.Leases.Hearing.{IsWell, LeaseHeard, knows, reads, reads_blocks}
+use Rattle.sl_due_law.proofs.Causes.Leases.HeardLeases.{IsWell, LeaseHeard, knows, reads, reads_blocks}
 use Rattle.sl_due_law.proofs.Causes.Leases.Limits.{begin_well}
 use Rattle.sl_due_leases.proofs.Ways.GivenReads.{blocks_heard}
 use Rattle.sl_run.specs.Caused.{Answering, AnswersRead, EndsWith, GivesBlocks, GivesLeader, ShowsInstance, after_entry}
@@ -16,7 +16,7 @@ use Rattle.sl_trace.specs.declared.lease.LeaseNext.TheVariants.{AnswerJob, Nothi
 use Rattle.sl_trace.specs.declared.lease.LeaseNext.{LeaseNext}
 use Rattle.sl_sector.specs.declared.sector.Block.{Block}
 use Rattle.sl_sector.specs.declared.sector.Leader.{Leader}
-use Rattle.sl_trace.specs.Watching.{counts_over}
+use Rattle.sl_trace.specs.Sightings.{counts_over}
 use Rattle.sl_trace.specs.declared.session.Session.{Session}
 use Rattle.sl_trace.specs.Traces.{Submitted}
 use Rattle.sl_trace.specs.declared.command.Command.{Command}

@@ -1,7 +1,7 @@
 -- The causes of grants that a lease's work gives: the leader that was taken, the leader that was freed, and what is converted.
-use Rattle.sl_acts.proofs.InputsKeep.{has_heard}
-use Rattle.sl_acts.proofs.Pairs.Records.{block_lver, written_block}
-use Rattle.sl_acts.specs.Acts.{Hears}
+use Rattle.sl_due_facts.proofs.Acts.InputsKeep.{has_heard}
+use Rattle.sl_due_facts.proofs.Acts.Pairs.Records.{block_lver, written_block}
+use Rattle.sl_due_facts.specs.Acts.Acts.{Hears}
 use Rattle.sl_due_law.proofs.Causes.AnsweredJobs.{AnswersHere, answers_here, its_command, told_not_waking, with_command}
 use Rattle.sl_due_law.proofs.Causes.LaterSteps.{AnyMove, Going, MayAnswer, MayCall, MayStart, after_that, begins, by_effects, going, last_caused, no_line, still_caused, told_no_line}
 use Rattle.sl_due_law.proofs.Causes.Leases.LeaseAnswers.{was_joined}
@@ -26,15 +26,15 @@ use Rattle.sl_trace.specs.declared.lease.Aim.TheVariants.{Acquires, Converts, Re
 use Rattle.sl_trace.specs.declared.lease.Aim.{Aim}
 use Rattle.sl_trace.specs.declared.lease.LeaseNext.TheVariants.{BecomeExclusive, BecomeShared, GrantJob}
 use Rattle.sl_due_facts.proofs.Jobs.JobFactsGrow.{contains_right}
-use Rattle.sl_plain.proofs.Lists.{contains_first, find_inside, got_inside, kept_inside}
-use Rattle.sl_plain.proofs.Options.{then_value}
+use Rattle.sl_words.proofs.Lists.{contains_first, find_inside, got_inside, kept_inside}
+use Rattle.sl_words.proofs.Options.{then_value}
 use Rattle.sl_sector.specs.declared.sector.Block.{Block}
 use Rattle.sl_sector.specs.declared.sector.Leader.{Leader}
 use Rattle.sl_trace.specs.Sessions.{holdings_of, is_joined, session_numbered, sessions}
 use Rattle.sl_trace.specs.declared.session.Session.{Session}
 use Rattle.sl_due_facts.specs.Facts.JobFacts.{FitsCommand}
 use Rattle.sl_due_facts.specs.Facts.WayFacts.{After_mode, After_take, FreeReason, In_conversion, In_release, In_settling, ModeReason, ModeWay, PurposeWay, StepWay, WayContext, Ways, way_context}
-use Rattle.sl_due_facts.specs.Facts.Whole.{WholeTrace}
+use Rattle.sl_due_facts.specs.Facts.AllFacts.{WholeTrace}
 use Rattle.sl_trace.specs.Traces.{Job, Submitted, Trace, holdings, is_before_input, is_ended_by, end_of, is_shared, job_numbered, job_of, same_place}
 use Rattle.sl_trace.specs.declared.command.Command.TheVariants.{Acquire, AddLockspace, Convert, GetLvb, HostStatus, InqLockspace, Release, ReleaseOrphan, RemLockspace, Request, RunProgram, SetKillpath, SetLvb, Status, TakeOver}
 use Rattle.sl_trace.specs.declared.command.Command.{Command}
@@ -60,7 +60,7 @@ use Rattle.sl_trace.specs.declared.input.Answer.{Answer}
 use Rattle.sl_trace.specs.declared.reply.Reply.TheVariants.{Granted}
 use Rattle.sl_trace.specs.declared.reply.Reply.{Reply}
 use Rattle.sl_words.proofs.CaseLaws.{one_value, false_is_true, none_some, not_both, some_value}
-use Rattle.sl_acts.proofs.Additions.{not_is}
+use Rattle.sl_due_facts.proofs.Acts.AddedAtEnd.{not_is}
 use Rattle.sl_trace.specs.Ballots.{moded_block}
 use Rattle.sl_words.specs.Words.{same_truth, some_is}
 use Rattle.std.proofs.lemmas.Bool.{eqb-true}

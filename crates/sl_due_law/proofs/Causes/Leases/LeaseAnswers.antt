@@ -1,12 +1,12 @@
 -- What a lease's call is answered with has its cause, and keeps it to the entry's end: from then on the lease does nothing more.
-use Rattle.sl_acts.proofs.Pairs.Decisions.{bytes_are, within_cases, writes_own_block}
+use Rattle.sl_due_facts.proofs.Acts.Pairs.Decisions.{bytes_are, within_cases, writes_own_block}
 use Rattle.sl_area.specs.Places.{blocks_of, blocks_part, leader_read}
-use Rattle.sl_acts.specs.Acts.{Has, Hears}
-use Rattle.sl_acts.specs.SoFar.{entry_of}
+use Rattle.sl_due_facts.specs.Acts.Acts.{Has, Hears}
+use Rattle.sl_due_facts.specs.Acts.TraceSoFar.{entry_of}
 use Rattle.sl_due_law.proofs.Causes.AnsweredJobs.{AnswersHere, answers_here, its_command, told_not_waking, with_command, with_spot}
 use Rattle.sl_due_law.proofs.Causes.LaterSteps.{after_that, by_effects, replied_later, replied_over}
 use Rattle.sl_due_law.proofs.Causes.Leases.AreaCauses.{area_well}
-use Rattle.sl_due_law.proofs.Causes.Leases.Hearing.{IsWell, LeaseHeard, at_step, knows}
+use Rattle.sl_due_law.proofs.Causes.Leases.HeardLeases.{IsWell, LeaseHeard, at_step, knows}
 use Rattle.sl_due_law.proofs.Causes.Leases.Limits.{not_number, refuses_well}
 use Rattle.sl_due_law.proofs.Causes.Leases.NewestWays.{NewestWays, newest_told, newest_ways}
 use Rattle.sl_due_law.proofs.Causes.Leases.PhaseCauses.{PhaseHeard, no_settling, phase1_well, phase2_well}
@@ -19,12 +19,12 @@ use Rattle.sl_due_leases.specs.Holdings.Moments.{Known}
 use Rattle.sl_due_facts.proofs.Jobs.CallsHaveFacts.{sessions_bare}
 use Rattle.sl_due_facts.proofs.Jobs.CallsStay.{IsLate, calls_stay}
 use Rattle.sl_due_facts.proofs.Jobs.JobsAreAllowed.{calls_heard}
-use Rattle.sl_due_law.proofs.Whole.HeardBefore.{command_past}
-use Rattle.sl_due_law.specs.Whole.JobLore.{AllSuit, suits}
+use Rattle.sl_due_law.proofs.LawfulTraces.HeardBefore.{command_past}
+use Rattle.sl_due_law.specs.LawfulTraces.JobLore.{AllSuit, suits}
 use Rattle.sl_due_leases.proofs.Ways.GivenReads.{blocks_heard, heard_by_lease}
 use Rattle.sl_due_facts.proofs.Jobs.RepliesComeAfter.{mapped_or}
 use Rattle.sl_run.specs.Caused.{Answering, BlockIsNext, CausedBy, WithSpot, after_entry, changes_mode, the_session}
-use Rattle.sl_run.specs.Saying.{IsAnsweredAt}
+use Rattle.sl_run.specs.LawForms.{IsAnsweredAt}
 use Rattle.sl_trace.specs.Ballots.{instance_of}
 use Rattle.sl_trace.specs.Jobs.{aim_of, aim_of_command, command_numbered, lockspace_named, resource_named}
 use Rattle.sl_trace.specs.LeaseWork.{after_read, after_take, area_next, asked_again, first_step, heard, lease_next, lease_place, part_read, read_of_step, within_turn}
@@ -34,17 +34,17 @@ use Rattle.sl_trace.specs.declared.lease.Aim.{Aim}
 use Rattle.sl_trace.specs.declared.lease.Instance.{Instance}
 use Rattle.sl_trace.specs.declared.lease.LeaseNext.TheVariants.{AnswerJob, BecomeExclusive, BecomeShared, GrantJob, Nothing, ReadFor, WriteBlock, WriteLeader}
 use Rattle.sl_trace.specs.declared.lease.LeaseNext.{LeaseNext}
-use Rattle.sl_plain.proofs.Lists.{got_inside, in_map, kept}
-use Rattle.sl_plain.proofs.Numbers.{number_itself}
-use Rattle.sl_plain.proofs.Options.{then_value}
+use Rattle.sl_words.proofs.Lists.{got_inside, in_map, kept}
+use Rattle.sl_words.proofs.Numbers.{number_itself}
+use Rattle.sl_words.proofs.Options.{then_value}
 use Rattle.sl_sector.specs.declared.sector.Block.{Block}
 use Rattle.sl_sector.specs.declared.sector.Leader.{Leader}
 use Rattle.sl_sector.specs.declared.sector.Owner.{Owner}
 use Rattle.sl_trace.specs.Sessions.{calls_of, generation_of, removed_in, is_call_of, is_joined, joined_after, me, removed_after, session_numbered, sessions}
-use Rattle.sl_trace.specs.Watching.{counts_over, evidence_in}
+use Rattle.sl_trace.specs.Sightings.{counts_over, evidence_in}
 use Rattle.sl_trace.specs.declared.session.Session.{Session}
 use Rattle.sl_due_facts.specs.Facts.JobFacts.{FitsCommand, SeeksResource}
-use Rattle.sl_due_facts.specs.Facts.Whole.{WholeTrace}
+use Rattle.sl_due_facts.specs.Facts.AllFacts.{WholeTrace}
 use Rattle.sl_trace.specs.Traces.{Answered, Job, Setting, is_done, Submitted, Trace, answered_in, is_write, bytes_given, job_numbered, job_of, submitted}
 use Rattle.sl_trace.specs.declared.command.Command.TheVariants.{Acquire, AddLockspace, Convert, GetLvb, HostStatus, InqLockspace, Release, ReleaseOrphan, RemLockspace, Request, RunProgram, SetKillpath, SetLvb, Status, TakeOver}
 use Rattle.sl_trace.specs.declared.command.Command.{Command}
@@ -67,15 +67,15 @@ use Rattle.sl_trace.specs.declared.input.Answer.{Answer}
 use Rattle.sl_trace.specs.declared.reply.Reply.TheVariants.{Done, IoFault, Limit as LimitReached}
 use Rattle.sl_trace.specs.declared.reply.Limited.TheVariants.{Turn as TurnLimit}
 use Rattle.sl_trace.specs.declared.reply.Reply.{Reply}
-use Rattle.sl_trace_law.proofs.Sessions.Staying.{joined_more}
-use Rattle.sl_trace_law.proofs.Sessions.Making.{same_answered}
-use Rattle.sl_trace_law.proofs.Sessions.Covering.{joinings_are_in_turn}
-use Rattle.sl_trace_law.specs.Sessions.Promises.{fits, fits_as}
+use Rattle.sl_run_law.proofs.Sessions.MarksStay.{joined_more}
+use Rattle.sl_run_law.proofs.Sessions.CallsAreMade.{same_answered}
+use Rattle.sl_run_law.proofs.Sessions.WritesAreCovered.{joinings_are_in_turn}
+use Rattle.sl_run_law.specs.Sessions.SessionLaws.{fits, fits_as}
 use Rattle.sl_words.proofs.CaseLaws.{false_is_true, none_some, not_both, some_value}
 use Rattle.sl_words.proofs.WordLaws.{and_true}
 use Rattle.sl_words.specs.Bounds.{is_number, record_numbers}
 use Rattle.sl_words.specs.Words.{present}
-use Rattle.sl_acts.proofs.InputsKeep.{has_heard}
+use Rattle.sl_due_facts.proofs.Acts.InputsKeep.{has_heard}
 use Rattle.std.proofs.Common.{ap, ap₂, inl, inr, refl, subst, sym, ◌∙◌}
 use Rattle.std.specs.Prelude.{Bool, Contains, IsTrue, List, None, Ok, Option, Some, [], cond, map, not, slice_get, false, filter, find, is_none, is_some, length, nat_lt, option_and_then, option_map, true, ℕ, ◌&&◌, ◌+◌, ◌==◌, ◌∷◌, ◌≡◌, ◌≤◌}
 

@@ -1,5 +1,5 @@
 -- Work on a lease is answered as done only for a release, by the write that frees the leader or clears the mode.
-use Rattle.sl_acts.proofs.Pairs.Decisions.{within_cases}
+use Rattle.sl_due_facts.proofs.Acts.Pairs.Decisions.{within_cases}
 use Rattle.sl_due_facts.proofs.Jobs.RepliesComeAfter.{mapped_or, on_bool, on_option}
 use Rattle.sl_due_law.proofs.Causes.Leases.ReadNexts.{bytes_by}
 use Rattle.sl_trace.specs.Ballots.{phase1_block, same_owner, stop_of, value_of}

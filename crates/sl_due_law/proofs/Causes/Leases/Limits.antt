@@ -1,5 +1,5 @@
 -- Why a ballot does not begin: its instance or its number would pass the limit.
-use Rattle.sl_due_law.proofs.Causes.Leases.Hearing.{IsWell, LeaseHeard, knows, reads_blocks}
+use Rattle.sl_due_law.proofs.Causes.Leases.HeardLeases.{IsWell, LeaseHeard, knows, reads_blocks}
 use Rattle.sl_run.specs.Caused.{Answering, BeginsAt, CausedBy, next_number}
 use Rattle.sl_trace.specs.Ballots.{in_instance, next_mbal, phase1_block}
 use Rattle.sl_trace.specs.LeaseWork.{begin_next, lease_place, phase1_next, refuses}

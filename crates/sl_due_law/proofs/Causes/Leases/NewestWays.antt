@@ -1,12 +1,12 @@
 -- The ways of a lease's calls where an answer to the newest of them was heard, and what that gave.
-use Rattle.sl_acts.specs.Acts.{Hears}
+use Rattle.sl_due_facts.specs.Acts.Acts.{Hears}
 use Rattle.sl_due.specs.Steps.{Step, seen}
 use Rattle.sl_due_facts.specs.Facts.WayFacts.{Ways, way_context}
-use Rattle.sl_due_facts.specs.Facts.Whole.{Whole}
+use Rattle.sl_due_facts.specs.Facts.AllFacts.{Whole}
 use Rattle.sl_due_leases.proofs.Ways.GivenReads.{given_heard, heard_by_lease}
-use Rattle.sl_due_leases.proofs.Ways.Kept.EffectsLeave.{there_has}
-use Rattle.sl_due_leases.proofs.Ways.Kept.HeardStands.{heard_call, heard_has, heard_open}
-use Rattle.sl_due_leases.proofs.Ways.Places.{spot_aligned}
+use Rattle.sl_due_leases.proofs.Ways.WayFactsHeld.EffectsLeave.{there_has}
+use Rattle.sl_due_leases.proofs.Ways.WayFactsHeld.HeardStands.{heard_call, heard_has, heard_open}
+use Rattle.sl_due_leases.proofs.Ways.AreasAligned.{spot_aligned}
 use Rattle.sl_trace.specs.LeaseWork.{asked_again, first_step, read_of_step}
 use Rattle.sl_trace.specs.Leases.{lease_calls, lease_step, read_given, spot_of_call}
 use Rattle.sl_trace.specs.Traces.{Submitted, gave}

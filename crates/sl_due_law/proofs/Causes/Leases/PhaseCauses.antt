@@ -1,6 +1,6 @@
 -- The cause of what the reads of a ballot's two phases are answered with.
 use Rattle.sl_due_law.proofs.Causes.AnsweredJobs.{with_command}
-use Rattle.sl_due_law.proofs.Causes.Leases.Hearing.{IsWell, LeaseHeard, knows, reads_blocks}
+use Rattle.sl_due_law.proofs.Causes.Leases.HeardLeases.{IsWell, LeaseHeard, knows, reads_blocks}
 use Rattle.sl_due_law.proofs.Causes.Leases.Limits.{begin_well}
 use Rattle.sl_run.specs.Caused.{Answering, BlockIsNext, CausedBy, EndsWith, IsStopRead, ReadsBlocks, ShowsInstance, after_entry, job_command, known_here}
 use Rattle.sl_trace.specs.Ballots.{same_owner, stop_of, value_of}
@@ -15,7 +15,7 @@ use Rattle.sl_trace.specs.declared.lease.LeaseNext.{LeaseNext}
 use Rattle.sl_trace.specs.declared.lease.Stop.TheVariants.{BlockAhead, BlockRival, BlockTorn}
 use Rattle.sl_trace.specs.declared.lease.Stop.{Stop}
 use Rattle.sl_sector.specs.declared.sector.Block.{Block}
-use Rattle.sl_trace.specs.Watching.{counts_over}
+use Rattle.sl_trace.specs.Sightings.{counts_over}
 use Rattle.sl_trace.specs.declared.session.Session.{Session}
 use Rattle.sl_trace.specs.Traces.{Submitted, is_shared}
 use Rattle.sl_trace.specs.declared.command.Command.TheVariants.{Acquire, AddLockspace, Convert, GetLvb, HostStatus, InqLockspace, Release, ReleaseOrphan, RemLockspace, Request, RunProgram, SetKillpath, SetLvb, Status, TakeOver}

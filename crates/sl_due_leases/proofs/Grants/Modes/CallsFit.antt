@@ -1,9 +1,9 @@
 -- The blocks and values that are written, and the values that are read, keep the laws of modes and values at each act.
-use Rattle.sl_acts.proofs.DecisionsAreTheirs.{Of}
-use Rattle.sl_acts.proofs.LoopsKeep.{for_each_keeps, when_keeps}
-use Rattle.sl_acts.proofs.Pairs.Decisions.{conversion_is, release_is}
-use Rattle.sl_acts.proofs.PlainActs.{line_has}
-use Rattle.sl_acts.specs.Acts.{Acts, Has, Hears, next_of_conversion, next_of_release, next_of_settling}
+use Rattle.sl_due_facts.proofs.Acts.DecisionsAreTheirs.{Of}
+use Rattle.sl_due_facts.proofs.Acts.LoopsKeep.{for_each_keeps, when_keeps}
+use Rattle.sl_due_facts.proofs.Acts.Pairs.Decisions.{conversion_is, release_is}
+use Rattle.sl_due_facts.proofs.Acts.PlainActs.{line_has}
+use Rattle.sl_due_facts.specs.Acts.Acts.{Acts, Has, Hears, next_of_conversion, next_of_release, next_of_settling}
 use Rattle.sl_area.specs.Places.{request_offset, value_offset}
 use Rattle.sl_area.specs.Roles.{value}
 use Rattle.sl_due.specs.DueAnswers.{set_reply}
@@ -24,7 +24,7 @@ use Rattle.sl_due_leases.proofs.Holdings.LeaseConversions.{converted}
 use Rattle.sl_due_leases.proofs.Holdings.LeaseNexts.{next_fits, settling_fits}
 use Rattle.sl_due_leases.specs.Holdings.DecisionGrounds.{GetGrounds, HasGrounds, SetGrounds}
 use Rattle.sl_due_leases.specs.Holdings.Moments.{Known}
-use Rattle.sl_due_leases.specs.Holdings.Promises.{Begins}
+use Rattle.sl_due_leases.specs.Holdings.HoldingLaws.{Begins}
 use Rattle.sl_run.specs.LawfulArea.{is_area_work}
 use Rattle.sl_run.specs.LawfulValue.{LawfulValueRead, LawfulValueWrite}
 use Rattle.sl_due_leases.proofs.Leases.DeltasStay.{delta_by, first_other, others_by_delta}
@@ -33,18 +33,18 @@ use Rattle.sl_due_leases.proofs.Leases.LawsStay.{A_start}
 use Rattle.sl_due_leases.proofs.Leases.LeaseCallsStay.{writes_clear}
 use Rattle.sl_due_leases.proofs.Leases.NextsStay.{at_work, bare_by, not_true}
 use Rattle.sl_due_leases.proofs.Leases.OthersKeep.{Any, Others, by_others, lawful_by, no_others, other_more}
-use Rattle.sl_due_leases.proofs.Ways.Kept.CallsSame.{reply_leaves}
-use Rattle.sl_due_leases.proofs.Ways.Kept.DecisionsAreClear.{DecidedOn, decisions_are_clear}
-use Rattle.sl_due_leases.proofs.Ways.Kept.DeltasFit.{freed_fits, joining_fits, renewed_fits, wake_fits}
-use Rattle.sl_due_leases.proofs.Ways.Kept.EffectsLeave.{made_call}
-use Rattle.sl_due_leases.proofs.Ways.Kept.HeardStands.{heard_has, lease_ready, spot_same}
-use Rattle.sl_due_leases.proofs.Ways.Kept.InputsLeave.{input_sessions, quiet_same}
-use Rattle.sl_due_leases.proofs.Ways.Kept.LeaseNextsLeave.{IsLate, LeaseReady}
-use Rattle.sl_due_leases.proofs.Ways.Kept.LinesKeep.{ended_ready, held_ended}
-use Rattle.sl_due_leases.proofs.Ways.Kept.LinesReady.{line_ready, none_open}
-use Rattle.sl_due_leases.proofs.Ways.Kept.PlacesStand.{place_is_on}
-use Rattle.sl_due_leases.proofs.Ways.Kept.PlainWalks.{ByPlain, ended, exited, granting, left, refusal, removal_of_refused, said, sent, stopped}
-use Rattle.sl_due_leases.proofs.Ways.Kept.UnjoinedHaveNone.{its_joining, joins_still}
+use Rattle.sl_due_leases.proofs.Ways.WayFactsHeld.CallsSame.{reply_leaves}
+use Rattle.sl_due_leases.proofs.Ways.WayFactsHeld.DecisionsAreClear.{DecidedOn, decisions_are_clear}
+use Rattle.sl_due_leases.proofs.Ways.WayFactsHeld.DeltasFit.{freed_fits, joining_fits, renewed_fits, wake_fits}
+use Rattle.sl_due_leases.proofs.Ways.WayFactsHeld.EffectsLeave.{made_call}
+use Rattle.sl_due_leases.proofs.Ways.WayFactsHeld.HeardStands.{heard_has, lease_ready, spot_same}
+use Rattle.sl_due_leases.proofs.Ways.WayFactsHeld.InputsLeave.{input_sessions, quiet_same}
+use Rattle.sl_due_leases.proofs.Ways.WayFactsHeld.LeaseNextsLeave.{IsLate, LeaseReady}
+use Rattle.sl_due_leases.proofs.Ways.WayFactsHeld.LinesKeep.{ended_ready, held_ended}
+use Rattle.sl_due_leases.proofs.Ways.WayFactsHeld.LinesReady.{line_ready, none_open}
+use Rattle.sl_due_leases.proofs.Ways.WayFactsHeld.PlacesStand.{place_is_on}
+use Rattle.sl_due_leases.proofs.Ways.WayFactsHeld.PlainWalks.{ByPlain, ended, exited, granting, left, refusal, removal_of_refused, said, sent, stopped}
+use Rattle.sl_due_leases.proofs.Ways.WayFactsHeld.UnjoinedHaveNone.{its_joining, joins_still}
 use Rattle.sl_due_leases.proofs.Ways.WayStages.{is_at_in}
 use Rattle.sl_trace.specs.Ballots.{moded_block}
 use Rattle.sl_trace.specs.Jobs.{aim_of, aim_of_command, command_numbered, job_of_start}
@@ -53,7 +53,7 @@ use Rattle.sl_trace.specs.Leases.{Mode_set, block_of_record, exclusive_on, has_s
 use Rattle.sl_trace.specs.declared.lease.Aim.{Aim}
 use Rattle.sl_trace.specs.declared.lease.Aim.TheVariants.{Converts}
 use Rattle.sl_trace.specs.declared.lease.LeaseNext.TheVariants.{Nothing, WriteBlock}
-use Rattle.sl_plain.proofs.Lists.{contains_none, find_inside, kept_inside}
+use Rattle.sl_words.proofs.Lists.{contains_none, find_inside, kept_inside}
 use Rattle.sl_sector.specs.declared.sector.Block.{Block}
 use Rattle.sl_sector.specs.declared.sector.Rec.TheVariants.{DeltaIs, ValueIs}
 use Rattle.sl_sector.specs.declared.sector.ValueRec.{ValueRec}
@@ -61,9 +61,9 @@ use Rattle.sl_trace.specs.Deltas.{delta_known, delta_of_session, own_offset}
 use Rattle.sl_trace.specs.Sessions.{calls_of, generation_of, holders_of, holdings_of, is_call_of, is_join_call, present_sessions, recovery_of}
 use Rattle.sl_trace.specs.declared.reply.Limited.TheVariants.{Turn as TurnLimit}
 use Rattle.sl_trace.specs.declared.session.Session.{Session}
-use Rattle.sl_due_facts.specs.Facts.Heard.{heard_by}
+use Rattle.sl_due_facts.specs.Facts.HeardCall.{heard_by}
 use Rattle.sl_due_facts.specs.Facts.HoldingFacts.{HoldingFacts}
-use Rattle.sl_due_facts.specs.Facts.Whole.{Whole}
+use Rattle.sl_due_facts.specs.Facts.AllFacts.{Whole}
 use Rattle.sl_trace.specs.Connections.{is_registered}
 use Rattle.sl_trace.specs.Traces.{Submitted, Trace, end_of, holdings, is_running, is_shared, new_call, next_job, record_of, same_place, submitted}
 use Rattle.sl_trace.specs.declared.command.Command.{Command}

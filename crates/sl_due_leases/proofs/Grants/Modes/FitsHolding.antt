@@ -1,21 +1,21 @@
 -- What the laws of modes and values ask of a call, and what each effect leaves of it.
-use Rattle.sl_acts.specs.Acts.{Has}
-use Rattle.sl_acts.specs.SoFar.{entry_of}
+use Rattle.sl_due_facts.specs.Acts.Acts.{Has}
+use Rattle.sl_due_facts.specs.Acts.TraceSoFar.{entry_of}
 use Rattle.sl_due.specs.Steps.{Step, add_call_of, add_move, add_reply, add_signal, seen}
 use Rattle.sl_due_leases.specs.Holdings.Moments.{Known}
 use Rattle.sl_run.specs.LawfulArea.{is_area_work, is_delta_record}
 use Rattle.sl_run.specs.LawfulModes.{LawfulMode}
 use Rattle.sl_run.specs.LawfulValue.{LawfulValueRead, LawfulValueWrite}
-use Rattle.sl_run.specs.Saying.{EachCall, cut_at}
+use Rattle.sl_run.specs.LawForms.{EachCall, cut_at}
 use Rattle.sl_due_leases.proofs.Leases.DeltasStay.{ByDelta}
 use Rattle.sl_due_leases.proofs.Leases.LawsStay.{A_start, A_wake, IsPlainInput}
 use Rattle.sl_due_leases.proofs.Leases.OthersKeep.{IsOther, LawfulSoFar, Others, no_others}
-use Rattle.sl_due_leases.proofs.Ways.Kept.EffectsLeave.{made_call}
+use Rattle.sl_due_leases.proofs.Ways.WayFactsHeld.EffectsLeave.{made_call}
 use Rattle.sl_trace.specs.Counts.{values_on}
 use Rattle.sl_trace.specs.Leases.{Mode_set, block_of_record, block_written, has_shared_on, is_at, is_on, lease_step, spot_of_call, value_of_record, value_written}
-use Rattle.sl_due_facts.proofs.Parts.CallsGrow.{each_more}
-use Rattle.sl_due_facts.specs.Parts.Parts.{with_reply}
-use Rattle.sl_plain.proofs.Lists.{got_inside}
+use Rattle.sl_due_facts.proofs.AddedEffects.CallsGrow.{each_more}
+use Rattle.sl_due_facts.specs.AddedEffects.OneMoreEffect.{with_reply}
+use Rattle.sl_words.proofs.Lists.{got_inside}
 use Rattle.sl_sector.specs.declared.sector.Block.{Block}
 use Rattle.sl_sector.specs.declared.sector.DeltaRec.{DeltaRec}
 use Rattle.sl_sector.specs.declared.sector.Rec.{Rec}

@@ -1,8 +1,8 @@
 -- The blocks that a lease writes show the session's mode, or set it.
-use Rattle.sl_acts.proofs.Pairs.Records.{block_no_value, leader_no_block, leader_no_value, written_block}
+use Rattle.sl_due_facts.proofs.Acts.Pairs.Records.{block_no_value, leader_no_block, leader_no_value, written_block}
 use Rattle.sl_due_leases.proofs.Grants.WorksByLines.{none_shared_on, own_held}
-use Rattle.sl_acts.proofs.LoopsKeep.{with_some_keeps}
-use Rattle.sl_acts.specs.Acts.{Has}
+use Rattle.sl_due_facts.proofs.Acts.LoopsKeep.{with_some_keeps}
+use Rattle.sl_due_facts.specs.Acts.Acts.{Has}
 use Rattle.sl_area.specs.Layouts.{Layout}
 use Rattle.sl_area.specs.Places.{area_sectors, block_offset, block_place, block_record, block_sectors, in_area, leader_offset, leader_record}
 use Rattle.sl_due.specs.DueLease.{carry_lease, convert_for, convert_holding, for_work, held_otherwise, name_on, next_turn, read_for, with_command, write_block, write_leader}
@@ -14,11 +14,11 @@ use Rattle.sl_run.specs.LawfulModes.{LawfulMode}
 use Rattle.sl_due_leases.proofs.Leases.NextsStay.{bare_by}
 use Rattle.sl_due_leases.proofs.Leases.OthersKeep.{Any}
 use Rattle.sl_due_leases.proofs.Leases.TurnsStay.{turned_by}
-use Rattle.sl_due_leases.proofs.Ways.Kept.EffectsLeave.{made_call}
-use Rattle.sl_due_leases.proofs.Ways.Kept.HeardStands.{spot_same}
-use Rattle.sl_due_leases.proofs.Ways.Kept.LeaseNextsLeave.{LeaseReady, own_inside}
-use Rattle.sl_due_leases.proofs.Ways.Kept.PlacesStand.{placed_on, spot_is}
-use Rattle.sl_due_leases.proofs.Ways.Kept.PlainWalks.{converted as converted_keeps, granted}
+use Rattle.sl_due_leases.proofs.Ways.WayFactsHeld.EffectsLeave.{made_call}
+use Rattle.sl_due_leases.proofs.Ways.WayFactsHeld.HeardStands.{spot_same}
+use Rattle.sl_due_leases.proofs.Ways.WayFactsHeld.LeaseNextsLeave.{LeaseReady, own_inside}
+use Rattle.sl_due_leases.proofs.Ways.WayFactsHeld.PlacesStand.{placed_on, spot_is}
+use Rattle.sl_due_leases.proofs.Ways.WayFactsHeld.PlainWalks.{converted as converted_keeps, granted}
 use Rattle.sl_due_leases.proofs.Ways.WayStages.{is_at_in}
 use Rattle.sl_trace.specs.Ballots.{moded_block}
 use Rattle.sl_trace.specs.Jobs.{aim_of, aim_of_command, command_numbered, process_named}
@@ -27,8 +27,8 @@ use Rattle.sl_trace.specs.declared.lease.Aim.{Aim}
 use Rattle.sl_trace.specs.declared.lease.Aim.TheVariants.{Converts, Settles}
 use Rattle.sl_trace.specs.declared.lease.LeaseNext.{LeaseNext}
 use Rattle.sl_trace.specs.declared.lease.LeaseNext.TheVariants.{AnswerJob, BecomeExclusive, BecomeShared, GrantJob, Nothing, ReadFor, WriteBlock, WriteLeader}
-use Rattle.sl_plain.proofs.Lists.{find_fails}
-use Rattle.sl_plain.proofs.Numbers.{number_itself}
+use Rattle.sl_words.proofs.Lists.{find_fails}
+use Rattle.sl_words.proofs.Numbers.{number_itself}
 use Rattle.sl_sector.specs.declared.sector.Block.{Block}
 use Rattle.sl_sector.specs.declared.sector.Leader.{Leader}
 use Rattle.sl_trace.specs.Sessions.{generation_of}

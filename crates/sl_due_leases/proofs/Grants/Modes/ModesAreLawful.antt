@@ -1,6 +1,6 @@
 -- The modes of grants and blocks are lawful at each act.
-use Rattle.sl_acts.proofs.ActsTogether.{both}
-use Rattle.sl_acts.specs.SoFar.{entry_of}
+use Rattle.sl_due_facts.proofs.Acts.ActsTogether.{both}
+use Rattle.sl_due_facts.specs.Acts.TraceSoFar.{entry_of}
 use Rattle.sl_due.specs.DueFirst.{begin_recoveries}
 use Rattle.sl_due.specs.Steps.{Step, begin_step, seen}
 use Rattle.sl_due_facts.proofs.Jobs.LessIsKept.{to_less}
@@ -9,15 +9,15 @@ use Rattle.sl_due_leases.proofs.Grants.Modes.CallsFit.{calls_begin, calls_fit}
 use Rattle.sl_due_leases.proofs.Grants.GrantsStand.{grants_stand}
 use Rattle.sl_due_leases.proofs.Grants.Modes.SharedStands.{SharedSoFar}
 use Rattle.sl_due_leases.proofs.Grants.Modes.SharedGrants.{shared_grants_are_lawful, shared_grants_begin}
-use Rattle.sl_due_leases.specs.Grants.ModePromises.{ModesAreLawful, ModesBegin, ModesSoFar}
+use Rattle.sl_due_leases.specs.Grants.ModeLaws.{ModesAreLawful, ModesBegin, ModesSoFar}
 use Rattle.sl_due_leases.proofs.Holdings.HoldingFactsAreKept.{holding_facts_are_kept}
 use Rattle.sl_due_leases.proofs.Holdings.HoldingFactsBegin.{holding_facts_begin}
 use Rattle.sl_due_leases.specs.Holdings.Moments.{Known}
-use Rattle.sl_due_leases.specs.Holdings.Promises.{HasHoldingFacts}
+use Rattle.sl_due_leases.specs.Holdings.HoldingLaws.{HasHoldingFacts}
 use Rattle.sl_run.specs.LawfulModes.{LawfulExclusiveGrant, LawfulModeGrant, LawfulSharedGrant}
 use Rattle.sl_trace.specs.Sessions.{session_numbered}
 use Rattle.sl_trace.specs.declared.session.Session.{Session}
-use Rattle.sl_due_facts.specs.Facts.Heard.{heard_by}
+use Rattle.sl_due_facts.specs.Facts.HeardCall.{heard_by}
 use Rattle.sl_trace.specs.Traces.{is_shared, spot_of_grant}
 use Rattle.sl_trace.specs.declared.effects.Grant.{Grant}
 use Rattle.sl_trace.specs.declared.effects.Mode.{Mode}

@@ -1,12 +1,12 @@
 -- A shared grant is lawful: beside a shared holding, by the ballot of its job, or by conversion of what the session held exclusively.
 use Rattle.sl_due_facts.proofs.Jobs.EffectsAreAllowed.{leader_no_delta}
-use Rattle.sl_acts.proofs.Pairs.Records.{leader_no_block}
+use Rattle.sl_due_facts.proofs.Acts.Pairs.Records.{leader_no_block}
 use Rattle.sl_trace.specs.declared.effects.LeaseRead.TheVariants.{OfArea, OfFree}
-use Rattle.sl_acts.proofs.DecisionsAreTheirs.{Of}
-use Rattle.sl_acts.proofs.LoopsKeep.{for_each_keeps, when_keeps}
-use Rattle.sl_acts.proofs.PlainActs.{line_has}
-use Rattle.sl_acts.specs.Acts.{Acts, Has, Hears}
-use Rattle.sl_acts.specs.SoFar.{entry_of}
+use Rattle.sl_due_facts.proofs.Acts.DecisionsAreTheirs.{Of}
+use Rattle.sl_due_facts.proofs.Acts.LoopsKeep.{for_each_keeps, when_keeps}
+use Rattle.sl_due_facts.proofs.Acts.PlainActs.{line_has}
+use Rattle.sl_due_facts.specs.Acts.Acts.{Acts, Has, Hears}
+use Rattle.sl_due_facts.specs.Acts.TraceSoFar.{entry_of}
 use Rattle.sl_area.specs.Places.{block_place, block_record, leader_offset, leader_record, request_offset}
 use Rattle.sl_due.specs.DueFirst.{send}
 use Rattle.sl_due.specs.DueLease.{carry_lease, convert_holding, goes_on, grant_for, held_otherwise, name_on, next_of_lease, next_turn, write_block, write_leader}
@@ -22,14 +22,14 @@ use Rattle.sl_due_leases.proofs.Holdings.LeaseNexts.{IsFitNext, IsGrantOf, next_
 use Rattle.sl_due_leases.proofs.Holdings.MomentsAreKept.{same}
 use Rattle.sl_due_leases.specs.Holdings.DecisionGrounds.{HasGrounds}
 use Rattle.sl_due_leases.specs.Holdings.Moments.{Known}
-use Rattle.sl_due_leases.specs.Holdings.Promises.{Begins}
+use Rattle.sl_due_leases.specs.Holdings.HoldingLaws.{Begins}
 use Rattle.sl_run.specs.LawfulModes.{SharedByBallot, SharedByConversion}
-use Rattle.sl_run.specs.Saying.{IsAnsweredAt}
+use Rattle.sl_run.specs.LawForms.{IsAnsweredAt}
 use Rattle.sl_due_leases.proofs.Leases.NextsStay.{HeldThere, at_work, held_there, not_true}
 use Rattle.sl_due_leases.proofs.Leases.TurnsStay.{turned_by}
-use Rattle.sl_due_leases.proofs.Ways.Kept.CallsSame.{reply_leaves}
-use Rattle.sl_due_leases.proofs.Ways.Kept.EffectsLeave.{made_call}
-use Rattle.sl_due_leases.proofs.Ways.Kept.HeardStands.{heard_has, heard_number, spot_same}
+use Rattle.sl_due_leases.proofs.Ways.WayFactsHeld.CallsSame.{reply_leaves}
+use Rattle.sl_due_leases.proofs.Ways.WayFactsHeld.EffectsLeave.{made_call}
+use Rattle.sl_due_leases.proofs.Ways.WayFactsHeld.HeardStands.{heard_has, heard_number, spot_same}
 use Rattle.sl_trace.specs.Jobs.{aim_of, aim_of_command, command_numbered, resource_named}
 use Rattle.sl_trace.specs.LeaseWork.{lease_place}
 use Rattle.sl_trace.specs.Leases.{block_submitted, block_written, exclusive_on, holdings_on, is_lease_call, is_on, known, lease_calls, lease_step, lver_written, spot_of, spot_of_call}
@@ -37,10 +37,10 @@ use Rattle.sl_trace.specs.declared.lease.Aim.{Aim}
 use Rattle.sl_trace.specs.declared.lease.Aim.TheVariants.{Acquires, Converts}
 use Rattle.sl_trace.specs.declared.lease.LeaseNext.{LeaseNext}
 use Rattle.sl_trace.specs.declared.lease.LeaseNext.TheVariants.{AnswerJob, BecomeExclusive, BecomeShared, GrantJob, Nothing, ReadFor, WriteBlock, WriteLeader}
-use Rattle.sl_due_facts.proofs.Parts.CallsGrow.{mine_more, same_sessions}
-use Rattle.sl_plain.proofs.Lists.{contains_cases, contains_first, contains_more, contains_none, find_inside, kept, kept_inside}
-use Rattle.sl_plain.proofs.Numbers.{number_itself}
-use Rattle.sl_plain.proofs.Options.{mapped_value}
+use Rattle.sl_due_facts.proofs.AddedEffects.CallsGrow.{mine_more, same_sessions}
+use Rattle.sl_words.proofs.Lists.{contains_cases, contains_first, contains_more, contains_none, find_inside, kept, kept_inside}
+use Rattle.sl_words.proofs.Numbers.{number_itself}
+use Rattle.sl_words.proofs.Options.{mapped_value}
 use Rattle.sl_sector.specs.declared.sector.Block.{Block}
 use Rattle.sl_sector.specs.declared.sector.Leader.{Leader}
 use Rattle.sl_sector.specs.declared.sector.DeltaRec.{DeltaRec}
@@ -49,7 +49,7 @@ use Rattle.sl_trace.specs.Deltas.{own_offset}
 use Rattle.sl_trace.specs.Sessions.{calls_of, generation_in, generation_of, given_number, holders_of, holdings_of, is_call_of, last_delta, session_numbered}
 use Rattle.sl_trace.specs.declared.session.Session.{Session}
 use Rattle.sl_due_facts.specs.Facts.GrantGrounds.{FreedForJob, IsDoneWork, ModedForJob}
-use Rattle.sl_due_facts.specs.Facts.Heard.{heard_by}
+use Rattle.sl_due_facts.specs.Facts.HeardCall.{heard_by}
 use Rattle.sl_due_facts.specs.Facts.HoldingFacts.{HoldingFacts, StandsExclusive}
 use Rattle.sl_due_facts.specs.Facts.JobFacts.{FitsCommand}
 use Rattle.sl_trace.specs.Connections.{is_registered}

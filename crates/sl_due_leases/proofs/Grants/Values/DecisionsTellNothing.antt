@@ -7,7 +7,7 @@ use Rattle.sl_trace.specs.Counts.{busy_process, holds_already, is_killpath_limit
 use Rattle.sl_trace.specs.Jobs.{wanted_mode}
 use Rattle.sl_trace.specs.Leases.{shared_on, spot_of}
 use Rattle.sl_trace.specs.Sessions.{generation_of, holdings_of, is_active, is_joined, last_renewal, last_seq, present_sessions, session_named, sessions}
-use Rattle.sl_trace.specs.Watching.{states_seen}
+use Rattle.sl_trace.specs.Sightings.{states_seen}
 use Rattle.sl_trace.specs.declared.session.Session.{Session}
 use Rattle.sl_trace.specs.Limits.{most_lockspaces}
 use Rattle.sl_trace.specs.Traces.{Setting, Trace, is_orphan, is_shared, no_process}

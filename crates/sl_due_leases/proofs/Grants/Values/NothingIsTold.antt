@@ -1,8 +1,8 @@
 -- Before an answer to a value's call is heard nothing is told of values, and no other act tells anything of them.
-use Rattle.sl_trace_law.proofs.Leases.AnswerLaws.{answers_within}
-use Rattle.sl_trace_law.proofs.Leases.HavingLaws.{Has as Having, has_one_more}
-use Rattle.sl_acts.specs.Acts.{Hears, next_of_conversion, next_of_release}
-use Rattle.sl_acts.specs.SoFar.{entry_of}
+use Rattle.sl_run_law.proofs.Leases.AnswerLaws.{answers_within}
+use Rattle.sl_run_law.proofs.Leases.HavingLaws.{Has as Having, has_one_more}
+use Rattle.sl_due_facts.specs.Acts.Acts.{Hears, next_of_conversion, next_of_release}
+use Rattle.sl_due_facts.specs.Acts.TraceSoFar.{entry_of}
 use Rattle.sl_due.specs.Steps.{Step, add_end, seen}
 use Rattle.sl_due.specs.declared.decision.Decision.{Decision}
 use Rattle.sl_due.specs.declared.decision.Decision.TheVariants.{ConvertsTo, GetsValue, GivesUp, Joins, Leaves, ReadsArea, Replies, Requests, SetsValue, Shares, TakesOver}
@@ -13,18 +13,18 @@ use Rattle.sl_due_facts.proofs.Jobs.CallsStay.{is_special}
 use Rattle.sl_due_facts.proofs.Jobs.EffectsAreAllowed.{Allows, DecisionAllowed, DeltaAllowed, GrantAllowed, LeaseAllowed, ReadAllowed, RequestAllowed}
 use Rattle.sl_due_facts.proofs.Jobs.RepliesComeAfter.{IsApartDelta, request_apart, second_off, tells_value}
 use Rattle.sl_run.specs.LawfulValue.{LawfulSetReply, LawfulValueReply}
-use Rattle.sl_run.specs.Saying.{IsAnsweredAt}
+use Rattle.sl_run.specs.LawForms.{IsAnsweredAt}
 use Rattle.sl_trace.specs.Leases.{spot_of}
 use Rattle.sl_trace.specs.declared.lease.LeaseNext.{LeaseNext}
 use Rattle.sl_trace.specs.declared.lease.LeaseNext.TheVariants.{AnswerJob, BecomeExclusive, BecomeShared, GrantJob, Nothing as No_lease, ReadFor, WriteBlock, WriteLeader}
-use Rattle.sl_plain.proofs.Lists.{contains_cases, contains_none, find_fails, in_map, kept_inside}
-use Rattle.sl_plain.proofs.Numbers.{number_itself}
+use Rattle.sl_words.proofs.Lists.{contains_cases, contains_none, find_fails, in_map, kept_inside}
+use Rattle.sl_words.proofs.Numbers.{number_itself}
 use Rattle.sl_trace.specs.Deltas.{next_after_free, next_after_renewal}
 use Rattle.sl_trace.specs.Sessions.{calls_of, is_call_of}
 use Rattle.sl_trace.specs.declared.delta.DeltaNext.{DeltaNext}
 use Rattle.sl_trace.specs.declared.delta.DeltaNext.TheVariants.{Disconnect, EndLeaving, Join, MoveConnection, Nothing as No_delta, ReadOwn, RefuseJoin, RegisterAndRead, WriteClaim, WriteFirst, WriteFree, WriteRenewal}
 use Rattle.sl_trace.specs.declared.session.Session.{Session}
-use Rattle.sl_due_facts.specs.Facts.Heard.{heard_by}
+use Rattle.sl_due_facts.specs.Facts.HeardCall.{heard_by}
 use Rattle.sl_trace.specs.Traces.{Answered, Replied, Submitted, Trace, answer_of, answered_in, call_numbered, end_of, is_running, mark, new_call, reply_in, reply_to, spot_of_grant, submitted}
 use Rattle.sl_trace.specs.declared.command.Command.{Command}
 use Rattle.sl_trace.specs.declared.command.Command.TheVariants.{Acquire, Request, RunProgram, TakeOver}
@@ -47,7 +47,7 @@ use Rattle.sl_trace.specs.declared.input.Input.{Input}
 use Rattle.sl_trace.specs.declared.input.Input.TheVariants.{Answer as Told, Exit, Line, Number, Spawned, Wake}
 use Rattle.sl_trace.specs.declared.reply.Reply.{Reply}
 use Rattle.sl_trace.specs.declared.reply.Reply.TheVariants.{Value, ValueSet}
-use Rattle.sl_trace_law.proofs.Sessions.Making.{same_answered}
+use Rattle.sl_run_law.proofs.Sessions.CallsAreMade.{same_answered}
 use Rattle.sl_words.proofs.CaseLaws.{no_value, none_some, not_both, one_value, some_value, true_is_false}
 use Rattle.std.proofs.Common.{ap, arith, inl, inr, refl, subst, sym, ◌∙◌}
 use Rattle.std.proofs.lemmas.Bool.{eqb-true}

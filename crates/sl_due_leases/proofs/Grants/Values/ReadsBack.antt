@@ -1,9 +1,9 @@
 -- What stands while a value is read, and what each effect leaves of it.
-use Rattle.sl_acts.specs.SoFar.{entry_of}
+use Rattle.sl_due_facts.specs.Acts.TraceSoFar.{entry_of}
 use Rattle.sl_due.specs.Steps.{Step, add_call_of, add_end, add_grant, add_move, add_reply, add_signal, add_start, seen}
 use Rattle.sl_due_leases.proofs.Grants.OthersGoOn.{CallsOn, GoesOn, next_start}
 use Rattle.sl_due_leases.proofs.Grants.WorksByEffects.{ran_before}
-use Rattle.sl_due_leases.specs.Grants.ValuePromises.{HasValueFacts}
+use Rattle.sl_due_leases.specs.Grants.ValueLaws.{HasValueFacts}
 use Rattle.sl_due_leases.proofs.Holdings.HoldingsByCalls.{call_added, not_last}
 use Rattle.sl_due_leases.proofs.Holdings.HoldingsByEffects.{SameCalls, next_less}
 use Rattle.sl_due_leases.specs.Holdings.Moments.{Known}
@@ -11,13 +11,13 @@ use Rattle.sl_run.specs.LawfulArea.{is_area_work}
 use Rattle.sl_run.specs.LawfulValue.{held_since, writes_since}
 use Rattle.sl_trace.specs.Jobs.{command_numbered}
 use Rattle.sl_trace.specs.Leases.{holdings_on, is_on, spot_of_call}
-use Rattle.sl_due_facts.proofs.Parts.CallsGrow.{same_sessions}
-use Rattle.sl_due_facts.proofs.Parts.EffectsAreTold.{effects_are_told}
-use Rattle.sl_plain.proofs.Lists.{contains_cases, contains_none, kept, kept_inside}
-use Rattle.sl_plain.proofs.Options.{some_of}
+use Rattle.sl_due_facts.proofs.AddedEffects.CallsGrow.{same_sessions}
+use Rattle.sl_due_facts.proofs.AddedEffects.EffectsAreTold.{effects_are_told}
+use Rattle.sl_words.proofs.Lists.{contains_cases, contains_none, kept, kept_inside}
+use Rattle.sl_words.proofs.Options.{some_of}
 use Rattle.sl_trace.specs.Sessions.{holdings_of, is_call_of, is_join_call, session_numbered}
 use Rattle.sl_trace.specs.declared.session.Session.{Session}
-use Rattle.sl_due_facts.specs.Facts.Heard.{IsOpen, heard_by}
+use Rattle.sl_due_facts.specs.Facts.HeardCall.{IsOpen, heard_by}
 use Rattle.sl_due_facts.specs.Facts.JobFacts.{FitsCommand}
 use Rattle.sl_due_facts.specs.Facts.ValueFacts.{IsReading, ValueFacts}
 use Rattle.sl_trace.proofs.TraceFacts.{submitted-push}

@@ -1,25 +1,25 @@
 -- What stands while a value is read goes on when the input is seen, and over exits and failed starts.
-use Rattle.sl_acts.proofs.LoopsKeep.{for_each_keeps}
-use Rattle.sl_acts.specs.Acts.{Expects}
-use Rattle.sl_acts.specs.SoFar.{entry_of}
+use Rattle.sl_due_facts.proofs.Acts.LoopsKeep.{for_each_keeps}
+use Rattle.sl_due_facts.specs.Acts.Acts.{Expects}
+use Rattle.sl_due_facts.specs.Acts.TraceSoFar.{entry_of}
 use Rattle.sl_due.specs.DueInputs.{end_holdings, leave_holdings, refuse_jobs_of, when_running}
 use Rattle.sl_due.specs.Steps.{Step, add_end, add_grant, add_reply, seen, with_input}
 use Rattle.sl_due_leases.proofs.Grants.OthersGoOn.{said_on}
 use Rattle.sl_due_leases.proofs.Grants.Values.ReadsBack.{AllAbove, Guarded, IsRead, ReadNow, Reader, ReadsBack, end_reads, facts_by, guard_end, guard_grant, guard_reply, read_now, reads_go_on, reads_itself, same_reader, through, writes_are}
 use Rattle.sl_due_leases.proofs.Grants.WorksByExits.{Leaving, left_so, refused_so, refused_there}
 use Rattle.sl_due_leases.proofs.Grants.WorksByInputs.{command_was, none_heard, unanswered}
-use Rattle.sl_due_leases.specs.Grants.ValuePromises.{HasValueFacts}
+use Rattle.sl_due_leases.specs.Grants.ValueLaws.{HasValueFacts}
 use Rattle.sl_due_leases.proofs.Holdings.HoldingsByInputs.{answers_open, calls_stay, calls_told, children_seen, is_no_answer, sessions_seen_still}
 use Rattle.sl_due_leases.specs.Holdings.Moments.{Known}
 use Rattle.sl_due_facts.proofs.Jobs.JobsAreNumbered.{numbered_seen}
 use Rattle.sl_trace.specs.Jobs.{command_numbered, command_of, is_job_of_process, job_of_start}
 use Rattle.sl_trace.specs.Leases.{spot_of_call}
-use Rattle.sl_plain.proofs.Lists.{find_inside, in_map, kept_inside}
-use Rattle.sl_plain.proofs.Numbers.{number_itself}
-use Rattle.sl_plain.proofs.Options.{none_is, then_value}
+use Rattle.sl_words.proofs.Lists.{find_inside, in_map, kept_inside}
+use Rattle.sl_words.proofs.Numbers.{number_itself}
+use Rattle.sl_words.proofs.Options.{none_is, then_value}
 use Rattle.sl_trace.specs.Sessions.{session_numbered}
 use Rattle.sl_trace.specs.declared.session.Session.{Session}
-use Rattle.sl_due_facts.specs.Facts.Heard.{IsOpen, heard_by}
+use Rattle.sl_due_facts.specs.Facts.HeardCall.{IsOpen, heard_by}
 use Rattle.sl_due_facts.specs.Facts.ValueFacts.{IsReading}
 use Rattle.sl_trace.specs.Traces.{Child, FollowsTrace, Setting, Submitted, Trace, answered_in, child_after, child_numbered, children, end_of, first_child, holdings, is_expected, is_running, is_starting, job_numbered, job_of, new_call, new_child, next_child, orphans_left, running_jobs, same_place, submitted}
 use Rattle.sl_trace.specs.declared.command.Command.{Command}
@@ -34,7 +34,7 @@ use Rattle.sl_trace.specs.declared.input.Answer.{Answer}
 use Rattle.sl_trace.specs.declared.input.Input.{Input}
 use Rattle.sl_trace.specs.declared.input.Input.TheVariants.{Answer as Told, Exit, Line, Number, Spawned, Wake}
 use Rattle.sl_trace.specs.declared.reply.Reply.TheVariants.{NoProcess, SpawnFault}
-use Rattle.sl_trace_law.proofs.Sessions.Making.{same_answered}
+use Rattle.sl_run_law.proofs.Sessions.CallsAreMade.{same_answered}
 use Rattle.sl_words.proofs.CaseLaws.{false_is_true, is_false, no_value, none_some, some_value}
 use Rattle.sl_words.proofs.WordLaws.{some_is_true}
 use Rattle.std.proofs.Common.{ap, arith, inl, inr, refl, subst, sym, ◌∙◌}

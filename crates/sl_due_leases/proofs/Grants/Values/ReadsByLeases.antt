@@ -1,6 +1,6 @@
 -- What a lease decides leaves what stands while a value is read elsewhere.
-use Rattle.sl_acts.proofs.LoopsKeep.{with_some_keeps}
-use Rattle.sl_acts.specs.SoFar.{entry_of}
+use Rattle.sl_due_facts.proofs.Acts.LoopsKeep.{with_some_keeps}
+use Rattle.sl_due_facts.specs.Acts.TraceSoFar.{entry_of}
 use Rattle.sl_area.specs.Places.{area_sectors, block_offset, block_place, block_record, block_sectors, in_area, leader_offset, leader_record}
 use Rattle.sl_area.specs.Roles.{leader}
 use Rattle.sl_due.specs.DueLease.{carry_lease, convert_for, convert_holding, for_work, grant_for, name_on, next_turn, read_area, read_for, with_command, write_block, write_leader}
@@ -15,8 +15,8 @@ use Rattle.sl_due_leases.proofs.Holdings.LeasePlaces.{own_on}
 use Rattle.sl_run.specs.Lawful.{IsSetting}
 use Rattle.sl_run.specs.LawfulArea.{is_area_work}
 use Rattle.sl_due_leases.proofs.Leases.TurnsStay.{turned_by}
-use Rattle.sl_due_leases.proofs.Ways.Kept.HeardStands.{spot_same}
-use Rattle.sl_due_leases.proofs.Ways.Kept.PlacesStand.{place_is_on, placed_on, spot_is}
+use Rattle.sl_due_leases.proofs.Ways.WayFactsHeld.HeardStands.{spot_same}
+use Rattle.sl_due_leases.proofs.Ways.WayFactsHeld.PlacesStand.{place_is_on, placed_on, spot_is}
 use Rattle.sl_trace.specs.Jobs.{command_numbered}
 use Rattle.sl_trace.specs.Leases.{is_on, lease_step, spot_of_call}
 use Rattle.sl_trace.specs.declared.lease.LeaseNext.{LeaseNext}

@@ -1,8 +1,8 @@
 -- What a command comes to leaves what stands while values are read; a read that it begins has it.
-use Rattle.sl_acts.proofs.Pairs.Decisions.{conversion_is, release_is}
-use Rattle.sl_acts.proofs.DecisionsAreTheirs.{Of}
-use Rattle.sl_acts.specs.Acts.{Has, next_of_conversion, next_of_release}
-use Rattle.sl_acts.specs.SoFar.{entry_of}
+use Rattle.sl_due_facts.proofs.Acts.Pairs.Decisions.{conversion_is, release_is}
+use Rattle.sl_due_facts.proofs.Acts.DecisionsAreTheirs.{Of}
+use Rattle.sl_due_facts.specs.Acts.Acts.{Has, next_of_conversion, next_of_release}
+use Rattle.sl_due_facts.specs.Acts.TraceSoFar.{entry_of}
 use Rattle.sl_area.specs.Places.{delta_offset, value_offset}
 use Rattle.sl_area.specs.Roles.{value}
 use Rattle.sl_due.specs.DueCommands.{after_end, carry_decision}
@@ -18,7 +18,7 @@ use Rattle.sl_due_leases.proofs.Grants.Values.ReadsBack.{Guarded, IsRead, Reader
 use Rattle.sl_due_leases.proofs.Grants.Values.ReadsByInputs.{guard_input, input_reads}
 use Rattle.sl_due_leases.proofs.Grants.Values.ReadsByLeases.{IsElsewhere, end_there, lease_reads, read_there, write_there}
 use Rattle.sl_due_leases.proofs.Grants.WorksByEffects.{same_session}
-use Rattle.sl_due_leases.specs.Grants.ValuePromises.{HasValueFacts}
+use Rattle.sl_due_leases.specs.Grants.ValueLaws.{HasValueFacts}
 use Rattle.sl_due_leases.proofs.Holdings.HoldingsByCalls.{call_added}
 use Rattle.sl_due_leases.proofs.Holdings.HoldingsByEffects.{later_same}
 use Rattle.sl_due_leases.proofs.Holdings.HoldingsByInputs.{calls_stay, sessions_seen_still}
@@ -29,26 +29,26 @@ use Rattle.sl_due_leases.specs.Holdings.Moments.{Known}
 use Rattle.sl_due_facts.proofs.Jobs.CallsHaveFacts.{calls_before}
 use Rattle.sl_run.specs.LawfulArea.{is_area_work}
 use Rattle.sl_run.specs.LawfulValue.{held_since, writes_since}
-use Rattle.sl_due_leases.proofs.Ways.Kept.EffectsLeave.{there_has}
-use Rattle.sl_due_leases.proofs.Ways.Kept.HeardStands.{spot_same}
-use Rattle.sl_due_leases.proofs.Ways.Kept.LinesKeep.{line_command}
-use Rattle.sl_due_leases.proofs.Ways.Kept.LinesReady.{none_open}
-use Rattle.sl_due_leases.proofs.Ways.Kept.PlacesStand.{id_in_range, place_is_on, placed_on, spot_is}
+use Rattle.sl_due_leases.proofs.Ways.WayFactsHeld.EffectsLeave.{there_has}
+use Rattle.sl_due_leases.proofs.Ways.WayFactsHeld.HeardStands.{spot_same}
+use Rattle.sl_due_leases.proofs.Ways.WayFactsHeld.LinesKeep.{line_command}
+use Rattle.sl_due_leases.proofs.Ways.WayFactsHeld.LinesReady.{none_open}
+use Rattle.sl_due_leases.proofs.Ways.WayFactsHeld.PlacesStand.{id_in_range, place_is_on, placed_on, spot_is}
 use Rattle.sl_trace.specs.Ballots.{moded_block}
 use Rattle.sl_trace.specs.Jobs.{command_numbered, resource_named}
 use Rattle.sl_trace.specs.LeaseWork.{convert_next, lease_place, release_next}
 use Rattle.sl_trace.specs.Leases.{LeaseKnown, holdings_on, is_on, known, spot_of, spot_of_call}
 use Rattle.sl_trace.specs.declared.lease.LeaseNext.{LeaseNext}
 use Rattle.sl_trace.specs.declared.lease.LeaseNext.TheVariants.{AnswerJob, Nothing, WriteBlock}
-use Rattle.sl_due_facts.proofs.Parts.CallsGrow.{same_sessions}
-use Rattle.sl_plain.proofs.Lists.{contains_cases, contains_first, contains_more, contains_none, find_inside, in_map, kept_inside}
-use Rattle.sl_plain.proofs.Numbers.{refl_le}
+use Rattle.sl_due_facts.proofs.AddedEffects.CallsGrow.{same_sessions}
+use Rattle.sl_words.proofs.Lists.{contains_cases, contains_first, contains_more, contains_none, find_inside, in_map, kept_inside}
+use Rattle.sl_words.proofs.Numbers.{refl_le}
 use Rattle.sl_sector.specs.declared.sector.Block.{Block}
 use Rattle.sl_sector.specs.declared.sector.Rec.TheVariants.{ValueIs}
 use Rattle.sl_trace.specs.Sessions.{calls_of, holdings_of, is_call_of, session_numbered}
 use Rattle.sl_trace.specs.declared.reply.Limited.TheVariants.{Turn as TurnLimit}
 use Rattle.sl_trace.specs.declared.session.Session.{Session}
-use Rattle.sl_due_facts.specs.Facts.Heard.{IsOpen, heard_by}
+use Rattle.sl_due_facts.specs.Facts.HeardCall.{IsOpen, heard_by}
 use Rattle.sl_due_facts.specs.Facts.ValueFacts.{IsReading}
 use Rattle.sl_trace.specs.Commands.{IsCommand, IsResourceArg}
 use Rattle.sl_trace.specs.Limits.{most_processes}
@@ -70,7 +70,7 @@ use Rattle.sl_trace.specs.declared.effects.Work.TheVariants.{ForJob}
 use Rattle.sl_trace.specs.declared.input.Input.{Input}
 use Rattle.sl_trace.specs.declared.input.Input.TheVariants.{Answer as Told, Exit, Line, Number, Spawned, Wake}
 use Rattle.sl_trace.specs.declared.reply.Reply.TheVariants.{Done, Limit as LimitReached}
-use Rattle.sl_trace_law.proofs.Sessions.Making.{same_answered}
+use Rattle.sl_run_law.proofs.Sessions.CallsAreMade.{same_answered}
 use Rattle.sl_words.proofs.CaseLaws.{is_false, no_value, none_some, one_value, some_value, true_is_false}
 use Rattle.sl_words.proofs.WordLaws.{and_true, or_true, some_is_true}
 use Rattle.sl_words.specs.Words.{some_is}

@@ -1,10 +1,10 @@
 -- What is known while a value is read is kept by each act.
-use Rattle.sl_acts.proofs.DecisionsAreTheirs.{Of}
-use Rattle.sl_acts.proofs.EffectsKeep.{stopped}
-use Rattle.sl_acts.proofs.LoopsKeep.{for_each_keeps, when_keeps}
-use Rattle.sl_acts.proofs.PlainActs.{line_has}
-use Rattle.sl_acts.specs.Acts.{Has, Hears, next_of_settling}
-use Rattle.sl_acts.specs.SoFar.{entry_of}
+use Rattle.sl_due_facts.proofs.Acts.DecisionsAreTheirs.{Of}
+use Rattle.sl_due_facts.proofs.Acts.EffectsKeep.{stopped}
+use Rattle.sl_due_facts.proofs.Acts.LoopsKeep.{for_each_keeps, when_keeps}
+use Rattle.sl_due_facts.proofs.Acts.PlainActs.{line_has}
+use Rattle.sl_due_facts.specs.Acts.Acts.{Has, Hears, next_of_settling}
+use Rattle.sl_due_facts.specs.Acts.TraceSoFar.{entry_of}
 use Rattle.sl_area.specs.Places.{request_offset}
 use Rattle.sl_area.specs.Roles.{request}
 use Rattle.sl_due.specs.DueAnswers.{set_reply}
@@ -21,7 +21,7 @@ use Rattle.sl_due_leases.proofs.Grants.Values.ReadsBack.{IsRead, ReadNow, ReadsB
 use Rattle.sl_due_leases.proofs.Grants.Values.ReadsByInputs.{exit_reads, failed_reads, heard_values, input_reads}
 use Rattle.sl_due_leases.proofs.Grants.Values.ReadsByLeases.{IsElsewhere, lease_reads, write_there}
 use Rattle.sl_due_leases.proofs.Grants.Values.ReadsByLines.{lines_values}
-use Rattle.sl_due_leases.specs.Grants.ValuePromises.{HasValueFacts, ValueFactsAreKept, ValueFactsBegin}
+use Rattle.sl_due_leases.specs.Grants.ValueLaws.{HasValueFacts, ValueFactsAreKept, ValueFactsBegin}
 use Rattle.sl_due_leases.proofs.Holdings.DecisionsHaveGrounds.{decisions_have_grounds}
 use Rattle.sl_due_leases.proofs.Holdings.HoldingFactsAreKept.{plainly_late, surveys_no_job}
 use Rattle.sl_due_leases.proofs.Holdings.HoldingFactsBegin.{children_fresh, fresh, held_fresh, wake_effects, waking_answers_none}
@@ -35,31 +35,31 @@ use Rattle.sl_due_facts.proofs.Jobs.JobFactsBegin.{running_then}
 use Rattle.sl_due_facts.proofs.Jobs.JobsAreNumbered.{numbered_before}
 use Rattle.sl_due_facts.proofs.Jobs.RepliesComeAfter.{request_late, set_late, value_late}
 use Rattle.sl_run.specs.LawfulArea.{is_area_work}
-use Rattle.sl_due_leases.proofs.Ways.Kept.ActsKeep.{asked_of}
-use Rattle.sl_due_leases.proofs.Ways.Kept.DeltasFit.{freed_fits, joining_fits, renewed_fits, wake_fits}
-use Rattle.sl_due_leases.proofs.Ways.Kept.EffectsLeave.{there_has}
-use Rattle.sl_due_leases.proofs.Ways.Kept.HeardStands.{heard_has}
-use Rattle.sl_due_leases.proofs.Ways.Kept.LeaseNextsLeave.{IsLate}
-use Rattle.sl_due_leases.proofs.Ways.Kept.LinesReady.{none_open}
-use Rattle.sl_due_leases.proofs.Ways.Kept.PlacesStand.{id_in_range, place_is_on, placed_on}
-use Rattle.sl_due_leases.proofs.Ways.Kept.PlainWalks.{DeltaFits}
-use Rattle.sl_due_leases.proofs.Ways.Kept.UnjoinedHaveNone.{its_joining, joins_still}
+use Rattle.sl_due_leases.proofs.Ways.WayFactsHeld.ActsKeep.{asked_of}
+use Rattle.sl_due_leases.proofs.Ways.WayFactsHeld.DeltasFit.{freed_fits, joining_fits, renewed_fits, wake_fits}
+use Rattle.sl_due_leases.proofs.Ways.WayFactsHeld.EffectsLeave.{there_has}
+use Rattle.sl_due_leases.proofs.Ways.WayFactsHeld.HeardStands.{heard_has}
+use Rattle.sl_due_leases.proofs.Ways.WayFactsHeld.LeaseNextsLeave.{IsLate}
+use Rattle.sl_due_leases.proofs.Ways.WayFactsHeld.LinesReady.{none_open}
+use Rattle.sl_due_leases.proofs.Ways.WayFactsHeld.PlacesStand.{id_in_range, place_is_on, placed_on}
+use Rattle.sl_due_leases.proofs.Ways.WayFactsHeld.PlainWalks.{DeltaFits}
+use Rattle.sl_due_leases.proofs.Ways.WayFactsHeld.UnjoinedHaveNone.{its_joining, joins_still}
 use Rattle.sl_trace.specs.Jobs.{command_numbered, command_of, job_of_start}
 use Rattle.sl_trace.specs.LeaseWork.{lease_place}
 use Rattle.sl_trace.specs.Leases.{known, lver_written, open_on, spot_of, spot_of_call}
 use Rattle.sl_trace.specs.declared.lease.Aim.{Aim}
 use Rattle.sl_trace.specs.declared.lease.LeaseNext.{LeaseNext}
-use Rattle.sl_plain.proofs.Lists.{kept_inside}
-use Rattle.sl_plain.proofs.Options.{some_of}
+use Rattle.sl_words.proofs.Lists.{kept_inside}
+use Rattle.sl_words.proofs.Options.{some_of}
 use Rattle.sl_sector.specs.declared.sector.Rec.TheVariants.{DeltaIs, RequestIs}
 use Rattle.sl_trace.specs.Deltas.{delta_known, delta_of_session, next_after_free, next_after_renewal, next_in_joining, next_on_wake, own_offset}
 use Rattle.sl_trace.specs.Sessions.{calls_of, generation_of, holders_of, holdings_of, present_sessions, recovery_of, session_numbered}
 use Rattle.sl_trace.specs.declared.delta.DeltaNext.{DeltaNext}
 use Rattle.sl_trace.specs.declared.session.Session.{Session}
-use Rattle.sl_due_facts.specs.Facts.Heard.{IsOpen, heard_by}
+use Rattle.sl_due_facts.specs.Facts.HeardCall.{IsOpen, heard_by}
 use Rattle.sl_due_facts.specs.Facts.JobFacts.{FitsCommand}
 use Rattle.sl_due_facts.specs.Facts.ValueFacts.{IsReading}
-use Rattle.sl_due_facts.specs.Facts.Whole.{WholeTrace}
+use Rattle.sl_due_facts.specs.Facts.AllFacts.{WholeTrace}
 use Rattle.sl_trace.specs.Traces.{Child, Setting, Submitted, Trace, first_child, holdings, is_before_input, job_of, next_child, next_job, no_effects, same_place}
 use Rattle.sl_trace.specs.declared.command.Command.{Command}
 use Rattle.sl_trace.specs.declared.command.Command.TheVariants.{GetLvb, Request}
@@ -77,7 +77,7 @@ use Rattle.sl_trace.specs.declared.input.Answer.TheVariants.{Read}
 use Rattle.sl_trace.specs.declared.input.Input.TheVariants.{Exit, Line, Number, Spawned, Wake}
 use Rattle.sl_trace.specs.declared.reply.Reply.{Reply}
 use Rattle.sl_trace.specs.declared.reply.Reply.TheVariants.{BadCommand as Misread, Done, IoFault, IoTimeout, SpawnFault}
-use Rattle.sl_trace_law.proofs.Sessions.Owning.{session_more}
+use Rattle.sl_run_law.proofs.Sessions.CallOwners.{session_more}
 use Rattle.sl_words.proofs.CaseLaws.{no_value, none_some, one_value, true_is_false}
 use Rattle.std.proofs.Common.{ap, inl, inr, refl, subst, sym, ◌∙◌}
 use Rattle.std.specs.Prelude.{Contains, IsSome, List, None, Option, Some, [], false, filter, find, if◌then◌else◌, is_some, length, option_and_then, true, ℕ, ◌%◌, ◌+◌, ◌<◌, ◌==◌, ◌≡◌, ◌≤◌}

@@ -1,8 +1,8 @@
 -- What is told of values is lawful: it was read or written in the answer that is heard.
-use Rattle.sl_acts.proofs.ActsTogether.{both}
-use Rattle.sl_acts.proofs.LoopsKeep.{for_each_keeps, when_keeps}
-use Rattle.sl_acts.specs.Acts.{Acts, Has, Hears, lone_job, next_of_settling}
-use Rattle.sl_acts.specs.SoFar.{entry_of}
+use Rattle.sl_due_facts.proofs.Acts.ActsTogether.{both}
+use Rattle.sl_due_facts.proofs.Acts.LoopsKeep.{for_each_keeps, when_keeps}
+use Rattle.sl_due_facts.specs.Acts.Acts.{Acts, Has, Hears, lone_job, next_of_settling}
+use Rattle.sl_due_facts.specs.Acts.TraceSoFar.{entry_of}
 use Rattle.sl_area.specs.Layouts.{record_in}
 use Rattle.sl_area.specs.Places.{request_offset}
 use Rattle.sl_due.specs.DueAnswers.{set_reply}
@@ -23,28 +23,28 @@ use Rattle.sl_due_leases.proofs.Grants.Modes.CallsFit.{calls_begin, calls_fit}
 use Rattle.sl_due_leases.proofs.Grants.Values.DecisionsTellNothing.{IsUntold, decisions_tell_nothing}
 use Rattle.sl_due_leases.proofs.Grants.Values.NothingIsTold.{AnyCall, AnyMove, AnyStart, May, NoneTold, TellingSoFar, allows, decision_allowed, delta_allowed, freed_allowed, heard_untold, is_values, lease_allowed, other_untold, renewal_allowed, request_allowed, telling_so_far, untold_lawful, woken_untold}
 use Rattle.sl_due_leases.proofs.Grants.Values.ReadsBack.{calm_call, writes_are}
-use Rattle.sl_due_leases.specs.Grants.ValuePromises.{ValuesAreLawful, ValuesBegin, ValuesSoFar}
+use Rattle.sl_due_leases.specs.Grants.ValueLaws.{ValuesAreLawful, ValuesBegin, ValuesSoFar}
 use Rattle.sl_due_leases.proofs.Holdings.HoldingFactsAreKept.{plainly_late}
 use Rattle.sl_due_leases.proofs.Holdings.HoldingsByCalls.{call_added}
 use Rattle.sl_due_leases.proofs.Holdings.HoldingsByEffects.{SameCalls, later_same}
 use Rattle.sl_due_leases.proofs.Holdings.LeaseCallers.{heard_answered, heard_call, heard_opens, mine_heard}
 use Rattle.sl_due_leases.specs.Holdings.Moments.{Known}
-use Rattle.sl_due_leases.specs.Holdings.Promises.{Begins}
+use Rattle.sl_due_leases.specs.Holdings.HoldingLaws.{Begins}
 use Rattle.sl_due_facts.proofs.Jobs.CallsStay.{is_special}
 use Rattle.sl_due_facts.proofs.Jobs.EffectsAreAllowed.{DeltaAllowed, decision, delta, ended, exited, lease, left, refusal, removal_of_refused, requested, said, sent, stopped}
 use Rattle.sl_due_facts.proofs.Jobs.RepliesComeAfter.{IsApartFrom, IsApartLease, joining_apart, lease_within, second_off, set_late, settle_within, tells_value, value_late, wake_apart}
 use Rattle.sl_run.specs.LawfulArea.{is_area_work}
 use Rattle.sl_run.specs.LawfulValue.{LawfulSetReply, LawfulValueReply}
 use Rattle.sl_due_leases.proofs.Leases.WorkIsActive.{work_is_active}
-use Rattle.sl_due_leases.proofs.Ways.Kept.EffectsLeave.{there_has}
+use Rattle.sl_due_leases.proofs.Ways.WayFactsHeld.EffectsLeave.{there_has}
 use Rattle.sl_trace.specs.Jobs.{job_of_start}
 use Rattle.sl_trace.specs.LeaseWork.{lease_place}
 use Rattle.sl_trace.specs.Leases.{is_on, known, lver_written, spot_of_call, value_written}
 use Rattle.sl_trace.specs.declared.effects.LeaseStep.{LeaseStep}
 use Rattle.sl_trace.specs.declared.lease.LeaseNext.{LeaseNext}
 use Rattle.sl_trace.specs.declared.lease.LeaseNext.TheVariants.{AnswerJob}
-use Rattle.sl_due_facts.proofs.Parts.CallsGrow.{mine_more, others_stay, same_sessions}
-use Rattle.sl_plain.proofs.Lists.{contains_more, contains_none}
+use Rattle.sl_due_facts.proofs.AddedEffects.CallsGrow.{mine_more, others_stay, same_sessions}
+use Rattle.sl_words.proofs.Lists.{contains_more, contains_none}
 use Rattle.sl_sector.specs.Spelling.{value_in}
 use Rattle.sl_sector.specs.declared.sector.Rec.TheVariants.{DeltaIs}
 use Rattle.sl_sector.specs.declared.sector.ValueRec.{ValueRec}
@@ -52,7 +52,7 @@ use Rattle.sl_trace.specs.Deltas.{delta_known, delta_of_session, next_after_free
 use Rattle.sl_trace.specs.Sessions.{calls_of, generation_of, holders_of, is_active, is_call_of, is_join_call, is_joined, present_sessions, recovery_of}
 use Rattle.sl_trace.specs.declared.delta.DeltaNext.{DeltaNext}
 use Rattle.sl_trace.specs.declared.session.Session.{Session}
-use Rattle.sl_due_facts.specs.Facts.Heard.{heard_by}
+use Rattle.sl_due_facts.specs.Facts.HeardCall.{heard_by}
 use Rattle.sl_due_facts.specs.Facts.ValueFacts.{IsReading}
 use Rattle.sl_trace.specs.Connections.{is_registered}
 use Rattle.sl_trace.specs.Traces.{Setting, Submitted, Trace, is_running, is_write, job_of, new_call, next_job}

@@ -1,6 +1,6 @@
 -- What is decided after any answer to the lease's newest call fits; and so does what a release and a conversion begin with.
-use Rattle.sl_acts.proofs.Pairs.Decisions.{IsAsked, asked_is, bytes_are}
-use Rattle.sl_acts.proofs.Pairs.Given.{bytes_at}
+use Rattle.sl_due_facts.proofs.Acts.Pairs.Decisions.{IsAsked, asked_is, bytes_are}
+use Rattle.sl_due_facts.proofs.Acts.Pairs.GivenByReads.{bytes_at}
 use Rattle.sl_area.specs.Layouts.{Layout}
 use Rattle.sl_area.specs.Places.{BlocksRead, blocks_of, leader_read}
 use Rattle.sl_due_facts.specs.Facts.WayFacts.{In_conversion, In_release, sectors_of_read}
@@ -11,7 +11,7 @@ use Rattle.sl_due_leases.proofs.Ways.NextsFit.PhasesFit.{PhaseHeard, heard_comes
 use Rattle.sl_due_leases.proofs.Ways.NextsFit.SettlingsFit.{refusal_is, settling_is}
 use Rattle.sl_due_leases.proofs.Ways.NextsFit.WritesFit.{before_block_is, before_free_is, clearing_is, freeing_is, moding_is, take_is}
 use Rattle.sl_due_leases.specs.Ways.Nexts.{IsHeard, Moment, NextIs, calls_at, context_at, known_at, place_at, read_op}
-use Rattle.sl_due_leases.specs.Ways.Promises.{AnswersFit, ConversionsFit, ReleasesFit, SettlingsFit}
+use Rattle.sl_due_leases.specs.Ways.WayLaws.{AnswersFit, ConversionsFit, ReleasesFit, SettlingsFit}
 use Rattle.sl_sector.specs.declared.sector.Block.{Block}
 use Rattle.sl_trace.specs.Ballots.{moded_block}
 use Rattle.sl_trace.specs.LeaseWork.{after_read, asked_again, first_step, heard, lease_next, part_read, read_of_step, step_of_read}

@@ -1,14 +1,14 @@
 -- What a lease has heard of a read, and that what is decided after a read of the area fits.
-use Rattle.sl_acts.proofs.Pairs.Decoding.{spelled_leader}
+use Rattle.sl_due_facts.proofs.Acts.Pairs.DecodedRecords.{spelled_leader}
 use Rattle.sl_area.specs.Layouts.{Layout}
 use Rattle.sl_area.specs.Places.{BlocksRead, blocks_of, fresh_leader, greatest_lver, leader_made, leader_of, leader_read, pairs_of}
 use Rattle.sl_due_facts.specs.Facts.WayFacts.{CallWay, IsVerified, Ways}
 use Rattle.sl_due_leases.proofs.Ways.GivenReads.{area_by, blocks_heard, given_heard, leader_heard}
-use Rattle.sl_due_leases.proofs.Ways.Lawful.BallotsBegin.{MayBegin, begins_after_read, none_torn}
+use Rattle.sl_due_leases.proofs.Ways.WaysAreLawful.BallotsBegin.{MayBegin, begins_after_read, none_torn}
 use Rattle.sl_due_leases.proofs.Ways.NextsFit.SettlingsFit.{begin_is}
 use Rattle.sl_due_leases.proofs.Ways.WayStages.{is_at_in}
 use Rattle.sl_due_leases.specs.Ways.Nexts.{IsHeard, Moment, NextIs, calls_at, context_at, known_at, place_at}
-use Rattle.sl_plain.proofs.Lists.{contains_first}
+use Rattle.sl_words.proofs.Lists.{contains_first}
 use Rattle.sl_run.specs.LawfulBlock.{AreaRead}
 use Rattle.sl_sector.specs.declared.sector.Block.{Block}
 use Rattle.sl_sector.specs.declared.sector.Leader.{Leader}

@@ -1,5 +1,5 @@
 -- What is decided after the reads of a ballot fits.
-use Rattle.sl_due_leases.proofs.Ways.Lawful.BallotsBegin.{begins_after_loss, counted_now}
+use Rattle.sl_due_leases.proofs.Ways.WaysAreLawful.BallotsBegin.{begins_after_loss, counted_now}
 use Rattle.sl_due_leases.proofs.Ways.NewestCall.{ended_here, read_writes_no_block, submitted_passed}
 use Rattle.sl_due_leases.proofs.Ways.NextsFit.SettlingsFit.{begin_is, settling_is}
 use Rattle.sl_due_leases.proofs.Ways.WayNumbers.{ended_concludes, is_verified}
@@ -17,7 +17,7 @@ use Rattle.sl_trace.specs.declared.lease.Stop.{Stop}
 use Rattle.sl_sector.specs.declared.sector.Block.{Block}
 use Rattle.sl_sector.specs.declared.sector.Owner.{Owner}
 use Rattle.sl_trace.specs.Sessions.{me}
-use Rattle.sl_trace.specs.Watching.{counts_over}
+use Rattle.sl_trace.specs.Sightings.{counts_over}
 use Rattle.sl_due_facts.specs.Facts.WayFacts.{Comes, ComesBy, In_settling, IsHeededBy, IsWrittenBy, NoOtherShared, StepWay, Ways}
 use Rattle.sl_trace.specs.Traces.{Answered, Submitted, is_heeded}
 use Rattle.sl_trace.specs.declared.effects.LeaseRead.TheVariants.{OfPhase1, OfPhase2}
@@ -28,7 +28,7 @@ use Rattle.sl_trace.specs.declared.effects.Mode.TheVariants.{Exclusive}
 use Rattle.sl_trace.specs.declared.input.Answer.TheVariants.{Read, Written}
 use Rattle.sl_trace.specs.declared.input.Answer.{Answer}
 use Rattle.sl_trace.specs.declared.reply.Reply.TheVariants.{Held as HeldBy, Shared as SharedBy}
-use Rattle.sl_plain.proofs.Lists.{find_fails}
+use Rattle.sl_words.proofs.Lists.{find_fails}
 use Rattle.sl_words.proofs.CaseLaws.{true_is_false}
 use Rattle.sl_words.proofs.WordLaws.{and_true}
 use Rattle.sl_words.specs.Words.{present, some_is}

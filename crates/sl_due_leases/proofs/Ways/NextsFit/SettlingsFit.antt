@@ -1,6 +1,6 @@
 -- What a settling decides fits: an open ballot is run again, a mode left over is cleared, an owed free is looked for.
-use Rattle.sl_acts.proofs.Pairs.Decisions.{begin_cases, within_cases}
-use Rattle.sl_due_leases.proofs.Ways.Lawful.BallotsBegin.{MayBegin, begins_again, phase1_is_lawful}
+use Rattle.sl_due_facts.proofs.Acts.Pairs.Decisions.{begin_cases, within_cases}
+use Rattle.sl_due_leases.proofs.Ways.WaysAreLawful.BallotsBegin.{MayBegin, begins_again, phase1_is_lawful}
 use Rattle.sl_due_leases.proofs.Ways.WayNumbers.{IsOpened, is_opened, is_verified}
 use Rattle.sl_due_leases.specs.Ways.Nexts.{Moment, NextIs, calls_at, context_at, known_at, place_at}
 use Rattle.sl_trace.specs.Ballots.{moded_block, phase1_block}

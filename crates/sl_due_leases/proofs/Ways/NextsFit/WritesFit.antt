@@ -1,6 +1,6 @@
 -- What is decided after the writes of a lease, and after the read before a free, fits.
 use Rattle.sl_area.specs.Layouts.{Layout}
-use Rattle.sl_due_leases.proofs.Ways.Lawful.BallotLaws.{read2, take_concludes, take_won, taken_own, won_own}
+use Rattle.sl_due_leases.proofs.Ways.WaysAreLawful.BallotLaws.{read2, take_concludes, take_won, taken_own, won_own}
 use Rattle.sl_due_leases.proofs.Ways.NewestCall.{block_is, block_is_no_leader, ended_before, ended_here, leader_is_no_block, lver_is, read_writes_no_block, submitted_passed}
 use Rattle.sl_due_leases.proofs.Ways.NextsFit.PhasesFit.{heard_comes, heard_done, heard_read, heard_way}
 use Rattle.sl_due_leases.proofs.Ways.NextsFit.SettlingsFit.{settling_is}

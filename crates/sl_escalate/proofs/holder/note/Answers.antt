@@ -1,5 +1,5 @@
 use Rattle.sl_escalate.proofs.holder.note.Goals as goal
-use Rattle.sl_escalate.specs.Due.{noted}
+use Rattle.sl_escalate.specs.DueSignals.{noted}
 use Rattle.std.proofs.Common.{rules}
 use Rattle.std.proofs.lemmas.List.Edits.{map_over_more}
 

@@ -1,5 +1,5 @@
 use Rattle.sl_escalate.proofs.holder.note.Given as goal
-use Rattle.sl_escalate.specs.Due.{noted}
+use Rattle.sl_escalate.specs.DueSignals.{noted}
 use Rattle.std.proofs.Common.{drop, map, take, ◌++◌, ◌≡◌}
 
 abbrev pub invariant-loop-holder : goal.invariant-loop-holder

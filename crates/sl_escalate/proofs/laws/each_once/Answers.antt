@@ -1,4 +1,4 @@
-use Rattle.sl_escalate.proofs.PromiseLaws.{each_once}
+use Rattle.sl_escalate.proofs.SignalLaws.{each_once}
 use Rattle.sl_escalate.proofs.laws.each_once.Goals as goal
 
 pub returns : goal.returns

@@ -1,4 +1,4 @@
-use Rattle.sl_escalate.proofs.PromiseLaws.{in_order}
+use Rattle.sl_escalate.proofs.SignalLaws.{in_order}
 use Rattle.sl_escalate.proofs.laws.in_order.Goals as goal
 
 pub returns : goal.returns

@@ -1,4 +1,4 @@
-use Rattle.sl_escalate.proofs.PromiseLaws.{kills_wait}
+use Rattle.sl_escalate.proofs.SignalLaws.{kills_wait}
 use Rattle.sl_escalate.proofs.laws.kills_wait.Goals as goal
 
 pub returns : goal.returns

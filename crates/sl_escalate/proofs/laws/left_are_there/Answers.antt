@@ -1,4 +1,4 @@
-use Rattle.sl_escalate.proofs.PromiseLaws.{left_are_there}
+use Rattle.sl_escalate.proofs.SignalLaws.{left_are_there}
 use Rattle.sl_escalate.proofs.laws.left_are_there.Goals as goal
 
 pub returns : goal.returns

@@ -1,4 +1,4 @@
-use Rattle.sl_escalate.proofs.PromiseLaws.{none_before}
+use Rattle.sl_escalate.proofs.SignalLaws.{none_before}
 use Rattle.sl_escalate.proofs.laws.none_before.Goals as goal
 
 pub returns : goal.returns

@@ -1,4 +1,4 @@
-use Rattle.sl_escalate.proofs.PromiseLaws.{only_holders}
+use Rattle.sl_escalate.proofs.SignalLaws.{only_holders}
 use Rattle.sl_escalate.proofs.laws.only_holders.Goals as goal
 
 pub returns : goal.returns

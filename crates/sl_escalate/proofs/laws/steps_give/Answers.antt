@@ -1,4 +1,4 @@
-use Rattle.sl_escalate.proofs.PromiseLaws.{steps_give}
+use Rattle.sl_escalate.proofs.SignalLaws.{steps_give}
 use Rattle.sl_escalate.proofs.laws.steps_give.Goals as goal
 
 pub returns : goal.returns

@@ -1,8 +1,8 @@
 -- The machines behind this one are looked at.
 use Rattle.sl_generate.proofs.candidates.add_resets.Given as goal
-use Rattle.sl_play.specs.Playing.{state_of}
+use Rattle.sl_play.specs.Plays.{state_of}
 use Rattle.sl_run.specs.declared.event.Event.TheVariants.{Reset}
-use Rattle.sl_world_law.specs.Drawing.{starves_in}
+use Rattle.sl_world_law.specs.DrawnCandidates.{starves_in}
 use Rattle.std.proofs.Common.{map, ◌++◌, ◌+◌, ◌-◌, ◌≡◌, ◌≤◌}
 use Rattle.std.specs.List.{range_with_len}
 use Rattle.std.specs.Prelude.{filter}

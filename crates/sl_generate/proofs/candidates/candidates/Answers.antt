@@ -2,10 +2,10 @@
 use Rattle.sl_generate.proofs.CandidateLaws.{of_call, of_life, of_test, of_time, of_work}
 use Rattle.sl_generate.proofs.candidates.candidates.Goals as goal
 use Rattle.sl_generate.specs.Candidates.{call_candidates, life_candidates, time_candidates, work_event}
-use Rattle.sl_machine.specs.Keeping.{kept_state}
-use Rattle.sl_play.specs.Playing.{state_of}
+use Rattle.sl_machine.specs.KeptParts.{kept_state}
+use Rattle.sl_play.specs.Plays.{state_of}
 use Rattle.sl_run.specs.declared.event.Event.TheVariants.{Test}
-use Rattle.sl_world_law.specs.Drawing.{least_call_in}
+use Rattle.sl_world_law.specs.DrawnCandidates.{least_call_in}
 use Rattle.std.proofs.Common.{Bool, [], ap, arith, false, refl, tests, true, ◌%◌, ◌+◌, ◌==◌, ◌∙◌, ◌∷◌, ◌≡◌}
 use Rattle.std.proofs.lemmas.Result.{IfOk-weaker}
 use Rattle.std.specs.Prelude.{nat_lt}

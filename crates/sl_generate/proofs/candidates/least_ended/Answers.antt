@@ -1,9 +1,9 @@
 -- One machine after another, from the last on.
 use Rattle.sl_generate.proofs.CandidateLaws.{least_step}
 use Rattle.sl_generate.proofs.candidates.least_ended.Goals as goal
-use Rattle.sl_kept.specs.Kept.{machine_in}
-use Rattle.sl_machine.specs.Keeping.{kept_state}
-use Rattle.sl_play.specs.Playing.{state_of}
+use Rattle.sl_world_state.specs.KeptWorld.{machine_in}
+use Rattle.sl_machine.specs.KeptParts.{kept_state}
+use Rattle.sl_play.specs.Plays.{state_of}
 use Rattle.sl_words.specs.Words.{least}
 use Rattle.std.proofs.Common.{ap, arith, map, not, ◌∙◌}
 use Rattle.std.specs.Prelude.{filter, option_and_then}

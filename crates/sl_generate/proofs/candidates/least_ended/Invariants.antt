@@ -1,8 +1,8 @@
 -- The least of the machines behind this one is found.
 use Rattle.sl_generate.proofs.candidates.least_ended.Given as goal
-use Rattle.sl_play.specs.Playing.{state_of}
+use Rattle.sl_play.specs.Plays.{state_of}
 use Rattle.sl_words.specs.Words.{first_of_list}
-use Rattle.sl_world_law.specs.Drawing.{ended_in}
+use Rattle.sl_world_law.specs.DrawnCandidates.{ended_in}
 use Rattle.std.proofs.Common.{◌+◌, ◌≡◌, ◌≤◌}
 use Rattle.std.specs.List.{enumerate_from}
 use Rattle.std.specs.Prelude.{drop, filter_map}

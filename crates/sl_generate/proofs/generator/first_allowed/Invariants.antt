@@ -1,7 +1,7 @@
 -- What is found among the candidates that are left is what is found among all.
 use Rattle.sl_generate.proofs.generator.first_allowed.Given as goal
 use Rattle.sl_generate.specs.Candidates.{first_allowed}
-use Rattle.sl_play.specs.Playing.{StaysAs, state_of}
+use Rattle.sl_play.specs.Plays.{StaysAs, state_of}
 use Rattle.std.proofs.Common.{length, ◌≡◌}
 
 abbrev pub invariant-loop-event : goal.invariant-loop-event

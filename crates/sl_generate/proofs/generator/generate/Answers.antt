@@ -1,6 +1,6 @@
 -- Both lines, a front of them, or nothing.
-use Rattle.sl_generate.proofs.Drawing.{made_of}
-use Rattle.sl_generate.proofs.Written.{all_put, nothing_put, part_put}
+use Rattle.sl_generate.proofs.DrawnEvents.{made_of}
+use Rattle.sl_generate.proofs.WrittenLines.{all_put, nothing_put, part_put}
 use Rattle.sl_generate.proofs.generator.generate.Goals as goal
 
 pub returns-in_default : goal.returns-in_default

@@ -1,8 +1,8 @@
 -- From the header on.
-use Rattle.sl_generate.proofs.Drawing.{first_drawing, seed_drawn}
+use Rattle.sl_generate.proofs.DrawnEvents.{first_drawing, seed_drawn}
 use Rattle.sl_generate.proofs.generator.play_seed.Goals as goal
-use Rattle.sl_kept.specs.Sane.{ReadsCommands}
-use Rattle.sl_play.specs.Playing.{state_of}
+use Rattle.sl_world_state.specs.SaneWorlds.{ReadsCommands}
+use Rattle.sl_play.specs.Plays.{state_of}
 use Rattle.sl_run.specs.Headers.{IsHeader}
 use Rattle.std.proofs.Common.{subst, sym}
 

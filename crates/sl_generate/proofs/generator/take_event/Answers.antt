@@ -1,8 +1,8 @@
 -- The event that is drawn comes to pass.
-use Rattle.sl_generate.proofs.Drawing.{never_barred, takes_drawn}
+use Rattle.sl_generate.proofs.DrawnEvents.{never_barred, takes_drawn}
 use Rattle.sl_generate.proofs.generator.take_event.Goals as goal
 use Rattle.sl_generate.specs.Candidates.{first_allowed}
-use Rattle.sl_play.specs.Playing.{Answers, state_of}
+use Rattle.sl_play.specs.Plays.{Answers, state_of}
 use Rattle.std.proofs.Common.{ap, subst, ◌∙◌}
 
 pub unreachable-requires : goal.unreachable-requires

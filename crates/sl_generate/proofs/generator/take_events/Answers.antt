@@ -1,7 +1,7 @@
 -- One event after another.
-use Rattle.sl_generate.proofs.Drawing.{all_drawn, drawing_on, more_drawn}
+use Rattle.sl_generate.proofs.DrawnEvents.{all_drawn, drawing_on, more_drawn}
 use Rattle.sl_generate.proofs.generator.take_events.Goals as goal
-use Rattle.sl_play.specs.Playing.{state_of}
+use Rattle.sl_play.specs.Plays.{state_of}
 use Rattle.std.proofs.Common.{arith}
 
 pub loop-number-preserved : goal.loop-number-preserved

@@ -1,7 +1,7 @@
 -- So many events have come to pass, in each world that the play stood for.
 use Rattle.sl_generate.proofs.generator.take_events.Given as goal
-use Rattle.sl_generate.specs.Generating.{HaveDrawn}
-use Rattle.sl_play.specs.Playing.{state_of}
+use Rattle.sl_generate.specs.GeneratorPlay.{HaveDrawn}
+use Rattle.sl_play.specs.Plays.{state_of}
 use Rattle.std.proofs.Common.{◌-◌, ◌≤◌}
 
 abbrev pub invariant-loop-number : goal.invariant-loop-number

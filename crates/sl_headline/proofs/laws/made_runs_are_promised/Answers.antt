@@ -1,4 +1,4 @@
-use Rattle.sl_headline.proofs.Promising.{made_runs_are_promised}
+use Rattle.sl_headline.proofs.RunsArePromised.{made_runs_are_promised}
 use Rattle.sl_headline.proofs.laws.made_runs_are_promised.Goals as goal
 
 pub returns : goal.returns

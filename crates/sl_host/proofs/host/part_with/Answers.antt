@@ -1,4 +1,4 @@
-use Rattle.sl_host_state.specs.Makes.{is_ended_by_move}
+use Rattle.sl_host_state.specs.MadeEffects.{is_ended_by_move}
 use Rattle.sl_host.proofs.HostStands.{none_ended}
 use Rattle.sl_host.proofs.host.part_with.Goals as goal
 use Rattle.std.proofs.Common.{ap, filter, not, sym, ◌∙◌}

@@ -1,8 +1,8 @@
-use Rattle.sl_host_answers.proofs.AnsweringStands.{its_number}
+use Rattle.sl_host_answers.proofs.WholeAnswersStand.{its_number}
 use Rattle.sl_host_answers.proofs.answers.answer.Goals as goal
-use Rattle.sl_host_answers.specs.Answering.{answer_of}
+use Rattle.sl_host_answers.specs.WholeAnswers.{answer_of}
 use Rattle.sl_host_law.specs.Steps.Answers.{answering}
-use Rattle.sl_host_state.specs.Kept.{state_of}
+use Rattle.sl_host_state.specs.KeptState.{state_of}
 use Rattle.std.proofs.Common.{ap, sym, ◌∙◌}
 
 pub hear_call-requires-clause-can : goal.hear_call-requires-clause-can

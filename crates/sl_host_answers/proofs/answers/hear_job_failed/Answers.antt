@@ -1,11 +1,11 @@
-use Rattle.sl_host_answers.proofs.AnsweringStands.{finished, job_due, job_untold}
+use Rattle.sl_host_answers.proofs.WholeAnswersStand.{finished, job_due, job_untold}
 use Rattle.sl_trace.specs.declared.input.Answer.TheVariants.{Failed}
-use Rattle.sl_host_state.specs.Kept.{HostKept, state_of}
-use Rattle.sl_host_state.specs.Hears.{heard_answer}
+use Rattle.sl_host_state.specs.KeptState.{HostKept, state_of}
+use Rattle.sl_host_state.specs.HeardInputs.{heard_answer}
 use Rattle.sl_host_law.specs.Answers.Requests.{answering_job}
 use Rattle.sl_host_law.specs.Steps.Passes.{at_member}
-use Rattle.sl_member.specs.Together.{member_with}
-use Rattle.sl_host.specs.Asking.{state_in}
+use Rattle.sl_member.specs.HostMembers.{member_with}
+use Rattle.sl_host.specs.BookQuestions.{state_in}
 use Rattle.std.proofs.Common.{ap, refl, ◌∙◌}
 use Rattle.sl_host_answers.proofs.answers.hear_job_failed.Goals as goal
 

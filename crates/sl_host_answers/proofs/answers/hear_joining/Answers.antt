@@ -1,10 +1,10 @@
-use Rattle.sl_host_answers.proofs.AnsweringStands.{finished, joined_known}
+use Rattle.sl_host_answers.proofs.WholeAnswersStand.{finished, joined_known}
 use Rattle.sl_trace.specs.declared.effects.Purpose.TheVariants.{Joining}
-use Rattle.sl_host_state.specs.Kept.{HostKept, state_of}
-use Rattle.sl_host_state.specs.Hears.{heard_answer}
-use Rattle.sl_host_answers.specs.Answering.{joined_on}
-use Rattle.sl_delta.specs.Own.{answer_in}
-use Rattle.sl_host.specs.Hearing.{is_own_purpose}
+use Rattle.sl_host_state.specs.KeptState.{HostKept, state_of}
+use Rattle.sl_host_state.specs.HeardInputs.{heard_answer}
+use Rattle.sl_host_answers.specs.WholeAnswers.{joined_on}
+use Rattle.sl_delta.specs.OwnSector.{answer_in}
+use Rattle.sl_host.specs.HeardAnswers.{is_own_purpose}
 use Rattle.std.proofs.Common.{ap, ◌∙◌}
 use Rattle.sl_host_answers.proofs.answers.hear_joining.Goals as goal
 

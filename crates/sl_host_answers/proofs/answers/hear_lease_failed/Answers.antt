@@ -1,7 +1,7 @@
-use Rattle.sl_host_answers.proofs.AnsweringStands.{finished, known_then}
+use Rattle.sl_host_answers.proofs.WholeAnswersStand.{finished, known_then}
 use Rattle.sl_trace.specs.declared.effects.Purpose.TheVariants.{Lease}
 use Rattle.sl_trace.specs.declared.input.Answer.TheVariants.{Failed}
-use Rattle.sl_host_answers.specs.Answering.{due_for}
+use Rattle.sl_host_answers.specs.WholeAnswers.{due_for}
 use Rattle.std.proofs.Common.{None, ap, ◌∙◌}
 use Rattle.sl_host_answers.proofs.answers.hear_lease_failed.Goals as goal
 

@@ -1,7 +1,7 @@
-use Rattle.sl_host_answers.proofs.AnsweringStands.{finished, known_then, told_known}
+use Rattle.sl_host_answers.proofs.WholeAnswersStand.{finished, known_then, told_known}
 use Rattle.sl_host_answers.proofs.answers.hear_lease_read.Goals as goal
-use Rattle.sl_host_answers.specs.Answering.{due_for}
-use Rattle.sl_host_state.specs.Kept.{HostKept}
+use Rattle.sl_host_answers.specs.WholeAnswers.{due_for}
+use Rattle.sl_host_state.specs.KeptState.{HostKept}
 use Rattle.sl_trace.specs.declared.effects.Purpose.TheVariants.{Lease}
 use Rattle.sl_trace.specs.declared.input.Answer.TheVariants.{Read}
 use Rattle.std.proofs.Common.{None, ap, ◌∙◌}

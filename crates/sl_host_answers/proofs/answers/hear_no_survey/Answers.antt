@@ -1,8 +1,8 @@
-use Rattle.sl_host_answers.proofs.AnsweringStands.{finished, nobody}
+use Rattle.sl_host_answers.proofs.WholeAnswersStand.{finished, nobody}
 use Rattle.sl_trace.specs.declared.effects.Purpose.TheVariants.{Survey}
 use Rattle.sl_trace.specs.declared.input.Answer.TheVariants.{Failed}
-use Rattle.sl_host_state.specs.Kept.{state_of}
-use Rattle.sl_host_state.specs.Hears.{heard_answer}
+use Rattle.sl_host_state.specs.KeptState.{state_of}
+use Rattle.sl_host_state.specs.HeardInputs.{heard_answer}
 use Rattle.std.proofs.Common.{◌∙◌}
 use Rattle.sl_host_answers.proofs.answers.hear_no_survey.Goals as goal
 

@@ -1,8 +1,8 @@
-use Rattle.sl_host_answers.proofs.AnsweringStands.{finished, known_then}
+use Rattle.sl_host_answers.proofs.WholeAnswersStand.{finished, known_then}
 use Rattle.sl_trace.specs.declared.effects.Purpose.TheVariants.{Leaving}
 use Rattle.sl_trace.specs.declared.input.Answer.TheVariants.{Failed}
-use Rattle.sl_host_answers.specs.Answering.{due_for}
-use Rattle.sl_host.specs.Hearing.{is_own_purpose}
+use Rattle.sl_host_answers.specs.WholeAnswers.{due_for}
+use Rattle.sl_host.specs.HeardAnswers.{is_own_purpose}
 use Rattle.std.proofs.Common.{None, ap, ◌∙◌}
 use Rattle.sl_host_answers.proofs.answers.hear_not_freed.Goals as goal
 

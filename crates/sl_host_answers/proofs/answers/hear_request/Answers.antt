@@ -1,8 +1,8 @@
-use Rattle.sl_host_answers.proofs.AnsweringStands.{finished, known_then}
+use Rattle.sl_host_answers.proofs.WholeAnswersStand.{finished, known_then}
 use Rattle.sl_trace.specs.declared.effects.Purpose.TheVariants.{RequestRead}
 use Rattle.sl_trace.specs.declared.input.Answer.TheVariants.{Read}
-use Rattle.sl_host_answers.specs.Answering.{due_for}
-use Rattle.sl_host.specs.Hearing.{is_untold}
+use Rattle.sl_host_answers.specs.WholeAnswers.{due_for}
+use Rattle.sl_host.specs.HeardAnswers.{is_untold}
 use Rattle.std.proofs.Common.{None, IsTrue, ap, length, subst, sym, ◌*◌, ◌∙◌, ◌≡◌}
 use Rattle.sl_host_answers.proofs.answers.hear_request.Goals as goal
 

@@ -1,7 +1,7 @@
-use Rattle.sl_host_answers.proofs.AnsweringStands.{finished}
+use Rattle.sl_host_answers.proofs.WholeAnswersStand.{finished}
 use Rattle.sl_trace.specs.declared.effects.Purpose.TheVariants.{RequestWrite}
 use Rattle.sl_trace.specs.declared.input.Answer.TheVariants.{Written}
-use Rattle.sl_host_answers.specs.Answering.{due_for}
+use Rattle.sl_host_answers.specs.WholeAnswers.{due_for}
 use Rattle.std.proofs.Common.{None, ap, ◌∙◌}
 use Rattle.sl_host_answers.proofs.answers.hear_requested.Goals as goal
 

@@ -1,7 +1,7 @@
-use Rattle.sl_host_answers.proofs.AnsweringStands.{finished, known_then, same_holdings, same_jobs, same_leases}
+use Rattle.sl_host_answers.proofs.WholeAnswersStand.{finished, known_then, same_holdings, same_jobs, same_leases}
 use Rattle.sl_trace.specs.declared.effects.Purpose.TheVariants.{Survey}
 use Rattle.sl_trace.specs.declared.input.Answer.TheVariants.{Read}
-use Rattle.sl_host_answers.specs.Answering.{due_for, is_joining_purpose}
+use Rattle.sl_host_answers.specs.WholeAnswers.{due_for, is_joining_purpose}
 use Rattle.std.proofs.Common.{IsTrue, None, ap, arith, length, subst, sym, ◌*◌, ◌∙◌, ◌≡◌}
 use Rattle.sl_host_answers.proofs.answers.hear_survey.Goals as goal
 

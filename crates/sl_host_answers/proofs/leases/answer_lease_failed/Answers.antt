@@ -1,7 +1,7 @@
 use Rattle.sl_host_answers.proofs.LeasesStand.{goes_further, goes_nowhere}
 use Rattle.sl_host_answers.proofs.leases.answer_lease_failed.Goals as goal
 use Rattle.sl_host_answers.specs.Facts.{WorkKnown}
-use Rattle.sl_host_state.specs.Kept.{state_of}
+use Rattle.sl_host_state.specs.KeptState.{state_of}
 use Rattle.sl_trace.specs.declared.effects.Spot.{Spot}
 use Rattle.sl_trace.specs.declared.input.Answer.TheVariants.{Failed}
 use Rattle.std.proofs.Common.{subst, sym, ◌∙◌}

@@ -1,7 +1,7 @@
 use Rattle.sl_host_answers.proofs.LeasesStand.{goes_further, goes_nowhere}
 use Rattle.sl_host_answers.proofs.leases.answer_lease_read.Goals as goal
 use Rattle.sl_host_answers.specs.Facts.{ToldKnown}
-use Rattle.sl_host_state.specs.Kept.{state_of}
+use Rattle.sl_host_state.specs.KeptState.{state_of}
 use Rattle.sl_trace.specs.declared.effects.Spot.{Spot}
 use Rattle.sl_trace.specs.declared.input.Answer.TheVariants.{Read}
 use Rattle.std.proofs.Common.{List, subst, sym, ℕ, ◌∙◌}

@@ -1,9 +1,9 @@
-use Rattle.sl_host.specs.Asking.{state_in}
+use Rattle.sl_host.specs.BookQuestions.{state_in}
 use Rattle.sl_host_answers.proofs.leases.member_next_read.Goals as goal
 use Rattle.sl_host_law.specs.Steps.Leases.{answered_next}
 use Rattle.sl_host_work.proofs.ReadsGive.{blocks_are}
-use Rattle.sl_host_work.specs.Asking.{MayAsk}
-use Rattle.sl_host_work.specs.Placed.{IsPlaced}
+use Rattle.sl_host_work.specs.LeaseQuestions.{MayAsk}
+use Rattle.sl_host_work.specs.SectorPlaces.{IsPlaced}
 use Rattle.sl_sector.specs.declared.sector.Block.{Block}
 use Rattle.sl_trace.specs.declared.lease.Aim.{Aim}
 use Rattle.sl_trace.specs.declared.lease.LeaseNext.{LeaseNext}

@@ -1,11 +1,11 @@
 use Rattle.sl_host_answers.proofs.leases.member_next_write.Goals as goal
 use Rattle.sl_host_law.specs.Steps.Leases.{answered_next}
-use Rattle.sl_host_work.specs.Placed.{IsPlaced}
+use Rattle.sl_host_work.specs.SectorPlaces.{IsPlaced}
 use Rattle.sl_trace.specs.declared.lease.Aim.{Aim}
 use Rattle.sl_trace.specs.declared.lease.LeaseNext.{LeaseNext}
 use Rattle.sl_trace.specs.declared.session.Session.{Session}
 use Rattle.sl_trace.specs.declared.input.Answer.TheVariants.{Written}
-use Rattle.sl_host.specs.Asking.{state_in}
+use Rattle.sl_host.specs.BookQuestions.{state_in}
 use Rattle.std.proofs.Common.{ap, refl, subst, sym, ◌∙◌}
 use Rattle.std.specs.Prelude.{Option, Some, option_map}
 

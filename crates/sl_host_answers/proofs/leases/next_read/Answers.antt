@@ -1,8 +1,8 @@
-use Rattle.sl_host.specs.Asking.{state_in}
+use Rattle.sl_host.specs.BookQuestions.{state_in}
 use Rattle.sl_host_answers.proofs.leases.next_read.Goals as goal
 use Rattle.sl_host_answers.specs.Leases.{next_on}
 use Rattle.sl_host_work.proofs.TurnsStand.{turned_for}
-use Rattle.sl_member.specs.Together.{member_with}
+use Rattle.sl_member.specs.HostMembers.{member_with}
 use Rattle.sl_trace.specs.declared.input.Answer.TheVariants.{Read}
 use Rattle.std.proofs.Common.{ap, sym, ◌∙◌}
 

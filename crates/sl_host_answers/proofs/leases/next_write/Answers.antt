@@ -1,6 +1,6 @@
 use Rattle.sl_host_work.proofs.TurnsStand.{turned_for}
 use Rattle.sl_host_answers.proofs.leases.next_write.Goals as goal
-use Rattle.sl_member.specs.Together.{member_with}
+use Rattle.sl_member.specs.HostMembers.{member_with}
 use Rattle.std.proofs.Common.{ap, sym, ◌∙◌}
 
 pub member_next_write-requires-clause-known : goal.member_next_write-requires-clause-known

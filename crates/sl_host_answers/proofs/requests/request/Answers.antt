@@ -1,7 +1,7 @@
 use Rattle.sl_host_answers.proofs.RequestsStand.{refuses, writes}
 use Rattle.sl_host_answers.proofs.requests.request.Goals as goal
 use Rattle.sl_host_law.specs.Answers.Requests.{writing_request}
-use Rattle.sl_host_state.specs.Kept.{state_of}
+use Rattle.sl_host_state.specs.KeptState.{state_of}
 use Rattle.std.proofs.Common.{ap, ◌∙◌}
 
 pub returns-in-Some-clause-state : goal.returns-in-Some-clause-state

@@ -1,6 +1,6 @@
 use Rattle.sl_host_answers.proofs.requests.write_request.Goals as goal
-use Rattle.sl_host_state.specs.Kept.{HostState, state_of}
-use Rattle.sl_host_state.specs.Makes.{with_call}
+use Rattle.sl_host_state.specs.KeptState.{HostState, state_of}
+use Rattle.sl_host_state.specs.MadeEffects.{with_call}
 use Rattle.sl_sector.specs.declared.sector.Rec.TheVariants.{RequestIs}
 use Rattle.sl_trace.specs.declared.effects.Op.TheVariants.{WriteRecord}
 use Rattle.sl_trace.specs.declared.effects.Purpose.TheVariants.{RequestWrite}

@@ -2,8 +2,8 @@ use Rattle.sl_host_answers.proofs.SurveysStand.{shown_few, surveyed}
 use Rattle.sl_host_answers.proofs.surveys.answer_survey.Goals as goal
 use Rattle.sl_host_answers.specs.Surveys.{acting, spots_of}
 use Rattle.sl_host_law.specs.Steps.Passes.{member_numbered}
-use Rattle.sl_host_state.specs.Kept.{state_of}
-use Rattle.sl_host.specs.Asking.{state_in}
+use Rattle.sl_host_state.specs.KeptState.{state_of}
+use Rattle.sl_host.specs.BookQuestions.{state_in}
 use Rattle.std.proofs.Common.{ap, arith, ◌∙◌}
 use Rattle.std.specs.Prelude.{length}
 

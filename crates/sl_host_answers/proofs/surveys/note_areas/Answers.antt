@@ -1,6 +1,6 @@
 use Rattle.sl_host_answers.proofs.SurveysStand.{spots_more}
 use Rattle.sl_host_answers.proofs.surveys.note_areas.Goals as goal
-use Rattle.sl_host_state.specs.Kept.{LeaseState}
+use Rattle.sl_host_state.specs.KeptState.{LeaseState}
 use Rattle.sl_trace.specs.declared.effects.Spot.{Spot}
 use Rattle.sl_host.specs.Notes.{NotesState}
 use Rattle.std.proofs.Common.{ap, ◌∙◌}

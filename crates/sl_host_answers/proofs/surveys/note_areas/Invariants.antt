@@ -1,5 +1,5 @@
 use Rattle.sl_host_answers.proofs.surveys.note_areas.Given as goal
-use Rattle.sl_host_state.specs.Kept.{LeaseState}
+use Rattle.sl_host_state.specs.KeptState.{LeaseState}
 use Rattle.std.proofs.Common.{map, take, ◌≡◌}
 
 abbrev pub invariant-loop-place : goal.invariant-loop-place

@@ -1,7 +1,7 @@
 use Rattle.sl_host_answers.proofs.surveys.note_spots.Goals as goal
 use Rattle.sl_host_answers.specs.Surveys.{leases_of, spots_of}
-use Rattle.sl_host_state.specs.Kept.{LeaseState, MemberState}
-use Rattle.sl_member.specs.Together.{member_with}
+use Rattle.sl_host_state.specs.KeptState.{LeaseState, MemberState}
+use Rattle.sl_member.specs.HostMembers.{member_with}
 use Rattle.std.proofs.Common.{ap, arith, sym, ◌∙◌}
 use Rattle.std.proofs.lemmas.List.{length-map}
 use Rattle.std.specs.Prelude.{List, Some, length, map, ◌≡◌}

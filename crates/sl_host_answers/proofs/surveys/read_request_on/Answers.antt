@@ -1,6 +1,6 @@
 use Rattle.sl_host_answers.proofs.surveys.read_request_on.Goals as goal
 use Rattle.sl_host_answers.specs.Surveys.{reading_held}
-use Rattle.sl_host_state.specs.Kept.{state_of}
+use Rattle.sl_host_state.specs.KeptState.{state_of}
 use Rattle.std.proofs.Common.{ap, ◌∙◌}
 
 pub read_request-requires-clause-area : goal.read_request-requires-clause-area

@@ -1,9 +1,9 @@
 use Rattle.sl_host_answers.proofs.SurveysStand.{known_still}
 use Rattle.sl_host_answers.proofs.surveys.read_requests.Goals as goal
 use Rattle.sl_host_law.specs.Answers.Surveys.{reading_request_on}
-use Rattle.sl_host_law.specs.Parts.Signals.{over}
-use Rattle.sl_host_state.specs.Kept.{state_of}
-use Rattle.sl_host_work.proofs.Passing.{fewer_left, over_end, over_next}
+use Rattle.sl_host_law.specs.StepParts.Signals.{over}
+use Rattle.sl_host_state.specs.KeptState.{state_of}
+use Rattle.sl_host_work.proofs.ListPasses.{fewer_left, over_end, over_next}
 use Rattle.std.proofs.Common.{ap, arith, refl, sym, ◌≡◌, ◌∙◌}
 use Rattle.std.specs.Prelude.{drop, length}
 

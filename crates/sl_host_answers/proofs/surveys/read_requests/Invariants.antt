@@ -1,8 +1,8 @@
 use Rattle.sl_host_answers.proofs.surveys.read_requests.Given as goal
 use Rattle.sl_host_answers.specs.Surveys.{SameHoldings}
 use Rattle.sl_host_law.specs.Answers.Surveys.{reading_request_on}
-use Rattle.sl_host_law.specs.Parts.Signals.{over}
-use Rattle.sl_host_state.specs.Kept.{state_of}
+use Rattle.sl_host_law.specs.StepParts.Signals.{over}
+use Rattle.sl_host_state.specs.KeptState.{state_of}
 use Rattle.sl_trace.specs.declared.command.Command.{Command}
 use Rattle.sl_host.specs.Host.{SameRun}
 use Rattle.std.proofs.Common.{List, Result, drop, length, ℕ, ◌+◌, ◌≡◌, ◌≤◌}

@@ -1,7 +1,7 @@
 use Rattle.sl_host_answers.proofs.SurveysStand.{stopped_held}
 use Rattle.sl_host_answers.proofs.surveys.stop_shown.Goals as goal
-use Rattle.sl_host_state.specs.Kept.{HostState}
-use Rattle.sl_host.specs.Asking.{state_in}
+use Rattle.sl_host_state.specs.KeptState.{HostState}
+use Rattle.sl_host.specs.BookQuestions.{state_in}
 use Rattle.std.proofs.Common.{ap, ◌∙◌}
 use Rattle.std.specs.Prelude.{Err, None}
 

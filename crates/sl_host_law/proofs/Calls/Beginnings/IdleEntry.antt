@@ -1,5 +1,5 @@
 -- An entry that is a wake and does nothing: what is asked of a trace has the answer that it had.
-use Rattle.sl_host_law.proofs.Plain.PlainLists.{filter_as, filter_whole}
+use Rattle.sl_host_law.proofs.SharedFacts.PlainLists.{filter_as, filter_whole}
 use Rattle.sl_trace.specs.Sessions.{has_open_write, is_join_done, is_joined, is_present, joined_after, leaving_job, present_sessions, refused_after, removed_after, sessions}
 use Rattle.sl_trace.specs.declared.session.Session.{Session}
 use Rattle.sl_trace.specs.Traces.{Child, Job, KillProgram, Replied, Setting, Trace, children, holdings, is_running, jobs, kill_programs, no_effects, reply_to, running_jobs}

@@ -1,9 +1,9 @@
 -- A member as a step begins: its recovery may begin, by time.
 use Rattle.sl_host_law.proofs.Calls.Beginnings.IdleEntry.{idle, same_joined, same_leaving, same_refused_after}
-use Rattle.sl_host_law.proofs.Calls.Calls.KnownMore.{known_by}
-use Rattle.sl_host_state.specs.Hears.{beginning, counted, is_late, member_begun, with_renewing}
-use Rattle.sl_host_state.specs.Kept.{Config, HostState, MemberState}
-use Rattle.sl_host_state.specs.Stands.{Keeps, MemberStands}
+use Rattle.sl_host_law.proofs.Calls.MemberCalls.KnownMore.{known_by}
+use Rattle.sl_host_state.specs.HeardInputs.{beginning, counted, is_late, member_begun, with_renewing}
+use Rattle.sl_host_state.specs.KeptState.{Config, HostState, MemberState}
+use Rattle.sl_host_state.specs.HostStands.{Keeps, MemberStands}
 use Rattle.sl_trace.specs.Deltas.{delta_known}
 use Rattle.sl_trace.specs.Sessions.{calls_of, leaving_job, recovers, renewing, renewing_after}
 use Rattle.sl_trace.specs.declared.delta.DeltaKnown.{DeltaKnown}

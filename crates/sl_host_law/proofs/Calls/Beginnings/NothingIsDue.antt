@@ -5,12 +5,12 @@ use Rattle.sl_host_law.proofs.Calls.Beginnings.QuietBegun.{moments_have, not_lat
 use Rattle.sl_due.specs.Due.{before_input}
 use Rattle.sl_due.specs.DueFirst.{begin_recoveries, begin_recovery, begins_now, is_first_at, is_kill_due, is_overdue, kill_holders, kills, kills_holders, refuse, signal_and_refuse, signal_holders, time_out, time_outs}
 use Rattle.sl_due.specs.Steps.{Step, begin_step, for_each, seen, when, with_some}
-use Rattle.sl_host_law.proofs.Plain.PlainLists.{at_some}
-use Rattle.sl_host_law.proofs.Plain.Quiet.{job_quiet, member_quiet}
-use Rattle.sl_host_state.specs.Hears.{beginning, counted, with_renewing}
-use Rattle.sl_host_state.specs.Kept.{Config, HostState, MemberState}
-use Rattle.sl_host_state.specs.Stands.{HostStands, MemberStands, job_moments, kept_job, kept_waiting, kill_moment, recovery_moment}
-use Rattle.sl_plain.proofs.Lists.{contains_first, contains_map, contains_more, in_map}
+use Rattle.sl_host_law.proofs.SharedFacts.PlainLists.{at_some}
+use Rattle.sl_host_law.proofs.SharedFacts.QuietMoments.{job_quiet, member_quiet}
+use Rattle.sl_host_state.specs.HeardInputs.{beginning, counted, with_renewing}
+use Rattle.sl_host_state.specs.KeptState.{Config, HostState, MemberState}
+use Rattle.sl_host_state.specs.HostStands.{HostStands, MemberStands, job_moments, kept_job, kept_waiting, kill_moment, recovery_moment}
+use Rattle.sl_words.proofs.Lists.{contains_first, contains_map, contains_more, in_map}
 use Rattle.sl_trace.specs.Sessions.{is_joined, leaving_of, present_sessions, recovers, recovery_of, renewed_by, renewing, shows_other}
 use Rattle.sl_trace.specs.declared.session.Begun.{Begun}
 use Rattle.sl_trace.specs.declared.session.Renewing.{Renewing}

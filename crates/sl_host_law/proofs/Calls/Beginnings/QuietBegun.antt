@@ -1,13 +1,13 @@
 -- Nothing is due sooner than the reading kept, as a step begins; and below it nobody's recovery begins.
 use Rattle.sl_host_law.specs.Calls.Beginnings.{begun_quietly}
-use Rattle.sl_host_law.proofs.Plain.PlainLists.{in_back, in_either, in_front}
-use Rattle.sl_host_law.proofs.Plain.Quiet.{job_quiet, lowered_most, lowered_reaches, member_quiet, quiet_by}
-use Rattle.sl_host_state.specs.Hears.{beginning, begun, counted, is_late, member_begun, with_renewing}
-use Rattle.sl_host_state.specs.Kept.{HostState, MemberState}
-use Rattle.sl_host_state.specs.Makes.{lowered}
-use Rattle.sl_host_state.specs.Stands.{IsQuiet, kill_moment, member_moments, recovery_moment}
-use Rattle.sl_plain.proofs.Lists.{any_found, any_of, contains_cases, contains_first, contains_more, contains_none, in_map}
-use Rattle.sl_plain.proofs.Numbers.{equal_is_most, trans_le}
+use Rattle.sl_host_law.proofs.SharedFacts.PlainLists.{in_back, in_either, in_front}
+use Rattle.sl_host_law.proofs.SharedFacts.QuietMoments.{job_quiet, lowered_most, lowered_reaches, member_quiet, quiet_by}
+use Rattle.sl_host_state.specs.HeardInputs.{beginning, begun, counted, is_late, member_begun, with_renewing}
+use Rattle.sl_host_state.specs.KeptState.{HostState, MemberState}
+use Rattle.sl_host_state.specs.MadeEffects.{lowered}
+use Rattle.sl_host_state.specs.HostStands.{IsQuiet, kill_moment, member_moments, recovery_moment}
+use Rattle.sl_words.proofs.Lists.{any_found, any_of, contains_cases, contains_first, contains_more, contains_none, in_map}
+use Rattle.sl_words.proofs.Numbers.{equal_is_most, trans_le}
 use Rattle.sl_trace.specs.declared.session.Begun.{Begun}
 use Rattle.sl_time.specs.Times.{fail}
 use Rattle.sl_words.proofs.CaseLaws.{false_is_true, is_false, true_is_false}

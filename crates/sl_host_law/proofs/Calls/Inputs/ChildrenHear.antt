@@ -1,8 +1,8 @@
 -- What an exit or the answer of a start changes of the children: one of its number, whose number and job stay; a child that is not kept
 -- is not kept after it.
-use Rattle.sl_host_law.proofs.Plain.PlainLists.{kept_if}
-use Rattle.sl_host_state.specs.Stands.{is_there}
-use Rattle.sl_plain.proofs.Lists.{any_found, any_of, contains_cases, contains_first, contains_map, contains_more, contains_none, head_is, in_map, tail_is}
+use Rattle.sl_host_law.proofs.SharedFacts.PlainLists.{kept_if}
+use Rattle.sl_host_state.specs.HostStands.{is_there}
+use Rattle.sl_words.proofs.Lists.{any_found, any_of, contains_cases, contains_first, contains_map, contains_more, contains_none, head_is, in_map, tail_is}
 use Rattle.sl_trace.specs.Traces.{Child, child_after, new_child}
 use Rattle.sl_trace.specs.declared.effects.Start.{Start}
 use Rattle.sl_trace.specs.declared.input.Input.TheVariants.{Exit, Spawned}

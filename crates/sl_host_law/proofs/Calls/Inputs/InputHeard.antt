@@ -1,16 +1,16 @@
 -- An input that answers no call, in place of the wake that the step counted as: what is asked of calls and renewals has the answer that it
 -- had, and a host keeps what it kept but for lines, jobs, members, children and kill programs.
-use Rattle.sl_host_law.proofs.Calls.Calls.KnownMore.{known_by}
-use Rattle.sl_host_law.proofs.Calls.Calls.LeasesMore.{calls_on}
-use Rattle.sl_host_law.proofs.Calls.Calls.MemberMore.{self_by}
-use Rattle.sl_host_law.proofs.Calls.Calls.ValuesMore.{on_lease}
-use Rattle.sl_host_law.proofs.Plain.PlainLists.{all_as}
-use Rattle.sl_host_state.specs.Kept.{HostState, MemberState}
-use Rattle.sl_host_state.specs.Stands.{AreInTurn, AskedStands, JoinStands, Keeps, LeaseStands, MemberStands, WatchKeeps, is_there, kept_call, kept_job, newest_value}
-use Rattle.sl_host_state.specs.declared.kept.JobState.{JobState}
+use Rattle.sl_host_law.proofs.Calls.MemberCalls.KnownMore.{known_by}
+use Rattle.sl_host_law.proofs.Calls.MemberCalls.LeasesMore.{calls_on}
+use Rattle.sl_host_law.proofs.Calls.MemberCalls.MemberMore.{self_by}
+use Rattle.sl_host_law.proofs.Calls.MemberCalls.ValuesMore.{on_lease}
+use Rattle.sl_host_law.proofs.SharedFacts.PlainLists.{all_as}
+use Rattle.sl_host_state.specs.KeptState.{HostState, MemberState}
+use Rattle.sl_host_state.specs.HostStands.{AreInTurn, AskedStands, JoinStands, Keeps, LeaseStands, MemberStands, WatchKeeps, is_there, kept_call, kept_job, newest_value}
+use Rattle.sl_host_state.specs.declared.kept_parts.JobState.{JobState}
 use Rattle.sl_trace.specs.Counts.{values_on}
 use Rattle.sl_trace.specs.Leases.{spots_in}
-use Rattle.sl_plain.proofs.Numbers.{trans_le}
+use Rattle.sl_words.proofs.Numbers.{trans_le}
 use Rattle.sl_trace.specs.Deltas.{delta_known}
 use Rattle.sl_trace.specs.Sessions.{calls_of, ended_after, is_call_of, is_delta_purpose, joined_after, leaving_job, leaving_of, recovery_of, renewing, sessions}
 use Rattle.sl_trace.specs.declared.delta.DeltaKnown.{DeltaKnown}

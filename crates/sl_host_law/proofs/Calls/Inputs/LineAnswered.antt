@@ -1,16 +1,16 @@
 -- A line that is answered at once: its job has come and gone in one.
-use Rattle.sl_acts.proofs.Additions.{any_last, found_more}
+use Rattle.sl_due_facts.proofs.Acts.AddedAtEnd.{any_last, found_more}
 use Rattle.sl_host_law.proofs.Calls.Inputs.InputHeard.{entry_with, heard}
 use Rattle.sl_host_law.proofs.Calls.Inputs.LineBegins.{line_job}
 use Rattle.sl_host_law.proofs.Calls.Inputs.LineHeard.{known_line, sessions_line}
-use Rattle.sl_host_law.proofs.Plain.MembersAreSessions.{member_inside}
-use Rattle.sl_host_law.proofs.Plain.NewNumbers.{no_reply_found}
-use Rattle.sl_host_law.proofs.Plain.PlainLists.{all_as, each_of, filter_where}
-use Rattle.sl_host_law.proofs.Plain.SessionNumbers.{HasJobBelow, jobs_below, session_jobs_below}
-use Rattle.sl_host_state.specs.Hears.{answered_line, program_answered}
-use Rattle.sl_host_state.specs.Kept.{Config, HostState, MemberState}
-use Rattle.sl_host_state.specs.Stands.{Keeps, MemberStands, kept_job}
-use Rattle.sl_plain.proofs.Numbers.{equal_is_most, less_is_other, number_itself}
+use Rattle.sl_host_law.proofs.SharedFacts.MembersAreSessions.{member_inside}
+use Rattle.sl_host_law.proofs.SharedFacts.NewNumbers.{no_reply_found}
+use Rattle.sl_host_law.proofs.SharedFacts.PlainLists.{all_as, each_of, filter_where}
+use Rattle.sl_host_law.proofs.SharedFacts.SessionNumbers.{HasJobBelow, jobs_below, session_jobs_below}
+use Rattle.sl_host_state.specs.HeardInputs.{answered_line, program_answered}
+use Rattle.sl_host_state.specs.KeptState.{Config, HostState, MemberState}
+use Rattle.sl_host_state.specs.HostStands.{Keeps, MemberStands, kept_job}
+use Rattle.sl_words.proofs.Numbers.{equal_is_most, less_is_other, number_itself}
 use Rattle.sl_trace.specs.Deltas.{delta_known}
 use Rattle.sl_trace.specs.Sessions.{has_open_write, is_join_done, is_joined, is_present, joined_after, leaves, leaving_job, present_sessions, refused_after, removed_after, sessions}
 use Rattle.sl_trace.specs.declared.delta.DeltaKnown.{DeltaKnown}

@@ -1,10 +1,10 @@
 -- A line whose command is carried out: its job comes behind all, and where it leaves a session the leaving begins.
 use Rattle.sl_host_law.proofs.Calls.Inputs.InputHeard.{entry_with, heard, known_heard, member_heard, member_with}
-use Rattle.sl_host_law.proofs.Plain.PlainLists.{each_of}
-use Rattle.sl_host_state.specs.Hears.{leaves_member, member_leaving}
-use Rattle.sl_host_state.specs.Kept.{HostState, MemberState}
-use Rattle.sl_host_state.specs.Stands.{Keeps, MemberStands}
-use Rattle.sl_plain.proofs.Lists.{find_inside}
+use Rattle.sl_host_law.proofs.SharedFacts.PlainLists.{each_of}
+use Rattle.sl_host_state.specs.HeardInputs.{leaves_member, member_leaving}
+use Rattle.sl_host_state.specs.KeptState.{HostState, MemberState}
+use Rattle.sl_host_state.specs.HostStands.{Keeps, MemberStands}
+use Rattle.sl_words.proofs.Lists.{find_inside}
 use Rattle.sl_trace.specs.Sessions.{has_open_write, is_join_done, is_joined, is_present, joined_after, leaves, leaving_job, refused_after, removed_after}
 use Rattle.sl_trace.specs.declared.delta.DeltaKnown.{DeltaKnown}
 use Rattle.sl_trace.specs.declared.session.Begun.{Begun}

@@ -1,19 +1,19 @@
 -- A line whose command is carried out, heard by the whole.
 use Rattle.sl_host_law.proofs.Calls.Inputs.InputHeard.{Changes, entry_with, heard, keeps_heard}
 use Rattle.sl_host_law.proofs.Calls.Inputs.LineBegins.{joined_before, leaving_line, line_job, member_line}
-use Rattle.sl_host_law.proofs.Plain.MembersAreSessions.{member_inside}
-use Rattle.sl_host_law.proofs.Plain.NewNumbers.{no_call, no_child, no_reply_any, no_reply_in}
-use Rattle.sl_host_law.proofs.Plain.PlainLists.{at_mapped, in_either}
-use Rattle.sl_host_law.proofs.Plain.Quiet.{job_quiet, lowered_most, lowered_reaches, member_quiet, quiet_by}
-use Rattle.sl_host_state.specs.Hears.{heard_line, leaves_member, member_leaving, new_job}
-use Rattle.sl_host_state.specs.Kept.{Config, HostState, MemberState}
-use Rattle.sl_host_state.specs.Makes.{lowered}
-use Rattle.sl_host_state.specs.Stands.{IsQuiet, Keeps, MemberStands, job_moments, kept_job, kept_waiting, kill_moment, member_moments, recovery_moment}
-use Rattle.sl_host_state.specs.declared.kept.JobState.{JobState}
+use Rattle.sl_host_law.proofs.SharedFacts.MembersAreSessions.{member_inside}
+use Rattle.sl_host_law.proofs.SharedFacts.NewNumbers.{no_call, no_child, no_reply_any, no_reply_in}
+use Rattle.sl_host_law.proofs.SharedFacts.PlainLists.{at_mapped, in_either}
+use Rattle.sl_host_law.proofs.SharedFacts.QuietMoments.{job_quiet, lowered_most, lowered_reaches, member_quiet, quiet_by}
+use Rattle.sl_host_state.specs.HeardInputs.{heard_line, leaves_member, member_leaving, new_job}
+use Rattle.sl_host_state.specs.KeptState.{Config, HostState, MemberState}
+use Rattle.sl_host_state.specs.MadeEffects.{lowered}
+use Rattle.sl_host_state.specs.HostStands.{IsQuiet, Keeps, MemberStands, job_moments, kept_job, kept_waiting, kill_moment, member_moments, recovery_moment}
+use Rattle.sl_host_state.specs.declared.kept_parts.JobState.{JobState}
 use Rattle.sl_trace.specs.Jobs.{child_of_job, command_of}
 use Rattle.sl_host_law.proofs.Calls.Beginnings.QuietBegun.{moments_cases, moments_have}
-use Rattle.sl_plain.proofs.Lists.{any_of, contains_cases, contains_none, in_map}
-use Rattle.sl_plain.proofs.Numbers.{equal_is_most, trans_le}
+use Rattle.sl_words.proofs.Lists.{any_of, contains_cases, contains_none, in_map}
+use Rattle.sl_words.proofs.Numbers.{equal_is_most, trans_le}
 use Rattle.sl_trace.specs.Sessions.{added_by, is_join_call, joining_session, sessions}
 use Rattle.sl_trace.specs.declared.delta.DeltaKnown.{DeltaKnown}
 use Rattle.sl_trace.specs.declared.session.Begun.{Begun}

@@ -1,18 +1,18 @@
 -- Each call of a host is of a session that the trace has: of a number below how many there are.
-use Rattle.sl_acts.proofs.CallsAreOwned.{hosts_own_their_calls}
+use Rattle.sl_due_facts.proofs.Acts.CallsAreOwned.{hosts_own_their_calls}
 use Rattle.sl_due.specs.Due.{IsHostTrace}
 use Rattle.sl_due.specs.Steps.{Step, seen}
-use Rattle.sl_host_law.proofs.Plain.PlainLists.{filter_none, got_below}
-use Rattle.sl_plain.proofs.Lists.{contains_none, got_inside}
-use Rattle.sl_plain.proofs.Options.{some_of}
+use Rattle.sl_host_law.proofs.SharedFacts.PlainLists.{filter_none, got_below}
+use Rattle.sl_words.proofs.Lists.{contains_none, got_inside}
+use Rattle.sl_words.proofs.Options.{some_of}
 use Rattle.sl_trace.specs.Sessions.{calls_of, is_call_of, session_numbered, sessions}
 use Rattle.sl_trace.specs.declared.session.Session.{Session}
 use Rattle.sl_trace.proofs.TraceFacts.{each_entry-front}
 use Rattle.sl_trace.specs.Traces.{EachEntry, Setting, Submitted, Trace, submitted}
 use Rattle.sl_trace.specs.declared.effects.Call.{Call}
 use Rattle.sl_trace.specs.declared.effects.Entry.{Entry}
-use Rattle.sl_trace_law.proofs.Sessions.Making.{calls_are_made}
-use Rattle.sl_trace_law.proofs.Sessions.Owning.{sessions_stay}
+use Rattle.sl_run_law.proofs.Sessions.CallsAreMade.{calls_are_made}
+use Rattle.sl_run_law.proofs.Sessions.CallOwners.{sessions_stay}
 use Rattle.sl_words.proofs.CaseLaws.{is_false}
 use Rattle.std.proofs.Common.{arith, subst, sym}
 use Rattle.std.proofs.lemmas.Bool.Decides.{Decides-eqb}

@@ -1,11 +1,11 @@
 -- A session that has not begun yet: it has no call, its job has no reply, so there is nothing to tell of it.
 use Rattle.sl_host_law.proofs.Calls.Joinings.CallsBelow.{AllOwned, none_yet}
 use Rattle.sl_host_state.proofs.NewHost.{new_asked, new_watch}
-use Rattle.sl_host_state.specs.New.{IsOfProgram, new_joining, new_member, sizes_in}
-use Rattle.sl_watch.specs.Telling.{blank_watch}
-use Rattle.sl_host_state.specs.Stands.{AreInTurn, AskedStands, JoinStands, MemberStands, WatchKeeps, config_of}
+use Rattle.sl_host_state.specs.NewHost.{IsOfProgram, new_joining, new_member, sizes_in}
+use Rattle.sl_watch.specs.ToldLooks.{blank_watch}
+use Rattle.sl_host_state.specs.HostStands.{AreInTurn, AskedStands, JoinStands, MemberStands, WatchKeeps, config_of}
 use Rattle.sl_trace.specs.Leases.{spots_in, value_written}
-use Rattle.sl_plain.proofs.Lists.{contains_none, find_inside, kept}
+use Rattle.sl_words.proofs.Lists.{contains_none, find_inside, kept}
 use Rattle.sl_trace.specs.Sessions.{begun_in, calls_of, free_write, generation_in, is_call_of, is_delta_purpose, is_join_done, is_joined, is_renewal, joined_after, leaves, leaving_in, leaving_job, recovers, recovery_of, refused_after, removed_after, renewal_in, renewed_by, renewing, renewing_after, seq_in, sessions, shows_other}
 use Rattle.sl_trace.specs.declared.delta.DeltaKnown.{DeltaKnown}
 use Rattle.sl_trace.specs.declared.session.Begun.{Begun}

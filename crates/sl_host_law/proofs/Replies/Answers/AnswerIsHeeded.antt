@@ -1,13 +1,13 @@
 -- Whether an answer is heeded is told by the jobs that a host keeps, as long as the step's replies are those of before its input.
-use Rattle.sl_host_law.proofs.Plain.NewNumbers.{mapped_inside}
-use Rattle.sl_host_law.proofs.Plain.KeptJobs.{kept_is_running}
-use Rattle.sl_host_law.proofs.Plain.PlainLists.{each_of}
-use Rattle.sl_host_state.specs.Hears.{is_heeded_by}
-use Rattle.sl_host_state.specs.Kept.{HostState}
-use Rattle.sl_host_state.specs.Stands.{Keeps}
-use Rattle.sl_host_state.specs.declared.kept.JobState.{JobState}
-use Rattle.sl_host_state.specs.declared.kept.OpenCall.{OpenCall}
-use Rattle.sl_plain.proofs.Lists.{find_inside}
+use Rattle.sl_host_law.proofs.SharedFacts.NewNumbers.{mapped_inside}
+use Rattle.sl_host_law.proofs.SharedFacts.KeptJobs.{kept_is_running}
+use Rattle.sl_host_law.proofs.SharedFacts.PlainLists.{each_of}
+use Rattle.sl_host_state.specs.HeardInputs.{is_heeded_by}
+use Rattle.sl_host_state.specs.KeptState.{HostState}
+use Rattle.sl_host_state.specs.HostStands.{Keeps}
+use Rattle.sl_host_state.specs.declared.kept_parts.JobState.{JobState}
+use Rattle.sl_host_state.specs.declared.kept_parts.OpenCall.{OpenCall}
+use Rattle.sl_words.proofs.Lists.{find_inside}
 use Rattle.sl_host_law.proofs.Replies.Answers.AnswerFindsItsCall.{IsTheCall}
 use Rattle.sl_host_law.proofs.Replies.Answers.AnswerMarksOneCall.{told}
 use Rattle.sl_host_law.proofs.Replies.JobsRun.{runs_among}

@@ -1,6 +1,6 @@
 -- What an answer makes of a list of calls: the call that it answers has it, every other is as it was. What is asked of calls and not of
 -- their answers stays.
-use Rattle.sl_host_law.proofs.Plain.PlainLists.{kept_if}
+use Rattle.sl_host_law.proofs.SharedFacts.PlainLists.{kept_if}
 use Rattle.sl_trace.specs.Leases.{is_lease_call, spot_of_call, spots_in, with_spot}
 use Rattle.sl_area.specs.Layouts.{Layout}
 use Rattle.sl_sector.specs.declared.sector.DeltaRec.{DeltaRec}

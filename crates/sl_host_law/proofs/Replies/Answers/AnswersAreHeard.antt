@@ -1,17 +1,17 @@
 -- The host that hears an answer stands for the step with it.
 use Rattle.sl_due.specs.Steps.{Step, seen, with_input}
-use Rattle.sl_host_law.proofs.Plain.MembersAreSessions.{member_inside}
-use Rattle.sl_host_law.proofs.Plain.PlainLists.{at_some, each_of, filter_as, none_any}
-use Rattle.sl_host_law.proofs.Plain.PlainOrders.{inside_ordered}
-use Rattle.sl_host_law.proofs.Plain.SessionNumbers.{placed_by_number}
-use Rattle.sl_host_law.specs.Plain.AtInput.{IsAtInput}
-use Rattle.sl_host_state.specs.Hears.{heard_answer, hearing, is_over_with, job_hearing, member_hearing, members_hearing, others}
-use Rattle.sl_host_state.specs.Kept.{HostState, MemberState}
-use Rattle.sl_host_state.specs.Stands.{Keeps, MemberStands, Stands, is_kept_of, kept_call, kept_job, kept_waiting}
-use Rattle.sl_host_state.specs.declared.kept.OpenCall.{OpenCall}
+use Rattle.sl_host_law.proofs.SharedFacts.MembersAreSessions.{member_inside}
+use Rattle.sl_host_law.proofs.SharedFacts.PlainLists.{at_some, each_of, filter_as, none_any}
+use Rattle.sl_host_law.proofs.SharedFacts.PlainOrders.{inside_ordered}
+use Rattle.sl_host_law.proofs.SharedFacts.SessionNumbers.{placed_by_number}
+use Rattle.sl_host_law.specs.SharedFacts.AtInput.{IsAtInput}
+use Rattle.sl_host_state.specs.HeardInputs.{heard_answer, hearing, is_over_with, job_hearing, member_hearing, members_hearing, others}
+use Rattle.sl_host_state.specs.KeptState.{HostState, MemberState}
+use Rattle.sl_host_state.specs.HostStands.{Keeps, MemberStands, Stands, is_kept_of, kept_call, kept_job, kept_waiting}
+use Rattle.sl_host_state.specs.declared.kept_parts.OpenCall.{OpenCall}
 use Rattle.sl_trace.specs.Jobs.{child_of_job, command_of}
-use Rattle.sl_plain.proofs.Lists.{find_inside, got_inside, in_map, kept, kept_inside}
-use Rattle.sl_plain.proofs.Numbers.{number_itself}
+use Rattle.sl_words.proofs.Lists.{find_inside, got_inside, in_map, kept, kept_inside}
+use Rattle.sl_words.proofs.Numbers.{number_itself}
 use Rattle.sl_host_law.proofs.Replies.Answers.AnswerFindsItsCall.{IsOr, IsTheCall, the_call}
 use Rattle.sl_host_law.proofs.Replies.Answers.AnswerIsHeeded.{waking}
 use Rattle.sl_host_law.proofs.Replies.Answers.AnswerMarksOneCall.{found_heard, given_heard, hear, numbers_stay, open_heard, same_call, same_reading, told}

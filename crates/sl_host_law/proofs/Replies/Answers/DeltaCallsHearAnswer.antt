@@ -1,24 +1,24 @@
 -- What a session's calls on delta sectors have with an answer to one of them: it is the newest, for they come one after another. And the
 -- owners asked, with an answered write of a request.
-use Rattle.sl_host_law.proofs.Plain.PlainLists.{each_of, kept_if}
+use Rattle.sl_host_law.proofs.SharedFacts.PlainLists.{each_of, kept_if}
 use Rattle.sl_area.specs.Layouts.{Layout, Sizes, layout_of, record_in}
 use Rattle.sl_area.specs.Places.{sector_of}
 use Rattle.sl_due.specs.DueRequests.{is_asked, is_fresh, owner_asked}
-use Rattle.sl_host_state.specs.Hears.{answered_at, asked_at, asked_hearing, joining_hearing, watch_hearing}
-use Rattle.sl_host_state.proofs.Seeing.{looks_stay}
-use Rattle.sl_host_state.specs.Kept.{HostState, JoinState}
-use Rattle.sl_host_state.specs.declared.kept.OpenCall.{OpenCall}
-use Rattle.sl_host_state.specs.New.{sizes_in}
-use Rattle.sl_host_state.specs.Stands.{AreInTurn, AskedStands, JoinStands, WatchKeeps, is_asked_in, kept_call, newest_of}
-use Rattle.sl_host_state.specs.declared.kept.JoinCall.{JoinCall}
-use Rattle.sl_plain.proofs.Lists.{any_of, contains_cases, contains_map, contains_none, head_is, kept}
+use Rattle.sl_host_state.specs.HeardInputs.{answered_at, asked_at, asked_hearing, joining_hearing, watch_hearing}
+use Rattle.sl_host_state.proofs.LooksStay.{looks_stay}
+use Rattle.sl_host_state.specs.KeptState.{HostState, JoinState}
+use Rattle.sl_host_state.specs.declared.kept_parts.OpenCall.{OpenCall}
+use Rattle.sl_host_state.specs.NewHost.{sizes_in}
+use Rattle.sl_host_state.specs.HostStands.{AreInTurn, AskedStands, JoinStands, WatchKeeps, is_asked_in, kept_call, newest_of}
+use Rattle.sl_host_state.specs.declared.kept_parts.JoinCall.{JoinCall}
+use Rattle.sl_words.proofs.Lists.{any_of, contains_cases, contains_map, contains_none, head_is, kept}
 use Rattle.sl_host_law.proofs.Replies.Answers.AnswerFindsItsCall.{IsOr}
 use Rattle.sl_host_law.proofs.Replies.Answers.AnswerMarksOneCall.{all_answered, answered_still, found_heard, hear, hear_by, not_its, picked, same_call, told}
 use Rattle.sl_host_law.specs.Replies.Answers.{AreIdSectors, FitsCall}
 use Rattle.sl_host_law.proofs.Replies.PlainFilters.{found_kept, given_kept}
 use Rattle.sl_trace.specs.Deltas.{claim_of, join_step_of}
 use Rattle.sl_trace.specs.Sessions.{delta_written, is_delta_purpose, is_join_call, is_survey_purpose, join_call}
-use Rattle.sl_trace.specs.Watching.{look_of, seen_records, sightings}
+use Rattle.sl_trace.specs.Sightings.{look_of, seen_records, sightings}
 use Rattle.sl_trace.specs.declared.sighting.Sighting.{Sighting}
 use Rattle.sl_time.specs.Times.{fail}
 use Rattle.sl_trace.specs.Traces.{Answered, Setting, Submitted, Trace, answer_of, bytes_given, gave, is_ok_answer}
@@ -30,8 +30,8 @@ use Rattle.sl_trace.specs.declared.effects.Purpose.TheVariants.{Joining, Lease, 
 use Rattle.sl_trace.specs.declared.effects.Purpose.{Purpose}
 use Rattle.sl_trace.specs.declared.input.Answer.TheVariants.{Failed, Read, Written}
 use Rattle.sl_trace.specs.declared.input.Answer.{Answer}
-use Rattle.sl_watch.proofs.TellingLaws.{same_seen, watches_are_told}
-use Rattle.sl_watch.specs.Telling.{AreTrue, delta_found, look_at, told_all}
+use Rattle.sl_watch.proofs.ToldLaws.{same_seen, watches_are_told}
+use Rattle.sl_watch.specs.ToldLooks.{AreTrue, delta_found, look_at, told_all}
 use Rattle.sl_watch.specs.Watches.{WatchStands, Watched}
 use Rattle.sl_words.proofs.CaseLaws.{is_false, none_some, not_both, some_value, true_is_false}
 use Rattle.sl_words.specs.Words.{some_is}

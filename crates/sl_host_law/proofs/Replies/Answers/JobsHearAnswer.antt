@@ -1,10 +1,10 @@
 -- The jobs that a host keeps, after an answer: the one that waited for it waits no more, since of each job one call is open at most.
-use Rattle.sl_host_law.proofs.Plain.PlainLists.{filter_none, found_mapped, none_any}
-use Rattle.sl_host_state.specs.Hears.{job_hearing}
-use Rattle.sl_host_state.specs.Stands.{AreSingle, is_kept_of, kept_call, kept_waiting}
-use Rattle.sl_host_state.specs.declared.kept.JobState.{JobState}
-use Rattle.sl_host_state.specs.declared.kept.OpenCall.{OpenCall}
-use Rattle.sl_host_state.specs.declared.kept.WaitingCall.{WaitingCall}
+use Rattle.sl_host_law.proofs.SharedFacts.PlainLists.{filter_none, found_mapped, none_any}
+use Rattle.sl_host_state.specs.HeardInputs.{job_hearing}
+use Rattle.sl_host_state.specs.HostStands.{AreSingle, is_kept_of, kept_call, kept_waiting}
+use Rattle.sl_host_state.specs.declared.kept_parts.JobState.{JobState}
+use Rattle.sl_host_state.specs.declared.kept_parts.OpenCall.{OpenCall}
+use Rattle.sl_host_state.specs.declared.kept_parts.WaitingCall.{WaitingCall}
 use Rattle.sl_host_law.proofs.Replies.PlainFilters.{filter_reversed, filters_turned}
 use Rattle.sl_host_law.proofs.Replies.PlainNumbers.{same_number}
 use Rattle.sl_trace.specs.Traces.{Submitted, is_of_job, job_of}

@@ -2,16 +2,16 @@
 use Rattle.sl_area.specs.Layouts.{Layout}
 use Rattle.sl_area.specs.Places.{blocks_of}
 use Rattle.sl_host_state.proofs.Pairs.{PairStands, at_phase, at_step, blocks_are_shown, last_kind, leader_is_shown, pair_hears, second_finds}
-use Rattle.sl_host_state.specs.Hears.{blocks_shown, concludes_at, is_free_step, is_last_phase, is_phase_step, leader_shown, lease_hearing, pair_hearing, read_heard, settles_at, stop_shown, top_hearing, verified_at, won_at, won_hearing}
-use Rattle.sl_host_state.specs.Kept.{LeaseState}
-use Rattle.sl_host_state.specs.Stands.{IsKeptCall, LeaseStands, free_written, top_mbal}
-use Rattle.sl_host_state.specs.declared.kept.LeaseCall.{LeaseCall}
-use Rattle.sl_host_state.specs.declared.kept.OpenCall.{OpenCall}
-use Rattle.sl_host_state.specs.declared.kept.TopNumber.{TopNumber}
+use Rattle.sl_host_state.specs.HeardInputs.{blocks_shown, concludes_at, is_free_step, is_last_phase, is_phase_step, leader_shown, lease_hearing, pair_hearing, read_heard, settles_at, stop_shown, top_hearing, verified_at, won_at, won_hearing}
+use Rattle.sl_host_state.specs.KeptState.{LeaseState}
+use Rattle.sl_host_state.specs.HostStands.{IsKeptCall, LeaseStands, free_written, top_mbal}
+use Rattle.sl_host_state.specs.declared.kept_parts.LeaseCall.{LeaseCall}
+use Rattle.sl_host_state.specs.declared.kept_parts.OpenCall.{OpenCall}
+use Rattle.sl_host_state.specs.declared.kept_parts.TopNumber.{TopNumber}
 use Rattle.sl_trace.specs.Ballots.{is_ahead, same_owner, stop_of, value_of}
 use Rattle.sl_trace.specs.Leases.{Phase2_read, Phase2_write, Read_before_free, block_of_record, block_submitted, block_written, blocks_given, concludes, ended_ballot, free_left, is_again, is_area_read, is_at, is_free_write, is_leader_of, kept_before, kind_of_step, last_blocks, leader_given, leader_of_record, leader_written, lease_step, may_show_shared, name_sought, open_ballot, same_kind, settles_free, shows_settled, stop_in, value_in_end, verified_by, verified_name, was_settled, won_by}
 use Rattle.sl_trace.specs.declared.lease.Stop.{Stop}
-use Rattle.sl_plain.proofs.Options.{mapped_value}
+use Rattle.sl_words.proofs.Options.{mapped_value}
 use Rattle.sl_host_law.proofs.Replies.PlainNumbers.{same_number}
 use Rattle.sl_host_law.proofs.Replies.Answers.OpenBallotsAreOwn.{open_is_own}
 use Rattle.sl_sector.specs.declared.sector.Block.{Block}

@@ -1,15 +1,15 @@
 -- A member that hears the answer to a call of its own stands for its session; any other member stands as it is.
 use Rattle.sl_area.specs.Layouts.{Layout}
-use Rattle.sl_host_law.proofs.Plain.PlainLists.{all_as, all_from, any_as, any_mapped, at_mapped, each_of}
-use Rattle.sl_host_state.specs.Hears.{asked_hearing, watch_hearing, is_heeded_by, lease_hearing, member_hearing, others, renewing_hearing, still_busy}
-use Rattle.sl_host_state.specs.Kept.{Config, HostState, LeaseState, MemberState}
-use Rattle.sl_host_state.specs.Stands.{AreInTurn, AskedStands, IsKeptCall, IsWaiting, JoinStands, Keeps, LeaseStands, MemberStands, WatchKeeps, kept_call, newest_value, sectors_of}
-use Rattle.sl_host_state.specs.declared.kept.LeaseCall.{LeaseCall}
-use Rattle.sl_host_state.specs.declared.kept.OpenCall.{OpenCall}
+use Rattle.sl_host_law.proofs.SharedFacts.PlainLists.{all_as, all_from, any_as, any_mapped, at_mapped, each_of}
+use Rattle.sl_host_state.specs.HeardInputs.{asked_hearing, watch_hearing, is_heeded_by, lease_hearing, member_hearing, others, renewing_hearing, still_busy}
+use Rattle.sl_host_state.specs.KeptState.{Config, HostState, LeaseState, MemberState}
+use Rattle.sl_host_state.specs.HostStands.{AreInTurn, AskedStands, IsKeptCall, IsWaiting, JoinStands, Keeps, LeaseStands, MemberStands, WatchKeeps, kept_call, newest_value, sectors_of}
+use Rattle.sl_host_state.specs.declared.kept_parts.LeaseCall.{LeaseCall}
+use Rattle.sl_host_state.specs.declared.kept_parts.OpenCall.{OpenCall}
 use Rattle.sl_trace.specs.Counts.{values_on}
 use Rattle.sl_trace.specs.Leases.{is_lease_call, is_on, lease_calls, lease_step, spots_in, value_written}
-use Rattle.sl_plain.proofs.Lists.{find_inside, kept, kept_inside}
-use Rattle.sl_plain.proofs.Numbers.{number_itself}
+use Rattle.sl_words.proofs.Lists.{find_inside, kept, kept_inside}
+use Rattle.sl_words.proofs.Numbers.{number_itself}
 use Rattle.sl_host_law.proofs.Replies.Answers.AnswerFindsItsCall.{IsOr, IsTheCall}
 use Rattle.sl_host_law.proofs.Replies.Answers.AnswerIsHeeded.{heeded_is, waking}
 use Rattle.sl_host_law.proofs.Replies.Answers.AnswerMarksOneCall.{all_answered, all_heard, free_stays, generation_stays, given_heard, hear, not_its, picked, renewal_stays, seq_stays, spots_stay, told, unheard}

@@ -1,9 +1,9 @@
 -- Who is present after an answer: all but a refused joining whose last open write it answers.
-use Rattle.sl_host_law.proofs.Plain.PlainLists.{at_some, filter_where}
-use Rattle.sl_host_state.specs.Hears.{is_over_with, others}
-use Rattle.sl_host_state.specs.Kept.{HostState, MemberState}
-use Rattle.sl_host_state.specs.Stands.{Keeps, kept_call}
-use Rattle.sl_host_state.specs.declared.kept.OpenCall.{OpenCall}
+use Rattle.sl_host_law.proofs.SharedFacts.PlainLists.{at_some, filter_where}
+use Rattle.sl_host_state.specs.HeardInputs.{is_over_with, others}
+use Rattle.sl_host_state.specs.KeptState.{HostState, MemberState}
+use Rattle.sl_host_state.specs.HostStands.{Keeps, kept_call}
+use Rattle.sl_host_state.specs.declared.kept_parts.OpenCall.{OpenCall}
 use Rattle.sl_host_law.proofs.Replies.Answers.AnswerIsHeeded.{waking}
 use Rattle.sl_host_law.proofs.Replies.Answers.AnswerMarksOneCall.{told}
 use Rattle.sl_host_law.proofs.Replies.OpenCallsAreKept.{open_write_is}

@@ -1,14 +1,14 @@
 -- Nothing that is due by time is due below the moment that a host keeps, after an answer: what begins by it lowers that moment.
-use Rattle.sl_host_law.proofs.Plain.PlainLists.{in_back, in_front}
-use Rattle.sl_host_state.specs.Hears.{beginning, hearing, is_over_with, job_hearing, member_hearing, members_hearing, quiet_hearing, renewed_of, shows_other_by}
-use Rattle.sl_host_state.specs.Kept.{HostState, MemberState}
-use Rattle.sl_host_state.specs.Makes.{lowered}
-use Rattle.sl_host_state.specs.Stands.{IsQuiet, job_moments, kill_moment, member_moments, recovery_moment}
-use Rattle.sl_host_state.specs.declared.kept.JobState.{JobState}
-use Rattle.sl_host_state.specs.declared.kept.OpenCall.{OpenCall}
-use Rattle.sl_host_state.specs.declared.kept.WaitingCall.{WaitingCall}
+use Rattle.sl_host_law.proofs.SharedFacts.PlainLists.{in_back, in_front}
+use Rattle.sl_host_state.specs.HeardInputs.{beginning, hearing, is_over_with, job_hearing, member_hearing, members_hearing, quiet_hearing, renewed_of, shows_other_by}
+use Rattle.sl_host_state.specs.KeptState.{HostState, MemberState}
+use Rattle.sl_host_state.specs.MadeEffects.{lowered}
+use Rattle.sl_host_state.specs.HostStands.{IsQuiet, job_moments, kill_moment, member_moments, recovery_moment}
+use Rattle.sl_host_state.specs.declared.kept_parts.JobState.{JobState}
+use Rattle.sl_host_state.specs.declared.kept_parts.OpenCall.{OpenCall}
+use Rattle.sl_host_state.specs.declared.kept_parts.WaitingCall.{WaitingCall}
 use Rattle.sl_host_law.proofs.Replies.MomentsAreLater.{AllFrom, from_both, from_none, job_from, member_from, one_moment, quiet_where}
-use Rattle.sl_plain.proofs.Lists.{any_of, contains_first, contains_none, in_map, kept_inside}
+use Rattle.sl_words.proofs.Lists.{any_of, contains_first, contains_none, in_map, kept_inside}
 use Rattle.sl_trace.specs.Sessions.{is_renewal}
 use Rattle.sl_trace.specs.declared.session.Begun.{Begun}
 use Rattle.sl_trace.specs.declared.session.Renewing.{Renewing}

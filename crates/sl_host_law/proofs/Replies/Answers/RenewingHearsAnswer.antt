@@ -1,8 +1,8 @@
 -- How a session stands with its renewals after an answer: by the call that is answered, and only where it is the session's own.
 use Rattle.sl_area.specs.Places.{delta_of}
-use Rattle.sl_host_state.specs.Hears.{renewed_of, renewing_hearing, setting_of, shows_other_by}
-use Rattle.sl_host_state.specs.Kept.{Config, HostState, MemberState}
-use Rattle.sl_host_state.specs.Stands.{config_of, kept_call}
+use Rattle.sl_host_state.specs.HeardInputs.{renewed_of, renewing_hearing, setting_of, shows_other_by}
+use Rattle.sl_host_state.specs.KeptState.{Config, HostState, MemberState}
+use Rattle.sl_host_state.specs.HostStands.{config_of, kept_call}
 use Rattle.sl_host_law.proofs.Replies.Answers.AnswerIsHeeded.{waking}
 use Rattle.sl_host_law.proofs.Replies.Answers.AnswerMarksOneCall.{told}
 use Rattle.sl_trace.specs.Sessions.{generation_of, has_open_write, is_call_of, is_join_done, is_joined, is_present, is_renewal, is_survey_purpose, joined_after, refused_after, removed_after, removed_in, renewed_by, renewing, shows_other, shows_other_in}

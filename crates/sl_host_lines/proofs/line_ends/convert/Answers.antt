@@ -1,10 +1,10 @@
 use Rattle.sl_host_law.specs.Steps.Passes.{at_member}
 use Rattle.sl_host_lines.proofs.HeardKnown.{convert_heard}
 use Rattle.sl_host_lines.proofs.line_ends.convert.Goals as goal
-use Rattle.sl_host_lines.specs.Ending.{turning}
+use Rattle.sl_host_lines.specs.HoldingEnds.{turning}
 use Rattle.sl_host_lines.specs.LineFacts.{MayConvertAt}
-use Rattle.sl_host_state.specs.Hears.{heard_line}
-use Rattle.sl_host_state.specs.Kept.{HostState, state_of}
+use Rattle.sl_host_state.specs.HeardInputs.{heard_line}
+use Rattle.sl_host_state.specs.KeptState.{HostState, state_of}
 use Rattle.sl_trace.specs.Leases.{spot_of}
 use Rattle.sl_trace.specs.declared.effects.Spot.{Spot}
 use Rattle.std.proofs.Common.{ap, subst, sym, ℕ, ◌∙◌}

@@ -1,6 +1,6 @@
 use Rattle.sl_host_lines.proofs.EndsStand.{freed_turned}
 use Rattle.sl_host_lines.proofs.line_ends.freed_of.Goals as goal
-use Rattle.sl_member.specs.Together.{member_with}
+use Rattle.sl_member.specs.HostMembers.{member_with}
 use Rattle.std.proofs.Common.{ap, sym, ◌∙◌}
 
 pub freed_next-requires-clause-may : goal.freed_next-requires-clause-may

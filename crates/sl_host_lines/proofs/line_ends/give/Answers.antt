@@ -2,9 +2,9 @@ use Rattle.sl_host_law.specs.Steps.Passes.{at_member}
 use Rattle.sl_host_lines.proofs.EndsStand.{given_on}
 use Rattle.sl_host_lines.proofs.HeardKnown.{release_ended}
 use Rattle.sl_host_lines.proofs.line_ends.give.Goals as goal
-use Rattle.sl_host_lines.specs.Ending.{gone_on}
-use Rattle.sl_host_state.specs.Kept.{HostState, state_of}
-use Rattle.sl_host_state.specs.Makes.{with_end}
+use Rattle.sl_host_lines.specs.HoldingEnds.{gone_on}
+use Rattle.sl_host_state.specs.KeptState.{HostState, state_of}
+use Rattle.sl_host_state.specs.MadeEffects.{with_end}
 use Rattle.sl_trace.specs.declared.effects.End.{End}
 use Rattle.std.proofs.Common.{ap, sym, ◌∙◌}
 

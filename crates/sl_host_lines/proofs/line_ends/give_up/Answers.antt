@@ -1,9 +1,9 @@
 use Rattle.sl_host_law.specs.Steps.Passes.{at_member}
 use Rattle.sl_host_lines.proofs.HeardKnown.{release_heard}
 use Rattle.sl_host_lines.proofs.line_ends.give_up.Goals as goal
-use Rattle.sl_host_lines.specs.Ending.{giving}
-use Rattle.sl_host_state.specs.Hears.{heard_line}
-use Rattle.sl_host_state.specs.Kept.{HostState, state_of}
+use Rattle.sl_host_lines.specs.HoldingEnds.{giving}
+use Rattle.sl_host_state.specs.HeardInputs.{heard_line}
+use Rattle.sl_host_state.specs.KeptState.{HostState, state_of}
 use Rattle.std.proofs.Common.{ap, ℕ, ◌∙◌}
 
 pub give-requires-clause-may : goal.give-requires-clause-may

@@ -1,7 +1,7 @@
-use Rattle.sl_host_law.specs.Answers.Leasing.{carrying_lease}
+use Rattle.sl_host_law.specs.Answers.LeaseDecisions.{carrying_lease}
 use Rattle.sl_host_lines.proofs.EndsStand.{freed_on}
 use Rattle.sl_host_lines.proofs.line_ends.go_on.Goals as goal
-use Rattle.sl_host_state.specs.Kept.{state_of}
+use Rattle.sl_host_state.specs.KeptState.{state_of}
 use Rattle.sl_trace.specs.declared.lease.LeaseNext.{LeaseNext}
 use Rattle.sl_trace.specs.declared.session.Session.{Session}
 use Rattle.sl_trace.specs.declared.effects.Spot.{Spot}

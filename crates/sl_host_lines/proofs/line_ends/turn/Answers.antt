@@ -1,6 +1,6 @@
 use Rattle.sl_host_lines.proofs.EndsStand.{turned_on}
 use Rattle.sl_host_lines.proofs.line_ends.turn.Goals as goal
-use Rattle.sl_host_state.specs.Kept.{HostState, state_of}
+use Rattle.sl_host_state.specs.KeptState.{HostState, state_of}
 use Rattle.std.proofs.Common.{◌∙◌}
 
 pub returns-in-Some-clause-state : goal.returns-in-Some-clause-state

@@ -1,6 +1,6 @@
 use Rattle.sl_host_lines.proofs.line_ends.turning_of.Goals as goal
 use Rattle.sl_host_work.proofs.TurnsStand.{is_turned}
-use Rattle.sl_member.specs.Together.{member_with}
+use Rattle.sl_member.specs.HostMembers.{member_with}
 use Rattle.std.proofs.Common.{ap, sym, ◌∙◌}
 
 pub turning_next-requires-clause-may : goal.turning_next-requires-clause-may

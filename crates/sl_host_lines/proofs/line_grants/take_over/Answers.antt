@@ -1,8 +1,8 @@
-use Rattle.sl_host_law.specs.Answers.Leasing.{granting_for}
+use Rattle.sl_host_law.specs.Answers.LeaseDecisions.{granting_for}
 use Rattle.sl_host_lines.proofs.line_grants.take_over.Goals as goal
-use Rattle.sl_host_state.specs.Hears.{heard_line}
-use Rattle.sl_host_state.specs.Kept.{HostState, state_of}
-use Rattle.sl_host_state.specs.Makes.{with_end}
+use Rattle.sl_host_state.specs.HeardInputs.{heard_line}
+use Rattle.sl_host_state.specs.KeptState.{HostState, state_of}
+use Rattle.sl_host_state.specs.MadeEffects.{with_end}
 use Rattle.sl_trace.specs.Traces.{end_of}
 use Rattle.sl_trace.specs.declared.effects.End.{End}
 use Rattle.std.proofs.Common.{ap, ℕ, ◌∙◌}

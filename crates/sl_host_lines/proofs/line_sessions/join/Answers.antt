@@ -1,9 +1,9 @@
 use Rattle.sl_host_lines.proofs.HeardKnown.{count_heard, new_heard}
 use Rattle.sl_host_lines.proofs.SeatsStand.{seat_heard}
 use Rattle.sl_host_lines.proofs.line_sessions.join.Goals as goal
-use Rattle.sl_host_state.specs.Hears.{heard_line}
-use Rattle.sl_host_state.specs.Kept.{HostState, state_of}
-use Rattle.sl_host_state.specs.Makes.{with_joining}
+use Rattle.sl_host_state.specs.HeardInputs.{heard_line}
+use Rattle.sl_host_state.specs.KeptState.{HostState, state_of}
+use Rattle.sl_host_state.specs.MadeEffects.{with_joining}
 use Rattle.sl_trace.specs.declared.effects.JoinStep.TheVariants.{FirstRead}
 use Rattle.sl_trace.specs.declared.effects.Op.TheVariants.{ReadSectors}
 use Rattle.sl_trace.specs.declared.effects.Purpose.TheVariants.{Joining}

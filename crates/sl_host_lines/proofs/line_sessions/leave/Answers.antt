@@ -1,9 +1,9 @@
 use Rattle.sl_host_law.specs.Steps.Passes.{at_member}
 use Rattle.sl_host_lines.proofs.LeavesStand.{heard_cost}
 use Rattle.sl_host_lines.proofs.line_sessions.leave.Goals as goal
-use Rattle.sl_host_lines.specs.Leaving.{leaving_for}
-use Rattle.sl_host_state.specs.Hears.{heard_line}
-use Rattle.sl_host_state.specs.Kept.{HostState, state_of}
+use Rattle.sl_host_lines.specs.LeavingsBegin.{leaving_for}
+use Rattle.sl_host_state.specs.HeardInputs.{heard_line}
+use Rattle.sl_host_state.specs.KeptState.{HostState, state_of}
 use Rattle.std.proofs.Common.{ap, arith, ℕ, ◌∙◌}
 
 pub stop_at-requires-clause-room : goal.stop_at-requires-clause-room

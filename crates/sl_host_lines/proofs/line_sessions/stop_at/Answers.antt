@@ -1,7 +1,7 @@
 use Rattle.sl_host_lines.proofs.LeavesStand.{few_stopped, stopped_none, stopped_on}
 use Rattle.sl_host_lines.proofs.line_sessions.stop_at.Goals as goal
-use Rattle.sl_host_state.specs.Kept.{state_of}
-use Rattle.sl_member.specs.Together.{member_with}
+use Rattle.sl_host_state.specs.KeptState.{state_of}
+use Rattle.sl_member.specs.HostMembers.{member_with}
 use Rattle.std.proofs.Common.{arith, ◌∙◌}
 use Rattle.std.specs.Prelude.{Some}
 

@@ -1,14 +1,14 @@
-use Rattle.sl_host_law.specs.Parts.Exits.{exiting, leaving, refusing_of}
+use Rattle.sl_host_law.specs.StepParts.Exits.{exiting, leaving, refusing_of}
 use Rattle.sl_host_passes.proofs.ProcessesStand.{chosen_few, exits_so, leaving_jobs, left_few, held_few}
 use Rattle.sl_host_passes.proofs.processes.exit.Goals as goal
-use Rattle.sl_host_state.specs.Hears.{heard_exit}
-use Rattle.sl_host_state.specs.Kept.{HostState, state_of}
-use Rattle.sl_host_work.specs.Ending.{HoldsOnce, held_by}
+use Rattle.sl_host_state.specs.HeardInputs.{heard_exit}
+use Rattle.sl_host_state.specs.KeptState.{HostState, state_of}
+use Rattle.sl_host_work.specs.ProcessHoldings.{HoldsOnce, held_by}
 use Rattle.sl_trace.specs.Traces.{no_process, orphans_left}
 use Rattle.sl_trace.specs.declared.effects.Grant.{Grant}
-use Rattle.sl_host.specs.Choosing.{chosen_among}
+use Rattle.sl_host.specs.ChosenJobs.{chosen_among}
 use Rattle.sl_host.specs.Host.{Becomes, HostView}
-use Rattle.sl_host.specs.declared.passing.Chosen.TheVariants.{OfProcess}
+use Rattle.sl_host.specs.declared.passes.Chosen.TheVariants.{OfProcess}
 use Rattle.std.proofs.Common.{ap, arith, subst, sym, ◌∙◌}
 use Rattle.std.specs.Prelude.{Err, List, cond, false, length, true, ℕ, ◌*◌, ◌+◌, ◌==◌, ◌≡◌, ◌≤◌}
 

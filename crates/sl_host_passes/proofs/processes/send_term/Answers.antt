@@ -1,6 +1,6 @@
-use Rattle.sl_host_law.specs.Parts.Spawns.{terming}
+use Rattle.sl_host_law.specs.StepParts.Spawns.{terming}
 use Rattle.sl_host_passes.proofs.processes.send_term.Goals as goal
-use Rattle.sl_host_state.specs.Kept.{state_of}
+use Rattle.sl_host_state.specs.KeptState.{state_of}
 use Rattle.std.proofs.Common.{ap, sym, ◌∙◌}
 
 pub returns-in-Some-clause-state : goal.returns-in-Some-clause-state

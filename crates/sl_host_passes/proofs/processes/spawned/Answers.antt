@@ -1,9 +1,9 @@
-use Rattle.sl_host_law.specs.Parts.Spawns.{spawning}
+use Rattle.sl_host_law.specs.StepParts.Spawns.{spawning}
 use Rattle.sl_host_passes.proofs.ProcessesStand.{found_child, found_none, starts_not, starts_so}
 use Rattle.sl_host_passes.proofs.processes.spawned.Goals as goal
-use Rattle.sl_host_state.specs.Hears.{heard_start}
-use Rattle.sl_host_state.specs.Kept.{HostState, state_of}
-use Rattle.sl_host_work.specs.Ending.{HoldsOnce}
+use Rattle.sl_host_state.specs.HeardInputs.{heard_start}
+use Rattle.sl_host_state.specs.KeptState.{HostState, state_of}
+use Rattle.sl_host_work.specs.ProcessHoldings.{HoldsOnce}
 use Rattle.sl_tables.specs.Children.{child_of}
 use Rattle.sl_host.specs.Host.{Becomes, HostView}
 use Rattle.std.proofs.Common.{ap, arith, subst, sym, ◌∙◌}

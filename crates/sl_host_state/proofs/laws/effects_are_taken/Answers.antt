@@ -1,4 +1,4 @@
-use Rattle.sl_host_state.proofs.Others as its
+use Rattle.sl_host_state.proofs.EffectsAreTaken as its
 use Rattle.sl_host_state.proofs.laws.effects_are_taken.Goals as goal
 
 pub returns : goal.returns

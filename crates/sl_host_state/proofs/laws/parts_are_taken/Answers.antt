@@ -1,4 +1,4 @@
-use Rattle.sl_host_state.proofs.Passing as its
+use Rattle.sl_host_state.proofs.PartsAreTaken as its
 use Rattle.sl_host_state.proofs.laws.parts_are_taken.Goals as goal
 
 pub returns : goal.returns

@@ -1,4 +1,4 @@
-use Rattle.sl_host_state.proofs.Asking as its
+use Rattle.sl_host_state.proofs.StepQuestions as its
 use Rattle.sl_host_state.proofs.laws.questions_are_answered.Goals as goal
 
 pub returns : goal.returns

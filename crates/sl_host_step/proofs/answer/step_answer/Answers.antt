@@ -1,4 +1,4 @@
-use Rattle.sl_host_step.proofs.KnownTellings.{writes_fit}
+use Rattle.sl_host_step.proofs.AnswerSectors.{writes_fit}
 use Rattle.sl_host_step.proofs.answer.step_answer.Goals as goal
 use Rattle.sl_trace.specs.declared.input.Answer.TheVariants.{Written}
 use Rattle.std.proofs.Common.{refl}

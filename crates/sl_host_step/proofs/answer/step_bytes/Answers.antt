@@ -1,4 +1,4 @@
-use Rattle.sl_host_step.proofs.KnownTellings.{joining_sized, joins_is, sectors_fit}
+use Rattle.sl_host_step.proofs.AnswerSectors.{joining_sized, joins_is, sectors_fit}
 use Rattle.sl_host_step.proofs.answer.step_bytes.Goals as goal
 use Rattle.sl_trace.specs.declared.input.Answer.TheVariants.{Read}
 use Rattle.std.proofs.Common.{ap, refl, sym, ◌∙◌}

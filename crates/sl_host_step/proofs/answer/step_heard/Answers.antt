@@ -1,6 +1,6 @@
-use Rattle.sl_host_answers.specs.Answering.{answer_of}
-use Rattle.sl_host_state.specs.Kept.{Made}
-use Rattle.sl_host_step.proofs.KnownTellings.{fits_still, left_still}
+use Rattle.sl_host_answers.specs.WholeAnswers.{answer_of}
+use Rattle.sl_host_state.specs.KeptState.{Made}
+use Rattle.sl_host_step.proofs.AnswerSectors.{fits_still, left_still}
 use Rattle.sl_host_step.proofs.answer.step_heard.Goals as goal
 use Rattle.sl_trace.specs.declared.input.Input.TheVariants.{Answer as Told}
 use Rattle.std.proofs.Common.{ap, sym, ◌∙◌}

@@ -1,4 +1,4 @@
-use Rattle.sl_host_step.proofs.KnownTellings.{joining_long, joins_is, sectors_fit}
+use Rattle.sl_host_step.proofs.AnswerSectors.{joining_long, joins_is, sectors_fit}
 use Rattle.sl_host_step.proofs.answer.step_images.Goals as goal
 use Rattle.sl_trace.specs.declared.input.Answer.TheVariants.{Read}
 use Rattle.std.proofs.Common.{refl, subst, sym, ◌∙◌}

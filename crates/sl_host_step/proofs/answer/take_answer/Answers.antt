@@ -1,9 +1,9 @@
-use Rattle.sl_host_answers.specs.Answering.{CanAnswer, answer_of, calls_of, effects_of}
-use Rattle.sl_host_step.proofs.KnownTellings.{few_calls, few_effects}
-use Rattle.sl_host_step.proofs.Lining.{answer_leaves}
-use Rattle.sl_host_step.proofs.Telling.{can_answer}
+use Rattle.sl_host_answers.specs.WholeAnswers.{CanAnswer, answer_of, calls_of, effects_of}
+use Rattle.sl_host_step.proofs.AnswerSectors.{few_calls, few_effects}
+use Rattle.sl_host_step.proofs.LinePremises.{answer_leaves}
+use Rattle.sl_host_step.proofs.AnswerPremises.{can_answer}
 use Rattle.sl_host_step.proofs.answer.take_answer.Goals as goal
-use Rattle.sl_host_step.specs.Reaching.{reach_at}
+use Rattle.sl_host_step.specs.InputReach.{reach_at}
 use Rattle.sl_host_step.specs.Rooms.{ScratchState}
 use Rattle.std.proofs.Common.{subst, sym}
 

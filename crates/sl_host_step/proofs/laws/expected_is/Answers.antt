@@ -1,4 +1,4 @@
-use Rattle.sl_host_step.proofs.Expected as its
+use Rattle.sl_host_step.proofs.ExpectedInputs as its
 use Rattle.sl_host_step.proofs.laws.expected_is.Goals as goal
 
 pub returns : goal.returns

@@ -1,4 +1,4 @@
-use Rattle.sl_host_step.proofs.Lining.{may_be_seated}
+use Rattle.sl_host_step.proofs.LinePremises.{may_be_seated}
 use Rattle.sl_host_step.proofs.line.step_command.Goals as goal
 use Rattle.sl_host_step.specs.Rooms.{HasLeft}
 use Rattle.sl_host_step.specs.declared.rooms.Reach.{Reach}

@@ -1,8 +1,8 @@
-use Rattle.sl_host_lines.specs.Leaving.{line_cost}
-use Rattle.sl_host_step.proofs.Coming.{line_ends}
-use Rattle.sl_host_step.proofs.Lining.{cost_within, line_fits, line_known_at, line_leaves}
+use Rattle.sl_host_lines.specs.LeavingsBegin.{line_cost}
+use Rattle.sl_host_step.proofs.MomentsFollow.{line_ends}
+use Rattle.sl_host_step.proofs.LinePremises.{cost_within, line_fits, line_known_at, line_leaves}
 use Rattle.sl_host_step.proofs.line.take_command.Goals as goal
-use Rattle.sl_host_step.specs.Reaching.{reach_of}
+use Rattle.sl_host_step.specs.InputReach.{reach_of}
 use Rattle.std.specs.Prelude.{Ok}
 
 pub take_line-requires-clause-left : goal.take_line-requires-clause-left

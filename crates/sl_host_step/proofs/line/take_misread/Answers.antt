@@ -1,4 +1,4 @@
-use Rattle.sl_host_step.proofs.Coming.{line_ends}
+use Rattle.sl_host_step.proofs.MomentsFollow.{line_ends}
 use Rattle.sl_host_step.proofs.line.take_misread.Goals as goal
 use Rattle.std.specs.Prelude.{Err}
 

@@ -1,4 +1,4 @@
-use Rattle.sl_host_passes.specs.Fewer.{leases_in}
+use Rattle.sl_host_passes.specs.PassesLessen.{leases_in}
 use Rattle.sl_host_step.proofs.RoomsStand.{counted_all, few_counted, room_taken}
 use Rattle.sl_host_step.proofs.rooms.take_room.Goals as goal
 use Rattle.sl_host_step.specs.Rooms.{counts_within, room_end}

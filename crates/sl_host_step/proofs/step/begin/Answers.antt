@@ -1,6 +1,6 @@
-use Rattle.sl_host_passes.specs.Fewer.{IsNoMore, leases_in}
-use Rattle.sl_host_state.specs.Kept.{HostKept}
-use Rattle.sl_host_step.proofs.Coming.{begins}
+use Rattle.sl_host_passes.specs.PassesLessen.{IsNoMore, leases_in}
+use Rattle.sl_host_state.specs.KeptState.{HostKept}
+use Rattle.sl_host_step.proofs.MomentsFollow.{begins}
 use Rattle.sl_host_step.proofs.KnownPasses.{begin_known}
 use Rattle.sl_host_step.proofs.step.begin.Goals as goal
 use Rattle.sl_host_step.proofs.RoomsStand.{few_is_not_all, le_on}

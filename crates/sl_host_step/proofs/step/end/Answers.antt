@@ -1,5 +1,5 @@
-use Rattle.sl_host_step.proofs.Comes.{moment_at_end}
-use Rattle.sl_host_step.proofs.Coming.{finish_ends}
+use Rattle.sl_host_step.proofs.StepsMayCome.{moment_at_end}
+use Rattle.sl_host_step.proofs.MomentsFollow.{finish_ends}
 use Rattle.sl_host_step.proofs.KnownPasses.{finish_known}
 use Rattle.sl_host_step.proofs.step.end.Goals as goal
 

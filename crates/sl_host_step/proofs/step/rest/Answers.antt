@@ -1,4 +1,4 @@
-use Rattle.sl_host_step.proofs.Coming.{rests}
+use Rattle.sl_host_step.proofs.MomentsFollow.{rests}
 use Rattle.sl_host_step.proofs.step.rest.Goals as goal
 
 pub returns-clause-over : goal.returns-clause-over

@@ -1,4 +1,4 @@
-use Rattle.sl_host_state.specs.Kept.{HostKept}
+use Rattle.sl_host_state.specs.KeptState.{HostKept}
 use Rattle.sl_host_step.proofs.step.start.Goals as goal
 use Rattle.sl_host_step.proofs.RoomsStand.{far_still, left_for_input}
 use Rattle.sl_host_step.specs.Moments.{AtInput, StepComes}

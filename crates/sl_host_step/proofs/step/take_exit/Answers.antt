@@ -1,5 +1,5 @@
-use Rattle.sl_host_step.proofs.Comes.{moment_at_input}
-use Rattle.sl_host_step.proofs.Coming.{exit_ends}
+use Rattle.sl_host_step.proofs.StepsMayCome.{moment_at_input}
+use Rattle.sl_host_step.proofs.MomentsFollow.{exit_ends}
 use Rattle.sl_host_step.proofs.KnownPasses.{holds_once}
 use Rattle.sl_host_step.proofs.step.take_exit.Goals as goal
 use Rattle.sl_trace.specs.declared.input.Input.TheVariants.{Exit}

@@ -1,4 +1,4 @@
-use Rattle.sl_host_step.proofs.Coming.{number_ends}
+use Rattle.sl_host_step.proofs.MomentsFollow.{number_ends}
 use Rattle.sl_host_step.proofs.step.take_number.Goals as goal
 
 pub returns-clause-at : goal.returns-clause-at

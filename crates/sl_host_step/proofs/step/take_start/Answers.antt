@@ -1,5 +1,5 @@
-use Rattle.sl_host_step.proofs.Comes.{moment_at_input}
-use Rattle.sl_host_step.proofs.Coming.{start_ends}
+use Rattle.sl_host_step.proofs.StepsMayCome.{moment_at_input}
+use Rattle.sl_host_step.proofs.MomentsFollow.{start_ends}
 use Rattle.sl_host_step.proofs.KnownPasses.{holds_once, starts_some}
 use Rattle.sl_host_step.proofs.step.take_start.Goals as goal
 use Rattle.sl_trace.specs.declared.input.Input.TheVariants.{Spawned}

@@ -1,5 +1,5 @@
-use Rattle.sl_host_step.proofs.Comes.{moment_at_input}
-use Rattle.sl_host_step.proofs.Coming.{wake_ends}
+use Rattle.sl_host_step.proofs.StepsMayCome.{moment_at_input}
+use Rattle.sl_host_step.proofs.MomentsFollow.{wake_ends}
 use Rattle.sl_host_step.proofs.KnownPasses.{wake_known}
 use Rattle.sl_host_step.proofs.step.take_wake.Goals as goal
 use Rattle.sl_trace.specs.declared.input.Input.TheVariants.{Wake}

@@ -1,5 +1,5 @@
-use Rattle.sl_host_law.specs.Answers.Carrying.{carrying}
-use Rattle.sl_host_state.specs.Kept.{state_of}
+use Rattle.sl_host_law.specs.Answers.CarriedDecisions.{carrying}
+use Rattle.sl_host_state.specs.KeptState.{state_of}
 use Rattle.sl_host_work.proofs.delta.carry.Goals as goal
 use Rattle.std.proofs.Common.{ap, sym, ◌∙◌}
 

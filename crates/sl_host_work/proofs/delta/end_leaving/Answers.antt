@@ -1,6 +1,6 @@
-use Rattle.sl_host_law.specs.Parts.Ends.{removing}
-use Rattle.sl_host_state.specs.Kept.{HostState, state_of}
-use Rattle.sl_host_state.specs.Makes.{with_reply}
+use Rattle.sl_host_law.specs.StepParts.Ends.{removing}
+use Rattle.sl_host_state.specs.KeptState.{HostState, state_of}
+use Rattle.sl_host_state.specs.MadeEffects.{with_reply}
 use Rattle.sl_host_work.proofs.delta.end_leaving.Goals as goal
 use Rattle.std.proofs.Common.{ap, sym, ◌∙◌}
 use Rattle.std.specs.Prelude.{cond}

@@ -1,10 +1,10 @@
-use Rattle.sl_host_law.specs.Answers.Carrying.{connecting, surveying}
-use Rattle.sl_host_state.specs.Kept.{state_of}
-use Rattle.sl_host_state.specs.Makes.{with_reply}
+use Rattle.sl_host_law.specs.Answers.CarriedDecisions.{connecting, surveying}
+use Rattle.sl_host_state.specs.KeptState.{state_of}
+use Rattle.sl_host_state.specs.MadeEffects.{with_reply}
 use Rattle.sl_host_work.proofs.Sequences.{for_one}
 use Rattle.sl_host_work.proofs.delta.join.Goals as goal
 use Rattle.sl_trace.specs.declared.reply.Reply.TheVariants.{Generation}
-use Rattle.sl_host.specs.Replying.{HasClaims}
+use Rattle.sl_host.specs.ReplyJoinings.{HasClaims}
 use Rattle.std.proofs.Common.{ap, subst, sym, ◌∙◌}
 
 pub returns-in-Some-clause-state : goal.returns-in-Some-clause-state

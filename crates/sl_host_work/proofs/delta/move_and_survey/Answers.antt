@@ -1,4 +1,4 @@
-use Rattle.sl_host_law.specs.Answers.Carrying.{surveying}
+use Rattle.sl_host_law.specs.Answers.CarriedDecisions.{surveying}
 use Rattle.sl_host_work.proofs.delta.move_and_survey.Goals as goal
 use Rattle.std.proofs.Common.{ap, ◌∙◌}
 

@@ -1,5 +1,5 @@
-use Rattle.sl_host_law.specs.Answers.Carrying.{reading_own}
-use Rattle.sl_host_state.specs.Kept.{state_of}
+use Rattle.sl_host_law.specs.Answers.CarriedDecisions.{reading_own}
+use Rattle.sl_host_state.specs.KeptState.{state_of}
 use Rattle.sl_host_work.proofs.Sequences.{for_one}
 use Rattle.sl_host_work.proofs.delta.read_for_job.Goals as goal
 use Rattle.sl_trace.specs.declared.effects.Purpose.TheVariants.{Joining}

@@ -1,5 +1,5 @@
-use Rattle.sl_host_law.specs.Answers.Refusing.{refusing}
-use Rattle.sl_host_state.specs.Kept.{state_of}
+use Rattle.sl_host_law.specs.Answers.RefusalsFollow.{refusing}
+use Rattle.sl_host_state.specs.KeptState.{state_of}
 use Rattle.sl_host_work.proofs.Sequences.{for_one}
 use Rattle.sl_host_work.proofs.delta.refuse_join.Goals as goal
 use Rattle.std.proofs.Common.{◌∙◌}

@@ -1,5 +1,5 @@
-use Rattle.sl_host_state.specs.Kept.{state_of}
-use Rattle.sl_host_state.specs.Makes.{with_move}
+use Rattle.sl_host_state.specs.KeptState.{state_of}
+use Rattle.sl_host_state.specs.MadeEffects.{with_move}
 use Rattle.sl_host_work.proofs.delta.register.Goals as goal
 use Rattle.sl_time.specs.Times.{fail}
 use Rattle.sl_trace.specs.declared.effects.Move.TheVariants.{Register}

@@ -1,5 +1,5 @@
-use Rattle.sl_host_state.specs.Kept.{state_of}
-use Rattle.sl_host_state.specs.Makes.{with_call}
+use Rattle.sl_host_state.specs.KeptState.{state_of}
+use Rattle.sl_host_state.specs.MadeEffects.{with_call}
 use Rattle.sl_host_work.proofs.delta.survey.Goals as goal
 use Rattle.sl_trace.specs.declared.effects.Op.TheVariants.{ReadSectors}
 use Rattle.sl_trace.specs.declared.effects.Purpose.TheVariants.{Survey}

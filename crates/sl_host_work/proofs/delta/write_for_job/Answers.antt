@@ -1,5 +1,5 @@
-use Rattle.sl_host_law.specs.Answers.Carrying.{writing_own}
-use Rattle.sl_host_state.specs.Kept.{state_of}
+use Rattle.sl_host_law.specs.Answers.CarriedDecisions.{writing_own}
+use Rattle.sl_host_state.specs.KeptState.{state_of}
 use Rattle.sl_host_work.proofs.Sequences.{for_one}
 use Rattle.sl_host_work.proofs.delta.write_for_job.Goals as goal
 use Rattle.sl_trace.specs.declared.effects.Purpose.TheVariants.{Joining}

@@ -1,5 +1,5 @@
-use Rattle.sl_host_state.specs.Kept.{state_of}
-use Rattle.sl_host_state.specs.Makes.{with_call}
+use Rattle.sl_host_state.specs.KeptState.{state_of}
+use Rattle.sl_host_state.specs.MadeEffects.{with_call}
 use Rattle.sl_host_work.proofs.delta.write_own.Goals as goal
 use Rattle.sl_sector.specs.declared.sector.Rec.TheVariants.{DeltaIs}
 use Rattle.sl_trace.specs.declared.effects.Op.TheVariants.{WriteRecord}

@@ -1,9 +1,9 @@
-use Rattle.sl_host_state.specs.Kept.{state_of}
-use Rattle.sl_host_state.specs.Makes.{with_end}
+use Rattle.sl_host_state.specs.KeptState.{state_of}
+use Rattle.sl_host_state.specs.MadeEffects.{with_end}
 use Rattle.sl_host_work.proofs.EndsStand.{ended_last, ended_next, held_after, once_after, one_less, some_held}
 use Rattle.sl_host_work.proofs.OrphansStand.{noted_all, noted_next, notes_are, one_more_at_most}
 use Rattle.sl_host_work.proofs.ends.end_holdings.Goals as goal
-use Rattle.sl_host_work.specs.Ending.{held_by}
+use Rattle.sl_host_work.specs.ProcessHoldings.{held_by}
 use Rattle.sl_trace.specs.Traces.{end_of, orphans_left}
 use Rattle.sl_trace.specs.declared.effects.End.{End}
 use Rattle.sl_trace.specs.declared.effects.Grant.{Grant}

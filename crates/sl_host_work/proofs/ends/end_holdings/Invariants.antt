@@ -1,7 +1,7 @@
-use Rattle.sl_host_law.specs.Parts.Exits.{ending}
-use Rattle.sl_host_state.specs.Kept.{state_of}
+use Rattle.sl_host_law.specs.StepParts.Exits.{ending}
+use Rattle.sl_host_state.specs.KeptState.{state_of}
 use Rattle.sl_host_work.proofs.ends.end_holdings.Given as goal
-use Rattle.sl_host_work.specs.Ending.{HoldsOnce, held_by}
+use Rattle.sl_host_work.specs.ProcessHoldings.{HoldsOnce, held_by}
 use Rattle.sl_trace.specs.Traces.{orphans_left}
 use Rattle.sl_trace.specs.declared.command.Command.{Command}
 use Rattle.sl_host.specs.Host.{SameRun}

@@ -1,7 +1,7 @@
-use Rattle.sl_host_law.specs.Parts.Signals.{over}
-use Rattle.sl_host_state.specs.Kept.{state_of}
-use Rattle.sl_host_state.specs.Makes.{with_grant}
-use Rattle.sl_host_work.proofs.Passing.{fewer_left, over_end, over_next}
+use Rattle.sl_host_law.specs.StepParts.Signals.{over}
+use Rattle.sl_host_state.specs.KeptState.{state_of}
+use Rattle.sl_host_state.specs.MadeEffects.{with_grant}
+use Rattle.sl_host_work.proofs.ListPasses.{fewer_left, over_end, over_next}
 use Rattle.sl_host_work.proofs.ends.grant_noted.Goals as goal
 use Rattle.std.proofs.Common.{ap, arith, refl, sym, ◌≡◌, ◌∙◌}
 use Rattle.std.specs.Prelude.{drop, length}

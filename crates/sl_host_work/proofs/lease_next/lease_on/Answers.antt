@@ -1,4 +1,4 @@
-use Rattle.sl_host_state.specs.Makes.{new_lease}
+use Rattle.sl_host_state.specs.MadeEffects.{new_lease}
 use Rattle.sl_host_work.proofs.lease_next.lease_on.Goals as goal
 use Rattle.std.proofs.Common.{ap, ◌∙◌}
 use Rattle.std.specs.Prelude.{unwrap_or}

@@ -1,6 +1,6 @@
 use Rattle.sl_host_work.proofs.LeaseNextStands.{reads}
 use Rattle.sl_host_work.proofs.lease_next.next_after_blocks.Goals as goal
-use Rattle.sl_host_work.specs.Leasing.{held_with}
+use Rattle.sl_host_work.specs.LeaseWork.{held_with}
 use Rattle.std.proofs.Common.{ap, ◌∙◌}
 
 pub returns-clause-exact : goal.returns-clause-exact

@@ -2,7 +2,7 @@ use Rattle.sl_host_law.specs.Questions.Answers.{place_in}
 use Rattle.sl_host_law.specs.Steps.Leases.{blocks_at, known_by, lease_at}
 use Rattle.sl_host_work.proofs.NextLaws.{refusals_write_nothing}
 use Rattle.sl_host_work.proofs.lease_next.next_after_failure.Goals as goal
-use Rattle.sl_host_work.specs.Next.{writes_own_block}
+use Rattle.sl_host_work.specs.NextDecisions.{writes_own_block}
 use Rattle.sl_trace.specs.LeaseWork.{lease_next, within_turn}
 use Rattle.sl_trace.specs.Leases.{LeaseKnown}
 use Rattle.sl_trace.specs.declared.input.Answer.TheVariants.{Failed}

@@ -1,8 +1,8 @@
-use Rattle.sl_host.specs.Asking.{state_in}
+use Rattle.sl_host.specs.BookQuestions.{state_in}
 use Rattle.sl_host_law.specs.Steps.Leases.{lease_at}
 use Rattle.sl_host_work.proofs.LeaseNextStands.{answers_fit, asked_again_so, asked_read, reads_turned, some_call}
 use Rattle.sl_host_work.proofs.lease_next.next_after_read.Goals as goal
-use Rattle.sl_host_work.specs.Asking.{blocks_told}
+use Rattle.sl_host_work.specs.LeaseQuestions.{blocks_told}
 use Rattle.sl_trace.specs.declared.input.Answer.TheVariants.{Read}
 use Rattle.std.proofs.Common.{refl, ◌∙◌}
 

@@ -1,8 +1,8 @@
-use Rattle.sl_host.specs.Asking.{state_in}
+use Rattle.sl_host.specs.BookQuestions.{state_in}
 use Rattle.sl_host_law.specs.Steps.Leases.{kept_blocks, lease_at}
 use Rattle.sl_host_work.proofs.LeaseNextStands.{writes, answers_fit, writes_turned}
 use Rattle.sl_host_work.proofs.lease_next.next_after_write.Goals as goal
-use Rattle.sl_host_work.specs.Leasing.{held_with}
+use Rattle.sl_host_work.specs.LeaseWork.{held_with}
 use Rattle.sl_trace.specs.declared.input.Answer.TheVariants.{Written}
 use Rattle.std.proofs.Common.{ap, refl, ◌∙◌}
 

@@ -1,8 +1,8 @@
-use Rattle.sl_host.specs.Asking.{state_in}
+use Rattle.sl_host.specs.BookQuestions.{state_in}
 use Rattle.sl_host_law.specs.Steps.Leases.{kept_blocks, lease_at}
 use Rattle.sl_host_work.proofs.LeaseNextStands.{settles, settles_fit, settles_turned}
 use Rattle.sl_host_work.proofs.lease_next.settling_next.Goals as goal
-use Rattle.sl_host_work.specs.Leasing.{held_with}
+use Rattle.sl_host_work.specs.LeaseWork.{held_with}
 use Rattle.std.proofs.Common.{ap, refl, ◌∙◌}
 
 pub returns-clause-exact : goal.returns-clause-exact

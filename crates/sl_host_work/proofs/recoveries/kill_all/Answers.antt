@@ -1,9 +1,9 @@
-use Rattle.sl_host_law.proofs.Plain.PlainLists.{got_below}
-use Rattle.sl_host_law.specs.Parts.Recoveries.{killing}
-use Rattle.sl_host_law.specs.Parts.Signals.{over}
-use Rattle.sl_host_state.specs.Kept.{MemberState, state_of}
+use Rattle.sl_host_law.proofs.SharedFacts.PlainLists.{got_below}
+use Rattle.sl_host_law.specs.StepParts.Recoveries.{killing}
+use Rattle.sl_host_law.specs.StepParts.Signals.{over}
+use Rattle.sl_host_state.specs.KeptState.{MemberState, state_of}
 use Rattle.sl_host_work.proofs.KillsStand.{all_next, at_place, count_at, killed_next}
-use Rattle.sl_host_work.proofs.Passing.{over_end, there}
+use Rattle.sl_host_work.proofs.ListPasses.{over_end, there}
 use Rattle.sl_host_work.proofs.recoveries.kill_all.Goals as goal
 use Rattle.sl_host.specs.Host.{HostView}
 use Rattle.std.proofs.Common.{ap, arith, refl, sym, ◌∙◌}

@@ -1,9 +1,9 @@
-use Rattle.sl_host_law.specs.Parts.Recoveries.{killing}
-use Rattle.sl_host_law.specs.Parts.Signals.{over}
-use Rattle.sl_host_state.specs.Kept.{state_of}
+use Rattle.sl_host_law.specs.StepParts.Recoveries.{killing}
+use Rattle.sl_host_law.specs.StepParts.Signals.{over}
+use Rattle.sl_host_state.specs.KeptState.{state_of}
 use Rattle.sl_host_work.proofs.recoveries.kill_all.Given as goal
 use Rattle.sl_host_work.specs.Holders.{SameButSignals}
-use Rattle.sl_host_work.specs.Killing.{holders_of_all}
+use Rattle.sl_host_work.specs.Kills.{holders_of_all}
 use Rattle.sl_trace.specs.declared.command.Command.{Command}
 use Rattle.sl_host.specs.Host.{SameRun}
 use Rattle.std.proofs.Common.{List, Result, drop, ℕ, ◌+◌, ◌≡◌, ◌≤◌}

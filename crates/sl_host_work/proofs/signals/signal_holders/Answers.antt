@@ -1,5 +1,5 @@
-use Rattle.sl_host_law.specs.Parts.Signals.{over, sending}
-use Rattle.sl_host_state.specs.Kept.{state_of}
+use Rattle.sl_host_law.specs.StepParts.Signals.{over, sending}
+use Rattle.sl_host_state.specs.KeptState.{state_of}
 use Rattle.sl_host_work.proofs.NumbersRise.{those_above}
 use Rattle.sl_host_work.proofs.SignalsStand.{comes_next, comes_none, first_length, holders_first, one_of_length, over_one}
 use Rattle.sl_host_work.proofs.signals.signal_holders.Goals as goal

@@ -1,7 +1,7 @@
-use Rattle.sl_host_state.specs.Asks.{stopper_in}
+use Rattle.sl_host_state.specs.StepQuestions.{stopper_in}
 use Rattle.sl_host_work.proofs.SignalsStand.{told_by_program, told_by_term}
 use Rattle.sl_host_work.proofs.signals.tell.Goals as goal
-use Rattle.sl_host.specs.Asking.{alone}
+use Rattle.sl_host.specs.BookQuestions.{alone}
 use Rattle.std.proofs.Common.{ap, ◌∙◌}
 
 pub returns-in-Some-clause-state : goal.returns-in-Some-clause-state

@@ -1,7 +1,7 @@
-use Rattle.sl_host_law.specs.Decisions.Deciding.{pending_refused}
+use Rattle.sl_host_law.specs.Decisions.CommandDecisions.{pending_refused}
 use Rattle.sl_host_work.proofs.WakingStands.{free_is}
 use Rattle.sl_host_work.proofs.wakings.is_free.Goals as goal
-use Rattle.sl_host.specs.Asking.{alone}
+use Rattle.sl_host.specs.BookQuestions.{alone}
 use Rattle.std.proofs.Common.{ap, ◌∙◌}
 use Rattle.std.specs.Prelude.{None, Some}
 

@@ -1,7 +1,7 @@
-use Rattle.sl_host_state.specs.Kept.{state_of}
+use Rattle.sl_host_state.specs.KeptState.{state_of}
 use Rattle.sl_host_work.proofs.WakingStands.{joins_on}
 use Rattle.sl_host_work.proofs.wakings.join_by_time.Goals as goal
-use Rattle.sl_host_work.specs.Waking.{joining_on}
+use Rattle.sl_host_work.specs.TimedWork.{joining_on}
 use Rattle.std.proofs.Common.{ap, ◌∙◌}
 
 pub returns-in-Some-clause-state : goal.returns-in-Some-clause-state

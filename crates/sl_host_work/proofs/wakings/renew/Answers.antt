@@ -1,7 +1,7 @@
-use Rattle.sl_host_state.specs.Kept.{state_of}
+use Rattle.sl_host_state.specs.KeptState.{state_of}
 use Rattle.sl_host_work.proofs.WakingStands.{renewed}
 use Rattle.sl_host_work.proofs.wakings.renew.Goals as goal
-use Rattle.sl_host_work.specs.Waking.{renewing_by}
+use Rattle.sl_host_work.specs.TimedWork.{renewing_by}
 use Rattle.std.proofs.Common.{ap, ◌∙◌}
 
 pub returns-in-Some-clause-state : goal.returns-in-Some-clause-state

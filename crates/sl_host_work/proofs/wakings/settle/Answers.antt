@@ -1,4 +1,4 @@
-use Rattle.sl_host_state.specs.Kept.{state_of}
+use Rattle.sl_host_state.specs.KeptState.{state_of}
 use Rattle.sl_host_work.proofs.WakingStands.{settles_on}
 use Rattle.sl_host_work.proofs.wakings.settle.Goals as goal
 use Rattle.std.proofs.Common.{◌∙◌}

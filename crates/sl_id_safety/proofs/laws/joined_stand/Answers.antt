@@ -1,4 +1,4 @@
-use Rattle.sl_id_safety.proofs.Standing.{joined_stand}
+use Rattle.sl_id_safety.proofs.JoinedStand.{joined_stand}
 use Rattle.sl_id_safety.proofs.laws.joined_stand.Goals as goal
 
 pub returns : goal.returns

@@ -1,4 +1,4 @@
-use Rattle.sl_id_safety.proofs.Settling.{over_are_settled}
+use Rattle.sl_id_safety.proofs.OverAreSettled.{over_are_settled}
 use Rattle.sl_id_safety.proofs.laws.over_are_settled.Goals as goal
 
 pub returns : goal.returns

@@ -1,4 +1,4 @@
-use Rattle.sl_id_safety.proofs.Standing.{same_ids_stand_together}
+use Rattle.sl_id_safety.proofs.JoinedStand.{same_ids_stand_together}
 use Rattle.sl_id_safety.proofs.laws.same_ids_stand_together.Goals as goal
 
 pub returns : goal.returns

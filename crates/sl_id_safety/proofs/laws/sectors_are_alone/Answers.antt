@@ -1,4 +1,4 @@
-use Rattle.sl_id_safety.proofs.Proven.{sectors_are_alone}
+use Rattle.sl_id_safety.proofs.IdSafety.{sectors_are_alone}
 use Rattle.sl_id_safety.proofs.laws.sectors_are_alone.Goals as goal
 
 pub returns : goal.returns

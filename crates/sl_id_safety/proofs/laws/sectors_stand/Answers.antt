@@ -1,4 +1,4 @@
-use Rattle.sl_id_safety.proofs.Proven.{sectors_stand}
+use Rattle.sl_id_safety.proofs.IdSafety.{sectors_stand}
 use Rattle.sl_id_safety.proofs.laws.sectors_stand.Goals as goal
 
 pub returns : goal.returns

@@ -1,4 +1,4 @@
-use Rattle.sl_id_safety.proofs.Standing.{standing_together_is_same_id}
+use Rattle.sl_id_safety.proofs.JoinedStand.{standing_together_is_same_id}
 use Rattle.sl_id_safety.proofs.laws.standing_together_is_same_id.Goals as goal
 
 pub returns : goal.returns

@@ -2,7 +2,7 @@ use Rattle.sl_ballot.specs.Limits.{limited_block}
 use Rattle.sl_lease.proofs.NextLaws.{lver-phase1_block}
 use Rattle.sl_lease.proofs.RecordFacts.{hosts_few, phase1_begun}
 use Rattle.sl_lease.proofs.owed.begin_above.Goals as goal
-use Rattle.sl_lease.specs.Asked.{block_showing, gen_with}
+use Rattle.sl_lease.specs.LeaseQuestions.{block_showing, gen_with}
 use Rattle.sl_lease.specs.Bounds.{IsBegun}
 use Rattle.sl_trace.specs.Ballots.{phase1_block}
 use Rattle.std.proofs.Common.{IfOk, [], cond, rules, subst, sym, ◌∷◌, ◌≡◌}

@@ -1,6 +1,6 @@
 use Rattle.sl_live.proofs.ServedLaws.{made_at, made_on}
 use Rattle.sl_live.proofs.disks.sector_step.Goals as goal
-use Rattle.sl_live.specs.Served.{disk_at}
+use Rattle.sl_live.specs.ServedCalls.{disk_at}
 use Rattle.std.proofs.Common.{ap, get_or}
 use Rattle.std.proofs.lemmas.Result.{IfOk-weaker}
 use Rattle.std.specs.List.{slice_set}

@@ -1,4 +1,4 @@
-use Rattle.sl_live.proofs.GoingLaws.{ends, going_first, going_on, idle_on, on_err, stops_first, stops_later}
+use Rattle.sl_live.proofs.TurnStages.{ends, going_first, going_on, idle_on, on_err, stops_first, stops_later}
 use Rattle.sl_live.proofs.TurnLaws.{nothing_left}
 use Rattle.sl_live.proofs.steps.give_step.Goals as goal
 use Rattle.sl_live.proofs.steps.give_step.Goals.{in-None, in-Some+in_default}

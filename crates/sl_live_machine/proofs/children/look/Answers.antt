@@ -1,4 +1,4 @@
-use Rattle.sl_live_machine.proofs.ShapeLaws.{looks_on}
+use Rattle.sl_live_machine.proofs.SeatLaws.{looks_on}
 use Rattle.sl_live_machine.proofs.children.look.Goals as goal
 
 pub returns : goal.returns

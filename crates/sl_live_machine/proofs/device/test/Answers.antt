@@ -1,4 +1,4 @@
-use Rattle.sl_live_machine.proofs.ShapeLaws.{ok_tests}
+use Rattle.sl_live_machine.proofs.SeatLaws.{ok_tests}
 use Rattle.sl_live_machine.proofs.device.test.Goals as goal
 
 pub returns : goal.returns

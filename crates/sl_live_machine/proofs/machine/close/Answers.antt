@@ -1,5 +1,5 @@
 use Rattle.sl_live_machine.proofs.RunLaws.{err_run}
-use Rattle.sl_live_machine.specs.Shapes.{AreSeats}
+use Rattle.sl_live_machine.specs.ThreadSeats.{AreSeats}
 use Rattle.sl_live_machine.proofs.machine.close.Goals as goal
 use Rattle.std.proofs.Common.{rules}
 

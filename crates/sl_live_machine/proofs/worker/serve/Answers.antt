@@ -1,5 +1,5 @@
 use Rattle.sl_cell.specs.declared.seat.Made.TheVariants.{Took}
-use Rattle.sl_live_machine.proofs.ShapeLaws.{works_on}
+use Rattle.sl_live_machine.proofs.SeatLaws.{works_on}
 use Rattle.sl_live_machine.proofs.worker.serve.Goals as goal
 use Rattle.std.proofs.Common.{ap, ◌∙◌}
 use Rattle.std.specs.Prelude.{[], ◌++◌, ◌∷◌}

@@ -1,4 +1,4 @@
-use Rattle.sl_live_lines.specs.Scopes.{scope_of}
+use Rattle.sl_reader.specs.Scopes.{scope_of}
 use Rattle.sl_live_play.proofs.play.play_ground.Given as goal
 
 -- the script is the one behind this header

@@ -1,6 +1,6 @@
-use Rattle.sl_live_ground.proofs.SettingLaws.{sites_are_settings}
-use Rattle.sl_live_play.proofs.Beginning.{are_settings}
-use Rattle.sl_live_play.proofs.Owing.{owes_devices, owes_no_ground}
+use Rattle.sl_live_run.proofs.SettingLaws.{sites_are_settings}
+use Rattle.sl_live_play.proofs.MachineBeginnings.{are_settings}
+use Rattle.sl_live_play.proofs.LivePlayOwed.{owes_devices, owes_no_ground}
 use Rattle.sl_live_play.proofs.play.play_header.Goals as goal
 
 pub play_ground-requires-clause-header : goal.play_ground-requires-clause-header

@@ -1,6 +1,6 @@
-use Rattle.sl_live_play.proofs.Owing.{good_header, owes_break, owes_nothing, owes_refusal, owes_since}
+use Rattle.sl_live_play.proofs.LivePlayOwed.{good_header, owes_break, owes_nothing, owes_refusal, owes_since}
 use Rattle.sl_live_play.proofs.play.play_live.Goals as goal
-use Rattle.sl_schedule_reader.specs.HeaderBegins.{HeaderIsRead}
+use Rattle.sl_reader.specs.HeaderBegins.{HeaderIsRead}
 use Rattle.std.proofs.Common.{ap, subst}
 use Rattle.std.specs.Prelude.{Err}
 

@@ -1,5 +1,5 @@
-use Rattle.sl_live_lines.specs.Given.{lines_in}
-use Rattle.sl_live_lines.specs.declared.line.LiveLine.{LiveLine}
+use Rattle.sl_reader.specs.GivenAnswers.{lines_in}
+use Rattle.sl_reader.specs.declared.live_lines.LiveLine.{LiveLine}
 use Rattle.sl_live_run.proofs.GivenLaws.{told_err, told_more, told_none, told_so}
 use Rattle.sl_live_run.proofs.script.give_all.Goals as goal
 use Rattle.std.proofs.Common.{ap, ◌∙◌}

@@ -1,4 +1,4 @@
-use Rattle.sl_live_lines.specs.declared.line.LiveLine.{LiveLine}
+use Rattle.sl_reader.specs.declared.live_lines.LiveLine.{LiveLine}
 use Rattle.sl_live_run.proofs.script.give_all.Given as goal
 use Rattle.sl_live_run.specs.Runs.{AreGiven}
 use Rattle.std.proofs.Common.{List, [], ◌++◌, ◌≡◌, ℕ}

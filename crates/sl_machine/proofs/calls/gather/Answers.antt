@@ -1,5 +1,5 @@
 use Rattle.sl_disks.specs.Disks.{DisksState}
-use Rattle.sl_kept.specs.Kept.{sector_of_call}
+use Rattle.sl_world_state.specs.KeptWorld.{sector_of_call}
 use Rattle.sl_machine.proofs.PlainRanges.{flat_more}
 use Rattle.sl_machine.proofs.calls.gather.Goals as goal
 use Rattle.std.proofs.Common.{ap₂, sym, ℕ, ◌++◌, ◌∙◌}

@@ -1,4 +1,4 @@
-use Rattle.sl_kept.specs.Kept.{sector_of_call}
+use Rattle.sl_world_state.specs.KeptWorld.{sector_of_call}
 use Rattle.sl_machine.proofs.calls.gather.Given as goal
 use Rattle.std.proofs.Common.{◌≡◌}
 use Rattle.std.specs.Arc.{arc_value}

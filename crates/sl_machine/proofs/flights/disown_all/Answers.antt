@@ -1,4 +1,4 @@
-use Rattle.sl_kept.specs.Changes.{disowned}
+use Rattle.sl_world_state.specs.Changes.{disowned}
 use Rattle.sl_machine.proofs.PlainFronts.{mapped_all, mapped_one}
 use Rattle.sl_machine.proofs.flights.disown_all.Goals as goal
 use Rattle.std.proofs.Common.{arith}

@@ -1,4 +1,4 @@
-use Rattle.sl_kept.specs.Changes.{disowned}
+use Rattle.sl_world_state.specs.Changes.{disowned}
 use Rattle.sl_machine.proofs.PlainFronts.{front_mapped}
 use Rattle.sl_machine.proofs.flights.disown_all.Given as goal
 use Rattle.std.proofs.Common.{deque_len, ◌≡◌}

@@ -1,4 +1,4 @@
-use Rattle.sl_kept.specs.Kept.{FlightState}
+use Rattle.sl_world_state.specs.KeptWorld.{FlightState}
 use Rattle.sl_machine.proofs.FlightChanges.{closing}
 use Rattle.sl_machine.proofs.flights.sample_at.Goals as goal
 use Rattle.sl_machine.specs.Flights.{closed_at, grown_flight}

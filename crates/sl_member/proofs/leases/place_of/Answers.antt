@@ -1,4 +1,4 @@
-use Rattle.sl_member.proofs.Places.{is_low, low_parts, place_from_parts}
+use Rattle.sl_member.proofs.LeasesByPlace.{is_low, low_parts, place_from_parts}
 use Rattle.sl_member.proofs.leases.place_of.Goals as goal
 use Rattle.std.proofs.Common.{rules}
 use Rattle.std.proofs.lemmas.List.Sorted.{IsPartitionPoint-from_clause}

@@ -1,4 +1,4 @@
-use Rattle.sl_member.proofs.Places.{found_there, get_there}
+use Rattle.sl_member.proofs.LeasesByPlace.{found_there, get_there}
 use Rattle.sl_member.proofs.leases.stands_at.Goals as goal
 use Rattle.std.proofs.Common.{sym, ◌∙◌}
 

@@ -1,5 +1,5 @@
 use Rattle.sl_member.proofs.members.begin_all.Goals as goal
-use Rattle.sl_member.specs.Together.{begun_kept}
+use Rattle.sl_member.specs.HostMembers.{begun_kept}
 use Rattle.std.proofs.Common.{rules}
 use Rattle.std.proofs.lemmas.List.Edits.{map_over_more}
 

@@ -1,5 +1,5 @@
 use Rattle.sl_member.proofs.members.leave_all.Goals as goal
-use Rattle.sl_member.specs.Together.{left_kept}
+use Rattle.sl_member.specs.HostMembers.{left_kept}
 use Rattle.std.proofs.Common.{rules}
 use Rattle.std.proofs.lemmas.List.Edits.{map_over_more}
 

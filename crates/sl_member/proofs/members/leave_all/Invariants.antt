@@ -1,5 +1,5 @@
 use Rattle.sl_member.proofs.members.leave_all.Given as goal
-use Rattle.sl_member.specs.Together.{left_kept}
+use Rattle.sl_member.specs.HostMembers.{left_kept}
 use Rattle.std.proofs.Common.{drop, map, take, ◌++◌, ◌≡◌}
 
 abbrev pub invariant-loop-member : goal.invariant-loop-member

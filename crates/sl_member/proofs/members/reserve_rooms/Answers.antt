@@ -1,4 +1,4 @@
-use Rattle.sl_member.proofs.Gathered.{roomier_itself, roomier_set}
+use Rattle.sl_member.proofs.MembersTogether.{roomier_itself, roomier_set}
 use Rattle.sl_member.proofs.members.reserve_rooms.Goals as goal
 use Rattle.sl_member.specs.Members.{MemberKept}
 use Rattle.std.proofs.Common.{ap, arith, slice_index_or, ℕ, ◌≡◌, ◌≤◌}

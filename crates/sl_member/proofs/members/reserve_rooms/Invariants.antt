@@ -1,5 +1,5 @@
 use Rattle.sl_member.proofs.members.reserve_rooms.Given as goal
-use Rattle.sl_member.specs.Together.{AreRoomier}
+use Rattle.sl_member.specs.HostMembers.{AreRoomier}
 use Rattle.std.proofs.Common.{◌≤◌}
 use Rattle.std.specs.List.{AllWithin}
 

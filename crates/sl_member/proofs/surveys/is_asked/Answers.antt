@@ -1,7 +1,7 @@
 use Rattle.sl_area.specs.Layouts.{layout_of}
 use Rattle.sl_member.proofs.Ranges.{none_more, one_asks}
 use Rattle.sl_member.proofs.surveys.is_asked.Goals as goal
-use Rattle.sl_member.specs.Seen.{asks_by}
+use Rattle.sl_member.specs.SeenSessions.{asks_by}
 use Rattle.std.proofs.Common.{Bool, arith, false, subst, sym, ℕ, ◌≡◌}
 use Rattle.std.specs.List.{list_any, range_with_len}
 

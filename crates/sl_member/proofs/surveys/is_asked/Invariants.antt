@@ -1,6 +1,6 @@
 use Rattle.sl_area.specs.Layouts.{layout_of}
 use Rattle.sl_member.proofs.surveys.is_asked.Given as goal
-use Rattle.sl_member.specs.Seen.{asks_by}
+use Rattle.sl_member.specs.SeenSessions.{asks_by}
 use Rattle.std.proofs.Common.{false, ◌≡◌}
 use Rattle.std.specs.List.{list_any, range_with_len}
 

@@ -1,6 +1,6 @@
-use Rattle.sl_play.proofs.Finishing.{asks_lead_back}
+use Rattle.sl_play.proofs.EndsFinish.{asks_lead_back}
 use Rattle.sl_play.proofs.laws.asks_lead_back.Goals as goal
-use Rattle.sl_play.specs.Owing.{EachStood}
+use Rattle.sl_play.specs.PlayIsOwed.{EachStood}
 
 pub returns : goal.returns
 returns g c = asks_lead_back (EachStood g.D.Daemon.stands)

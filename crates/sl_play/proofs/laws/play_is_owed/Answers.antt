@@ -1,4 +1,4 @@
-use Rattle.sl_play.proofs.Owing.{play_is_owed}
+use Rattle.sl_play.proofs.PlayIsOwed.{play_is_owed}
 use Rattle.sl_play.proofs.laws.play_is_owed.Goals as goal
 
 pub returns : goal.returns

@@ -1,4 +1,4 @@
-use Rattle.sl_run_law.proofs.Clocks.{event_drifts}
+use Rattle.sl_run_law.proofs.ClocksDrift.{event_drifts}
 use Rattle.sl_run_law.proofs.laws.clocks_drift.Goals as goal
 
 pub returns : goal.returns

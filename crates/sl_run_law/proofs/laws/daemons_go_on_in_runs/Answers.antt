@@ -1,4 +1,4 @@
-use Rattle.sl_run_law.proofs.Hosting.{run_hosts}
+use Rattle.sl_run_law.proofs.DaemonsGoOn.{run_hosts}
 use Rattle.sl_run_law.proofs.laws.daemons_go_on_in_runs.Goals as goal
 
 pub returns : goal.returns

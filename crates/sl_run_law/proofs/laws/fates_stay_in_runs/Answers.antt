@@ -1,4 +1,4 @@
-use Rattle.sl_run_law.proofs.Fates.{run_fates}
+use Rattle.sl_run_law.proofs.FatesStay.{run_fates}
 use Rattle.sl_run_law.proofs.laws.fates_stay_in_runs.Goals as goal
 
 pub returns : goal.returns

@@ -1,4 +1,4 @@
-use Rattle.sl_run_law.proofs.Going.{run_goes}
+use Rattle.sl_run_law.proofs.WorldsGoOn.{run_goes}
 use Rattle.sl_run_law.proofs.laws.runs_go_on.Goals as goal
 
 pub returns : goal.returns

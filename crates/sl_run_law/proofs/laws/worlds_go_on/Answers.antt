@@ -1,4 +1,4 @@
-use Rattle.sl_run_law.proofs.Going.{event_goes}
+use Rattle.sl_run_law.proofs.WorldsGoOn.{event_goes}
 use Rattle.sl_run_law.proofs.laws.worlds_go_on.Goals as goal
 
 pub returns : goal.returns

@@ -1,4 +1,4 @@
-use Rattle.sl_safety.proofs.Lawful.{are_lawful}
+use Rattle.sl_safety.proofs.HistoriesAreLawful.{are_lawful}
 use Rattle.sl_safety.proofs.laws.histories_are_lawful.Goals as goal
 
 pub returns : goal.returns

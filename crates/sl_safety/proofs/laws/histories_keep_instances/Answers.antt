@@ -1,4 +1,4 @@
-use Rattle.sl_safety.proofs.Lawful.{keep_instances}
+use Rattle.sl_safety.proofs.HistoriesAreLawful.{keep_instances}
 use Rattle.sl_safety.proofs.laws.histories_keep_instances.Goals as goal
 
 pub returns : goal.returns

@@ -1,4 +1,4 @@
-use Rattle.sl_safety.proofs.Whole.{lawful_runs_are_safe}
+use Rattle.sl_safety.proofs.RunsAreSafe.{lawful_runs_are_safe}
 use Rattle.sl_safety.proofs.laws.lawful_runs_are_safe.Goals as goal
 
 pub returns : goal.returns

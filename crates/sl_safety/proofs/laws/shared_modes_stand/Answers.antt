@@ -1,4 +1,4 @@
-use Rattle.sl_safety.proofs.Moded.{modes_stand}
+use Rattle.sl_safety.proofs.ModesStand.{modes_stand}
 use Rattle.sl_safety.proofs.laws.shared_modes_stand.Goals as goal
 
 pub returns : goal.returns

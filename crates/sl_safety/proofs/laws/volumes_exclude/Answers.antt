@@ -1,4 +1,4 @@
-use Rattle.sl_safety.proofs.Whole.{volumes_exclude}
+use Rattle.sl_safety.proofs.RunsAreSafe.{volumes_exclude}
 use Rattle.sl_safety.proofs.laws.volumes_exclude.Goals as goal
 
 pub returns : goal.returns

@@ -1,4 +1,4 @@
-use Rattle.sl_report.specs.ReadingLines.{command_event}
+use Rattle.sl_report.specs.ReadLines.{command_event}
 use Rattle.sl_schedule.proofs.EventLaws.{command_made}
 use Rattle.sl_schedule.proofs.events.next_event.Goals as goal
 use Rattle.sl_text.specs.Forms.{exactly}

@@ -7,4 +7,4 @@ pub returns : goal.returns
 returns c =
     c.ok.ensures.value
     ∙ some_sized c.args.areas.now.sector (c.args.areas.now.mebibytes * mebibyte) c.args.hosts c.args.paired
-    (c.in_ok-sector.sector, c.in_ok-sector.area, c.in_ok-sector.field-0-2) c.geometry_of.result c.in_ok-sector.ensures c.geometry_of.ensures.ok c.geometry_of.ensures.value
+    (c.in_ok-sector.sector, c.in_ok-sector.area, c.in_ok-sector.field-0-2) c.sized.result c.in_ok-sector.ensures c.sized.ensures.ok c.sized.ensures.value

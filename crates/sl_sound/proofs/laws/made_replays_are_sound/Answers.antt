@@ -1,4 +1,4 @@
-use Rattle.sl_sound.proofs.Owing.{made_replays_are_sound}
+use Rattle.sl_sound.proofs.OwedGrows.{made_replays_are_sound}
 use Rattle.sl_sound.proofs.laws.made_replays_are_sound.Goals as goal
 
 pub returns : goal.returns

@@ -1,4 +1,4 @@
-use Rattle.sl_watch.proofs.TellingLaws.{by_records}
+use Rattle.sl_watch.proofs.ToldLaws.{by_records}
 use Rattle.sl_watch.proofs.run.is_same.Goals as goal
 
 pub returns-clause-exact : goal.returns-clause-exact

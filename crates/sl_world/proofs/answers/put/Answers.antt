@@ -1,4 +1,4 @@
-use Rattle.sl_machine.specs.Keeping.{kept_state}
+use Rattle.sl_machine.specs.KeptParts.{kept_state}
 use Rattle.sl_world.proofs.answers.put.Goals as goal
 use Rattle.std.proofs.Common.{length, subst, ◌≡◌}
 use Rattle.std.specs.Arc.{arc_value}

@@ -1,7 +1,7 @@
 use Rattle.sl_machine.specs.Machines.{machine_state}
 use Rattle.sl_world.proofs.HeldThere.{counted_more}
 use Rattle.sl_world.proofs.conflicts.count_conflicts.Goals as goal
-use Rattle.sl_world.specs.Counting.{others_from}
+use Rattle.sl_world.specs.ConflictCounts.{others_from}
 use Rattle.std.proofs.Common.{arith, false, map, sym, true, ◌∙◌}
 
 pub loop-at-preserved-then-clash : goal.loop-at-preserved-then-clash

@@ -2,7 +2,7 @@ use Rattle.sl_machine.specs.Machines.{machine_state}
 use Rattle.sl_report.specs.Reports.{conflicts_after}
 use Rattle.sl_run.specs.Conflicts.{has_conflict}
 use Rattle.sl_world.proofs.conflicts.count_conflicts.Given as goal
-use Rattle.sl_world.specs.Counting.{all_with, others_from}
+use Rattle.sl_world.specs.ConflictCounts.{all_with, others_from}
 use Rattle.std.proofs.Common.{drop, length, map, take, ◌+◌, ◌-◌, ◌≡◌, ◌≤◌}
 
 -- those of the grants before this one are counted

@@ -1,4 +1,4 @@
-use Rattle.sl_kept.specs.Kept.{MachineState}
+use Rattle.sl_world_state.specs.KeptWorld.{MachineState}
 use Rattle.sl_machine.specs.Machines.{machine_state}
 use Rattle.sl_world.proofs.ends.runs_on.Goals as goal
 use Rattle.sl_words.proofs.CaseLaws.{none_some, some_value}

@@ -1,4 +1,4 @@
-use Rattle.sl_daemon.specs.Daemons.{begun_with}
+use Rattle.sl_world_state.specs.Daemons.{begun_with}
 use Rattle.sl_run.specs.Lawful.{IsSetting}
 use Rattle.sl_world.proofs.hosts.begin_first.Goals as goal
 use Rattle.sl_world_law.proofs.FirstDaemons.{first_settings}

@@ -1,6 +1,6 @@
 use Rattle.sl_delta.proofs.StepLaws.{told_follows, told_gives}
 use Rattle.sl_delta.proofs.lease.DeltaLease.hear.Goals as goal
-use Rattle.sl_delta.specs.Own.{OwnState, after_answer, answer_in}
+use Rattle.sl_delta.specs.OwnSector.{OwnState, after_answer, answer_in}
 use Rattle.sl_delta.specs.Steps.{LeaseState, followed, given_following}
 use Rattle.sl_trace.specs.declared.effects.Purpose.{Purpose}
 use Rattle.sl_trace.specs.declared.input.Answer.{Answer}

@@ -1,4 +1,4 @@
-use Rattle.sl_due_facts.proofs.Connections.DeltaPromises as its
+use Rattle.sl_due_facts.proofs.Connections.DeltaLaws as its
 use Rattle.sl_due_facts.proofs.laws.connections.first_renewals_are_lawful.Goals as goal
 
 pub returns : goal.returns

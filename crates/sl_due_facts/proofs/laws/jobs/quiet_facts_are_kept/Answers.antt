@@ -1,4 +1,4 @@
-use Rattle.sl_due_facts.proofs.Jobs.JobPromises as its
+use Rattle.sl_due_facts.proofs.Jobs.JobLaws as its
 use Rattle.sl_due_facts.proofs.laws.jobs.quiet_facts_are_kept.Goals as goal
 
 pub returns : goal.returns

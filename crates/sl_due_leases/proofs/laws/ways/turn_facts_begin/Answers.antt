@@ -1,4 +1,4 @@
-use Rattle.sl_due_leases.proofs.Ways.Kept.FactsAreKept as its
+use Rattle.sl_due_leases.proofs.Ways.WayFactsHeld.FactsAreKept as its
 use Rattle.sl_due_leases.proofs.laws.ways.turn_facts_begin.Goals as goal
 
 pub returns : goal.returns

@@ -1,4 +1,4 @@
-use Rattle.sl_due_leases.proofs.Ways.Kept.StepsBegin as its
+use Rattle.sl_due_leases.proofs.Ways.WayFactsHeld.StepsBegin as its
 use Rattle.sl_due_leases.proofs.laws.ways.turns_rest.Goals as goal
 
 pub returns : goal.returns

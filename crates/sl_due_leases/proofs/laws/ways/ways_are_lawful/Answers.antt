@@ -1,4 +1,4 @@
-use Rattle.sl_due_leases.proofs.Ways.Lawful.BallotLaws as its
+use Rattle.sl_due_leases.proofs.Ways.WaysAreLawful.BallotLaws as its
 use Rattle.sl_due_leases.proofs.laws.ways.ways_are_lawful.Goals as goal
 
 pub returns : goal.returns

@@ -1,7 +1,7 @@
 use Rattle.sl_escalate.proofs.KeptLaws.{stands_noted}
 use Rattle.sl_escalate.proofs.recovery.Recovery.step.Goals as goal
-use Rattle.sl_escalate.specs.Due.{due_among, is_grace_over, noted}
-use Rattle.sl_escalate.specs.Stands.{Kept, Stands}
+use Rattle.sl_escalate.specs.DueSignals.{due_among, is_grace_over, noted}
+use Rattle.sl_escalate.specs.KeptRecovery.{Kept, Stands}
 use Rattle.std.proofs.Common.{Some, ap, length, map, subst, sym, ◌∙◌, ◌≡◌}
 use Rattle.std.proofs.lemmas.List.{length-map, with_items_is}
 

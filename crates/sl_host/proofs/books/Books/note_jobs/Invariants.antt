@@ -1,5 +1,5 @@
 use Rattle.sl_host.proofs.books.Books.note_jobs.Given as goal
-use Rattle.sl_host.specs.Choosing.{chosen_among}
+use Rattle.sl_host.specs.ChosenJobs.{chosen_among}
 use Rattle.std.proofs.Common.{take, ◌≡◌}
 
 -- the jobs before this place are noted

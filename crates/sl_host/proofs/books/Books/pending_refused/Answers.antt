@@ -1,8 +1,8 @@
-use Rattle.sl_host_law.specs.Decisions.Deciding.{pending_refused}
+use Rattle.sl_host_law.specs.Decisions.CommandDecisions.{pending_refused}
 use Rattle.sl_trace.specs.declared.reply.Reply.TheVariants.{Pending}
 use Rattle.sl_host.proofs.QuestionsStand.{pending_is}
 use Rattle.sl_host.proofs.books.Books.pending_refused.Goals as goal
-use Rattle.sl_host.specs.Asking.{alone}
+use Rattle.sl_host.specs.BookQuestions.{alone}
 use Rattle.std.proofs.Common.{ap, option_map, subst, sym, ◌%◌, ◌∙◌, ◌≡◌}
 
 pub returns-in-Some : goal.returns-in-Some

@@ -1,5 +1,5 @@
-use Rattle.sl_host_state.specs.declared.kept.JobState.{JobState}
-use Rattle.sl_host.proofs.Finding.{none_found}
+use Rattle.sl_host_state.specs.declared.kept_parts.JobState.{JobState}
+use Rattle.sl_host.proofs.FoundInList.{none_found}
 use Rattle.sl_host.proofs.books.Books.runs.Goals as goal
 use Rattle.sl_host.specs.Books.{BooksState}
 use Rattle.std.proofs.Common.{ap, ◌==◌, ◌∙◌}

@@ -1,8 +1,8 @@
 use Rattle.sl_area.specs.Layouts.{Sizes, layout_of}
-use Rattle.sl_host_state.specs.Kept.{HostState, state_of}
-use Rattle.sl_host_state.specs.Makes.{with_call}
+use Rattle.sl_host_state.specs.KeptState.{HostState, state_of}
+use Rattle.sl_host_state.specs.MadeEffects.{with_call}
 use Rattle.sl_member.specs.Members.{IsOwnCall, member_called}
-use Rattle.sl_member.specs.Together.{changed_member}
+use Rattle.sl_member.specs.HostMembers.{changed_member}
 use Rattle.sl_trace.specs.Limits.{most_lockspaces}
 use Rattle.sl_trace.specs.Traces.{Submitted, new_call}
 use Rattle.sl_trace.specs.declared.effects.Call.{Call}

@@ -7,11 +7,11 @@ use Rattle.sl_host.proofs.AnswersHeard.{lease_read_whole}
 use Rattle.sl_host.proofs.ReadsTold.{told_after}
 use Rattle.sl_host_law.specs.Steps.Leases.{lease_at}
 use Rattle.sl_lease.specs.Laws.{first_by}
-use Rattle.sl_host_state.specs.Hears.{heard_answer, is_heeded_by}
-use Rattle.sl_host_state.specs.Kept.{MemberState, state_of}
-use Rattle.sl_member.specs.Together.{MembersState, changed_member}
+use Rattle.sl_host_state.specs.HeardInputs.{heard_answer, is_heeded_by}
+use Rattle.sl_host_state.specs.KeptState.{MemberState, state_of}
+use Rattle.sl_member.specs.HostMembers.{MembersState, changed_member}
 use Rattle.sl_host.specs.Books.{BooksState, host_of}
-use Rattle.sl_host.specs.Hearing.{IsTold, MayHear, first_to, is_over_in, lease_heard, others_in, turn_to}
+use Rattle.sl_host.specs.HeardAnswers.{IsTold, MayHear, first_to, is_over_in, lease_heard, others_in, turn_to}
 use Rattle.sl_host.specs.Host.{HostView}
 use Rattle.sl_host.proofs.host.Host.hear_lease_read.Goals as goal
 use Rattle.std.proofs.Common.{IsTrue, List, ap, filter, length, not, subst, sym, ◌*◌, ◌∙◌, ◌≡◌}

@@ -1,7 +1,7 @@
-use Rattle.sl_host_state.specs.Kept.{state_of}
+use Rattle.sl_host_state.specs.KeptState.{state_of}
 use Rattle.sl_host.proofs.LinesHeard.{leaving_heard, staying_heard}
 use Rattle.sl_host.proofs.host.Host.hear_line.Goals as goal
-use Rattle.sl_host.specs.Lining.{leaving_begins, line_begun}
+use Rattle.sl_host.specs.LineParts.{leaving_begins, line_begun}
 use Rattle.std.proofs.Common.{ap, ◌∙◌}
 
 pub returns-in-Some-clause-state : goal.returns-in-Some-clause-state

@@ -2,11 +2,11 @@ use Rattle.sl_member.specs.Members.{own_told}
 use Rattle.sl_trace.specs.declared.effects.Purpose.TheVariants.{Survey}
 use Rattle.sl_trace.specs.declared.input.Answer.TheVariants.{Failed}
 use Rattle.sl_host.proofs.AnswersHeard.{no_survey_whole}
-use Rattle.sl_host_state.specs.Hears.{heard_answer}
-use Rattle.sl_host_state.specs.Kept.{MemberState, state_of}
-use Rattle.sl_member.specs.Together.{MembersState, changed_member}
+use Rattle.sl_host_state.specs.HeardInputs.{heard_answer}
+use Rattle.sl_host_state.specs.KeptState.{MemberState, state_of}
+use Rattle.sl_member.specs.HostMembers.{MembersState, changed_member}
 use Rattle.sl_host.specs.Books.{BooksState, host_of}
-use Rattle.sl_host.specs.Hearing.{MayHear, begun_at, is_over_in, others_in, own_heard, request_heard, survey_heard}
+use Rattle.sl_host.specs.HeardAnswers.{MayHear, begun_at, is_over_in, others_in, own_heard, request_heard, survey_heard}
 use Rattle.sl_host.proofs.HostStands.{same_run}
 use Rattle.sl_host.specs.Host.{HostView}
 use Rattle.sl_host.proofs.host.Host.hear_no_survey.Goals as goal

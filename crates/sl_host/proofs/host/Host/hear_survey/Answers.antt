@@ -1,10 +1,10 @@
 use Rattle.sl_trace.specs.declared.input.Answer.TheVariants.{Read}
 use Rattle.sl_host.proofs.AnswersHeard.{survey_whole}
-use Rattle.sl_host_state.specs.Hears.{heard_answer}
-use Rattle.sl_host_state.specs.Kept.{MemberState, state_of}
-use Rattle.sl_member.specs.Together.{MembersState, changed_member}
+use Rattle.sl_host_state.specs.HeardInputs.{heard_answer}
+use Rattle.sl_host_state.specs.KeptState.{MemberState, state_of}
+use Rattle.sl_member.specs.HostMembers.{MembersState, changed_member}
 use Rattle.sl_host.specs.Books.{BooksState, host_of}
-use Rattle.sl_host.specs.Hearing.{MayHear, begun_at, is_over_in, others_in, own_heard, request_heard, survey_heard}
+use Rattle.sl_host.specs.HeardAnswers.{MayHear, begun_at, is_over_in, others_in, own_heard, request_heard, survey_heard}
 use Rattle.sl_host.specs.Host.{HostView}
 use Rattle.sl_host.proofs.host.Host.hear_survey.Goals as goal
 use Rattle.std.proofs.Common.{List, ap, cond, filter, min, not, subst, sym, ◌+◌, ◌∙◌, ◌≡◌}

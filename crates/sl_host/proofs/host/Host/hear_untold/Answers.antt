@@ -1,9 +1,9 @@
 use Rattle.sl_host.proofs.AnswersHeard.{untold_whole}
-use Rattle.sl_host_state.specs.Hears.{heard_answer}
-use Rattle.sl_host_state.specs.Kept.{MemberState, state_of}
-use Rattle.sl_member.specs.Together.{MembersState, changed_member}
+use Rattle.sl_host_state.specs.HeardInputs.{heard_answer}
+use Rattle.sl_host_state.specs.KeptState.{MemberState, state_of}
+use Rattle.sl_member.specs.HostMembers.{MembersState, changed_member}
 use Rattle.sl_host.specs.Books.{BooksState, host_of}
-use Rattle.sl_host.specs.Hearing.{MayHear, begun_at, is_over_in, others_in, own_heard, request_heard, survey_heard}
+use Rattle.sl_host.specs.HeardAnswers.{MayHear, begun_at, is_over_in, others_in, own_heard, request_heard, survey_heard}
 use Rattle.sl_host.specs.Host.{HostView}
 use Rattle.sl_host.proofs.host.Host.hear_untold.Goals as goal
 use Rattle.std.proofs.Common.{List, ap, filter, not, subst, sym, ◌∙◌, ◌≡◌}

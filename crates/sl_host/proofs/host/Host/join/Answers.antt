@@ -1,8 +1,8 @@
 use Rattle.sl_area.specs.Layouts.{Sizes, layout_of}
-use Rattle.sl_host_state.specs.Kept.{HostState, MemberState, state_of}
-use Rattle.sl_host_state.specs.Makes.{with_joining, with_member}
+use Rattle.sl_host_state.specs.KeptState.{HostState, MemberState, state_of}
+use Rattle.sl_host_state.specs.MadeEffects.{with_joining, with_member}
 use Rattle.sl_member.specs.Members.{IsOwnCall, RunOf, blank_member, member_called}
-use Rattle.sl_member.specs.Together.{changed_member, member_with}
+use Rattle.sl_member.specs.HostMembers.{changed_member, member_with}
 use Rattle.sl_trace.specs.Sessions.{joining_session}
 use Rattle.sl_trace.specs.Limits.{most_lockspaces}
 use Rattle.sl_trace.specs.Traces.{Submitted, new_call}
@@ -13,7 +13,7 @@ use Rattle.sl_host.proofs.HostStands.{lowered_room, same_run}
 use Rattle.sl_host.proofs.host.Host.join.Goals as goal
 use Rattle.sl_host.specs.Books.{books_calling, kept_of, submitted_in}
 use Rattle.sl_host.specs.Host.{HostView}
-use Rattle.sl_host.specs.Joining.{run_in}
+use Rattle.sl_host.specs.MemberRun.{run_in}
 use Rattle.std.proofs.Common.{List, None, ap, arith, length, subst, sym, ℕ, ◌+◌, ◌-◌, ◌<◌, ◌≡◌, ◌∙◌, ◌≤◌}
 
 pub calling-requires-clause-own : goal.calling-requires-clause-own

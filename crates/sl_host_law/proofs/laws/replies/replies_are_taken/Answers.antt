@@ -1,4 +1,4 @@
-use Rattle.sl_host_law.proofs.Replies.Replies.RepliesAreTaken as its
+use Rattle.sl_host_law.proofs.Replies.RepliesAreTaken.RepliesKeepHosts as its
 use Rattle.sl_host_law.proofs.laws.replies.replies_are_taken.Goals as goal
 
 pub returns : goal.returns

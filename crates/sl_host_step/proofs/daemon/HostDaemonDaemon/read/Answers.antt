@@ -1,5 +1,5 @@
-use Rattle.sl_daemon.specs.Daemons.{read_of}
-use Rattle.sl_host_step.proofs.Begins.{steps_so}
+use Rattle.sl_world_state.specs.Daemons.{read_of}
+use Rattle.sl_host_step.proofs.HostDaemons.{steps_so}
 use Rattle.sl_host_step.proofs.daemon.HostDaemonDaemon.read.Goals as goal
 use Rattle.sl_host_step.specs.Moments.{HasStepped}
 use Rattle.sl_host.specs.Host.{HostView}

@@ -1,4 +1,4 @@
-use Rattle.sl_host_step.proofs.Begins.{steps_so}
+use Rattle.sl_host_step.proofs.HostDaemons.{steps_so}
 use Rattle.sl_host_step.proofs.daemon.HostDaemonDaemon.step.Goals as goal
 use Rattle.sl_host_step.specs.Moments.{HasStepped}
 use Rattle.sl_host.specs.Host.{HostView}

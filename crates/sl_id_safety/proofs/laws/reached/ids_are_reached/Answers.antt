@@ -1,4 +1,4 @@
-use Rattle.sl_id_safety.proofs.Reached.Proven.{ids_are_reached}
+use Rattle.sl_id_safety.proofs.Reached.IdsAreReached.{ids_are_reached}
 use Rattle.sl_id_safety.proofs.laws.reached.ids_are_reached.Goals as goal
 
 pub returns : goal.returns

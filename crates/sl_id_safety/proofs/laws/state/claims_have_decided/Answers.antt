@@ -1,4 +1,4 @@
-use Rattle.sl_id_safety.proofs.State.Proven.{claims_have_decided}
+use Rattle.sl_id_safety.proofs.State.SessionFacts.{claims_have_decided}
 use Rattle.sl_id_safety.proofs.laws.state.claims_have_decided.Goals as goal
 
 pub returns : goal.returns

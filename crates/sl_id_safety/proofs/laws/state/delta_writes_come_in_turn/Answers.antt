@@ -1,4 +1,4 @@
-use Rattle.sl_id_safety.proofs.State.Proven.{delta_writes_come_in_turn}
+use Rattle.sl_id_safety.proofs.State.SessionFacts.{delta_writes_come_in_turn}
 use Rattle.sl_id_safety.proofs.laws.state.delta_writes_come_in_turn.Goals as goal
 
 pub returns : goal.returns

@@ -1,4 +1,4 @@
-use Rattle.sl_id_safety.proofs.State.Proven.{join_reads_are_own}
+use Rattle.sl_id_safety.proofs.State.SessionFacts.{join_reads_are_own}
 use Rattle.sl_id_safety.proofs.laws.state.join_reads_are_own.Goals as goal
 
 pub returns : goal.returns

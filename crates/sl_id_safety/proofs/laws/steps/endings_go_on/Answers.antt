@@ -1,4 +1,4 @@
-use Rattle.sl_id_safety.proofs.Steps.Proven.{endings_go_on}
+use Rattle.sl_id_safety.proofs.Steps.EventsAreSteps.{endings_go_on}
 use Rattle.sl_id_safety.proofs.laws.steps.endings_go_on.Goals as goal
 
 pub returns : goal.returns

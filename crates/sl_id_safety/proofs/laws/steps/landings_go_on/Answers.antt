@@ -1,4 +1,4 @@
-use Rattle.sl_id_safety.proofs.Steps.Proven.{landings_go_on}
+use Rattle.sl_id_safety.proofs.Steps.EventsAreSteps.{landings_go_on}
 use Rattle.sl_id_safety.proofs.laws.steps.landings_go_on.Goals as goal
 
 pub returns : goal.returns

@@ -1,4 +1,4 @@
-use Rattle.sl_kept.specs.Changes.{cut_flight}
+use Rattle.sl_world_state.specs.Changes.{cut_flight}
 use Rattle.sl_machine.proofs.FlightChanges.{cut_open, mapped_are}
 use Rattle.sl_machine.proofs.flights.Flights.cut.Goals as goal
 use Rattle.std.proofs.Common.{ap, map, refl, sym, ◌∙◌}

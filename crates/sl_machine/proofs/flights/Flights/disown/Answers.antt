@@ -1,4 +1,4 @@
-use Rattle.sl_kept.specs.Changes.{disowned}
+use Rattle.sl_world_state.specs.Changes.{disowned}
 use Rattle.sl_machine.proofs.FlightChanges.{disowned_order, disowned_open, mapped_are}
 use Rattle.sl_machine.proofs.flights.Flights.disown.Goals as goal
 use Rattle.std.proofs.Common.{ap, map, refl, ◌∙◌}

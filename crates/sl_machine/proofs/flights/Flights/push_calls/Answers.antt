@@ -1,4 +1,4 @@
-use Rattle.sl_kept.specs.Kept.{FlightState}
+use Rattle.sl_world_state.specs.KeptWorld.{FlightState}
 use Rattle.sl_machine.proofs.FlightPushes.{numbered_at}
 use Rattle.sl_machine.proofs.flights.Flights.push_calls.Goals as goal
 use Rattle.std.proofs.Common.{ap, sym, ◌∙◌}

@@ -1,4 +1,4 @@
-use Rattle.sl_kept.specs.Steps.{new_flight}
+use Rattle.sl_world_state.specs.Steps.{new_flight}
 use Rattle.sl_machine.proofs.flights.Flights.push_calls.Given as goal
 use Rattle.std.proofs.Common.{deque_len, fold, length, take, ◌+◌, ◌-◌, ◌∷◌, ◌≡◌, ◌≤◌}
 use Rattle.std.specs.VecDeque.{deque_capacity}

@@ -1,4 +1,4 @@
-use Rattle.sl_daemon.specs.Daemons.{IsSoundOp}
+use Rattle.sl_world_state.specs.Daemons.{IsSoundOp}
 use Rattle.sl_machine.proofs.machine.Machine.put_away.Goals as goal
 use Rattle.sl_trace.specs.declared.effects.Call.{Call}
 use Rattle.std.proofs.Common.{List, subst, sym}

@@ -1,4 +1,4 @@
-use Rattle.sl_kept.specs.Kept.{MachineState}
+use Rattle.sl_world_state.specs.KeptWorld.{MachineState}
 use Rattle.sl_locks.specs.Steps.{lock_input}
 use Rattle.sl_machine.proofs.machine.Machine.step.Goals as goal
 use Rattle.sl_machine.specs.Machines.{machine_state}

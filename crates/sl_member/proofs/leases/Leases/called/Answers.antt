@@ -1,4 +1,4 @@
-use Rattle.sl_member.proofs.Places.{called_stays, changed_rises, found_in, found_kept, gap_kept}
+use Rattle.sl_member.proofs.LeasesByPlace.{called_stays, changed_rises, found_in, found_kept, gap_kept}
 use Rattle.sl_member.proofs.leases.Leases.called.Goals as goal
 use Rattle.sl_member.specs.Leases.{lease_called}
 use Rattle.std.proofs.Common.{ap, ◌∙◌}

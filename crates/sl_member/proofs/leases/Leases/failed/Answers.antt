@@ -1,5 +1,5 @@
 use Rattle.sl_lease.specs.Changes.{after_failure}
-use Rattle.sl_member.proofs.Places.{changed_rises, found_in, found_kept, gap_kept}
+use Rattle.sl_member.proofs.LeasesByPlace.{changed_rises, found_in, found_kept, gap_kept}
 use Rattle.sl_member.proofs.leases.Leases.failed.Goals as goal
 use Rattle.std.proofs.Common.{ap, refl, ◌∙◌}
 

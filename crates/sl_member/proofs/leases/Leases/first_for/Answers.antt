@@ -1,6 +1,6 @@
-use Rattle.sl_host_state.specs.Makes.{is_lease_on}
-use Rattle.sl_host_state.specs.Kept.{LeaseState}
-use Rattle.sl_member.proofs.Places.{found_in, found_value, gap_found, gap_in}
+use Rattle.sl_host_state.specs.MadeEffects.{is_lease_on}
+use Rattle.sl_host_state.specs.KeptState.{LeaseState}
+use Rattle.sl_member.proofs.LeasesByPlace.{found_in, found_value, gap_found, gap_in}
 use Rattle.sl_member.proofs.leases.Leases.first_for.Goals as goal
 use Rattle.sl_member.specs.Leases.{first_if_second}
 use Rattle.std.proofs.Common.{Option, ap, find, option_and_then, sym, ◌∙◌}

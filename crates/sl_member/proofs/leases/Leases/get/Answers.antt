@@ -1,5 +1,5 @@
-use Rattle.sl_host_state.specs.Makes.{is_lease_on}
-use Rattle.sl_member.proofs.Places.{found_in, found_value, gap_found, gap_in}
+use Rattle.sl_host_state.specs.MadeEffects.{is_lease_on}
+use Rattle.sl_member.proofs.LeasesByPlace.{found_in, found_value, gap_found, gap_in}
 use Rattle.sl_member.proofs.leases.Leases.get.Goals as goal
 use Rattle.std.proofs.Common.{ap, find, sym, ◌∙◌}
 

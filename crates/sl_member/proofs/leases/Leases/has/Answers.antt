@@ -1,5 +1,5 @@
-use Rattle.sl_host_state.specs.Makes.{is_lease_on}
-use Rattle.sl_member.proofs.Places.{found_in, gap_any, gap_in, there_any}
+use Rattle.sl_host_state.specs.MadeEffects.{is_lease_on}
+use Rattle.sl_member.proofs.LeasesByPlace.{found_in, gap_any, gap_in, there_any}
 use Rattle.sl_member.proofs.leases.Leases.has.Goals as goal
 use Rattle.sl_member.specs.Leases.{LeasesState}
 use Rattle.std.proofs.Common.{ap, sym, ◌∙◌}

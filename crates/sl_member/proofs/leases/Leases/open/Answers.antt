@@ -1,5 +1,5 @@
-use Rattle.sl_host_state.specs.Makes.{new_lease}
-use Rattle.sl_member.proofs.Places.{gap_in, gap_rises, room_for, with_new, with_there}
+use Rattle.sl_host_state.specs.MadeEffects.{new_lease}
+use Rattle.sl_member.proofs.LeasesByPlace.{gap_in, gap_rises, room_for, with_new, with_there}
 use Rattle.sl_member.proofs.leases.Leases.open.Goals as goal
 use Rattle.sl_member.specs.Leases.{AreByPlace, LeasesState}
 use Rattle.std.proofs.Common.{ap, arith, insert, subst, sym, ◌<◌, ◌∙◌}

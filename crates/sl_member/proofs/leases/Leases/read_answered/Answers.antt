@@ -1,4 +1,4 @@
-use Rattle.sl_member.proofs.Places.{changed_rises, found_in, found_kept, gap_kept, read_stays}
+use Rattle.sl_member.proofs.LeasesByPlace.{changed_rises, found_in, found_kept, gap_kept, read_stays}
 use Rattle.sl_member.proofs.leases.Leases.read_answered.Goals as goal
 use Rattle.sl_member.specs.Leases.{read_shown}
 use Rattle.std.proofs.Common.{ap, ◌∙◌}

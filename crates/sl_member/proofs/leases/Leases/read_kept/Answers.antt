@@ -1,4 +1,4 @@
-use Rattle.sl_member.proofs.Places.{changed_rises, found_in, found_kept, gap_kept, kept_stays}
+use Rattle.sl_member.proofs.LeasesByPlace.{changed_rises, found_in, found_kept, gap_kept, kept_stays}
 use Rattle.sl_member.proofs.leases.Leases.read_kept.Goals as goal
 use Rattle.sl_member.specs.Leases.{kept_shown}
 use Rattle.std.proofs.Common.{ap, ◌∙◌}

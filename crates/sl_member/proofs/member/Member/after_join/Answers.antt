@@ -1,5 +1,5 @@
-use Rattle.sl_delta.specs.Decides.{after_join}
-use Rattle.sl_delta.specs.Own.{answer_in}
+use Rattle.sl_delta.specs.DeltaDecisions.{after_join}
+use Rattle.sl_delta.specs.OwnSector.{answer_in}
 use Rattle.sl_member.proofs.MemberParts.{own_is}
 use Rattle.sl_member.proofs.member.Member.after_join.Goals as goal
 use Rattle.sl_member.specs.Members.{MemberKept, own_of}

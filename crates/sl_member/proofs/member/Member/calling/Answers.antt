@@ -1,7 +1,7 @@
 use Rattle.sl_area.specs.Layouts.{layout_of}
 use Rattle.sl_delta.proofs.EnoughLaws.{hosts_keep_the_same}
-use Rattle.sl_delta.specs.Own.{OwnState, after_call}
-use Rattle.sl_host_state.specs.Kept.{JoinState, MemberState}
+use Rattle.sl_delta.specs.OwnSector.{OwnState, after_call}
+use Rattle.sl_host_state.specs.KeptState.{JoinState, MemberState}
 use Rattle.sl_member.proofs.member.Member.calling.Goals as goal
 use Rattle.sl_member.specs.Leases.{LeasesState, leases_after}
 use Rattle.sl_member.specs.Members.{MemberKept, kept_called}

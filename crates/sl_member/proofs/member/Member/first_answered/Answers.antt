@@ -1,4 +1,4 @@
-use Rattle.sl_delta.specs.Own.{OwnState, answer_in}
+use Rattle.sl_delta.specs.OwnSector.{OwnState, answer_in}
 use Rattle.sl_member.proofs.MemberParts.{told_member}
 use Rattle.sl_member.proofs.member.Member.first_answered.Goals as goal
 use Rattle.sl_member.specs.Members.{MemberKept, own_told}

@@ -1,4 +1,4 @@
-use Rattle.sl_delta.specs.Own.{known_with}
+use Rattle.sl_delta.specs.OwnSector.{known_with}
 use Rattle.sl_member.proofs.MemberParts.{lease_is}
 use Rattle.sl_member.proofs.member.Member.free.Goals as goal
 use Rattle.sl_member.specs.Members.{MemberKept, delta_lease}

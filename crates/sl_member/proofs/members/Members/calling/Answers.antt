@@ -1,6 +1,6 @@
 use Rattle.sl_area.specs.Layouts.{layout_of}
 use Rattle.sl_member.proofs.CalledMembers.{called_kept, called_members, nobody_called, one_item, room_at}
-use Rattle.sl_member.proofs.Numbered.{has_number}
+use Rattle.sl_member.proofs.MembersByNumber.{has_number}
 use Rattle.sl_member.proofs.members.Members.calling.Goals as goal
 use Rattle.sl_member.specs.Leases.{begins_lease}
 use Rattle.sl_member.specs.Members.{MemberKept}

@@ -1,5 +1,5 @@
-use Rattle.sl_delta.specs.Own.{answer_in}
-use Rattle.sl_member.proofs.Numbered.{changed_kept, changed_members, has_number, none_kept}
+use Rattle.sl_delta.specs.OwnSector.{answer_in}
+use Rattle.sl_member.proofs.MembersByNumber.{changed_kept, changed_members, has_number, none_kept}
 use Rattle.sl_member.proofs.members.Members.first_answered.Goals as goal
 use Rattle.sl_member.specs.Members.{own_told}
 use Rattle.sl_trace.specs.declared.effects.JoinStep.TheVariants.{FirstRead}

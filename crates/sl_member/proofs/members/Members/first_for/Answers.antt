@@ -1,5 +1,5 @@
-use Rattle.sl_host_state.specs.Kept.{MemberState}
-use Rattle.sl_member.proofs.Numbered.{has_number, nobody_kept, state_kept}
+use Rattle.sl_host_state.specs.KeptState.{MemberState}
+use Rattle.sl_member.proofs.MembersByNumber.{has_number, nobody_kept, state_kept}
 use Rattle.sl_member.proofs.members.Members.first_for.Goals as goal
 use Rattle.sl_member.specs.Leases.{first_among}
 use Rattle.std.proofs.Common.{Option, ap, option_and_then, position, sym, ◌∙◌}

@@ -1,7 +1,7 @@
-use Rattle.sl_member.proofs.Gathered.{late_states}
+use Rattle.sl_member.proofs.MembersTogether.{late_states}
 use Rattle.sl_member.proofs.members.Members.is_late.Goals as goal
 use Rattle.sl_member.specs.Members.{MemberKept, RunOf}
-use Rattle.sl_member.specs.Together.{MembersState, late_by}
+use Rattle.sl_member.specs.HostMembers.{MembersState, late_by}
 use Rattle.std.proofs.Common.{List, ap, ◌∙◌}
 use Rattle.std.specs.List.{list_any}
 

@@ -1,8 +1,8 @@
-use Rattle.sl_host_state.specs.Kept.{MemberState}
-use Rattle.sl_member.proofs.Gathered.{any_state}
+use Rattle.sl_host_state.specs.KeptState.{MemberState}
+use Rattle.sl_member.proofs.MembersTogether.{any_state}
 use Rattle.sl_member.proofs.members.Members.is_left.Goals as goal
 use Rattle.sl_member.specs.Members.{MemberKept}
-use Rattle.sl_member.specs.Together.{MembersState}
+use Rattle.sl_member.specs.HostMembers.{MembersState}
 use Rattle.sl_trace.specs.Sessions.{is_session_arg}
 use Rattle.std.proofs.Common.{Bool, List, ap, ◌&&◌, ◌∙◌}
 use Rattle.std.specs.List.{list_any}

@@ -1,8 +1,8 @@
-use Rattle.sl_host_state.specs.Kept.{MemberState}
-use Rattle.sl_member.proofs.Gathered.{found_state, mapped_twice}
+use Rattle.sl_host_state.specs.KeptState.{MemberState}
+use Rattle.sl_member.proofs.MembersTogether.{found_state, mapped_twice}
 use Rattle.sl_member.proofs.members.Members.joining.Goals as goal
 use Rattle.sl_member.specs.Members.{MemberKept}
-use Rattle.sl_member.specs.Together.{MembersState}
+use Rattle.sl_member.specs.HostMembers.{MembersState}
 use Rattle.sl_words.specs.Words.{some_is}
 use Rattle.std.proofs.Common.{Bool, List, ap, find, option_map, ◌==◌, ◌∙◌}
 

@@ -1,9 +1,9 @@
-use Rattle.sl_host_state.specs.Kept.{MemberState}
-use Rattle.sl_member.proofs.Gathered.{found_state, mapped_twice}
-use Rattle.sl_member.proofs.Numbered.{numbers_are}
+use Rattle.sl_host_state.specs.KeptState.{MemberState}
+use Rattle.sl_member.proofs.MembersTogether.{found_state, mapped_twice}
+use Rattle.sl_member.proofs.MembersByNumber.{numbers_are}
 use Rattle.sl_member.proofs.members.Members.joining_by.Goals as goal
 use Rattle.sl_member.specs.Members.{MemberKept}
-use Rattle.sl_member.specs.Together.{AreApart, MembersState, is_joining_by}
+use Rattle.sl_member.specs.HostMembers.{AreApart, MembersState, is_joining_by}
 use Rattle.std.proofs.Common.{List, ap, find, map, option_map, subst, ◌∙◌}
 
 pub returns-clause-exact : goal.returns-clause-exact

@@ -1,4 +1,4 @@
-use Rattle.sl_member.proofs.Numbered.{changed_kept, changed_members, has_number, none_kept}
+use Rattle.sl_member.proofs.MembersByNumber.{changed_kept, changed_members, has_number, none_kept}
 use Rattle.sl_member.proofs.members.Members.lease_kept.Goals as goal
 use Rattle.sl_member.specs.Leases.{kept_shown}
 use Rattle.sl_member.specs.Members.{lease_changed}

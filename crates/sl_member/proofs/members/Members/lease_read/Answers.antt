@@ -1,8 +1,8 @@
-use Rattle.sl_member.proofs.Numbered.{changed_kept, changed_members, has_number, none_kept, run_kept}
+use Rattle.sl_member.proofs.MembersByNumber.{changed_kept, changed_members, has_number, none_kept, run_kept}
 use Rattle.sl_member.proofs.members.Members.lease_read.Goals as goal
 use Rattle.sl_member.specs.Leases.{read_shown}
 use Rattle.sl_member.specs.Members.{MemberKept, RunOf, lease_changed}
-use Rattle.sl_member.specs.Together.{side_with}
+use Rattle.sl_member.specs.HostMembers.{side_with}
 use Rattle.std.proofs.Common.{ap, position, refl, sym, ◌∙◌}
 
 pub invariant_of-self : goal.invariant_of-self

@@ -1,5 +1,5 @@
 use Rattle.sl_lease.specs.Changes.{after_write}
-use Rattle.sl_member.proofs.Numbered.{changed_kept, changed_members, has_number, none_kept}
+use Rattle.sl_member.proofs.MembersByNumber.{changed_kept, changed_members, has_number, none_kept}
 use Rattle.sl_member.proofs.members.Members.lease_written.Goals as goal
 use Rattle.sl_member.specs.Members.{lease_changed}
 use Rattle.std.proofs.Common.{ap, position, refl, sym, ◌∙◌}

@@ -1,9 +1,9 @@
-use Rattle.sl_host_state.specs.Kept.{MemberState}
-use Rattle.sl_member.proofs.Gathered.{left_members, left_states}
-use Rattle.sl_member.proofs.Numbered.{states}
+use Rattle.sl_host_state.specs.KeptState.{MemberState}
+use Rattle.sl_member.proofs.MembersTogether.{left_members, left_states}
+use Rattle.sl_member.proofs.MembersByNumber.{states}
 use Rattle.sl_member.proofs.members.Members.leave.Goals as goal
 use Rattle.sl_member.specs.Members.{MemberKept, RunOf}
-use Rattle.sl_member.specs.Together.{MembersState, left_by, left_kept}
+use Rattle.sl_member.specs.HostMembers.{MembersState, left_by, left_kept}
 use Rattle.std.proofs.Common.{List, ap, arith, drop, length, map, take, ◌++◌, ◌≡◌, ◌∙◌}
 use Rattle.std.proofs.lemmas.Grind.{common_steps}
 

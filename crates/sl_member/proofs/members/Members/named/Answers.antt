@@ -1,8 +1,8 @@
-use Rattle.sl_host_state.specs.Kept.{MemberState}
-use Rattle.sl_member.proofs.Gathered.{found_state, mapped_twice, run_if_found}
+use Rattle.sl_host_state.specs.KeptState.{MemberState}
+use Rattle.sl_member.proofs.MembersTogether.{found_state, mapped_twice, run_if_found}
 use Rattle.sl_member.proofs.members.Members.named.Goals as goal
 use Rattle.sl_member.specs.Members.{MemberKept, RunOf}
-use Rattle.sl_member.specs.Together.{MembersState}
+use Rattle.sl_member.specs.HostMembers.{MembersState}
 use Rattle.std.proofs.Common.{Bool, List, ap, bytes_eq, find, option_map, subst, ◌∙◌, ◌≡◌, ◌≤◌}
 use Rattle.std.specs.List.{AllByRecursion}
 

@@ -1,4 +1,4 @@
-use Rattle.sl_member.proofs.Numbered.{has_number, nobody_kept, state_kept}
+use Rattle.sl_member.proofs.MembersByNumber.{has_number, nobody_kept, state_kept}
 use Rattle.sl_member.proofs.members.Members.numbered.Goals as goal
 use Rattle.std.proofs.Common.{ap, position, sym, ◌∙◌}
 

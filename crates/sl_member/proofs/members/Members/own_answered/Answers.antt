@@ -1,4 +1,4 @@
-use Rattle.sl_member.proofs.Numbered.{changed_kept, changed_members, has_number, none_kept}
+use Rattle.sl_member.proofs.MembersByNumber.{changed_kept, changed_members, has_number, none_kept}
 use Rattle.sl_member.proofs.members.Members.own_answered.Goals as goal
 use Rattle.sl_member.specs.Members.{own_told}
 use Rattle.sl_trace.specs.declared.input.Answer.TheVariants.{Written}

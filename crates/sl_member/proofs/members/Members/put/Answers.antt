@@ -1,10 +1,10 @@
-use Rattle.sl_host_state.specs.Kept.{MemberState}
-use Rattle.sl_host_state.specs.Makes.{with_member}
-use Rattle.sl_member.proofs.Gathered.{comes_behind, few_kept, put_members, put_states}
-use Rattle.sl_member.proofs.Numbered.{members_as, states}
+use Rattle.sl_host_state.specs.KeptState.{MemberState}
+use Rattle.sl_host_state.specs.MadeEffects.{with_member}
+use Rattle.sl_member.proofs.MembersTogether.{comes_behind, few_kept, put_members, put_states}
+use Rattle.sl_member.proofs.MembersByNumber.{members_as, states}
 use Rattle.sl_member.proofs.members.Members.put.Goals as goal
 use Rattle.sl_member.specs.Members.{MemberKept, RunOf}
-use Rattle.sl_member.specs.Together.{AreMembers, MembersState}
+use Rattle.sl_member.specs.HostMembers.{AreMembers, MembersState}
 use Rattle.sl_trace.specs.declared.session.Session.{Session}
 use Rattle.sl_words.specs.Orders.{is_text_before}
 use Rattle.std.specs.List.{insert}

@@ -1,5 +1,5 @@
-use Rattle.sl_host_state.specs.Kept.{MemberState}
-use Rattle.sl_member.proofs.Numbered.{changed_kept, changed_members, has_number, none_kept}
+use Rattle.sl_host_state.specs.KeptState.{MemberState}
+use Rattle.sl_member.proofs.MembersByNumber.{changed_kept, changed_members, has_number, none_kept}
 use Rattle.sl_member.proofs.members.Members.refuses.Goals as goal
 use Rattle.std.proofs.Common.{ap, position, refl, sym, true, ◌∙◌}
 

@@ -1,5 +1,5 @@
-use Rattle.sl_host_state.specs.Kept.{MemberState}
-use Rattle.sl_member.proofs.Gathered.{kept_kept, kept_members}
+use Rattle.sl_host_state.specs.KeptState.{MemberState}
+use Rattle.sl_member.proofs.MembersTogether.{kept_kept, kept_members}
 use Rattle.sl_member.proofs.members.Members.remove.Goals as goal
 use Rattle.sl_member.specs.Members.{MemberKept}
 use Rattle.std.proofs.Common.{Bool, arith, filter, not, rules, ◌==◌, ◌≡◌}

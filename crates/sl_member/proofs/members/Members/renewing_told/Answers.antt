@@ -1,4 +1,4 @@
-use Rattle.sl_member.proofs.Numbered.{changed_kept, changed_members, has_number, none_kept}
+use Rattle.sl_member.proofs.MembersByNumber.{changed_kept, changed_members, has_number, none_kept}
 use Rattle.sl_member.proofs.members.Members.renewing_told.Goals as goal
 use Rattle.sl_member.specs.Members.{renewing_told}
 use Rattle.std.proofs.Common.{ap, position, refl, sym, ◌∙◌}

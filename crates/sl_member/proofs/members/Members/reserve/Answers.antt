@@ -1,9 +1,9 @@
-use Rattle.sl_host_state.specs.Kept.{MemberState}
-use Rattle.sl_member.proofs.Gathered.{all_taken, on_err, roomier_kept, roomier_length, roomier_members, roomier_states, roomy_members}
-use Rattle.sl_member.proofs.Numbered.{members_as, states}
+use Rattle.sl_host_state.specs.KeptState.{MemberState}
+use Rattle.sl_member.proofs.MembersTogether.{all_taken, on_err, roomier_kept, roomier_length, roomier_members, roomier_states, roomy_members}
+use Rattle.sl_member.proofs.MembersByNumber.{members_as, states}
 use Rattle.sl_member.proofs.members.Members.reserve.Goals as goal
 use Rattle.sl_member.specs.Members.{MemberKept, RunOf}
-use Rattle.sl_member.specs.Together.{AreMembers, AreRoomier, MembersState}
+use Rattle.sl_member.specs.HostMembers.{AreMembers, AreRoomier, MembersState}
 use Rattle.std.proofs.Common.{List, ap, arith, drop, length, max, subst, sym, take, ℕ, ◌++◌, ◌≡◌, ◌∙◌}
 
 pub invariant_of-self-in_err-reserve_more : goal.invariant_of-self-in_err-reserve_more

@@ -1,7 +1,7 @@
-use Rattle.sl_member.proofs.Numbered.{changed_kept, changed_members, has_number, none_kept, run_kept}
+use Rattle.sl_member.proofs.MembersByNumber.{changed_kept, changed_members, has_number, none_kept, run_kept}
 use Rattle.sl_member.proofs.members.Members.surveyed.Goals as goal
 use Rattle.sl_member.specs.Members.{MemberKept, RunOf}
-use Rattle.sl_member.specs.Together.{told_survey}
+use Rattle.sl_member.specs.HostMembers.{told_survey}
 use Rattle.std.proofs.Common.{ap, position, refl, sym, ◌∙◌}
 
 pub invariant_of-self : goal.invariant_of-self

@@ -1,5 +1,5 @@
 -- Nothing that is seen has changed.
-use Rattle.sl_play.proofs.Happening.{calm_still}
+use Rattle.sl_play.proofs.EventsHappen.{calm_still}
 use Rattle.sl_play.proofs.play.Play.allows.Goals as goal
 
 pub invariant_of-self : goal.invariant_of-self

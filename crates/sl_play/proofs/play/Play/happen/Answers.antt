@@ -1,11 +1,11 @@
 -- An event comes to pass, or is refused.
-use Rattle.sl_machine.specs.Keeping.{kept_state}
-use Rattle.sl_play.proofs.Happening.{calm_still, calm_told, calm_then, handed_on, never_many, passes_so, refused_ok, refused_so, stands_so, told_so}
+use Rattle.sl_machine.specs.KeptParts.{kept_state}
+use Rattle.sl_play.proofs.EventsHappen.{calm_still, calm_told, calm_then, handed_on, never_many, passes_so, refused_ok, refused_so, stands_so, told_so}
 use Rattle.sl_play.proofs.play.Play.happen.Goals as goal
-use Rattle.sl_play.specs.Playing.{state_of}
-use Rattle.sl_play.specs.Telling.{AreCounted, counts_with}
-use Rattle.sl_play.specs.declared.counting.PlayError.TheVariants.{TooMany}
-use Rattle.sl_world.specs.Counting.{conflicts_left}
+use Rattle.sl_play.specs.Plays.{state_of}
+use Rattle.sl_play.specs.ToldSteps.{AreCounted, counts_with}
+use Rattle.sl_play.specs.declared.step_counts.PlayError.TheVariants.{TooMany}
+use Rattle.sl_world.specs.ConflictCounts.{conflicts_left}
 use Rattle.std.proofs.Common.{ap, subst, ◌∙◌}
 use Rattle.std.specs.Prelude.{Err}
 

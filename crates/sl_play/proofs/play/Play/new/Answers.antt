@@ -1,6 +1,6 @@
 -- A new play stands for the header's world.
-use Rattle.sl_machine.specs.Keeping.{kept_state}
-use Rattle.sl_play.proofs.Playing.{begins}
+use Rattle.sl_machine.specs.KeptParts.{kept_state}
+use Rattle.sl_play.proofs.LinesAndAsks.{begins}
 use Rattle.sl_play.proofs.play.Play.new.Goals as goal
 
 pub returns : goal.returns

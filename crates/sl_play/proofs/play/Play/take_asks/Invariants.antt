@@ -1,5 +1,5 @@
 use Rattle.sl_play.proofs.play.Play.take_asks.Given as goal
-use Rattle.sl_play.specs.Playing.{HaveAsked, state_of}
+use Rattle.sl_play.specs.Plays.{HaveAsked, state_of}
 
 abbrev pub invariant-loop-machine : goal.invariant-loop-machine
 invariant-loop-machine g l =

@@ -1,7 +1,7 @@
 -- An event with the asks behind it.
-use Rattle.sl_play.proofs.Playing.{event_stops, event_taken, is_asking, none_left}
+use Rattle.sl_play.proofs.LinesAndAsks.{event_stops, event_taken, is_asking, none_left}
 use Rattle.sl_play.proofs.play.Play.take_event.Goals as goal
-use Rattle.sl_play.specs.Playing.{Answers, state_of}
+use Rattle.sl_play.specs.Plays.{Answers, state_of}
 use Rattle.std.proofs.Common.{subst}
 
 pub returns-in-Some : goal.returns-in-Some

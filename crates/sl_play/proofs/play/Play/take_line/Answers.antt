@@ -1,7 +1,7 @@
 -- A line that is read.
-use Rattle.sl_play.proofs.Playing.{line_answered, line_skipped}
+use Rattle.sl_play.proofs.LinesAndAsks.{line_answered, line_skipped}
 use Rattle.sl_play.proofs.play.Play.take_line.Goals as goal
-use Rattle.sl_play.specs.Playing.{state_of}
+use Rattle.sl_play.specs.Plays.{state_of}
 use Rattle.sl_report.specs.Languages.{whole_language}
 use Rattle.sl_report.specs.Schedules.{event_line}
 use Rattle.sl_schedule.specs.Lines.{line_seen}

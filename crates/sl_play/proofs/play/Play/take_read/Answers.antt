@@ -1,7 +1,7 @@
 -- A line that can't be read.
-use Rattle.sl_play.proofs.Playing.{misread_so}
+use Rattle.sl_play.proofs.LinesAndAsks.{misread_so}
 use Rattle.sl_play.proofs.play.Play.take_read.Goals as goal
-use Rattle.sl_play.specs.Playing.{state_of}
+use Rattle.sl_play.specs.Plays.{state_of}
 
 pub returns-in-Err : goal.returns-in-Err
 returns-in-Err g c w s number =

@@ -1,4 +1,4 @@
-use Rattle.sl_run_law.proofs.Course.Distinct.{calls_are_distinct}
+use Rattle.sl_run_law.proofs.Course.CallsAreDistinct.{calls_are_distinct}
 use Rattle.sl_run_law.proofs.laws.course.calls_are_distinct.Goals as goal
 
 pub returns : goal.returns

@@ -1,4 +1,4 @@
-use Rattle.sl_run_law.proofs.Course.Matched.{courses_are_calls}
+use Rattle.sl_run_law.proofs.Course.CoursesAreCalls.{courses_are_calls}
 use Rattle.sl_run_law.proofs.laws.course.courses_are_calls.Goals as goal
 
 pub returns : goal.returns

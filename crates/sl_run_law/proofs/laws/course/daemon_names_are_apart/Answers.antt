@@ -1,4 +1,4 @@
-use Rattle.sl_run_law.proofs.Course.Naming.{daemon_names_are_apart}
+use Rattle.sl_run_law.proofs.Course.DaemonNamesApart.{daemon_names_are_apart}
 use Rattle.sl_run_law.proofs.laws.course.daemon_names_are_apart.Goals as goal
 
 pub returns : goal.returns

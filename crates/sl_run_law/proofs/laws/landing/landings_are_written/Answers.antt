@@ -1,4 +1,4 @@
-use Rattle.sl_run_law.proofs.Landing.Proven.{landings_are_written}
+use Rattle.sl_run_law.proofs.Landing.LandingLaws.{landings_are_written}
 use Rattle.sl_run_law.proofs.laws.landing.landings_are_written.Goals as goal
 
 pub returns : goal.returns

@@ -1,4 +1,4 @@
-use Rattle.sl_run_law.proofs.Landing.Proven.{writes_land_once}
+use Rattle.sl_run_law.proofs.Landing.LandingLaws.{writes_land_once}
 use Rattle.sl_run_law.proofs.laws.landing.writes_land_once.Goals as goal
 
 pub returns : goal.returns

@@ -1,4 +1,4 @@
-use Rattle.sl_run_law.proofs.Moment.Later.{fronts_go}
+use Rattle.sl_run_law.proofs.Moment.LaterThanFront.{fronts_go}
 use Rattle.sl_run_law.proofs.laws.moment.fronts_go_on.Goals as goal
 
 pub returns : goal.returns

@@ -1,4 +1,4 @@
-use Rattle.sl_run_law.proofs.Moment.Waiting.{join_max_waits}
+use Rattle.sl_run_law.proofs.Moment.MachineWaits.{join_max_waits}
 use Rattle.sl_run_law.proofs.laws.moment.join_max_waits.Goals as goal
 
 pub returns : goal.returns

@@ -1,4 +1,4 @@
-use Rattle.sl_run_law.proofs.Moment.Ordering.{machines_ordered}
+use Rattle.sl_run_law.proofs.Moment.MachinesInOrder.{machines_ordered}
 use Rattle.sl_run_law.proofs.laws.moment.machines_are_in_order.Goals as goal
 
 pub returns : goal.returns

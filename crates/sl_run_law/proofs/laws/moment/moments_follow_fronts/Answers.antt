@@ -1,4 +1,4 @@
-use Rattle.sl_run_law.proofs.Moment.Later.{moments_follow_fronts}
+use Rattle.sl_run_law.proofs.Moment.LaterThanFront.{moments_follow_fronts}
 use Rattle.sl_run_law.proofs.laws.moment.moments_follow_fronts.Goals as goal
 
 pub returns : goal.returns

@@ -1,4 +1,4 @@
-use Rattle.sl_run_law.proofs.Moment.Following.{moments_follow}
+use Rattle.sl_run_law.proofs.Moment.MomentsFollowSteps.{moments_follow}
 use Rattle.sl_run_law.proofs.laws.moment.moments_follow_steps.Goals as goal
 
 pub returns : goal.returns

@@ -1,4 +1,4 @@
-use Rattle.sl_run_law.proofs.Moment.Waiting.{silences_long}
+use Rattle.sl_run_law.proofs.Moment.MachineWaits.{silences_long}
 use Rattle.sl_run_law.proofs.laws.moment.silences_are_long.Goals as goal
 
 pub returns : goal.returns

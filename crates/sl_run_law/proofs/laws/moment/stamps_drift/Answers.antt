@@ -1,4 +1,4 @@
-use Rattle.sl_run_law.proofs.Moment.Following.{drift_between}
+use Rattle.sl_run_law.proofs.Moment.MomentsFollowSteps.{drift_between}
 use Rattle.sl_run_law.proofs.laws.moment.stamps_drift.Goals as goal
 
 pub returns : goal.returns

@@ -1,4 +1,4 @@
-use Rattle.sl_run_law.proofs.Moment.Later.{drift_from_fronts}
+use Rattle.sl_run_law.proofs.Moment.LaterThanFront.{drift_from_fronts}
 use Rattle.sl_run_law.proofs.laws.moment.stamps_drift_from_fronts.Goals as goal
 
 pub returns : goal.returns

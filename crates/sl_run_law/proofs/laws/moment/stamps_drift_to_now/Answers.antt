@@ -1,4 +1,4 @@
-use Rattle.sl_run_law.proofs.Moment.Following.{drift_to_now}
+use Rattle.sl_run_law.proofs.Moment.MomentsFollowSteps.{drift_to_now}
 use Rattle.sl_run_law.proofs.laws.moment.stamps_drift_to_now.Goals as goal
 
 pub returns : goal.returns

@@ -1,4 +1,4 @@
-use Rattle.sl_run_law.proofs.Moment.Waiting.{verify_late}
+use Rattle.sl_run_law.proofs.Moment.MachineWaits.{verify_late}
 use Rattle.sl_run_law.proofs.laws.moment.verify_reads_are_late.Goals as goal
 
 pub returns : goal.returns

@@ -1,4 +1,4 @@
-use Rattle.sl_run_law.proofs.Place.Proven.{nothing_lands_elsewhere}
+use Rattle.sl_run_law.proofs.Place.PlaceLaws.{nothing_lands_elsewhere}
 use Rattle.sl_run_law.proofs.laws.place.nothing_lands_elsewhere.Goals as goal
 
 pub returns : goal.returns

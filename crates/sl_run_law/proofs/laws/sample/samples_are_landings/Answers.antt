@@ -1,4 +1,4 @@
-use Rattle.sl_run_law.proofs.Sample.Proven.{samples_are_landings}
+use Rattle.sl_run_law.proofs.Sample.SampleLaws.{samples_are_landings}
 use Rattle.sl_run_law.proofs.laws.sample.samples_are_landings.Goals as goal
 
 pub returns : goal.returns

@@ -1,4 +1,4 @@
-use Rattle.sl_run_law.proofs.Watchdog.Proven.{writes_in_flight_are_covered}
+use Rattle.sl_run_law.proofs.Watchdog.WatchdogLaws.{writes_in_flight_are_covered}
 use Rattle.sl_run_law.proofs.laws.watchdog.writes_in_flight_are_covered.Goals as goal
 
 pub returns : goal.returns

@@ -1,4 +1,4 @@
-use Rattle.sl_safety.proofs.Ballot.KeptProven.{instances_have_reasons}
+use Rattle.sl_safety.proofs.Ballot.InstancesHaveReasons.{instances_have_reasons}
 use Rattle.sl_safety.proofs.laws.ballot.instances_have_reasons.Goals as goal
 
 pub returns : goal.returns

@@ -1,4 +1,4 @@
-use Rattle.sl_safety.proofs.Ballot.Led.{leaders_follow_ballots}
+use Rattle.sl_safety.proofs.Ballot.LeadersFollowBallots.{leaders_follow_ballots}
 use Rattle.sl_safety.proofs.laws.ballot.leaders_follow_ballots.Goals as goal
 
 pub returns : goal.returns

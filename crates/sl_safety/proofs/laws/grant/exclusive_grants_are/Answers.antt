@@ -1,4 +1,4 @@
-use Rattle.sl_safety.proofs.Grant.Proven.{exclusive_grants_are}
+use Rattle.sl_safety.proofs.Grant.GrantLaws.{exclusive_grants_are}
 use Rattle.sl_safety.proofs.laws.grant.exclusive_grants_are.Goals as goal
 
 pub returns : goal.returns

@@ -1,4 +1,4 @@
-use Rattle.sl_safety.proofs.Holding.Standing.{holders_stand}
+use Rattle.sl_safety.proofs.Holding.HoldersStand.{holders_stand}
 use Rattle.sl_safety.proofs.laws.holding.holders_stand.Goals as goal
 
 pub returns : goal.returns

@@ -1,4 +1,4 @@
-use Rattle.sl_safety.proofs.Holding.Granted.{holdings_are_granted}
+use Rattle.sl_safety.proofs.Holding.HoldingsAreGranted.{holdings_are_granted}
 use Rattle.sl_safety.proofs.laws.holding.holdings_are_granted.Goals as goal
 
 pub returns : goal.returns

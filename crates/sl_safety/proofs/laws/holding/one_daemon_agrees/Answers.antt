@@ -1,4 +1,4 @@
-use Rattle.sl_safety.proofs.Holding.Agreeing.{one_daemon_agrees}
+use Rattle.sl_safety.proofs.Holding.OneDaemonAgrees.{one_daemon_agrees}
 use Rattle.sl_safety.proofs.laws.holding.one_daemon_agrees.Goals as goal
 
 pub returns : goal.returns

@@ -1,4 +1,4 @@
-use Rattle.sl_safety.proofs.Holding.Sharing.{shared_runs_begin}
+use Rattle.sl_safety.proofs.Holding.SharedHoldingsBegin.{shared_runs_begin}
 use Rattle.sl_safety.proofs.laws.holding.shared_runs_begin.Goals as goal
 
 pub returns : goal.returns

@@ -1,4 +1,4 @@
-use Rattle.sl_safety.proofs.Value.Proven.{holders_keep_values}
+use Rattle.sl_safety.proofs.Value.ValueLaws.{holders_keep_values}
 use Rattle.sl_safety.proofs.laws.value.holders_keep_values.Goals as goal
 
 pub returns : goal.returns

@@ -1,6 +1,6 @@
-use Rattle.sl_script.proofs.Numbered.{calls_more}
+use Rattle.sl_script.proofs.NumberedOn.{calls_more}
 use Rattle.sl_script.proofs.calls.NewCalls.put.Goals as goal
-use Rattle.sl_script.specs.Made.{AreCalls}
+use Rattle.sl_script.specs.MadeSteps.{AreCalls}
 use Rattle.std.proofs.Common.{rules, subst, sym}
 
 pub invariant_of-self : goal.invariant_of-self

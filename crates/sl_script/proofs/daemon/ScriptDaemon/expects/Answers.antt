@@ -1,4 +1,4 @@
-use Rattle.sl_script.proofs.Following.{expects_start}
+use Rattle.sl_script.proofs.ScriptsFollow.{expects_start}
 use Rattle.sl_script.proofs.daemon.ScriptDaemon.expects.Goals as goal
 use Rattle.sl_script.specs.ScriptStates.{starts_wait}
 use Rattle.sl_trace.specs.Traces.{is_expected}

@@ -1,7 +1,7 @@
-use Rattle.sl_daemon.specs.Daemons.{read_of}
-use Rattle.sl_script.proofs.Following.{step_stays}
+use Rattle.sl_world_state.specs.Daemons.{read_of}
+use Rattle.sl_script.proofs.ScriptsFollow.{step_stays}
 use Rattle.sl_script.proofs.daemon.ScriptDaemon.read.Goals as goal
-use Rattle.sl_script.specs.declared.heard.Heard.TheVariants.{Call}
+use Rattle.sl_script.specs.declared.answered_inputs.Heard.TheVariants.{Call}
 use Rattle.std.proofs.Common.{refl}
 
 pub returns-clause-stays : goal.returns-clause-stays

@@ -1,6 +1,6 @@
-use Rattle.sl_script.proofs.Following.{step_stays}
+use Rattle.sl_script.proofs.ScriptsFollow.{step_stays}
 use Rattle.sl_script.proofs.daemon.ScriptDaemon.step.Goals as goal
-use Rattle.sl_script.specs.Made.{AreMade}
+use Rattle.sl_script.specs.MadeSteps.{AreMade}
 use Rattle.sl_script.specs.ScriptStates.{ScriptState, after_step, child_next}
 use Rattle.std.proofs.Common.{subst, ◌≡◌}
 use Rattle.std.specs.Prelude.{IfOk}

@@ -1,4 +1,4 @@
-use Rattle.sl_host_state.specs.declared.kept.JobState.{JobState}
+use Rattle.sl_host_state.specs.declared.kept_parts.JobState.{JobState}
 use Rattle.sl_tables.proofs.JobsChange.{none_changed_there, state_is}
 use Rattle.sl_tables.proofs.jobs.Jobs.give_child.Goals as goal
 use Rattle.std.proofs.Common.{Some, refl, sym, ◌∙◌}

@@ -1,6 +1,6 @@
 use Rattle.sl_watch.proofs.WatchLaws.{looks_stand}
 use Rattle.sl_watch.proofs.watch.Watch.saw.Goals as goal
-use Rattle.sl_watch.specs.Seen.{sightings_of}
+use Rattle.sl_watch.specs.SeenLooks.{sightings_of}
 
 pub returns-clause-looks : goal.returns-clause-looks
 returns-clause-looks c =

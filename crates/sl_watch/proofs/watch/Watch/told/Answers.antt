@@ -1,7 +1,7 @@
 use Rattle.sl_trace.specs.declared.sighting.Sighting.{Sighting}
 use Rattle.sl_watch.proofs.WatchLaws.{Adds, told_stands}
 use Rattle.sl_watch.proofs.watch.Watch.told.Goals as goal
-use Rattle.sl_watch.specs.Seen.{seen_with}
+use Rattle.sl_watch.specs.SeenLooks.{seen_with}
 use Rattle.sl_watch.specs.Summaries.{IsKept}
 use Rattle.sl_watch.specs.Watches.{WatchStands, Watched}
 use Rattle.std.proofs.Common.{refl, subst, sym}

@@ -1,7 +1,7 @@
 use Rattle.sl_wdmd.proofs.KeptLaws.{any_expired}
 use Rattle.sl_wdmd.proofs.TestLaws.{none_expired}
 use Rattle.sl_wdmd.proofs.wdmd.Wdmd.test.Goals as goal
-use Rattle.sl_wdmd.specs.Kept.{connections_of}
+use Rattle.sl_wdmd.specs.KeptConnections.{connections_of}
 
 pub returns-clause-every : goal.returns-clause-every
 returns-clause-every c =

@@ -1,11 +1,11 @@
-use Rattle.sl_machine.specs.Keeping.{kept_state}
+use Rattle.sl_machine.specs.KeptParts.{kept_state}
 use Rattle.sl_run.specs.declared.event.Event.TheVariants.{GiveCommand}
 use Rattle.sl_trace.specs.declared.input.Input.TheVariants.{Line}
 use Rattle.sl_world.proofs.AllowedEvents.{first_command, command_given, may_give}
 use Rattle.sl_world.proofs.ToldSteps.{simply_told}
 use Rattle.sl_world.proofs.GivenSteps.{if_ok_then}
 use Rattle.sl_world.proofs.world.World.command.Goals as goal
-use Rattle.sl_world.specs.Telling.{ComesTold, GivesTold}
+use Rattle.sl_world.specs.ToldEvents.{ComesTold, GivesTold}
 
 pub give-requires : goal.give-requires
 give-requires g c =

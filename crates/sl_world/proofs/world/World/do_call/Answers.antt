@@ -1,16 +1,16 @@
-use Rattle.sl_daemon.specs.Daemons.{read_of}
-use Rattle.sl_kept.specs.Inputs.{rest_in}
-use Rattle.sl_kept.specs.Refusing.{left_in}
-use Rattle.sl_machine.specs.Keeping.{kept_state}
+use Rattle.sl_world_state.specs.Daemons.{read_of}
+use Rattle.sl_world_state.specs.Inputs.{rest_in}
+use Rattle.sl_world_state.specs.Refusals.{left_in}
+use Rattle.sl_machine.specs.KeptParts.{kept_state}
 use Rattle.sl_run.specs.declared.event.Event.TheVariants.{Do}
 use Rattle.sl_world.proofs.AllowedEvents.{do_given, may_give}
 use Rattle.sl_world.proofs.DoneCalls.{read_comes}
 use Rattle.sl_world.proofs.ToldSteps.{told_comes}
 use Rattle.sl_world.proofs.GivenSteps.{if_ok_then}
 use Rattle.sl_world.proofs.world.World.do_call.Goals as goal
-use Rattle.sl_world.specs.Allowing.{MayGive}
-use Rattle.sl_world.specs.Giving.{HasSampled}
-use Rattle.sl_world.specs.Telling.{ComesTold, GivesTold}
+use Rattle.sl_world.specs.AllowedEvents.{MayGive}
+use Rattle.sl_world.specs.GivenSteps.{HasSampled}
+use Rattle.sl_world.specs.ToldEvents.{ComesTold, GivesTold}
 use Rattle.std.proofs.Common.{subst, sym}
 use Rattle.std.specs.Prelude.{Some, option_map}
 

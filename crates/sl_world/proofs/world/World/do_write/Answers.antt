@@ -1,4 +1,4 @@
-use Rattle.sl_machine.specs.Keeping.{kept_state}
+use Rattle.sl_machine.specs.KeptParts.{kept_state}
 use Rattle.sl_run.specs.declared.event.Event.TheVariants.{Do}
 use Rattle.sl_trace.specs.declared.input.Answer.TheVariants.{Written}
 use Rattle.sl_trace.specs.declared.input.Input.TheVariants.{Answer as Told}

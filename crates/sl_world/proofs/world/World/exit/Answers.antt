@@ -1,4 +1,4 @@
-use Rattle.sl_machine.specs.Keeping.{kept_state}
+use Rattle.sl_machine.specs.KeptParts.{kept_state}
 use Rattle.sl_run.specs.declared.event.Event.TheVariants.{ExitOf}
 use Rattle.sl_trace.specs.declared.input.Input.TheVariants.{Exit}
 use Rattle.sl_world.proofs.AllowedEvents.{may_give}
@@ -6,7 +6,7 @@ use Rattle.sl_world.proofs.EndedEvents.{alone_comes, exit_gives, exit_there, fir
 use Rattle.sl_world.proofs.ToldSteps.{exit_silent, own_told, simply_told}
 use Rattle.sl_world.proofs.GivenSteps.{if_ok_then}
 use Rattle.sl_world.proofs.world.World.exit.Goals as goal
-use Rattle.sl_world.specs.Telling.{ComesTold, GivesTold}
+use Rattle.sl_world.specs.ToldEvents.{ComesTold, GivesTold}
 use Rattle.std.proofs.Common.{sym, ◌∙◌}
 use Rattle.std.specs.Prelude.{true}
 

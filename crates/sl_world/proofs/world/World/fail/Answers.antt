@@ -1,4 +1,4 @@
-use Rattle.sl_machine.specs.Keeping.{kept_state}
+use Rattle.sl_machine.specs.KeptParts.{kept_state}
 use Rattle.sl_run.specs.declared.event.Event.TheVariants.{AnswerCall}
 use Rattle.sl_trace.specs.declared.input.Answer.TheVariants.{Failed}
 use Rattle.sl_trace.specs.declared.input.Input.TheVariants.{Answer as Told}
@@ -6,7 +6,7 @@ use Rattle.sl_world.proofs.AllowedEvents.{fail_given, first_answer, may_give}
 use Rattle.sl_world.proofs.ToldSteps.{simply_told}
 use Rattle.sl_world.proofs.GivenSteps.{if_ok_then}
 use Rattle.sl_world.proofs.world.World.fail.Goals as goal
-use Rattle.sl_world.specs.Telling.{ComesTold, GivesTold}
+use Rattle.sl_world.specs.ToldEvents.{ComesTold, GivesTold}
 use Rattle.std.specs.Prelude.{false}
 
 pub give-requires : goal.give-requires

@@ -1,4 +1,4 @@
-use Rattle.sl_machine.specs.Keeping.{kept_state}
+use Rattle.sl_machine.specs.KeptParts.{kept_state}
 use Rattle.sl_world.proofs.GivenSteps.{is_given, taken_up, takes_step}
 use Rattle.sl_world.proofs.ToldSteps.{heard_part, step_told}
 use Rattle.sl_world.proofs.world.World.give.Goals as goal

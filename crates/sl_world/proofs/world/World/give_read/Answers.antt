@@ -1,5 +1,5 @@
-use Rattle.sl_daemon.specs.Daemons.{read_of}
-use Rattle.sl_machine.specs.Keeping.{kept_state}
+use Rattle.sl_world_state.specs.Daemons.{read_of}
+use Rattle.sl_machine.specs.KeptParts.{kept_state}
 use Rattle.sl_locks.specs.declared.step.LockInput.TheVariants.{Nothing}
 use Rattle.sl_world.proofs.GivenSteps.{is_given, taken_up, takes_step}
 use Rattle.sl_world.proofs.ToldSteps.{heard_part, step_told}

@@ -1,4 +1,4 @@
-use Rattle.sl_machine.specs.Keeping.{kept_state}
+use Rattle.sl_machine.specs.KeptParts.{kept_state}
 use Rattle.sl_world.proofs.EndedEvents.{first_stands}
 use Rattle.sl_world.proofs.world.World.new.Goals as goal
 

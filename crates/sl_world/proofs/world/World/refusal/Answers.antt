@@ -1,7 +1,7 @@
-use Rattle.sl_kept.specs.Refusing.{refusal_in}
+use Rattle.sl_world_state.specs.Refusals.{refusal_in}
 use Rattle.sl_machine.proofs.AllRefusals.{refusals_are_those}
-use Rattle.sl_machine.specs.Keeping.{kept_state}
-use Rattle.sl_machine.specs.Testing.{refusal_with}
+use Rattle.sl_machine.specs.KeptParts.{kept_state}
+use Rattle.sl_machine.specs.EventTests.{refusal_with}
 use Rattle.sl_world.proofs.GivenSteps.{if_ok_then}
 use Rattle.sl_world.proofs.world.World.refusal.Goals as goal
 use Rattle.std.proofs.Common.{sym, ◌∙◌, ◌≡◌}

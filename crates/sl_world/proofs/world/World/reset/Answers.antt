@@ -1,5 +1,5 @@
-use Rattle.sl_kept.specs.Kept.{machine_in}
-use Rattle.sl_machine.specs.Keeping.{kept_state}
+use Rattle.sl_world_state.specs.KeptWorld.{machine_in}
+use Rattle.sl_machine.specs.KeptParts.{kept_state}
 use Rattle.sl_run.specs.declared.event.Event.TheVariants.{Reset}
 use Rattle.sl_world.proofs.AllowedEvents.{no_input, seat_there}
 use Rattle.sl_world.proofs.ToldSteps.{own_told}

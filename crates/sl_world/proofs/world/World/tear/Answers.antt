@@ -1,13 +1,13 @@
-use Rattle.sl_kept.specs.Changes.{torn_by}
-use Rattle.sl_kept.specs.Refusing.{refusal_in}
-use Rattle.sl_machine.specs.Keeping.{kept_state}
-use Rattle.sl_machine.specs.Testing.{tear_tests}
+use Rattle.sl_world_state.specs.Changes.{torn_by}
+use Rattle.sl_world_state.specs.Refusals.{refusal_in}
+use Rattle.sl_machine.specs.KeptParts.{kept_state}
+use Rattle.sl_machine.specs.EventTests.{tear_tests}
 use Rattle.sl_run.specs.Worlds.{first_that}
 use Rattle.sl_run.specs.declared.event.Event.TheVariants.{Tear}
 use Rattle.sl_trace.specs.Traces.{no_effects}
 use Rattle.sl_world.proofs.EndedEvents.{if_err_then, on_ok_both, tear_comes, tear_refused}
 use Rattle.sl_world.proofs.world.World.tear.Goals as goal
-use Rattle.sl_world.specs.Allowing.{AllCome}
+use Rattle.sl_world.specs.AllowedEvents.{AllCome}
 use Rattle.std.specs.Prelude.{None, Some, ◌≡◌}
 
 pub returns-clause-refused : goal.returns-clause-refused

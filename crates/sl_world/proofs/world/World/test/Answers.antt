@@ -1,11 +1,15 @@
-use Rattle.sl_kept.specs.Kept.{machine_in}
-use Rattle.sl_machine.specs.Keeping.{kept_state}
+use Rattle.sl_world_state.specs.KeptWorld.{machine_in}
+use Rattle.sl_machine.specs.KeptParts.{kept_state}
 use Rattle.sl_run.specs.declared.event.Event.TheVariants.{Test}
+use Rattle.sl_trace.specs.Traces.{no_effects}
 use Rattle.sl_world.proofs.AllowedEvents.{first_test, no_input, no_own, quietly_comes}
+use Rattle.sl_world.proofs.ToldSteps.{own_told}
 use Rattle.sl_world.proofs.world.World.test.Goals as goal
 use Rattle.std.proofs.Common.{refl, sym, ◌∙◌}
 
-pub returns : goal.returns
-returns g c =
-    quietly_comes g.D.Daemon.commands g.D.Daemon.stands (kept_state g.L.LockTable.locks c.args.self.now.kept) c.args.self.now.hosts (Test c.args.machine) (kept_state g.L.LockTable.locks c.test.new.self) c.requires
-    (no_input (machine_in (kept_state g.L.LockTable.locks c.args.self.now.kept) c.args.machine)) (no_own (machine_in (kept_state g.L.LockTable.locks c.args.self.now.kept) c.args.machine)) refl (c.test.ensures ∙ sym (first_test (kept_state g.L.LockTable.locks c.args.self.now.kept) c.args.machine))
+pub returns-clause-ok : goal.returns-clause-ok
+returns-clause-ok g c =
+    own_told g.D.Daemon.commands g.D.Daemon.stands (kept_state g.L.LockTable.locks c.args.self.now.kept) c.args.self.now.hosts (Test c.args.machine) no_effects (kept_state g.L.LockTable.locks c.test.new.self) c.args.self.now.hosts c.told_nothing.result
+    (quietly_comes g.D.Daemon.commands g.D.Daemon.stands (kept_state g.L.LockTable.locks c.args.self.now.kept) c.args.self.now.hosts (Test c.args.machine) (kept_state g.L.LockTable.locks c.test.new.self) c.requires
+    (no_input (machine_in (kept_state g.L.LockTable.locks c.args.self.now.kept) c.args.machine)) (no_own (machine_in (kept_state g.L.LockTable.locks c.args.self.now.kept) c.args.machine)) refl (c.test.ensures ∙ sym (first_test (kept_state g.L.LockTable.locks c.args.self.now.kept) c.args.machine)))
+    (no_input (machine_in (kept_state g.L.LockTable.locks c.args.self.now.kept) c.args.machine)) c.told_nothing.ensures

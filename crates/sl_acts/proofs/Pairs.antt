@@ -1,5 +1,0 @@
-pub mod Decisions
-pub mod Records
-pub mod Decoding
-pub mod Given
-pub mod Whole

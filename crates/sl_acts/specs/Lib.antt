@@ -1,4 +1,0 @@
-pub mod Acts
-pub mod Plainly
-pub mod SoFar
-pub mod Promises

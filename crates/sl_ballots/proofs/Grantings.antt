@@ -1,0 +1,2 @@
+pub mod TwoGrants
+pub mod GrantsMeet

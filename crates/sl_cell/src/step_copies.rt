@@ -1,0 +1,100 @@
+//! Copies of what a step did, and of what came to it.
+
+ghost use Rattle.sl_cell.specs.Copies.{AreWithin};
+ghost use Rattle.sl_cell.specs.Rooms.{Holds};
+ghost use Rattle.sl_world_state.specs.declared.daemon.Most.{Most};
+ghost use Rattle.std.specs.Prelude.{length, IfOk, OnOk, ℕ, ◌≡◌, ◌≤◌};
+
+use crate::copies::Blank;
+use crate::reply_copies::Blanks;
+use sl_text::Bytes;
+use sl_trace::{Answer, Call, Effects, End, Grant, Input, Move, Sent, Start};
+use sl_world_state::Most;
+use std::alloc::{AllocError, Global};
+
+/// Memory for a copy of what a step does.
+#[derive(Drop)]
+pub(crate) struct Spare {
+    ends: Blank<End>,
+    signals: Blank<Sent>,
+    moves: Blank<Move>,
+    grants: Blank<Grant>,
+    starts: Blank<Start>,
+    replies: Blanks,
+    calls: Blank<Call>,
+}
+
+impl Spare {
+    /// For nothing.
+    pub(crate) fn new(alloc: Global) -> Spare {
+        Spare {
+            ends: Blank::new(alloc),
+            signals: Blank::new(alloc),
+            moves: Blank::new(alloc),
+            grants: Blank::new(alloc),
+            starts: Blank::new(alloc),
+            replies: Blanks::new(alloc),
+            calls: Blank::new(alloc),
+        }
+    }
+
+    /// Sees that it is for so much at least, with a list of so many elements. An `Err` is want of memory.
+    pub(crate) fn reserve(&mut self, most: &Most, longest: usize) -> Result<(), AllocError>
+        ensures { OnOk result (Holds self.new most.now longest) }
+    {
+        self.ends.reserve(most.ends)?;
+        self.signals.reserve(most.signals)?;
+        self.moves.reserve(most.moves)?;
+        self.grants.reserve(most.grants)?;
+        self.starts.reserve(most.starts)?;
+        self.replies.reserve(most.replies, longest)?;
+        self.calls.reserve(most.calls)
+    }
+
+    /// A copy of what a step did.
+    pub(crate) fn copy(&mut self, alloc: Global, effects: &Effects) -> Effects
+        requires { (most : Most) × (longest : ℕ) × Holds self.old most longest × AreWithin most longest effects.now }
+        ensures { result ≡ effects.now }
+    {
+        Effects {
+            ends: self.ends.copy(alloc, effects.ends.as_slice()),
+            signals: self.signals.copy(alloc, effects.signals.as_slice()),
+            moves: self.moves.copy(alloc, effects.moves.as_slice()),
+            grants: self.grants.copy(alloc, effects.grants.as_slice()),
+            starts: self.starts.copy(alloc, effects.starts.as_slice()),
+            replies: self.replies.copy(alloc, effects.replies.as_slice()),
+            calls: self.calls.copy(alloc, effects.calls.as_slice()),
+        }
+    }
+}
+
+/// A copy of what came. An `Err` is want of memory.
+pub(crate) fn copy_input(alloc: Global, input: &Input) -> Result<Input, AllocError>
+    ensures { IfOk result (λ copy. copy ≡ input.now) }
+{
+    Ok(match input {
+        Input::Line(text) => Input::Line(Bytes::from_slice(alloc, text.as_slice())?),
+        Input::Number(text) => Input::Number(Bytes::from_slice(alloc, text.as_slice())?),
+        Input::Answer { call, answer } => Input::Answer {
+            call: *call,
+            answer: copy_answer(alloc, answer)?,
+        },
+        Input::Wake => Input::Wake,
+        Input::Exit { process } => Input::Exit { process: *process },
+        Input::Spawned { process, ok } => Input::Spawned {
+            process: *process,
+            ok: *ok,
+        },
+    })
+}
+
+/// A copy of an answer. An `Err` is want of memory.
+fn copy_answer(alloc: Global, answer: &Answer) -> Result<Answer, AllocError>
+    ensures { IfOk result (λ copy. copy ≡ answer.now) }
+{
+    match answer {
+        Answer::Read(bytes) => Ok(Answer::Read(Bytes::from_slice(alloc, bytes.as_slice())?)),
+        Answer::Written => Ok(Answer::Written),
+        Answer::Failed => Ok(Answer::Failed),
+    }
+}

@@ -1,7 +1,0 @@
-use Rattle.sl_cli.proofs.ArgumentLaws.{format_said}
-use Rattle.sl_cli.proofs.given.format_of.Goals as goal
-use Rattle.std.proofs.Common.{◌∙◌}
-use Rattle.std.specs.Prelude.{option_map}
-
-pub returns : goal.returns
-returns c = c.paired_said.ensures ∙ format_said (option_map (λ w. w.now) c.args.word)

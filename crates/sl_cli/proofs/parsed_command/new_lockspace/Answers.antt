@@ -1,0 +1,16 @@
+-- Both words are read, or one of them is none.
+use Rattle.sl_cli.proofs.ActionTexts.{both_chosen}
+use Rattle.sl_cli.proofs.ArgumentLaws.{no_first, no_second}
+use Rattle.sl_cli.proofs.parsed_command.new_lockspace.Goals as goal
+use Rattle.sl_direct.specs.declared.action.Action.TheVariants.{InitLockspace}
+use Rattle.std.proofs.Common.{sym, ◌∙◌}
+
+pub returns : goal.returns
+returns c =
+    both_chosen _ _ _ _ _ _ (λ a g. InitLockspace a g) (sym c.lockspace_of.ensures ∙ c.in_ok-lockspace_of.was) (sym c.sizes_for.ensures ∙ c.in_ok-sizes_for.was)
+
+pub returns-in_err-lockspace_of : goal.returns-in_err-lockspace_of
+returns-in_err-lockspace_of c = c.from_residual.ensures ∙ sym (no_first _ _ _ _ (sym c.lockspace_of.ensures ∙ c.in_err-lockspace_of.was))
+
+pub returns-in_err-sizes_for : goal.returns-in_err-sizes_for
+returns-in_err-sizes_for c = c.from_residual-in_err-sizes_for.ensures ∙ sym (no_second _ _ _ _ (sym c.sizes_for.ensures ∙ c.in_err-sizes_for.was))

@@ -1,0 +1,137 @@
+//! The words of the command line, turned into what they say.
+
+ghost use Rattle.clap.specs.Values.{kind_of};
+ghost use Rattle.sl_cli.specs.Actions.{action_in};
+ghost use Rattle.sl_cli.specs.CommandWords.{command_in, is_only, said_in};
+ghost use Rattle.sl_cli.specs.Parses.{IsRefused, TakenAs, said_by};
+ghost use Rattle.sl_cli.specs.Spellings.{CanBeDone};
+ghost use Rattle.sl_cli.specs.declared.command_words.Words.TheVariants.{Direct};
+ghost use Rattle.sl_cli.specs.declared.command_words.WordsError.TheVariants.{Bad, NoMemory};
+ghost use Rattle.std.specs.Prelude.{Err, IfOk, IfSome, None, Some, map, option_and_then, option_map, string_bytes, ◌≡◌};
+
+use crate::command_line::command_line;
+use crate::folder::Folder;
+use crate::parsed_command::{Given, Met, met_in};
+use clap::Error;
+use clap::error::ErrorKind;
+use sl_direct::Action;
+use std::alloc::{AllocError, Global};
+
+/// What the words of the command line say.
+#[derive(Drop)]
+pub enum Words {
+    /// Run a schedule, and report it.
+    Replay,
+    /// Make a schedule of so many events (0 to 1000000) for so many hosts (1 to 16) from a seed, with pairs or without, and run it.
+    Generate {
+        seed: u64,
+        hosts: u32,
+        events: u64,
+        paired: bool,
+    },
+    /// Do this to an area.
+    Direct(Action),
+    /// Run live machines by a script, on disks that are files below this folder.
+    Live {
+        folder: Folder,
+    },
+    /// Put out the help.
+    Help,
+    /// Put out the version.
+    Version,
+}
+
+/// Why they say nothing.
+#[derive(Clone, Copy, Debug, PartialEq, Eq)]
+pub enum WordsError {
+    /// They are no words of the program.
+    Bad,
+    /// There is no memory.
+    NoMemory,
+}
+
+impl From<AllocError> for WordsError {
+    ghost from_gives = { λ _ e. e ≡ NoMemory };
+
+    fn from(_error: AllocError) -> WordsError {
+        WordsError::NoMemory
+    }
+}
+
+/// Whether the words are one of these two, alone.
+fn is_only(words: &[String], long: &str, short: &str) -> bool
+    ensures { result ≡ is_only long.now short.now (map string_bytes words.now) }
+{
+    match words {
+        [word] => word.as_str() == long || word.as_str() == short,
+        _ => false,
+    }
+}
+
+/// Why the parser fails.
+fn error_of(error: &Error) -> WordsError
+    ensures { result ≡ Bad → (kind_of error.now ≡ ErrorKind.OutOfMemory → ⊥) }
+{
+    match error.kind() {
+        ErrorKind::OutOfMemory => WordsError::NoMemory,
+        _ => WordsError::Bad,
+    }
+}
+
+/// What was given to `direct` says.
+fn directed(given: &Given<'_>) -> Option<Words>
+    ensures exact { result ≡ option_map (λ a. Direct a) (action_in given.now) }
+    ensures can { IfSome result CanBeDone }
+{
+    Some(Words::Direct(given.action()?))
+}
+
+/// What a command says. An `Err` is want of memory.
+fn said(alloc: Global, met: Met<'_>) -> Result<Option<Words>, AllocError>
+    ensures exact { IfOk result (λ words. words ≡ said_by met.entry) }
+    ensures can { IfOk result (λ words. IfSome words CanBeDone) }
+{
+    match met {
+        Met::Replay => Ok(Some(Words::Replay)),
+        Met::Generate(given) => Ok(given.words()),
+        Met::Direct(given) => Ok(directed(&given)),
+        Met::Live(given) => given.words(alloc),
+    }
+}
+
+/// The command that the parser meets in the words, if they are of one.
+fn parse<'a>(alloc: Global, words: &'a [String]) -> Result<Option<Met<'a>>, WordsError>
+    ensures read { IfOk result (λ m. TakenAs (map string_bytes words.entry.now) m) }
+    ensures bad { result ≡ Err Bad → IsRefused (map string_bytes words.entry.now) }
+{
+    let command = command_line(alloc)?;
+    match command.try_get_matches_from(words) {
+        Ok(matches) => Ok(met_in(&matches)),
+        Err(error) => Err(error_of(&error)),
+    }
+}
+
+/// The command that the words name, if they are of one.
+fn command<'a>(alloc: Global, words: &'a [String]) -> Result<Option<Met<'a>>, WordsError>
+    ensures read { IfOk result (λ met. option_and_then said_by met ≡ command_in (map string_bytes words.entry.now)) }
+    ensures bad { result ≡ Err Bad → command_in (map string_bytes words.entry.now) ≡ None }
+{
+    parse(alloc, words)
+}
+
+/// What the words of the command line say; the program's name is none of them. An action that they ask for can be done. `Bad` comes exactly
+/// where they say nothing; in place of either may come `NoMemory`.
+pub fn read_words(alloc: Global, words: &[String]) -> Result<Words, WordsError>
+    ensures read { IfOk result (λ w. said_in (map string_bytes words.now) ≡ Some w) }
+    ensures bad { result ≡ Err Bad → said_in (map string_bytes words.now) ≡ None }
+    ensures can { IfOk result CanBeDone }
+{
+    if is_only(words, "--help", "-h") {
+        Ok(Words::Help)
+    } else if is_only(words, "--version", "-V") {
+        Ok(Words::Version)
+    } else {
+        let met = command(alloc, words)?.ok_or(WordsError::Bad)?;
+        said(alloc, met)?.ok_or(WordsError::Bad)
+    }
+}

@@ -1,8 +1,0 @@
-use Rattle.sl_deciding.proofs.acquiring.decide_acquire.Goals as goal
-use Rattle.sl_deciding.specs.Refusing.{acquire_in}
-use Rattle.sl_host_law.specs.Decisions.Deciding.{with_member}
-use Rattle.sl_host.specs.Asking.{state_in}
-use Rattle.std.proofs.Common.{ap, ◌∙◌}
-
-pub returns-in-Some : goal.returns-in-Some
-returns-in-Some c = c.acquires.ensures ∙ ap (λ o. with_member o (λ m. acquire_in (state_in c.args.host.now.kept) m c.args.resource.now c.args.asking c.args.shared)) c.in-Some.ensures.exact

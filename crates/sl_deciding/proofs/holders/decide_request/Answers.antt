@@ -1,8 +1,0 @@
-use Rattle.sl_deciding.proofs.holders.decide_request.Goals as goal
-use Rattle.sl_deciding.specs.Refusing.{request_in}
-use Rattle.sl_host_law.specs.Decisions.Deciding.{with_member}
-use Rattle.sl_host.specs.Asking.{state_in}
-use Rattle.std.proofs.Common.{ap, ◌∙◌}
-
-pub returns-in-Some : goal.returns-in-Some
-returns-in-Some c = c.requests.ensures ∙ ap (λ o. with_member o (λ m. request_in (state_in c.args.host.now.kept) m c.args.resource.now)) c.in-Some.ensures.exact

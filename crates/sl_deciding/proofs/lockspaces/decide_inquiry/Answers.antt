@@ -1,8 +1,0 @@
-use Rattle.sl_deciding.proofs.lockspaces.decide_inquiry.Goals as goal
-use Rattle.sl_deciding.specs.Refusing.{report_in}
-use Rattle.sl_host_law.specs.Decisions.Deciding.{with_member}
-use Rattle.sl_trace.specs.declared.reply.Reply.TheVariants.{Generation}
-use Rattle.std.proofs.Common.{ap, ◌∙◌}
-
-pub returns-in-Some : goal.returns-in-Some
-returns-in-Some c = c.tells_generation.ensures ∙ ap (λ o. with_member o (λ m. report_in m (Generation m.known.generation))) c.in-Some.ensures.exact

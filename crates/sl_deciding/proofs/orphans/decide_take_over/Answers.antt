@@ -1,8 +1,0 @@
-use Rattle.sl_deciding.proofs.orphans.decide_take_over.Goals as goal
-use Rattle.sl_deciding.specs.Refusing.{take_over_in}
-use Rattle.sl_host_law.specs.Decisions.Deciding.{with_member}
-use Rattle.sl_host.specs.Asking.{state_in}
-use Rattle.std.proofs.Common.{ap, ◌∙◌}
-
-pub returns-in-Some : goal.returns-in-Some
-returns-in-Some c = c.takes_over.ensures ∙ ap (λ o. with_member o (λ m. take_over_in (state_in c.args.host.now.kept) m c.args.resource.now c.args.process c.args.shared)) c.in-Some.ensures.exact

@@ -1,8 +1,0 @@
-use Rattle.sl_deciding.proofs.values.decide_set.Goals as goal
-use Rattle.sl_deciding.specs.Refusing.{set_in}
-use Rattle.sl_host_law.specs.Decisions.Deciding.{with_member}
-use Rattle.sl_host.specs.Asking.{state_in}
-use Rattle.std.proofs.Common.{ap, ◌∙◌}
-
-pub returns-in-Some : goal.returns-in-Some
-returns-in-Some c = c.sets.ensures ∙ ap (λ o. with_member o (λ m. set_in (state_in c.args.host.now.kept) m c.args.resource.now c.args.process c.args.bytes)) c.in-Some.ensures.exact

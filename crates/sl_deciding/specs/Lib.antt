@@ -1,3 +1,0 @@
-pub mod Refusing
-pub mod Lists
-pub mod Telling

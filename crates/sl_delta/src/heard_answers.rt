@@ -1,0 +1,159 @@
+//! What an answer makes of a delta lease.
+//!
+//! What it makes due is decided on what was kept before it; that it is told first changes nothing of it.
+
+ghost use Rattle.sl_delta.specs.DeltaDecisions.{IsFitNext};
+ghost use Rattle.sl_delta.specs.OwnSector.{IsOwnRecord, answer_in, without_calls};
+ghost use Rattle.sl_delta.specs.Steps.{IsFitAnswer, IsFitInput, IsWholeRead, after_step, after_told, answer_next, begun, call_in, called_with, carried, followed, given_by, given_following, given_from, given_told, has_open_write, is_late, is_over, join_next, joined_lease, last_after, last_told, move_in, new_lease, nothing_given, out_of_step, outcome_in, purpose_of, record_in_call, refused_move, refused_now, refusing, registered_after, stage_told, standing_after, step_from, survey_shows, wake_next, with_recovery};
+ghost use Rattle.sl_delta.specs.declared.lease.Standing.TheVariants.{Holds};
+ghost use Rattle.sl_delta.specs.declared.steps.DeltaIn.TheVariants.{Answered as Told, Leave, Wake};
+ghost use Rattle.sl_sector.specs.Records.{Fits};
+ghost use Rattle.sl_trace.specs.Sessions.{is_survey_purpose};
+ghost use Rattle.sl_text.specs.Names.{is_name};
+ghost use Rattle.sl_trace.specs.declared.effects.Move.TheVariants.{Unregister};
+ghost use Rattle.sl_trace.specs.declared.effects.Purpose.TheVariants.{Survey};
+ghost use Rattle.sl_words.specs.Words.{choose};
+ghost use Rattle.sl_words.specs.Bounds.{moments};
+ghost use Rattle.std.specs.Prelude.{IfOk, IfSome, IsTrue, OnErr, OnOk, ℕ, false, ◌+◌, ◌<◌, ◌≡◌, ◌≤◌};
+
+use crate::answer::{SectorAnswer, sector_answer};
+use crate::lease::{DeltaLease, OpenDelta, Standing};
+use crate::numbers::has_passed;
+use crate::own_sector::OwnSector;
+use crate::purposes::{is_survey, writes_own};
+use crate::renewing::{after_free, after_renewal};
+use crate::steps::{DeltaCall, DeltaIn, DeltaOut, Outcome};
+use sl_area::Geometry;
+use sl_request::Bitmap;
+use sl_sector::DeltaRec;
+use sl_text::Name;
+use sl_time::Timing;
+use sl_trace::{Answer, DeltaNext, JoinStep, Move, Purpose, Stage};
+use std::alloc::{AllocError, Global};
+use std::marker::Model;
+
+impl DeltaLease {
+    /// What an answer makes due, to the call of this number, for this purpose, submitted at the reading `made`.
+    pub(crate) fn answer_next(
+        &self,
+        now: u64,
+        call: u64,
+        purpose: &Purpose,
+        made: u64,
+        answer: &SectorAnswer,
+    ) -> DeltaNext
+        requires { (now < moments) × (made < moments) }
+        ensures exact { result ≡ answer_next now call purpose.now made (answer_in answer.now) self.now }
+        ensures fit { IsFitNext result }
+    {
+        match purpose {
+            Purpose::Joining { job: _, step } => self.join_next(now, call, made, *step, answer),
+            Purpose::Renewal => after_renewal(self.recovering, made, answer),
+            Purpose::Leaving { job: _ } => after_free(0, call, answer),
+            _ => DeltaNext::Nothing,
+        }
+    }
+
+    /// The same at a step of the joining.
+    pub(crate) fn join_next(
+        &self,
+        now: u64,
+        call: u64,
+        made: u64,
+        step: JoinStep,
+        answer: &SectorAnswer,
+    ) -> DeltaNext
+        requires { (now < moments) × (made < moments) }
+        ensures exact { result ≡ join_next now call step made (answer_in answer.now) self.now }
+        ensures fit { IsFitNext result }
+    {
+        match self.standing {
+            Standing::Joins => self.own.after_join(now, call, made, step, answer),
+            Standing::Holds => DeltaNext::Nothing,
+            Standing::Declined => DeltaNext::Nothing,
+            Standing::Gone => DeltaNext::Nothing,
+        }
+    }
+
+    /// Whether it has ended.
+    pub(crate) fn is_over(&self) -> bool
+        ensures { result ≡ is_over self.now.standing }
+    {
+        match self.standing {
+            Standing::Joins => false,
+            Standing::Holds => false,
+            Standing::Declined => true,
+            Standing::Gone => true,
+        }
+    }
+
+    /// What follows an answer: a decision is done, or a session that has ended parts with its connection.
+    pub(crate) fn follow(&mut self, now: u64, over: bool, next: DeltaNext) -> DeltaOut
+        requires moment { now < moments }
+        requires fit { IsFitNext next }
+        ensures state { self.new ≡ followed now over next self.old }
+        ensures out { result ≡ given_following now over next self.old }
+    {
+        if !over {
+            return self.carry(now, next);
+        }
+        let moved = self.unregistering();
+        self.registered = false;
+        DeltaOut {
+            recovers: false,
+            moved,
+            call: None,
+            outcome: None,
+        }
+    }
+
+    /// The call that waited, on the own sector, is answered.
+    pub(crate) fn hear(
+        &mut self,
+        now: u64,
+        call: u64,
+        waiting: &OpenDelta,
+        answer: SectorAnswer,
+    ) -> DeltaOut
+        requires moments { (now < moments) × (waiting.now.made < moments) }
+        requires own { is_survey_purpose waiting.now.purpose ≡ false }
+        ensures state { self.new ≡ after_told now call waiting.now.purpose waiting.now.made (answer_in answer) self.old }
+        ensures out { result ≡ given_told now call waiting.now.purpose waiting.now.made (answer_in answer) self.old }
+    {
+        let over = self.is_over();
+        let next = self.answer_next(now, call, &waiting.purpose, waiting.made, &answer);
+        self.own.told(now, &waiting.purpose, answer);
+        self.waits = None;
+        self.follow(now, over, next)
+    }
+
+    /// Whether a read of all ids begins recovery.
+    pub(crate) fn survey_shows(&self, answer: &Answer) -> bool
+        requires { IsWholeRead self.now.own answer.now }
+        ensures { result ≡ survey_shows answer.now self.now }
+    {
+        match self.standing {
+            Standing::Holds => !self.recovering && self.own.shows_other(answer),
+            Standing::Joins => false,
+            Standing::Declined => false,
+            Standing::Gone => false,
+        }
+    }
+
+    /// The read of all ids is answered.
+    pub(crate) fn hear_survey(&mut self, now: u64, answer: &Answer) -> DeltaOut
+        requires moment { now < moments }
+        requires whole { IsWholeRead self.old.own answer.now }
+        ensures state { (call made : ℕ) → self.new ≡ after_told now call Survey made answer.now self.old }
+        ensures out { (call made : ℕ) → result ≡ given_told now call Survey made answer.now self.old }
+    {
+        let over = self.is_over();
+        let shows = self.survey_shows(answer);
+        self.own.surveyed(now);
+        self.waits = None;
+        self.recovering = shows || self.recovering;
+        let mut out = self.follow(now, over, DeltaNext::Nothing);
+        out.recovers = shows;
+        out
+    }
+}

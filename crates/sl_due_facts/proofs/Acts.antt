@@ -1,0 +1,15 @@
+pub mod Pairs
+pub mod LoopsKeep
+pub mod AddedAtEnd
+pub mod SessionsStay
+pub mod WakesKeep
+pub mod InputsKeep
+pub mod HeadsKeep
+pub mod EffectsKeep
+pub mod DecisionsAreTheirs
+pub mod PlainActs
+pub mod StepsKeep
+pub mod ActsTogether
+pub mod AnswersAreHeeded
+pub mod TracesKeep
+pub mod CallsAreOwned

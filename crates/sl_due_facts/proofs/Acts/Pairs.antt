@@ -1,0 +1,5 @@
+pub mod Decisions
+pub mod Records
+pub mod DecodedRecords
+pub mod GivenByReads
+pub mod TornPairs

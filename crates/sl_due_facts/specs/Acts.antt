@@ -1,0 +1,4 @@
+pub mod Acts
+pub mod KeptByEffects
+pub mod TraceSoFar
+pub mod DueDaemons

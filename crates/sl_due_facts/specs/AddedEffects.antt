@@ -1,0 +1,3 @@
+pub mod CallIsLawful
+pub mod OneMoreEffect
+pub mod EffectLaws

@@ -1,3 +1,0 @@
-pub mod CallIsLawful
-pub mod Parts
-pub mod Promises

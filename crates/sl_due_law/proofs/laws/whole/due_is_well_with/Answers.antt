@@ -1,5 +1,0 @@
-use Rattle.sl_due_law.proofs.Whole.BusyKept as its
-use Rattle.sl_due_law.proofs.laws.whole.due_is_well_with.Goals as goal
-
-pub returns : goal.returns
-returns c = its.due_is_well_with

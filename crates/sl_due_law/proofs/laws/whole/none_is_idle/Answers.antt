@@ -1,5 +1,0 @@
-use Rattle.sl_due_law.proofs.Whole.BusyKept as its
-use Rattle.sl_due_law.proofs.laws.whole.none_is_idle.Goals as goal
-
-pub returns : goal.returns
-returns c = its.none_is_idle

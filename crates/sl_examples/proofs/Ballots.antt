@@ -1,0 +1,11 @@
+pub mod HistoryRows
+pub mod TwoGrantsHistory
+pub mod TakenOverHistory
+pub mod OverlapHistory
+pub mod TornBlockHistory
+pub mod OlderInstanceHistory
+pub mod NumberZeroHistory
+pub mod TwoAliveHistory
+pub mod FalseEvidenceHistory
+pub mod FreedFirstHistory
+pub mod EarlyLookHistory

@@ -1,0 +1,17 @@
+pub mod ProofSearch
+pub mod EqualitySearch
+pub mod EachSearch
+pub mod BlockSearch
+pub mod CallSearch
+pub mod DeltaSearch
+pub mod AreaSearch
+pub mod LeaderSearch
+pub mod SharedSearch
+pub mod ModeSearch
+pub mod WatchdogSearch
+pub mod TraceSearch
+pub mod HeaderSearch
+pub mod RunSearch
+pub mod TakeoverIsLawful
+pub mod QuietSearch
+pub mod QuietAcquiresShown

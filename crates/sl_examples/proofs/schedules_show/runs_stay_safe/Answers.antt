@@ -1,0 +1,5 @@
+use Rattle.sl_examples.proofs.RunsStaySafe.{acquiring, asking, ending, joining, pairs, rivals, sharing, taking_over}
+use Rattle.sl_examples.proofs.schedules_show.runs_stay_safe.Goals as goal
+
+pub returns : goal.returns
+returns c = record { acquiring = acquiring; rivals = rivals; joining = joining; taking_over = taking_over; sharing = sharing; ending = ending; asking = asking; pairs = pairs }

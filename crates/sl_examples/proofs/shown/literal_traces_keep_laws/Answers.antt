@@ -1,5 +1,0 @@
-use Rattle.sl_examples.proofs.OwnTraces.{nobody_exits, own_area}
-use Rattle.sl_examples.proofs.shown.literal_traces_keep_laws.Goals as goal
-
-pub returns : goal.returns
-returns c = record { own_area = own_area; nobody_exits = nobody_exits }

@@ -1,5 +1,0 @@
-use Rattle.sl_examples.proofs.Safe.{acquiring, asking, ending, joining, pairs, rivals, sharing, taking_over}
-use Rattle.sl_examples.proofs.shown.runs_stay_safe.Goals as goal
-
-pub returns : goal.returns
-returns c = record { acquiring = acquiring; rivals = rivals; joining = joining; taking_over = taking_over; sharing = sharing; ending = ending; asking = asking; pairs = pairs }

@@ -1,5 +1,0 @@
-use Rattle.sl_examples.proofs.Replayed.{acquiring, asking, ending, joining, pairs, resets, sharing, taking_over}
-use Rattle.sl_examples.proofs.shown.schedules_replay.Goals as goal
-
-pub returns : goal.returns
-returns c = record { acquiring = acquiring; joining = joining; taking_over = taking_over; resets = resets; sharing = sharing; ending = ending; asking = asking; pairs = pairs }

@@ -1,0 +1,12 @@
+pub mod MadeHistories
+pub mod TwoWinners
+pub mod TwoGrants
+pub mod TakenOver
+pub mod Overlap
+pub mod TornBlock
+pub mod OlderInstance
+pub mod NumberZero
+pub mod TwoAlive
+pub mod FalseEvidence
+pub mod FreedFirst
+pub mod EarlyLook

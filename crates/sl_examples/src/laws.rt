@@ -1,0 +1,5 @@
+//! Laws.
+
+pub mod ballots;
+pub mod premises;
+pub mod witness;

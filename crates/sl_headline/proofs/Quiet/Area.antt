@@ -1,0 +1,4 @@
+pub mod CalmGoesOn
+pub mod OpenCalls
+pub mod PlacesStay
+pub mod WritesAreWork

@@ -1,0 +1,4 @@
+pub mod Blocks
+pub mod QuietDecisions
+pub mod KnownOfLease
+pub mod GivenArea

@@ -1,0 +1,3 @@
+pub mod NewestIsRead
+pub mod SameBytes
+pub mod ReadsShowArea

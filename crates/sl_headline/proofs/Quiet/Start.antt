@@ -1,0 +1,11 @@
+pub mod FewerCounts
+pub mod LinesFindQuiet
+pub mod StartsOfLines
+pub mod TakenLine
+pub mod DaemonAfterLine
+pub mod StartsBeginCourses
+pub mod InstancesAreLow
+pub mod OkAreLow
+pub mod StartIsLow
+pub mod QuietIsGranted
+pub mod MadeRunsQuiet

@@ -1,0 +1,4 @@
+pub mod BeforeInput
+pub mod FinishKeeps
+pub mod AnswersLeadOn
+pub mod LinesBegin

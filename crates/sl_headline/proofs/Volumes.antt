@@ -1,0 +1,16 @@
+pub mod LockTurns
+pub mod GroupLines
+pub mod JobNumbers
+pub mod LocksHold
+pub mod MachineLocks
+pub mod JoinJobs
+pub mod AskedJobs
+pub mod AcquireCauses
+pub mod EntriesAtFronts
+pub mod LocksAreTaken
+pub mod DueCallsFit
+pub mod LocksAreResources
+pub mod WholeProgramReads
+pub mod VersionsWereTold
+pub mod OneVersion
+pub mod SameValue

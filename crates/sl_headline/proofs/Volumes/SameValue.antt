@@ -1,0 +1,10 @@
+pub mod Seqs
+pub mod AnswersCame
+pub mod FirstIsUnset
+pub mod Versions
+pub mod ToldVersions
+pub mod Values
+pub mod Texts
+pub mod WritesSinceTold
+pub mod ComparingEvent
+pub mod SameIsUnchanged

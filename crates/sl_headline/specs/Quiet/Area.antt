@@ -1,0 +1,2 @@
+pub mod PlacesStay
+pub mod CalmAreas

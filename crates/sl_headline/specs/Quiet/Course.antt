@@ -1,0 +1,2 @@
+pub mod QuietDecisions
+pub mod CourseOfCalls

@@ -1,0 +1,4 @@
+pub mod UnprovedStarts
+pub mod CourseStarts
+pub mod QuietIsGranted
+pub mod MadeRunsQuiet

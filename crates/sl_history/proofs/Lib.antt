@@ -1,4 +1,0 @@
-pub mod Resources
-pub mod Giving
-pub mod Sessions
-pub mod Pairs

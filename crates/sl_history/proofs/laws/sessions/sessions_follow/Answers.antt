@@ -1,5 +1,0 @@
-use Rattle.sl_history.proofs.Sessions.FollowingSessions.{sessions_follow}
-use Rattle.sl_history.proofs.laws.sessions.sessions_follow.Goals as goal
-
-pub returns : goal.returns
-returns c = sessions_follow

@@ -1,3 +1,0 @@
-pub mod Resources
-pub mod Sessions
-pub mod Pairs

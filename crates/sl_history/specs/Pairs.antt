@@ -1,4 +1,0 @@
-pub mod Telling
-pub mod Promises
-pub mod Reads
-pub mod Shown

@@ -1,9 +1,0 @@
-use Rattle.sl_host.proofs.begin.seat_all.Given as goal
-use Rattle.sl_host.specs.Beginning.{members_given}
-use Rattle.sl_host.specs.Joining.{run_in}
-use Rattle.std.proofs.Common.{take, ◌≡◌}
-
--- those before this place are seated
-abbrev pub invariant-loop-place : goal.invariant-loop-place
-invariant-loop-place l =
-    (l.members.members ≡ members_given (run_in l.config) (take l.place l.given)) × (l.members.run ≡ l.fn.members.run) × (l.members.most ≡ l.fn.members.most)

@@ -1,6 +1,0 @@
-use Rattle.sl_host.proofs.telling.over_number.Given as goal
-use Rattle.sl_host.specs.Hearing.{is_over_in}
-use Rattle.std.proofs.Common.{None, find, take, ◌≡◌}
-
-abbrev pub invariant-loop-place : goal.invariant-loop-place
-invariant-loop-place l = find (is_over_in l.unanswered.calls) (take l.place l.members.members) ≡ None

@@ -1,0 +1,17 @@
+use Rattle.sl_host_answers.proofs.WholeAnswersStand.{if_gone, if_there}
+use Rattle.sl_host_answers.proofs.jobs.job_set.Goals as goal
+use Rattle.sl_host_law.specs.Answers.Requests.{answering_job}
+use Rattle.sl_host_state.specs.KeptState.{state_of}
+use Rattle.sl_host_law.specs.Questions.Answers.{set_reply_in}
+use Rattle.sl_host_state.specs.MadeEffects.{with_reply}
+use Rattle.sl_trace.specs.declared.input.Answer.TheVariants.{Written}
+use Rattle.std.proofs.Common.{◌∙◌}
+
+pub returns-then-is_member-clause-state : goal.returns-then-is_member-clause-state
+returns-then-is_member-clause-state c read =
+    c.answer_set.ensures.state read
+    ∙ if_there c.args.call.now.session (answering_job c.args.job c.args.call.now Written (λ bytes x. x) (with_reply c.args.job (set_reply_in c.args.call.now))) (state_of read c.args.host.now.kept) c.if-is_member.ensures
+
+pub returns-else-is_member-clause-state : goal.returns-else-is_member-clause-state
+returns-else-is_member-clause-state c read =
+    if_gone c.args.call.now.session (answering_job c.args.job c.args.call.now Written (λ bytes x. x) (with_reply c.args.job (set_reply_in c.args.call.now))) (state_of read c.args.host.now.kept) c.if-is_member.ensures

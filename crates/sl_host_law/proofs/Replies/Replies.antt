@@ -1,4 +1,0 @@
--- What a reply changes.
-pub mod ReplyEndsJob
-pub mod QuietAfterReply
-pub mod RepliesAreTaken

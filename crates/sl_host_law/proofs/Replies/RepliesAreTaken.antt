@@ -1,0 +1,4 @@
+-- What a reply changes.
+pub mod ReplyEndsJob
+pub mod QuietAfterReply
+pub mod RepliesKeepHosts

@@ -1,0 +1,9 @@
+pub mod PlainLists
+pub mod PlainOrders
+pub mod SessionNumbers
+pub mod MembersAreSessions
+pub mod QuietMoments
+pub mod KeptJobs
+pub mod NewNumbers
+pub mod IdleJobs
+pub mod RecordsOfKinds

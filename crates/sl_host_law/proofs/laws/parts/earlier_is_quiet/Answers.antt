@@ -1,5 +1,0 @@
-use Rattle.sl_host_law.proofs.Parts.EarlierIsQuiet as its
-use Rattle.sl_host_law.proofs.laws.parts.earlier_is_quiet.Goals as goal
-
-pub returns : goal.returns
-returns c = its.earlier_is_quiet

@@ -1,5 +1,0 @@
-use Rattle.sl_host_law.proofs.Parts.EndsAreTaken as its
-use Rattle.sl_host_law.proofs.laws.parts.ends_are_taken.Goals as goal
-
-pub returns : goal.returns
-returns c = its.ends_are_taken

@@ -1,5 +1,0 @@
-use Rattle.sl_host_law.proofs.Parts.ExitsAreTaken as its
-use Rattle.sl_host_law.proofs.laws.parts.exits_are_taken.Goals as goal
-
-pub returns : goal.returns
-returns c = its.exits_are_taken

@@ -1,5 +1,0 @@
-use Rattle.sl_host_law.proofs.Parts.LinesAreTaken as its
-use Rattle.sl_host_law.proofs.laws.parts.lines_are_taken.Goals as goal
-
-pub returns : goal.returns
-returns c = its.lines_are_taken

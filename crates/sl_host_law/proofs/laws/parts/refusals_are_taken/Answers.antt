@@ -1,5 +1,0 @@
-use Rattle.sl_host_law.proofs.Parts.RefusalsAreTaken as its
-use Rattle.sl_host_law.proofs.laws.parts.refusals_are_taken.Goals as goal
-
-pub returns : goal.returns
-returns c = its.refusals_are_taken

@@ -1,5 +1,0 @@
-use Rattle.sl_host_law.proofs.Parts.SpawnsAreTaken as its
-use Rattle.sl_host_law.proofs.laws.parts.spawns_are_taken.Goals as goal
-
-pub returns : goal.returns
-returns c = its.spawns_are_taken

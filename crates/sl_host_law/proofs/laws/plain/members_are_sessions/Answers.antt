@@ -1,5 +1,0 @@
-use Rattle.sl_host_law.proofs.Plain.MembersAreSessions as its
-use Rattle.sl_host_law.proofs.laws.plain.members_are_sessions.Goals as goal
-
-pub returns : goal.returns
-returns c = its.members_are_sessions

@@ -1,0 +1,2 @@
+pub mod MembersAreSessions
+pub mod AtInput

@@ -1,0 +1,129 @@
+//! What a command on a value comes to: a holder reads it, or sets it.
+
+ghost use Rattle.sl_host_lines.specs.CommandRefusals.{get_in, getting, set_in, setting};
+ghost use Rattle.sl_host_law.specs.Decisions.CommandDecisions.{member_named, member_sets, value_seq, with_member};
+ghost use Rattle.sl_host_state.specs.MadeEffects.{is_lease_on};
+ghost use Rattle.sl_host.specs.BookQuestions.{state_in};
+ghost use Rattle.sl_words.specs.Words.{choose};
+ghost use Rattle.std.specs.Option.{option_map_or};
+ghost use Rattle.std.specs.Prelude.{find, option_and_then, ◌%◌, ◌==◌, ◌≡◌};
+
+use crate::command_refusals::{holder_refused, member_named, refused_or, spot_of};
+use crate::held_on_area::{exclusive_holding, holding};
+use sl_due::Decision;
+use sl_host::Host;
+use sl_host_state::ValuePair;
+use sl_member::Member;
+use sl_sector::ValueRec;
+use sl_text::Data;
+use sl_trace::{Grant, Limited, Reply, ResourceArg, Spot};
+
+/// The read of a value, if there is a holding.
+fn gets_value(member: &Member, spot: Spot, held: Option<Grant>) -> Decision
+    ensures { result ≡ getting member.now.state spot held }
+{
+    match held {
+        Some(_) => Decision::GetsValue {
+            session: *member.who(),
+            spot,
+        },
+        None => Decision::Replies(Reply::NotHeld),
+    }
+}
+
+/// The read of a value by a member's holder.
+fn gets(host: &Host, member: &Member, resource: &ResourceArg, process: u32) -> Decision
+    requires { resource.now.offset % host.now.kept.config.sizes.area ≡ 0 }
+    ensures { result ≡ get_in (state_in host.now.kept) member.now.state resource.now process }
+{
+    let at = spot_of(resource);
+    let held = holding(host, member, &at, process);
+    let refusal = holder_refused(host, member, &at, process, held.is_some());
+    refused_or(refusal, gets_value(member, at, held))
+}
+
+/// What the read of a value comes to.
+pub(crate) fn decide_get(host: &Host, resource: &ResourceArg, process: u32) -> Decision
+    requires { resource.now.offset % host.now.kept.config.sizes.area ≡ 0 }
+    ensures { result ≡ with_member (member_named (state_in host.now.kept) resource.now.lockspace) (λ m. get_in (state_in host.now.kept) m resource.now process) }
+{
+    match member_named(host, &resource.lockspace) {
+        Some(member) => gets(host, member, resource, process),
+        None => Decision::Replies(Reply::NoSession),
+    }
+}
+
+/// Version and seq of the value that the member submitted last on an area.
+fn last_value(member: &Member, at: &Spot) -> Option<ValuePair>
+    ensures { result ≡ option_and_then (λ l. l.value) (find (is_lease_on at.now) member.now.state.leases) }
+{
+    match member.lease(at) {
+        Some(lease) => lease.value(),
+        None => None,
+    }
+}
+
+/// The seq of a value of this version, and 0.
+fn seq_under(value: Option<ValuePair>, lver: u64) -> u64
+    ensures { result ≡ option_map_or (λ v. v.seq) (option_and_then (λ v. choose (v.lver == lver) v) value) 0 }
+{
+    match value {
+        Some(value) => { if value.lver == lver { value.seq } else { 0 } }
+        None => 0,
+    }
+}
+
+/// The value is written under a holding, with the next seq, unless that would pass its limit.
+fn writes(member: &Member, at: &Spot, held: &Grant, bytes: Data) -> Decision
+    ensures { result ≡ member_sets member.now.state at.now held.now (value_seq member.now.state at.now held.now.lver) bytes }
+{
+    let last = seq_under(last_value(member, at), held.lver);
+    if last >= (1 << 63) - 1 {
+        return Decision::Replies(Reply::Limit {
+            which: Limited::Seq,
+        });
+    }
+    let who = member.who();
+    Decision::SetsValue {
+        session: *who,
+        spot: *at,
+        value: ValueRec {
+            host: who.id,
+            lver: held.lver,
+            seq: last + 1,
+            bytes,
+        },
+    }
+}
+
+/// The write of a value, if there is a holding.
+fn sets_value(member: &Member, at: &Spot, held: Option<Grant>, bytes: Data) -> Decision
+    ensures { result ≡ setting member.now.state at.now held bytes }
+{
+    match held {
+        Some(grant) => writes(member, at, &grant, bytes),
+        None => Decision::Replies(Reply::NotHeld),
+    }
+}
+
+/// The write of a value by a member's holder.
+fn sets(host: &Host, member: &Member, resource: &ResourceArg, process: u32, bytes: Data) -> Decision
+    requires { resource.now.offset % host.now.kept.config.sizes.area ≡ 0 }
+    ensures { result ≡ set_in (state_in host.now.kept) member.now.state resource.now process bytes }
+{
+    let at = spot_of(resource);
+    let held = exclusive_holding(host, member, &at, process);
+    let refusal = holder_refused(host, member, &at, process, held.is_some());
+    refused_or(refusal, sets_value(member, &at, held, bytes))
+}
+
+/// What the write of a value comes to.
+pub(crate) fn decide_set(host: &Host, resource: &ResourceArg, process: u32, bytes: Data) -> Decision
+    requires { resource.now.offset % host.now.kept.config.sizes.area ≡ 0 }
+    ensures { result ≡ with_member (member_named (state_in host.now.kept) resource.now.lockspace) (λ m. set_in (state_in host.now.kept) m resource.now process bytes) }
+{
+    match member_named(host, &resource.lockspace) {
+        Some(member) => sets(host, member, resource, process, bytes),
+        None => Decision::Replies(Reply::NoSession),
+    }
+}

@@ -1,5 +1,0 @@
-use Rattle.sl_host_passes.proofs.waking.note_leases.Given as goal
-use Rattle.std.proofs.Common.{map, take, ◌≡◌}
-
-abbrev pub invariant-loop-place : goal.invariant-loop-place
-invariant-loop-place l = l.spots ≡ record { items = map (λ l. l.spot) (take l.place l.leases.leases); most = l.fn.spots.most }

@@ -1,5 +1,0 @@
-use Rattle.sl_ids.proofs.StateLaws.{ordered}
-use Rattle.sl_ids.proofs.claims_are_ordered.Goals as goal
-
-pub returns : goal.returns
-returns c = ordered

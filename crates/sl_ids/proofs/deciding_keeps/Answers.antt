@@ -1,5 +1,0 @@
-use Rattle.sl_ids.proofs.ReadSteps.{decide_kept}
-use Rattle.sl_ids.proofs.deciding_keeps.Goals as goal
-
-pub returns : goal.returns
-returns c = decide_kept

@@ -1,5 +1,0 @@
-use Rattle.sl_ids.proofs.InterfaceLaws.{earlier}
-use Rattle.sl_ids.proofs.earlier_are_over.Goals as goal
-
-pub returns : goal.returns
-returns c = earlier

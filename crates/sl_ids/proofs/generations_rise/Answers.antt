@@ -1,5 +1,0 @@
-use Rattle.sl_ids.proofs.InterfaceLaws.{rises}
-use Rattle.sl_ids.proofs.generations_rise.Goals as goal
-
-pub returns : goal.returns
-returns c = rises

@@ -1,5 +1,0 @@
-use Rattle.sl_ids.proofs.InterfaceLaws.{nobody_else}
-use Rattle.sl_ids.proofs.nobody_else_writes.Goals as goal
-
-pub returns : goal.returns
-returns c = nobody_else

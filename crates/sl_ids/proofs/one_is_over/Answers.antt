@@ -1,5 +1,0 @@
-use Rattle.sl_ids.proofs.InterfaceLaws.{one_over}
-use Rattle.sl_ids.proofs.one_is_over.Goals as goal
-
-pub returns : goal.returns
-returns c = one_over

@@ -1,5 +1,0 @@
-use Rattle.sl_ids.proofs.OwnLandings.{land_own_kept}
-use Rattle.sl_ids.proofs.own_landing_keeps.Goals as goal
-
-pub returns : goal.returns
-returns c = land_own_kept

@@ -1,5 +1,0 @@
-use Rattle.sl_ids.proofs.ReadSteps.{verify_kept}
-use Rattle.sl_ids.proofs.verifying_keeps.Goals as goal
-
-pub returns : goal.returns
-returns c = verify_kept

@@ -1,5 +1,0 @@
-use Rattle.sl_kept_law.proofs.WholeEvents.{events_are_kept}
-use Rattle.sl_kept_law.proofs.events.events_are_kept.Goals as goal
-
-pub returns : goal.returns
-returns c = events_are_kept

@@ -1,5 +1,0 @@
-use Rattle.sl_kept_law.proofs.GivenInputs.{inputs_are_kept}
-use Rattle.sl_kept_law.proofs.inputs.inputs_are_kept.Goals as goal
-
-pub returns : goal.returns
-returns c = inputs_are_kept

@@ -1,5 +1,0 @@
-use Rattle.sl_kept_law.proofs.FirstMachines.{first_worlds_are_sane}
-use Rattle.sl_kept_law.proofs.worlds.first_worlds_are_sane.Goals as goal
-
-pub returns : goal.returns
-returns c = first_worlds_are_sane

@@ -1,9 +1,0 @@
-//! Why an event may not happen.
-
-ghost use Rattle.sl_kept_law.specs.Refusals.{RefusalsAreKept};
-
-/// The first refusal that fits is the same, whatever the event.
-#[tactic(auto, using(crate::proofs::RefusalCases::refusals_are_kept))]
-pub fn refusals_are_kept()
-    ensures { RefusalsAreKept }
-{}

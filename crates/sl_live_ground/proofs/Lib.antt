@@ -1,5 +1,0 @@
-pub mod HeaderLaws
-pub mod SettingLaws
-pub mod WriteLaws
-pub mod LentLaws
-pub mod ReadyLaws

@@ -1,5 +1,0 @@
-use Rattle.sl_live_ground.proofs.SettingLaws.{sites_are_settings}
-use Rattle.sl_live_ground.proofs.laws.sites_are_settings.Goals as goal
-
-pub returns : goal.returns
-returns c = sites_are_settings

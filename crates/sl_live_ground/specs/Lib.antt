@@ -1,5 +1,0 @@
-pub mod Causes
-pub mod Clocks
-pub mod Areas
-pub mod Grounds
-pub mod Laws

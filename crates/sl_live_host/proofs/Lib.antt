@@ -1,2 +1,0 @@
-pub mod ListLengths
-pub mod ShortReplies

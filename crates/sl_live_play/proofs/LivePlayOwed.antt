@@ -1,0 +1,206 @@
+-- What is owed of a play, from what came of its parts.
+use Rattle.sl_reader.specs.declared.live_lines.LiveLine.{LiveLine}
+use Rattle.sl_live_locks.specs.LocksAlong.{begun_along}
+use Rattle.sl_live_play.specs.LiveOwed.{All, Beginnings, Breaks, Breaks_early, Due, Ends, Faults, Lacks, Lives, Nothing, Of, Owes, Part, Parts, Puts, PutsEnded, PutsNoGround, PutsStop, Stops, Stops_early, area_fault_text}
+use Rattle.sl_live_play.specs.declared.play.Lived.TheVariants.{AreaFault, Differs, Done, NoMemory, ReadFault, Refused, WriteFault}
+use Rattle.sl_live_play.specs.declared.play.Lived.{Lived}
+use Rattle.sl_reader.specs.Scripts.{ReadsScript}
+use Rattle.sl_reader.specs.declared.script_reading.ScriptEnd.TheVariants as script
+use Rattle.sl_reader.specs.declared.script_reading.ScriptEnd.{ScriptEnd}
+use Rattle.sl_live_run.specs.Causes.{Explains}
+use Rattle.sl_live_run.specs.declared.ground.NoGround.TheVariants as no_ground
+use Rattle.sl_live_run.specs.declared.ground.NoGround.{NoGround}
+use Rattle.sl_live_run.specs.Runs.{AreLiveHistories, IsLiveStop}
+use Rattle.sl_live_run.specs.declared.compare.LiveStop.TheVariants as stop
+use Rattle.sl_live_run.specs.declared.compare.LiveStop.{LiveStop}
+use Rattle.sl_report.specs.Headline.{HeadersAreGood, IsFrontOf}
+use Rattle.sl_report.specs.Languages.{whole_language}
+use Rattle.sl_report.specs.ScheduleLines.{refusal_line}
+use Rattle.sl_run.specs.Headers.{IsHeader}
+use Rattle.sl_run.specs.Worlds.{first_numbers}
+use Rattle.sl_run.specs.declared.event.Refusal.{Refusal}
+use Rattle.sl_run.specs.declared.header.Header.{Header}
+use Rattle.sl_reader.specs.HeaderBegins.{HeaderBegins, HeaderBreaks, HeaderStops, lines_left}
+use Rattle.sl_reader.specs.LineReads.{ReaderState}
+use Rattle.sl_text.specs.Forms.{Form, as_bytes}
+use Rattle.sl_trace.specs.Traces.{Setting, Trace}
+use Rattle.sl_trace.specs.declared.command.Command.{Command}
+use Rattle.sl_trace.specs.declared.effects.Entry.{Entry}
+use Rattle.sl_words.specs.Causes.{Rose}
+use Rattle.std.proofs.Common.{ap, Err, List, None, Ok, Option, Result, Some, [], append-nil, arith, drop, length, refl, subst, sym, take, ℕ, ◌++◌, ◌≡◌, ◌≤◌, ◌∙◌, ◌∷◌}
+use Rattle.std.proofs.lemmas.List.{take-append-drop}
+use Rattle.std.specs.Io.KnownBytes.{Appends}
+use Rattle.std.specs.Prelude.{IfErr, IfOk, OnOk}
+
+-- For want of memory nothing was put out.
+lacks : {D : Type 0} (stands : D → Setting → Trace → Type 0) (commands : Header → List (Form Command)) (left after taken now : Option (List ℕ))
+    (faults later sink_faults sink_later device_faults device_later : ℕ) (s : Lived) → s ≡ NoMemory → Appends taken now []
+    → Owes stands commands left after taken now faults later sink_faults sink_later device_faults device_later s
+lacks stands commands left after taken now faults later sink_faults sink_later device_faults device_later s is nothing =
+    subst (Owes stands commands left after taken now faults later sink_faults sink_later device_faults device_later) (sym is) (Lacks nothing)
+
+-- The histories of machines, by how their script ended.
+owes_ended : {D : Type 0} (stands : D → Setting → Trace → Type 0) (commands : Header → List (Form Command)) (left after taken now : Option (List ℕ))
+    (faults later sink_faults sink_later device_faults device_later : ℕ) (h : Header) (given : List LiveLine) (hs : List (List Entry)) (end : Option ScriptEnd) (s : Lived)
+    → ReadsScript left after faults later h given end → Lives stands commands h given hs → PutsEnded taken now sink_faults sink_later (begun_along h first_numbers.job) hs end s
+    → Owes stands commands left after taken now faults later sink_faults sink_later device_faults device_later s
+owes_ended stands commands left after taken now faults later sink_faults sink_later device_faults device_later h given hs (Some script.End) s reads lives puts =
+    Of _ Done s (Ends h given hs reads lives) puts
+owes_ended stands commands left after taken now faults later sink_faults sink_later device_faults device_later h given hs (Some (script.Refused number why)) s reads lives puts =
+    Of _ Refused s (Stops h given hs number why reads lives) puts
+owes_ended stands commands left after taken now faults later sink_faults sink_later device_faults device_later h given hs (Some script.ReadFault) s reads lives puts =
+    Of _ ReadFault s (Breaks h given hs reads lives) puts
+owes_ended stands commands left after taken now faults later sink_faults sink_later device_faults device_later h given hs (Some script.NoMemory) s reads lives puts =
+    lacks stands commands left after taken now faults later sink_faults sink_later device_faults device_later s puts.0 puts.1
+owes_ended stands commands left after taken now faults later sink_faults sink_later device_faults device_later h given hs None s reads lives puts =
+    lacks stands commands left after taken now faults later sink_faults sink_later device_faults device_later s puts.0 puts.1
+
+-- What came of a run.
+pub owes_run : {D V : Type 0} (stands : D → Setting → Trace → Type 0) (commands : Header → List (Form Command)) (left after taken now : Option (List ℕ))
+    (faults later sink_faults sink_later device_faults device_later : ℕ) (h : Header) (begun : Beginnings h) (before given : List LiveLine) (items : V → List (List Entry))
+    (histories : Result V LiveStop) (end : Option ScriptEnd) (s : Lived) → before ≡ [] → ReadsScript left after faults later h given end
+    → IfOk histories (λ v. AreLiveHistories stands commands begun.header begun.sites before given (items v))
+    → IfErr histories (IsLiveStop stands commands begun.header begun.sites before given)
+    → IfOk histories (λ v. PutsEnded taken now sink_faults sink_later (begun_along h first_numbers.job) (items v) end s)
+    → IfErr histories (λ e. PutsStop taken now sink_faults sink_later e s)
+    → Owes stands commands left after taken now faults later sink_faults sink_later device_faults device_later s
+owes_run stands commands left after taken now faults later sink_faults sink_later device_faults device_later h begun before given items (Ok v) end s none reads ok err puts stops =
+    owes_ended stands commands left after taken now faults later sink_faults sink_later device_faults device_later h given (items v) end s reads
+    (record { begun = begun; histories = subst (λ (b : List LiveLine). AreLiveHistories stands commands begun.header begun.sites b given (items v)) none ok }) puts
+owes_run stands commands left after taken now faults later sink_faults sink_later device_faults device_later h begun before given items (Err (stop.Differ machine d)) end s none reads ok err puts stops =
+    Of _ Differs s (Parts h given machine d (record { begun = begun; differs = subst (λ (b : List LiveLine). IsLiveStop stands commands begun.header begun.sites b given (stop.Differ machine d)) none err })) stops
+owes_run stands commands left after taken now faults later sink_faults sink_later device_faults device_later h begun before given items (Err stop.NoMemory) end s none reads ok err puts stops =
+    lacks stands commands left after taken now faults later sink_faults sink_later device_faults device_later s stops.0 stops.1
+
+-- A run that can't begin.
+pub owes_no_ground : {D : Type 0} (stands : D → Setting → Trace → Type 0) (commands : Header → List (Form Command)) (left after taken now : Option (List ℕ))
+    (faults later sink_faults sink_later device_faults device_later : ℕ) (why : NoGround) (s : Lived) → Explains device_faults device_later why
+    → PutsNoGround taken now sink_faults sink_later why s
+    → Owes stands commands left after taken now faults later sink_faults sink_later device_faults device_later s
+owes_no_ground stands commands left after taken now faults later sink_faults sink_later device_faults device_later no_ground.AreaFault s rose puts =
+    Of area_fault_text AreaFault s (Faults rose) puts
+owes_no_ground stands commands left after taken now faults later sink_faults sink_later device_faults device_later no_ground.NoMemory s rose puts =
+    lacks stands commands left after taken now faults later sink_faults sink_later device_faults device_later s puts.0 puts.1
+
+-- ---- faults before
+
+rose_since : (first faults later : ℕ) → first ≤ faults → Rose faults later → Rose first later
+rose_since first faults later le rose = omega (arith, le, rose)
+
+-- Faults of the source that were counted since were counted since before.
+script_since : (left after : Option (List ℕ)) (first faults later : ℕ) (h : Header) (given : List LiveLine) (end : Option ScriptEnd) → first ≤ faults
+    → ReadsScript left after faults later h given end → ReadsScript left after first later h given end
+script_since left after first faults later h given end le r =
+    record {
+      read = r.read;
+      ended = r.ended;
+      reads = r.reads;
+      at_end = r.at_end;
+      numbered = r.numbered;
+      given_are = r.given_are;
+      says = r.says;
+      to_end = r.to_end;
+      fault = λ e. (let f = r.fault e in (rose_since first faults later le f.0, f.1));
+    }
+
+due_since : {D : Type 0} (stands : D → Setting → Trace → Type 0) (commands : Header → List (Form Command)) (left after : Option (List ℕ))
+    (first faults later device_faults device_later : ℕ) (text : List ℕ) (whole : Lived) → first ≤ faults
+    → Due stands commands left after faults later device_faults device_later text whole → Due stands commands left after first later device_faults device_later text whole
+due_since stands commands left after first faults later device_faults device_later text whole le (Ends h given hs reads lives) =
+    Ends h given hs (script_since left after first faults later h given _ le reads) lives
+due_since stands commands left after first faults later device_faults device_later text whole le (Stops_early r number why stops) = Stops_early r number why stops
+due_since stands commands left after first faults later device_faults device_later text whole le (Stops h given hs number why reads lives) =
+    Stops h given hs number why (script_since left after first faults later h given _ le reads) lives
+due_since stands commands left after first faults later device_faults device_later text whole le (Breaks_early breaks rose) =
+    Breaks_early breaks (rose_since first faults later le rose)
+due_since stands commands left after first faults later device_faults device_later text whole le (Breaks h given hs reads lives) =
+    Breaks h given hs (script_since left after first faults later h given _ le reads) lives
+due_since stands commands left after first faults later device_faults device_later text whole le (Faults rose) = Faults rose
+due_since stands commands left after first faults later device_faults device_later text whole le (Parts h given machine d case_of) = Parts h given machine d case_of
+
+pub owes_since : {D : Type 0} (stands : D → Setting → Trace → Type 0) (commands : Header → List (Form Command)) (left after taken now : Option (List ℕ))
+    (first faults later sink_faults sink_later device_faults device_later : ℕ) (s : Lived) → first ≤ faults
+    → Owes stands commands left after taken now faults later sink_faults sink_later device_faults device_later s
+    → Owes stands commands left after taken now first later sink_faults sink_later device_faults device_later s
+owes_since stands commands left after taken now first faults later sink_faults sink_later device_faults device_later s le (Of text whole t due puts) =
+    Of text whole s (due_since stands commands left after first faults later device_faults device_later text whole le due) puts
+owes_since stands commands left after taken now first faults later sink_faults sink_later device_faults device_later s le (Lacks nothing) = Lacks nothing
+
+-- .. and of the devices.
+due_devices : {D : Type 0} (stands : D → Setting → Trace → Type 0) (commands : Header → List (Form Command)) (left after : Option (List ℕ))
+    (faults later first device_faults device_later : ℕ) (text : List ℕ) (whole : Lived) → first ≤ device_faults
+    → Due stands commands left after faults later device_faults device_later text whole → Due stands commands left after faults later first device_later text whole
+due_devices stands commands left after faults later first device_faults device_later text whole le (Ends h given hs reads lives) = Ends h given hs reads lives
+due_devices stands commands left after faults later first device_faults device_later text whole le (Stops_early r number why stops) = Stops_early r number why stops
+due_devices stands commands left after faults later first device_faults device_later text whole le (Stops h given hs number why reads lives) = Stops h given hs number why reads lives
+due_devices stands commands left after faults later first device_faults device_later text whole le (Breaks_early breaks rose) = Breaks_early breaks rose
+due_devices stands commands left after faults later first device_faults device_later text whole le (Breaks h given hs reads lives) = Breaks h given hs reads lives
+due_devices stands commands left after faults later first device_faults device_later text whole le (Faults rose) = Faults (rose_since first device_faults device_later le rose)
+due_devices stands commands left after faults later first device_faults device_later text whole le (Parts h given machine d case_of) = Parts h given machine d case_of
+
+pub owes_devices : {D : Type 0} (stands : D → Setting → Trace → Type 0) (commands : Header → List (Form Command)) (left after taken now : Option (List ℕ))
+    (faults later sink_faults sink_later first device_faults device_later : ℕ) (s : Lived) → first ≤ device_faults
+    → Owes stands commands left after taken now faults later sink_faults sink_later device_faults device_later s
+    → Owes stands commands left after taken now faults later sink_faults sink_later first device_later s
+owes_devices stands commands left after taken now faults later sink_faults sink_later first device_faults device_later s le (Of text whole t due puts) =
+    Of text whole s (due_devices stands commands left after faults later first device_faults device_later text whole le due) puts
+owes_devices stands commands left after taken now faults later sink_faults sink_later first device_faults device_later s le (Lacks nothing) = Lacks nothing
+
+-- ---- the header
+
+-- Nothing was put out.
+none_put : (taken : Option (List ℕ)) → Appends taken taken []
+none_put None = tt
+none_put (Some xs) = sym (append-nil xs)
+
+pub owes_nothing : {D : Type 0} (stands : D → Setting → Trace → Type 0) (commands : Header → List (Form Command)) (left after taken : Option (List ℕ))
+    (faults later sink_faults device_faults device_later : ℕ)
+    → Owes stands commands left after taken taken faults later sink_faults sink_faults device_faults device_later NoMemory
+owes_nothing stands commands left after taken faults later sink_faults device_faults device_later = Lacks (none_put taken)
+
+-- A read failed within it.
+pub owes_break : {D : Type 0} (stands : D → Setting → Trace → Type 0) (commands : Header → List (Form Command)) (left after taken : Option (List ℕ))
+    (faults later sink_faults device_faults device_later : ℕ) → HeaderBreaks left after → Rose faults later
+    → Owes stands commands left after taken taken faults later sink_faults sink_faults device_faults device_later ReadFault
+owes_break stands commands left after taken faults later sink_faults device_faults device_later breaks rose =
+    Of [] ReadFault ReadFault (Breaks_early breaks rose) (All (none_put taken))
+
+-- A line of it is refused.
+pub owes_refusal : {D : Type 0} (stands : D → Setting → Trace → Type 0) (commands : Header → List (Form Command)) (left after taken now : Option (List ℕ))
+    (faults later sink_faults sink_later device_faults device_later : ℕ) (r : ReaderState) (number : ℕ) (why : Refusal) (s : Lived) → HeaderStops left after r number why
+    → Puts taken now sink_faults sink_later (as_bytes (refusal_line number why ∷ [])) Refused s
+    → Owes stands commands left after taken now faults later sink_faults sink_later device_faults device_later s
+owes_refusal stands commands left after taken now faults later sink_faults sink_later device_faults device_later r number why s stops puts =
+    Of _ Refused s (Stops_early r number why stops) puts
+
+-- ---- a text that is put out
+
+on_ok : {A E : Type 0} (r : Result A E) (a : A) (P : Type 0) → r ≡ Ok a → OnOk r P → P
+on_ok (Ok x) a P is p = p
+on_ok (Err e) a P is p = absurd cc
+
+pub put_all : {A E : Type 0} (pushed : Result A E) (u : A) (a b : Option (List ℕ)) (f g : ℕ) (text all : List ℕ) (whole : Lived) → pushed ≡ Ok u → OnOk pushed (text ≡ all) → Appends a b text
+    → Puts a b f g all whole whole
+put_all pushed u a b f g text all whole is told appends = All (subst (Appends a b) (on_ok pushed u (text ≡ all) is told) appends)
+
+front_of : (text all : List ℕ) (n : ℕ) → text ≡ all → IsFrontOf (take n text) all
+front_of text all n is = (drop n text, sym is ∙ sym (take-append-drop n text))
+
+pub put_part : {A E : Type 0} (pushed : Result A E) (u : A) (a b : Option (List ℕ)) (f g : ℕ) (text all : List ℕ) (whole : Lived) → pushed ≡ Ok u → OnOk pushed (text ≡ all)
+    → ((n : ℕ) × (n ≤ length text) × Appends a b (take n text)) → Rose f g → Puts a b f g all whole WriteFault
+put_part pushed u a b f g text all whole is told front rose =
+    Part (take front.0 text) front.2 (front_of text all front.0 (on_ok pushed u (text ≡ all) is told)) rose
+
+pub put_none : (a : Option (List ℕ)) (f g : ℕ) (all : List ℕ) (whole : Lived) → Puts a a f g all whole NoMemory
+put_none a f g all whole = Nothing (none_put a)
+
+-- The header that was read is one that a world may begin with.
+pub good_header : (h : Header) (first left : Option (List ℕ)) (r : ReaderState) → HeadersAreGood whole_language → HeaderBegins first left r h → IsHeader h
+good_header h first left r good b = good (b.consumed ++ []) h (lines_left b.consumed [] r) (b.reads [] (λ e. refl))
+
+-- A header but for its clocks gives lvmlockd's locks the same beginning.
+pub puts_so : {V : Type 0} (h g : Header) (taken now : Option (List ℕ)) (faults later : ℕ) (items : V → List (List Entry)) (histories : Result V LiveStop) (end : Option ScriptEnd)
+    (s : Lived) → g ≡ record h { clocks = g.clocks } → IfOk histories (λ v. PutsEnded taken now faults later (begun_along g first_numbers.job) (items v) end s)
+    → IfOk histories (λ v. PutsEnded taken now faults later (begun_along h first_numbers.job) (items v) end s)
+puts_so {V} h g taken now faults later items histories end s same puts =
+    subst (λ a. IfOk histories (λ (v : V). PutsEnded taken now faults later a (items v) end s)) (ap (λ x. begun_along x first_numbers.job) same) puts

@@ -1,0 +1,127 @@
+-- What a live script owes that is played: what is read and put out, by how it ends.
+use Rattle.sl_world_state.specs.declared.daemon.Site.{Site}
+use Rattle.sl_world_state.specs.FirstKept.{session_of}
+use Rattle.sl_live_run.specs.Grounds.{IsSiteOf}
+use Rattle.sl_live_run.specs.declared.ground.NoGround.TheVariants as no_ground
+use Rattle.sl_live_run.specs.declared.ground.NoGround.{NoGround}
+use Rattle.sl_reader.specs.declared.live_lines.LiveLine.{LiveLine}
+use Rattle.sl_live_locks.specs.LocksAlong.{AlongState, begun_along}
+use Rattle.sl_live_play.specs.DifferenceLines.{differ_text}
+use Rattle.sl_live_play.specs.declared.play.Lived.TheVariants.{AreaFault, Differs, Done, NoMemory, ReadFault, Refused, WriteFault}
+use Rattle.sl_live_play.specs.declared.play.Lived.{Lived}
+use Rattle.sl_reader.specs.Scripts.{ReadsScript}
+use Rattle.sl_reader.specs.declared.script_reading.ScriptEnd.TheVariants as script
+use Rattle.sl_reader.specs.declared.script_reading.ScriptEnd.{ScriptEnd}
+use Rattle.sl_live_locks.specs.LiveTexts.{live_text}
+use Rattle.sl_live_locks.specs.declared.live_texts.Ending.TheVariants as ending
+use Rattle.sl_live_run.specs.Runs.{AreLiveHistories, LiveCaseOf}
+use Rattle.sl_live_run.specs.declared.compare.LiveDiffer.{LiveDiffer}
+use Rattle.sl_live_run.specs.declared.compare.LiveStop.TheVariants as stop
+use Rattle.sl_live_run.specs.declared.compare.LiveStop.{LiveStop}
+use Rattle.sl_report.specs.Headline.{IsFrontOf}
+use Rattle.sl_report.specs.ScheduleLines.{refusal_line}
+use Rattle.sl_run.specs.Headers.{IsHeader}
+use Rattle.sl_run.specs.Worlds.{first_numbers}
+use Rattle.sl_run.specs.declared.event.Refusal.{Refusal}
+use Rattle.sl_run.specs.declared.header.Header.{Header}
+use Rattle.sl_reader.specs.HeaderBegins.{HeaderBreaks, HeaderStops}
+use Rattle.sl_reader.specs.LineReads.{ReaderState}
+use Rattle.sl_text.specs.Forms.{Form, as_bytes}
+use Rattle.sl_trace.specs.Traces.{Setting, Trace}
+use Rattle.sl_trace.specs.declared.command.Command.{Command}
+use Rattle.sl_trace.specs.declared.effects.Entry.{Entry}
+use Rattle.sl_words.specs.Causes.{Rose}
+use Rattle.std.specs.Io.KnownBytes.{Appends}
+use Rattle.std.specs.Prelude.{List, None, Option, Some, codes, length, slice_get, [], ℕ, ◌++◌, ◌+◌, ◌∷◌, ◌≡◌}
+
+-- ---- what the machines did
+
+-- What the machines of a header began with: its clocks' readings in place of the `clock` lines, and for each machine the site that the header
+-- gives it.
+pub record Beginnings (h : Header) : Type 0 where
+  pub header : Header
+  pub lawful : IsHeader header
+  pub same : header ≡ record h { clocks = header.clocks }
+  pub sites : List Site
+  pub counted : length sites ≡ h.machines
+  pub begun : (place : ℕ) (s : Site) → slice_get sites place ≡ Some s → IsSiteOf header (place + 1) (session_of header (place + 1)) s
+
+-- These are their histories, where the script gave these lines.
+pub record Lives {D : Type 0} (stands : D → Setting → Trace → Type 0) (commands : Header → List (Form Command)) (h : Header) (given : List LiveLine)
+    (hs : List (List Entry)) : Type 0 where
+  pub begun : Beginnings h
+  pub histories : AreLiveHistories stands commands begun.header begun.sites [] given hs
+
+-- A case holds of this machine, in which its threads, its history and the script differ.
+pub record Differing {D : Type 0} (stands : D → Setting → Trace → Type 0) (commands : Header → List (Form Command)) (h : Header) (given : List LiveLine)
+    (machine : ℕ) (d : LiveDiffer) : Type 0 where
+  pub begun : Beginnings h
+  pub differs : LiveCaseOf stands commands begun.header begun.sites [] given machine d
+
+-- ---- what is due
+
+-- The line of devices that failed.
+abbrev pub area_fault_text : List ℕ
+area_fault_text = codes "area fault" ++ 10 ∷ []
+
+-- What is to be put out, and how the play then ended, by what was read of the source.
+pub data Due {D : Type 0} (stands : D → Setting → Trace → Type 0) (commands : Header → List (Form Command)) (left after : Option (List ℕ))
+    (faults later device_faults device_later : ℕ) : List ℕ → Lived → Type 0 where
+  -- the script was read to its end
+  Ends : (h : Header) (given : List LiveLine) (hs : List (List Entry)) → ReadsScript left after faults later h given (Some script.End)
+      → Lives stands commands h given hs
+      → Due stands commands left after faults later device_faults device_later (live_text (begun_along h first_numbers.job) hs ending.Whole) Done
+  -- a line of its header is refused
+  Stops_early : (r : ReaderState) (number : ℕ) (why : Refusal) → HeaderStops left after r number why
+      → Due stands commands left after faults later device_faults device_later (as_bytes (refusal_line number why ∷ [])) Refused
+  -- .. or a line behind it
+  Stops : (h : Header) (given : List LiveLine) (hs : List (List Entry)) (number : ℕ) (why : Refusal)
+      → ReadsScript left after faults later h given (Some (script.Refused number why)) → Lives stands commands h given hs
+      → Due stands commands left after faults later device_faults device_later (live_text (begun_along h first_numbers.job) hs (ending.Refused number why)) Refused
+  -- a read failed within the header
+  Breaks_early : HeaderBreaks left after → Rose faults later
+      → Due stands commands left after faults later device_faults device_later [] ReadFault
+  -- .. or behind it: what the machines did is put out
+  Breaks : (h : Header) (given : List LiveLine) (hs : List (List Entry)) → ReadsScript left after faults later h given (Some script.ReadFault)
+      → Lives stands commands h given hs
+      → Due stands commands left after faults later device_faults device_later (live_text (begun_along h first_numbers.job) hs ending.Cut) ReadFault
+  -- a disk can't be made, or a sector of an area can't be written before the threads begin
+  Faults : Rose device_faults device_later
+      → Due stands commands left after faults later device_faults device_later area_fault_text AreaFault
+  -- records of a machine differ
+  Parts : (h : Header) (given : List LiveLine) (machine : ℕ) (d : LiveDiffer) → Differing stands commands h given machine d
+      → Due stands commands left after faults later device_faults device_later (differ_text machine d) Differs
+
+-- What was put out of a text, and how the play ended: all of it, a front of it after a fault of the sink, or nothing for want of memory.
+pub data Puts (taken now : Option (List ℕ)) (faults later : ℕ) (text : List ℕ) (whole : Lived) : Lived → Type 0 where
+  All : Appends taken now text → Puts taken now faults later text whole whole
+  Part : (front : List ℕ) → Appends taken now front → IsFrontOf front text → Rose faults later → Puts taken now faults later text whole WriteFault
+  Nothing : Appends taken now [] → Puts taken now faults later text whole NoMemory
+
+-- What is owed: of what is due what was put out, or want of memory before anything was due.
+pub data Owes {D : Type 0} (stands : D → Setting → Trace → Type 0) (commands : Header → List (Form Command)) (left after taken now : Option (List ℕ))
+    (faults later sink_faults sink_later device_faults device_later : ℕ) : Lived → Type 0 where
+  Of : (text : List ℕ) (whole s : Lived) → Due stands commands left after faults later device_faults device_later text whole
+      → Puts taken now sink_faults sink_later text whole s
+      → Owes stands commands left after taken now faults later sink_faults sink_later device_faults device_later s
+  Lacks : Appends taken now [] → Owes stands commands left after taken now faults later sink_faults sink_later device_faults device_later NoMemory
+
+-- ---- step by step
+
+-- What was put out of histories whose script ended so, where lvmlockd's locks begin like this; and how the play then ended.
+abbrev pub PutsEnded : Option (List ℕ) → Option (List ℕ) → ℕ → ℕ → AlongState → List (List Entry) → Option ScriptEnd → Lived → Type 0
+PutsEnded taken now faults later a hs (Some script.End) s = Puts taken now faults later (live_text a hs ending.Whole) Done s
+PutsEnded taken now faults later a hs (Some (script.Refused number why)) s = Puts taken now faults later (live_text a hs (ending.Refused number why)) Refused s
+PutsEnded taken now faults later a hs (Some script.ReadFault) s = Puts taken now faults later (live_text a hs ending.Cut) ReadFault s
+PutsEnded taken now faults later a hs (Some script.NoMemory) s = (s ≡ NoMemory) × Appends taken now []
+PutsEnded taken now faults later a hs None s = (s ≡ NoMemory) × Appends taken now []
+
+-- .. of why there are none.
+abbrev pub PutsStop : Option (List ℕ) → Option (List ℕ) → ℕ → ℕ → LiveStop → Lived → Type 0
+PutsStop taken now faults later (stop.Differ machine d) s = Puts taken now faults later (differ_text machine d) Differs s
+PutsStop taken now faults later stop.NoMemory s = (s ≡ NoMemory) × Appends taken now []
+
+-- .. where a run can't begin.
+abbrev pub PutsNoGround : Option (List ℕ) → Option (List ℕ) → ℕ → ℕ → NoGround → Lived → Type 0
+PutsNoGround taken now faults later no_ground.AreaFault s = Puts taken now faults later area_fault_text AreaFault s
+PutsNoGround taken now faults later no_ground.NoMemory s = (s ≡ NoMemory) × Appends taken now []

@@ -1,0 +1,84 @@
+//! What is put out at the end.
+
+ghost use Rattle.sl_live_play.specs.DifferenceLines.{differ_text};
+ghost use Rattle.sl_live_play.specs.LiveOwed.{Puts, area_fault_text};
+ghost use Rattle.sl_live_play.specs.declared.play.Lived.TheVariants as lived;
+ghost use Rattle.sl_live_locks.specs.LocksAlong.{begun_along};
+ghost use Rattle.sl_live_locks.specs.LiveTexts.{live_text};
+ghost use Rattle.sl_report.specs.ScheduleLines.{refusal_line};
+ghost use Rattle.sl_run.specs.Worlds.{first_numbers};
+ghost use Rattle.sl_text.specs.Forms.{as_bytes};
+ghost use Rattle.std.specs.Prelude.{List, OnOk, [], ℕ, ◌∷◌, ◌≡◌};
+
+use crate::difference_lines::push_differ_line;
+use crate::play::Lived;
+use sl_io::{Sink, write_all};
+use sl_live_locks::{Ending, push_live_text};
+use sl_live_run::LiveDiffer;
+use sl_run::{Header, Refusal};
+use sl_schedule::push_refusal_line;
+use sl_text::Seq;
+use sl_trace::Entry;
+use std::alloc::{AllocError, Global};
+
+/// The number of the first job of a machine's first daemon.
+const FIRST_JOB: u64 = 1;
+
+/// Puts out a text that stands, or found no memory.
+fn put<K: Sink>(sink: &mut K, pushed: Result<(), AllocError>, text: &[u8], whole: Lived) -> Lived
+    ensures { (all : List ℕ) → OnOk pushed (text.now ≡ all) → Puts (K.taken sink.old) (K.taken sink.new) (K.faults sink.old) (K.faults sink.new) all whole result }
+{
+    match pushed {
+        Err(_) => Lived::NoMemory,
+        Ok(()) => match write_all(sink, text) {
+            Ok(()) => whole,
+            Err(_) => Lived::WriteFault,
+        },
+    }
+}
+
+/// Puts out the line of a refusal.
+pub(crate) fn put_refusal<K: Sink>(alloc: Global, sink: &mut K, number: u64, why: Refusal) -> Lived
+    ensures { Puts (K.taken sink.old) (K.taken sink.new) (K.faults sink.old) (K.faults sink.new) (as_bytes (refusal_line number why ∷ [])) lived.Refused result }
+{
+    let mut out = Vec::new(alloc);
+    let pushed = push_refusal_line(&mut out, number, why);
+    put(sink, pushed, &out, Lived::Refused)
+}
+
+/// Puts out that devices failed.
+pub(crate) fn put_area_fault<K: Sink>(sink: &mut K) -> Lived
+    ensures { Puts (K.taken sink.old) (K.taken sink.new) (K.faults sink.old) (K.faults sink.new) area_fault_text lived.AreaFault result }
+{
+    put(sink, Ok(()), b"area fault\n", Lived::AreaFault)
+}
+
+/// Puts out what machines did, by how their script ended.
+pub(crate) fn put_histories<K: Sink>(
+    alloc: Global,
+    sink: &mut K,
+    header: &Header,
+    histories: &[Seq<Entry>],
+    ending: Ending,
+    whole: Lived,
+) -> Lived
+    ensures { Puts (K.taken sink.old) (K.taken sink.new) (K.faults sink.old) (K.faults sink.new) (live_text (begun_along header.now first_numbers.job) histories.now ending) whole result }
+{
+    let mut out = Vec::new(alloc);
+    let pushed = push_live_text(&mut out, header, FIRST_JOB, histories, ending);
+    put(sink, pushed, &out, whole)
+}
+
+/// Puts out the case in which records of a machine differ.
+pub(crate) fn put_differ<K: Sink>(
+    alloc: Global,
+    sink: &mut K,
+    machine: usize,
+    differ: &LiveDiffer,
+) -> Lived
+    ensures { Puts (K.taken sink.old) (K.taken sink.new) (K.faults sink.old) (K.faults sink.new) (differ_text machine differ.now) lived.Differs result }
+{
+    let mut out = Vec::new(alloc);
+    let pushed = push_differ_line(&mut out, machine, differ);
+    put(sink, pushed, &out, Lived::Differs)
+}

@@ -1,2 +1,0 @@
-//! Plain facts of numbers, lists and options that proofs of the crates above share. It has no code.
-#![tactic(auto)]

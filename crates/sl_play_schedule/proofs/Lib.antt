@@ -1,3 +1,0 @@
-pub mod Owing
-pub mod Running
-pub mod Shifting

@@ -1,4 +1,0 @@
-pub mod Open
-pub mod Starting
-pub mod Granted
-pub mod Made

@@ -1,8 +1,0 @@
-//! Entries that do not answer a lease's call.
-
-ghost use Rattle.sl_quiet.specs.Stay.Staying.{LeasesStay};
-
-/// They leave the lease's calls as they are.
-pub fn leases_stay()
-    ensures { LeasesStay }
-{}

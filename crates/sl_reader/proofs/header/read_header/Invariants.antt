@@ -1,0 +1,17 @@
+use Rattle.sl_report.specs.ScheduleLines.{HeaderLine}
+use Rattle.sl_report.specs.Schedules.{greatest_source}
+use Rattle.sl_schedule.specs.Headers.{Stands}
+use Rattle.sl_reader.proofs.HeaderSteps.{IsWithin}
+use Rattle.sl_reader.proofs.header.read_header.Given as goal
+use Rattle.sl_reader.specs.LineReads.{EndStands}
+use Rattle.std.proofs.Common.{List, ℕ, ◌-◌, ◌≤◌}
+
+abbrev pub invariant-loop-header : goal.invariant-loop-header
+invariant-loop-header g l = record {
+  within : (ls : List HeaderLine) × Stands l.header ls × IsWithin (g.S.Source.left l.fn.source) (g.S.Source.left l.source) l.reader ls;
+  stands : EndStands (g.S.Source.left l.source) l.reader;
+  later : g.S.Source.faults l.fn.source ≤ g.S.Source.faults l.source;
+}
+
+abbrev pub decreases-loop-header : goal.decreases-loop-header
+decreases-loop-header g l = greatest_source - l.reader.behind

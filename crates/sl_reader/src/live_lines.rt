@@ -1,0 +1,41 @@
+//! The lines of a live script.
+
+use sl_text::Bytes;
+
+/// A line of a live script.
+#[derive(Clone, Drop)]
+pub enum LiveLine {
+    /// The text is given to the machine; the next line is read after its reply.
+    Command { machine: u32, text: Bytes },
+    /// The line is given to lvmlockd of the machine; the next line is read after its reply.
+    Locks { machine: u32, line: Bytes },
+    /// The text is given to the machine; the next line is read at once.
+    Post { machine: u32, text: Bytes },
+    /// The next line is read once the machine's child has exited, if it was started.
+    Exits { machine: u32, process: u32 },
+}
+
+/// Why there is no line.
+#[derive(Clone, Copy, Debug, PartialEq, Eq)]
+pub enum NoLine {
+    /// A line is refused.
+    Refused,
+    /// A read failed.
+    ReadFault,
+    /// There is no memory.
+    NoMemory,
+}
+
+/// Where the lines come from. After an `Err` and after the end it is not asked again.
+pub trait LiveLines {
+    ghost use Rattle.sl_reader.specs.GivenAnswers.{lines_in};
+    ghost use Rattle.sl_reader.specs.declared.live_lines.LiveLine.{LiveLine as LineOf};
+    ghost use Rattle.std.specs.Prelude.{List, ◌++◌, ◌≡◌};
+
+    /// The lines that it gave so far, the oldest first.
+    ghost given: { Self → List LineOf };
+
+    /// The next line; none at the end.
+    fn next(&mut self) -> Result<Option<LiveLine>, NoLine>
+        ensures { given self.new ≡ given self.old ++ lines_in result };
+}

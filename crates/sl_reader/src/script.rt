@@ -1,0 +1,109 @@
+//! The lines of a live script.
+
+ghost use Rattle.sl_reader.specs.GivenAnswers.{lines_in};
+ghost use Rattle.sl_reader.specs.Scopes.{scope_of};
+ghost use Rattle.sl_reader.specs.Scripts.{ReadsScript};
+ghost use Rattle.sl_run.specs.declared.header.Header.{Header as HeaderOf};
+ghost use Rattle.sl_reader.specs.HeaderBegins.{HeaderBegins};
+ghost use Rattle.sl_reader.specs.LineReads.{EndStands};
+ghost use Rattle.std.specs.Prelude.{List, None, Option, [], ℕ, ◌≡◌, ◌≤◌};
+
+use crate::origin::Origin;
+use crate::script_reading::{ScriptEnd, keep, read_on};
+use crate::{LineReader, LiveLine, LiveLines, NoLine, Scope};
+use sl_io::Source;
+use sl_run::Header;
+use std::alloc::Global;
+use std::marker::{Model, PhantomData};
+
+/// The lines of a script behind its header: read one at a time, as they are asked for. Contracts see those that were given, and why the script
+/// ended, if it did.
+pub struct ScriptLines<S: Source, J: Origin> {
+    alloc: Global,
+    source: S,
+    reader: LineReader,
+    scope: Scope,
+    given: Vec<LiveLine>,
+    end: Option<ScriptEnd>,
+    of: PhantomData<J>,
+}
+
+impl<S: Source, J: Origin> Model for ScriptLines<S, J> {
+    ghost use Rattle.sl_reader.specs.Scripts.{IsScript, ScriptState};
+
+    ghost Value = { ScriptState };
+
+    ghost view = { λ s. record { given = s.given.items; end = s.end } };
+
+    ghost invariant = { λ s. IsScript J.left (S.left s.source) J.faults (S.faults s.source) J.began J.scope s.scope s.reader s.given.items s.end };
+}
+
+/// The answer where a script has ended.
+fn answer_at(end: ScriptEnd) -> Result<Option<LiveLine>, NoLine>
+    ensures { lines_in result ≡ [] }
+{
+    match end {
+        ScriptEnd::End => Ok(None),
+        ScriptEnd::Refused { .. } => Err(NoLine::Refused),
+        ScriptEnd::ReadFault => Err(NoLine::ReadFault),
+        ScriptEnd::NoMemory => Err(NoLine::NoMemory),
+    }
+}
+
+impl<S: Source, J: Origin> ScriptLines<S, J> {
+    /// The lines behind a header that this reader has read of the source: it, and what of the source and the header the lines are read by, are those
+    /// that were picked.
+    pub fn new(alloc: Global, source: S, reader: LineReader, header: &Header) -> ScriptLines<S, J>
+        requires left { S.left source ≡ J.left }
+        requires faults { S.faults source ≡ J.faults }
+        requires began { reader ≡ J.began }
+        requires scope { scope_of header.now ≡ J.scope }
+        requires ends { EndStands (S.left source) reader }
+        ensures { result ≡ record { given = []; end = None } }
+    {
+        ScriptLines {
+            alloc,
+            source,
+            reader,
+            scope: Scope::of(header),
+            given: Vec::new(alloc),
+            end: None,
+            of: PhantomData,
+        }
+    }
+
+    /// The source back, and why the script ended, if it did: what was read of the source is the script's header, the lines that were given, and
+    /// what ended it; where it was not read to its end, whatever may have followed.
+    pub fn close(self) -> (S, Option<ScriptEnd>)
+        ensures end { result.1 ≡ self.end }
+        ensures later { J.faults ≤ S.faults result.0 }
+        ensures script { (first : Option (List ℕ)) (header : HeaderOf) → HeaderBegins first J.left J.began header → scope_of header ≡ J.scope
+            → ReadsScript first (S.left result.0) J.faults (S.faults result.0) header self.given result.1 }
+    {
+        let ScriptLines {
+            alloc: _,
+            source,
+            reader: _,
+            scope: _,
+            given: _,
+            end,
+            of: _,
+        } = self;
+        (source, end)
+    }
+}
+
+impl<S: Source, J: Origin> LiveLines for ScriptLines<S, J> {
+    ghost given = { λ s. s.given };
+
+    fn next(&mut self) -> Result<Option<LiveLine>, NoLine> {
+        match self.end {
+            Some(end) => return answer_at(end),
+            None => {}
+        }
+        let came = read_on(self.alloc, &mut self.source, &mut self.reader, &self.scope);
+        let (answer, end) = keep(&mut self.given, came);
+        self.end = end;
+        answer
+    }
+}

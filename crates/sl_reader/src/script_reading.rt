@@ -1,0 +1,109 @@
+//! The next line of a script that says something.
+
+ghost use Rattle.sl_reader.specs.Scripts.{Comes, Keeps, Passes, ScriptLine, came_of};
+ghost use Rattle.sl_reader.specs.GivenAnswers.{lines_in};
+ghost use Rattle.sl_reader.specs.LineReads.{EndStands, ReaderState};
+ghost use Rattle.std.specs.Prelude.{List, OnErr, OnOk, Option, [], ℕ, ◌++◌, ◌∷◌, ◌≡◌, ◌≤◌};
+
+use crate::{LineReader, LiveLine, LiveRead, Next, NoLine, ReadError, Scope, live_line};
+use sl_io::Source;
+use sl_run::Refusal;
+use std::alloc::{AllocError, Global};
+
+/// Why a script ended.
+#[derive(Clone, Copy)]
+pub enum ScriptEnd {
+    /// The source was read to its end.
+    End,
+    /// The line of this number is refused.
+    Refused { number: u64, why: Refusal },
+    /// A read failed.
+    ReadFault,
+    /// There was no memory.
+    NoMemory,
+}
+
+/// What came next.
+#[derive(Drop)]
+pub(crate) enum Came {
+    /// The line of this number says this.
+    Line { number: u64, line: LiveLine },
+    /// None is left.
+    End,
+    /// The line of this number is refused.
+    Refused { number: u64, why: Refusal },
+}
+
+/// What a line says, as what came next.
+fn came_of(read: LiveRead) -> Came
+    ensures { result ≡ came_of read }
+{
+    let (number, said) = read;
+    match said {
+        Ok(line) => Came::Line { number, line },
+        Err(why) => Came::Refused { number, why },
+    }
+}
+
+/// Reads up to the next line that says something.
+pub(crate) fn read_on<S: Source>(
+    alloc: Global,
+    source: &mut S,
+    reader: &mut LineReader,
+    scope: &Scope,
+) -> Result<Came, ReadError>
+    requires { EndStands (S.left source.old) reader.old }
+    ensures comes { (first : Option (List ℕ)) (began : ReaderState) (told : List ScriptLine) → Passes scope.now first (S.left source.old) began reader.old told
+        → Comes scope.now first (S.left source.new) (S.faults source.old) (S.faults source.new) began reader.new told result }
+    ensures stands { EndStands (S.left source.new) reader.new }
+    ensures later { S.faults source.old ≤ S.faults source.new }
+{
+    loop {
+        match reader.read_line(source) {
+            Err(error) => return Err(error),
+            Ok(Next::End) => return Ok(Came::End),
+            Ok(Next::Refused(why)) => {
+                let number = reader.next_number();
+                return Ok(Came::Refused { number, why });
+            }
+            Ok(Next::Line) => {}
+        }
+        match live_line(alloc, scope, &reader.line()) {
+            Err(_) => return Err(ReadError::NoMemory),
+            Ok(None) => {}
+            Ok(Some(read)) => return Ok(came_of(read)),
+        }
+    }
+}
+
+/// One line more, as a copy. An `Err` is want of memory, and changes nothing.
+fn add(given: &mut Vec<LiveLine>, line: &LiveLine) -> Result<(), AllocError>
+    ensures ok { OnOk result (given.new.items ≡ given.old.items ++ line.now ∷ []) }
+    ensures err { OnErr result (given.new.items ≡ given.old.items) }
+{
+    given.push(line.clone()?)?;
+    Ok(())
+}
+
+/// Keeps what came among the lines that were given: the answer to whoever asked for it, and why the script ended, if it did.
+pub(crate) fn keep(
+    given: &mut Vec<LiveLine>,
+    came: Result<Came, ReadError>,
+) -> (Result<Option<LiveLine>, NoLine>, Option<ScriptEnd>)
+    ensures keeps { Keeps came result.0 result.1 }
+    ensures given { given.new.items ≡ given.old.items ++ lines_in result.0 }
+{
+    match came {
+        Ok(Came::Line { number: _, line }) => match add(given, &line) {
+            Ok(()) => (Ok(Some(line)), None),
+            Err(_) => (Err(NoLine::NoMemory), Some(ScriptEnd::NoMemory)),
+        },
+        Ok(Came::End) => (Ok(None), Some(ScriptEnd::End)),
+        Ok(Came::Refused { number, why }) => (
+            Err(NoLine::Refused),
+            Some(ScriptEnd::Refused { number, why }),
+        ),
+        Err(ReadError::Failed) => (Err(NoLine::ReadFault), Some(ScriptEnd::ReadFault)),
+        Err(ReadError::NoMemory) => (Err(NoLine::NoMemory), Some(ScriptEnd::NoMemory)),
+    }
+}

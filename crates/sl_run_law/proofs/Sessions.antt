@@ -1,0 +1,13 @@
+pub mod MarksStay
+pub mod CallsAreMade
+pub mod EndedAreSilent
+pub mod CallOwners
+pub mod TraceGrowth
+pub mod JoiningsInTurn
+pub mod WritesAreCovered
+pub mod SessionNames
+pub mod FrontAnswersStay
+pub mod JoiningsAreOrdered
+pub mod FreedAreSilent
+pub mod UnansweredNotRemoved
+pub mod NamesAreApart

@@ -1,0 +1,5 @@
+use Rattle.sl_run_law.proofs.Sessions.JoiningsAreOrdered as its
+use Rattle.sl_run_law.proofs.laws.sessions.joinings_are_ordered.Goals as goal
+
+pub returns : goal.returns
+returns c = its.joinings_are_ordered

@@ -1,0 +1,4 @@
+pub mod CallFronts
+pub mod Ways
+pub mod ModesRest
+pub mod LeaseLaws

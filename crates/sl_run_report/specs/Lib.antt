@@ -1,3 +1,0 @@
-pub mod Asking
-pub mod Followed
-pub mod Promises

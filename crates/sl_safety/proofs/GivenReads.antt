@@ -1,0 +1,16 @@
+pub mod GivenNames
+pub mod ShownAtPlace
+pub mod LandingOrder
+pub mod NewestShown
+pub mod FirstIsUnwritten
+pub mod LookedSector
+pub mod ReadsInTraces
+pub mod FreshAtFirst
+pub mod BlocksNameHosts
+pub mod WholeLandings
+pub mod GivenByRead
+pub mod StandsSinceOk
+pub mod OtherHosts
+pub mod PlainReads
+pub mod PairedReads
+pub mod ReadsAreGiven

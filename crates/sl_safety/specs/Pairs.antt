@@ -1,0 +1,4 @@
+pub mod PairLogs
+pub mod PairLaws
+pub mod Reads
+pub mod PairsAreShown

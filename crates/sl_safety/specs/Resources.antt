@@ -1,0 +1,6 @@
+pub mod SampledReads
+pub mod SentCalls
+pub mod Histories
+pub mod HistoryLaws
+pub mod Orders
+pub mod Reads

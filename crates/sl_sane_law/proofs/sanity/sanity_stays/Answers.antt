@@ -1,5 +1,0 @@
-use Rattle.sl_sane_law.proofs.SaneEvents.{sanity_stays}
-use Rattle.sl_sane_law.proofs.sanity.sanity_stays.Goals as goal
-
-pub returns : goal.returns
-returns c = sanity_stays

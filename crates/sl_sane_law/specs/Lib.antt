@@ -1,2 +1,0 @@
-pub mod Sanity
-pub mod Inputs

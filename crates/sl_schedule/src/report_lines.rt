@@ -1,0 +1,190 @@
+//! The lines of a report that come from no host: a refusal, the last line, and a watchdog test's.
+//!
+//! Each function writes one line, whole and with its line feed, or after want of memory nothing: a report that is cut off must not
+//! end in half a line, since a reader would take it for another one.
+
+ghost use Rattle.sl_report.specs.Reports.{end_line, test_words};
+ghost use Rattle.sl_report.specs.ScheduleLines.{refusal_line, refusal_words};
+ghost use Rattle.sl_schedule.specs.ReportCounts.{count_text};
+ghost use Rattle.sl_text.specs.Forms.{as_bytes, spaced};
+ghost use Rattle.sl_trace.specs.EffectTexts.{machine_line};
+ghost use Rattle.std.specs.Prelude.{codes, decimal, length, take, [], OnErr, OnOk, ◌++◌, ◌∷◌, ◌≡◌};
+
+use sl_run::Refusal;
+use sl_text::number::push_number;
+use std::alloc::AllocError;
+use std::marker::Model;
+
+/// What the last line of a report counts.
+#[derive(Clone, Copy, Debug, PartialEq, Eq)]
+pub struct Counts {
+    /// The events that happened.
+    pub events: u64,
+    /// The calls that were submitted.
+    pub calls: u64,
+    /// The leases that were granted.
+    pub grants: u64,
+    /// The commands that were answered with a refusal.
+    pub refusals: u64,
+    /// The grants that left two hosts with what excludes each other.
+    pub conflicts: u64,
+}
+
+impl Model for Counts {
+    ghost use Rattle.std.specs.Prelude.{refl};
+    ghost use Rattle.sl_report.specs.Reports as reports;
+
+    ghost Value = { reports.Counts };
+
+    ghost view = { λ c. record { events = c.events; calls = c.calls; grants = c.grants; refusals = c.refusals; conflicts = c.conflicts } };
+
+    ghost inverse = { λ c. record { events = c.events; calls = c.calls; grants = c.grants; refusals = c.refusals; conflicts = c.conflicts } };
+
+    ghost inverse_ok = { λ c is. refl };
+}
+
+/// The words of a refusal, as a report has them.
+fn refusal_text(refusal: Refusal) -> &'static [u8]
+    ensures { result.now ≡ spaced (refusal_words refusal) }
+{
+    match refusal {
+        Refusal::Syntax => b"syntax",
+        Refusal::LimitIo => b"limit io",
+        Refusal::LimitFire => b"limit fire",
+        Refusal::LimitLand => b"limit land",
+        Refusal::LimitRho => b"limit rho",
+        Refusal::LimitGrace => b"limit grace",
+        Refusal::LimitMoment => b"limit moment",
+        Refusal::LimitBytes => b"limit bytes",
+        Refusal::LimitGeometry => b"limit geometry",
+        Refusal::LimitIds => b"limit ids",
+        Refusal::MissingMachine => b"missing machine",
+        Refusal::MissingDisk => b"missing disk",
+        Refusal::MissingLockspace => b"missing lockspace",
+        Refusal::MissingFree => b"missing free",
+        Refusal::MissingUp => b"missing up",
+        Refusal::MissingDown => b"missing down",
+        Refusal::MissingReset => b"missing reset",
+        Refusal::MissingDaemon => b"missing daemon",
+        Refusal::MissingLvm => b"missing lvm",
+        Refusal::MissingCall => b"missing call",
+        Refusal::MissingPlace => b"missing place",
+        Refusal::MissingSample => b"missing sample",
+        Refusal::MissingFlight => b"missing flight",
+        Refusal::MissingLanding => b"missing landing",
+        Refusal::MissingSpawn => b"missing spawn",
+        Refusal::PremiseName => b"premise name",
+        Refusal::PremiseTorn => b"premise torn",
+        Refusal::PremiseDrift => b"premise drift",
+        Refusal::PremiseWatchdog => b"premise watchdog",
+        Refusal::PremiseLanding => b"premise landing",
+    }
+}
+
+/// Cuts the text to what it was where writing failed.
+fn kept_or_cut(
+    out: &mut Vec<u8>,
+    len: usize,
+    written: Result<(), AllocError>,
+) -> Result<(), AllocError>
+    ensures same { result ≡ written }
+    ensures ok { OnOk result (out.new.items ≡ out.old.items) }
+    ensures err { OnErr result (out.new.items ≡ take len out.old.items) }
+{
+    if written.is_err() {
+        out.truncate(len);
+    }
+    written
+}
+
+/// Writes a refusal's line. What was there stays, also after an `Err`.
+fn append_refusal(out: &mut Vec<u8>, number: u64, text: &[u8]) -> Result<(), AllocError>
+    ensures ok { OnOk result (out.new.items
+        ≡ out.old.items ++ codes "line " ++ decimal number ++ 32 ∷ [] ++ text.now ++ 10 ∷ []) }
+    ensures kept { take (length out.old.items) out.new.items ≡ out.old.items }
+{
+    out.extend_from_slice(b"line ")?;
+    push_number(out, number)?;
+    out.push(b' ')?;
+    out.extend_from_slice(text)?;
+    out.push(b'\n')?;
+    Ok(())
+}
+
+/// Writes the line of a refusal of the line with this number. After an `Err`, which is want of memory, the text is as it was.
+pub fn push_refusal_line(out: &mut Vec<u8>, number: u64, refusal: Refusal) -> Result<(), AllocError>
+    ensures ok { OnOk result (out.new.items ≡ out.old.items ++ as_bytes (refusal_line number refusal ∷ [])) }
+    ensures err { OnErr result (out.new.items ≡ out.old.items) }
+{
+    let len = out.len();
+    let written = append_refusal(out, number, refusal_text(refusal));
+    kept_or_cut(out, len, written)
+}
+
+/// Writes a space, a word, a space and a number. What was there stays, also after an `Err`.
+fn append_count(out: &mut Vec<u8>, word: &[u8], count: u64) -> Result<(), AllocError>
+    ensures ok { OnOk result (out.new.items ≡ out.old.items ++ count_text word.now count) }
+    ensures kept { take (length out.old.items) out.new.items ≡ out.old.items }
+{
+    out.push(b' ')?;
+    out.extend_from_slice(word)?;
+    out.push(b' ')?;
+    push_number(out, count)
+}
+
+/// Writes the last line. What was there stays, also after an `Err`.
+fn append_end(out: &mut Vec<u8>, counts: &Counts) -> Result<(), AllocError>
+    ensures ok { OnOk result (out.new.items ≡ out.old.items ++ codes "end" ++ count_text (codes "events") counts.now.events
+        ++ count_text (codes "calls") counts.now.calls ++ count_text (codes "grants") counts.now.grants
+        ++ count_text (codes "refusals") counts.now.refusals ++ count_text (codes "conflicts") counts.now.conflicts ++ 10 ∷ []) }
+    ensures kept { take (length out.old.items) out.new.items ≡ out.old.items }
+{
+    out.extend_from_slice(b"end")?;
+    append_count(out, b"events", counts.events)?;
+    append_count(out, b"calls", counts.calls)?;
+    append_count(out, b"grants", counts.grants)?;
+    append_count(out, b"refusals", counts.refusals)?;
+    append_count(out, b"conflicts", counts.conflicts)?;
+    out.push(b'\n')?;
+    Ok(())
+}
+
+/// Writes the last line of a whole report. After an `Err`, which is want of memory, the text is as it was.
+#[tactic(auto, using(crate::proofs::WritingLaws::end_line_counted))]
+pub fn push_end_line(out: &mut Vec<u8>, counts: &Counts) -> Result<(), AllocError>
+    ensures ok { OnOk result (out.new.items ≡ out.old.items ++ as_bytes (end_line counts.now ∷ [])) }
+    ensures err { OnErr result (out.new.items ≡ out.old.items) }
+{
+    let len = out.len();
+    let written = append_end(out, counts);
+    kept_or_cut(out, len, written)
+}
+
+/// The words of a watchdog test.
+fn test_text(holds: bool) -> &'static [u8]
+    ensures { result.now ≡ spaced (test_words holds) }
+{
+    if holds { b"test ok" } else { b"test failed" }
+}
+
+/// Writes a line of a machine. What was there stays, also after an `Err`.
+fn append_machine_line(out: &mut Vec<u8>, machine: u32, text: &[u8]) -> Result<(), AllocError>
+    ensures ok { OnOk result (out.new.items ≡ out.old.items ++ decimal machine ++ 32 ∷ [] ++ text.now ++ 10 ∷ []) }
+    ensures kept { take (length out.old.items) out.new.items ≡ out.old.items }
+{
+    push_number(out, u64::from(machine))?;
+    out.push(b' ')?;
+    out.extend_from_slice(text)?;
+    out.push(b'\n')?;
+    Ok(())
+}
+
+/// Writes the line of a watchdog test on a machine: whether it holds. After an `Err`, which is want of memory, the text is as it was.
+pub fn push_test_line(out: &mut Vec<u8>, machine: u32, holds: bool) -> Result<(), AllocError>
+    ensures ok { OnOk result (out.new.items ≡ out.old.items ++ as_bytes (machine_line machine (test_words holds) ∷ [])) }
+    ensures err { OnErr result (out.new.items ≡ out.old.items) }
+{
+    let len = out.len();
+    let written = append_machine_line(out, machine, test_text(holds));
+    kept_or_cut(out, len, written)
+}

@@ -1,2 +1,0 @@
-pub mod HeaderBegins
-pub mod LineReads

@@ -1,2 +1,0 @@
-pub mod ImageLaws
-pub mod RunLaws

@@ -1,0 +1,120 @@
+-- What stands in the world after an event: the holdings of other machines, and those of the event's after its step.
+use Rattle.sl_safety.proofs.Resources.Calls.{numbered_at, numbered_in}
+use Rattle.sl_words.proofs.Lists.{any_found, any_of, contains_map, in_map}
+use Rattle.sl_run.specs.Conflicts.{Holding, conflicts, has_conflict, world_holdings}
+use Rattle.sl_run.specs.Events.{after_effects, after_step, happens, machine_of, may_happen, take_step}
+use Rattle.sl_run.specs.Worlds.{Machine, Stamp, World, machine_at, stamp_now}
+use Rattle.sl_run.specs.declared.event.Event.TheVariants.{Reset}
+use Rattle.sl_run.specs.declared.event.Event.{Event}
+use Rattle.sl_run_law.proofs.Course.OneMachineChanges.{changed_here}
+use Rattle.sl_run_law.proofs.Course.MachineTurns.{Alone, Began, Called, Came_up, Clocked, Crashed, Elsewhere, Stays, Stepped, Tested, Took, Turned, Went_down, becomes}
+use Rattle.sl_run_law.proofs.Front.RunsFromFronts.{number_place}
+use Rattle.sl_run_law.proofs.Front.JoinedLists.{contains_flat, in_flat}
+use Rattle.sl_run_law.proofs.MachineWalk.{index, number_within}
+use Rattle.sl_trace.specs.Traces.{held_after}
+use Rattle.sl_trace.specs.declared.effects.Effects.{Effects}
+use Rattle.sl_trace.specs.declared.effects.Grant.{Grant}
+use Rattle.sl_trace.specs.declared.input.Input.TheVariants.{Answer as Told, Exit, Line, Number, Spawned, Wake}
+use Rattle.sl_trace.specs.declared.input.Input.{Input}
+use Rattle.sl_words.proofs.CaseLaws.{is_false, true_is_false}
+use Rattle.std.proofs.Common.{ap, arith, inl, inr, refl, subst, sym, ◌∙◌}
+use Rattle.std.specs.List.{enumerate_from, list_any}
+use Rattle.std.specs.Prelude.{Contains, List, None, Option, Some, false, map, suc, true, [], ℕ, ◌+◌, ◌-◌, ◌∷◌, ◌≡◌, ◌⊎◌}
+
+-- A grant as a holding of machine m.
+abbrev pub held_on : ℕ → Grant → Holding
+held_on m g = record { machine = m; held = g }
+
+-- ---- a machine before the step
+
+-- The holdings stay, but at a reset.
+abbrev pub KeepsHoldings : Event → ℕ → Machine → Machine → Type 0
+KeepsHoldings e m a b = (b.holdings ≡ a.holdings) ⊎ (e ≡ Reset m)
+
+pub turned_holdings : (w : World) (e : Event) (m : ℕ) (a b : Machine) → Turned w e m a b → KeepsHoldings e m a b
+turned_holdings w e m a b (Stays is) = inl (ap (λ (x : Machine). x.holdings) is)
+turned_holdings w e m a b (Clocked n is) = inl (ap (λ (x : Machine). x.holdings) is)
+turned_holdings w e m a b (Called n f g flight keeps is) = inl (ap (λ (x : Machine). x.holdings) is)
+turned_holdings w e m a b (Tested s is) = inl (ap (λ (x : Machine). x.holdings) is)
+turned_holdings w e m a b (Began name event up used fresh is) = inl (ap (λ (x : Machine). x.holdings) is)
+turned_holdings w e m a b (Crashed event is) = inl (ap (λ (x : Machine). x.holdings) is)
+turned_holdings w e m a b (Went_down event up is) = inr event
+turned_holdings w e m a b (Came_up event down is) = inl (ap (λ (x : Machine). x.holdings) is)
+
+-- ---- the machine of the event, after its step
+
+step_holdings : (now : Stamp) (i : Input) (fx : Effects) (b : Machine) → (after_step now i fx b).holdings ≡ held_after fx b.holdings
+step_holdings now (Line text) fx b = refl
+step_holdings now (Number line) fx b = refl
+step_holdings now (Told n answer) fx b = refl
+step_holdings now Wake fx b = refl
+step_holdings now (Exit p) fx b = refl
+step_holdings now (Spawned p ok) fx b = refl
+
+-- It is there after the step, with these holdings.
+abbrev pub IsHeldAfter : World → ℕ → List Grant → Type 0
+IsHeldAfter v m gs = (c : Machine) × (machine_at v m ≡ Some c) × (c.holdings ≡ gs)
+
+pub taken : (m : ℕ) (o : Option Input) (fx : Effects) (v : World) (b : Machine) → machine_at v m ≡ Some b → IsHeldAfter (take_step m o fx v) m (held_after fx b.holdings)
+taken m None fx v b at = (after_effects (stamp_now v b) fx b, changed_here v m (λ a. after_effects (stamp_now v a) fx a) b at, refl)
+taken m (Some i) fx v b at =
+    (after_step (stamp_now v b) i fx b, changed_here v m (λ a. after_step (stamp_now v a) i fx a) b at, step_holdings (stamp_now v b) i fx b)
+
+-- ---- another machine
+
+stepped_elsewhere : (w : World) (e : Event) (fx : Effects) (n : ℕ) (b c : Machine) → (n ≡ machine_of e → ⊥) → Stepped w e fx n b c → c.holdings ≡ b.holdings
+stepped_elsewhere w e fx n b c other (Elsewhere is) = ap (λ (x : Machine). x.holdings) is
+stepped_elsewhere w e fx n b c other (Alone none here is) = absurd (other here)
+stepped_elsewhere w e fx n b c other (Took i has here is) = absurd (other here)
+
+kept_elsewhere : (e : Event) (n : ℕ) (a b : Machine) → (n ≡ machine_of e → ⊥) → KeepsHoldings e n a b → b.holdings ≡ a.holdings
+kept_elsewhere e n a b other (inl same) = same
+kept_elsewhere e n a b other (inr is) = absurd (other (ap machine_of (sym is)))
+
+pub elsewhere : (w : World) (e : Event) (fx : Effects) → may_happen w e ≡ true → (n : ℕ) (a : Machine) → machine_at w n ≡ Some a → (n ≡ machine_of e → ⊥)
+    → IsHeldAfter (happens w e (fx ∷ [])) n a.holdings
+elsewhere w e fx may n a at other =
+    let q = becomes w e fx may n a at in
+    let b : Machine = q.2.middle in
+    (q.0, q.1, stepped_elsewhere w e fx n b q.0 other q.2.stepped ∙ kept_elsewhere e n a b other (turned_holdings w e n a b q.2.turned))
+
+-- ---- all holdings
+
+-- A grant that a machine holds is one of the world's.
+pub in_world : (v : World) (m : ℕ) (c : Machine) (g : Grant) → machine_at v m ≡ Some c → Contains c.holdings g → Contains (world_holdings v) (held_on m g)
+in_world v m c g at has =
+    let there = numbered_at 1 v.machines (m - 1) c (index v m c at).1 in
+    let here : Contains (enumerate_from 1 v.machines) (m, c) = subst (λ n. Contains (enumerate_from 1 v.machines) (n, c)) (number_within v m c at).1 there in
+    in_flat (λ (p : ℕ × Machine). map (held_on p.0) p.1.holdings) (enumerate_from 1 v.machines) (m, c) (held_on m g) here (contains_map (held_on m) c.holdings g has)
+
+-- Who holds it.
+pub record HeldBy (w : World) (h : Holding) : Type 0 where
+  pub machine : Machine
+  pub at : machine_at w h.machine ≡ Some machine
+  pub has : Contains machine.holdings h.held
+
+pub of_world : (w : World) (h : Holding) → Contains (world_holdings w) h → HeldBy w h
+of_world w h there =
+    let x = contains_flat (λ (p : ℕ × Machine). map (held_on p.0) p.1.holdings) (enumerate_from 1 w.machines) h there in
+    let g = in_map (held_on x.0.0) x.0.1.holdings h x.2 in
+    let n = numbered_in 1 w.machines x.0 x.1 in
+    let same : suc n.0 ≡ 1 + n.0 = omega arith in
+    let number : suc n.0 ≡ h.machine = same ∙ sym n.1 ∙ ap (λ (y : Holding). y.machine) g.2 in
+    record {
+      machine = x.0.1;
+      at = subst (λ m. machine_at w m ≡ Some x.0.1) number (number_place w n.0 x.0.1 n.2);
+      has = subst (Contains x.0.1.holdings) (ap (λ (y : Holding). y.held) g.2) g.1;
+    }
+
+-- ---- conflicts among some of the holdings
+
+abbrev pub AreAmong : List Holding → List Holding → Type 0
+AreAmong few all = (h : Holding) → Contains few h → Contains all h
+
+pub none_among : (few all : List Holding) → AreAmong few all → has_conflict all ≡ false → has_conflict few ≡ false
+none_among few all among none =
+    is_false (has_conflict few) (λ h.
+    let a = any_found (λ a. list_any (conflicts a) few) few h in
+    let b = any_found (conflicts a.0) few a.2 in
+    let inner : list_any (conflicts a.0) all ≡ true = any_of (conflicts a.0) all b.0 b.2 (among b.0 b.1) in
+    true_is_false (sym (any_of (λ a. list_any (conflicts a) all) all a.0 inner (among a.0 a.1)) ∙ none))

@@ -1,0 +1,26 @@
+-- Runs made of daemons of one kind, and what is told of them.
+use Rattle.sl_world_state.specs.Daemons.{Stood}
+use Rattle.sl_report.specs.Headline.{SoundRun}
+use Rattle.sl_run.specs.HeldOverTime.{VolumesAreExclusive}
+use Rattle.sl_run.specs.Runs.{AfterEachFront, EachDaemon, Happening, IsRun}
+use Rattle.sl_run.specs.Safety.{DeltaInvariant, LeaseInvariant, world_at}
+use Rattle.sl_run.specs.Values.{ValuesAreLast}
+use Rattle.sl_run.specs.Worlds.{Program, world_with}
+use Rattle.sl_run.specs.declared.header.Header.{Header}
+use Rattle.sl_trace.specs.Traces.{Setting, Trace}
+use Rattle.std.specs.Prelude.{List}
+
+-- A run, in which at each moment a daemon of this kind stood for the trace of each daemon that had run till then. Nothing is said of what it
+-- does.
+pub record MadeRun {D : Type 0} (stands : D → Setting → Trace → Type 0) (p : Program) (h : Header) (xs : List Happening) : Type 0 where
+  pub is_run : IsRun (world_with p h) xs
+  pub stood : AfterEachFront xs (λ now. EachDaemon (Stood stands) (world_at p h now))
+
+-- A run as it is served: it is sound; after every event both invariants hold, that of ids and time and that of blocks and leaders; each value
+-- that a reader is given is the last that was answered ok before its answer, or a later one; and no logical volume is active under one number of
+-- its area on two machines, unless both share it.
+pub record ServedRun (p : Program) (h : Header) (xs : List Happening) : Type 0 where
+  pub sound : SoundRun p h xs
+  pub invariants : AfterEachFront xs (λ now. DeltaInvariant p h now × LeaseInvariant p h now)
+  pub values : ValuesAreLast (world_at p h xs)
+  pub volumes : AfterEachFront xs (λ now. VolumesAreExclusive (world_at p h now))

@@ -1,0 +1,3 @@
+pub mod EventsAskFew
+pub mod FollowedSchedules
+pub mod ReportLaws

@@ -1,4 +1,0 @@
-//! Time may always stand still.
-#![tactic(auto)]
-
-pub mod laws;

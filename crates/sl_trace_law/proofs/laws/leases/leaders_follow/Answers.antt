@@ -1,5 +1,0 @@
-use Rattle.sl_trace_law.proofs.Leases.EndLaws.{leaders_follow}
-use Rattle.sl_trace_law.proofs.laws.leases.leaders_follow.Goals as goal
-
-pub returns : goal.returns
-returns c = leaders_follow

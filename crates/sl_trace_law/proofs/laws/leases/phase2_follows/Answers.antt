@@ -1,5 +1,0 @@
-use Rattle.sl_trace_law.proofs.Leases.RestLaws.{phase2_follows}
-use Rattle.sl_trace_law.proofs.laws.leases.phase2_follows.Goals as goal
-
-pub returns : goal.returns
-returns c = phase2_follows

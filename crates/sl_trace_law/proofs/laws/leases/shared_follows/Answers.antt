@@ -1,5 +1,0 @@
-use Rattle.sl_trace_law.proofs.Leases.GrantLaws.{shared_follows}
-use Rattle.sl_trace_law.proofs.laws.leases.shared_follows.Goals as goal
-
-pub returns : goal.returns
-returns c = shared_follows

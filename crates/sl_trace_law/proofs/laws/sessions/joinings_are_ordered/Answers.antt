@@ -1,5 +1,0 @@
-use Rattle.sl_trace_law.proofs.Sessions.Ordering as its
-use Rattle.sl_trace_law.proofs.laws.sessions.joinings_are_ordered.Goals as goal
-
-pub returns : goal.returns
-returns c = its.joinings_are_ordered

@@ -1,4 +1,0 @@
-pub mod Fronts
-pub mod Ways
-pub mod Holding
-pub mod Promises

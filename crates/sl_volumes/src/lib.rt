@@ -1,4 +1,0 @@
-//! What lvmlockd's locks promise over every lawful run.
-#![tactic(auto)]
-
-pub mod laws;

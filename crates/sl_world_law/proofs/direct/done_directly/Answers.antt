@@ -1,5 +1,0 @@
-use Rattle.sl_world_law.proofs.DirectChanges.{done_directly}
-use Rattle.sl_world_law.proofs.direct.done_directly.Goals as goal
-
-pub returns : goal.returns
-returns c = done_directly

@@ -1,5 +1,0 @@
-use Rattle.sl_world_law.proofs.OwnEvents.{beginnings_stand}
-use Rattle.sl_world_law.proofs.standing.beginnings_stand.Goals as goal
-
-pub returns : goal.returns
-returns g c = beginnings_stand g.D.Daemon.commands g.D.Daemon.stands

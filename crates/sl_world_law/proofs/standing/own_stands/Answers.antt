@@ -1,5 +1,0 @@
-use Rattle.sl_world_law.proofs.OwnEvents.{own_stands}
-use Rattle.sl_world_law.proofs.standing.own_stands.Goals as goal
-
-pub returns : goal.returns
-returns g c = own_stands g.D.Daemon.commands g.D.Daemon.stands

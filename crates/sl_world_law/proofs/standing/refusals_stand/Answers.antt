@@ -1,5 +1,0 @@
-use Rattle.sl_world_law.proofs.EventsStand.{refusals_stand}
-use Rattle.sl_world_law.proofs.standing.refusals_stand.Goals as goal
-
-pub returns : goal.returns
-returns g c = refusals_stand g.D.Daemon.commands g.D.Daemon.stands

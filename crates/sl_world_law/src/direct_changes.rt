@@ -1,0 +1,18 @@
+//! What an event makes of what is kept, said directly.
+
+ghost use Rattle.sl_world_law.specs.DirectChanges.{DoneDirectly, QuietEvents, ResetsAreQuiet};
+
+/// Where nobody does anything, there is only what the event changes first.
+pub fn quiet_events()
+    ensures { QuietEvents }
+{}
+
+/// So at a reset.
+pub fn resets_are_quiet()
+    ensures { ResetsAreQuiet }
+{}
+
+/// A call that is done leaves its write, and goes.
+pub fn done_directly()
+    ensures { DoneDirectly }
+{}

@@ -1,0 +1,9 @@
+pub mod Daemons
+pub mod KeptWorld
+pub mod FirstKept
+pub mod ShownWorlds
+pub mod SaneWorlds
+pub mod Refusals
+pub mod Inputs
+pub mod Changes
+pub mod Steps
