@@ -8,7 +8,7 @@
 //!
 //! What words say is a definition of a page, `specs/CommandWords.antt`, in which the parser does not occur: options are taken from the
 //! left, in two words or in one, and nothing is given twice. The proof that the parser takes the same words and finds the same in them
-//! goes word by word through the parser's own definition (`proofs/Turns.antt` to `proofs/CommandLaws.antt`). `laws` says of the
+//! goes word by word through the parser's own definition (`proofs/ParserTurns.antt` to `proofs/CommandLaws.antt`). `laws` says of the
 //! definition that each action has one text (the usual sizes need no word), that its words may come in any order, and that no other words
 //! ask for it.
 #![tactic(auto)]

@@ -4,7 +4,7 @@
 //! and after a grace it is made to (sanlock(8)). `Recovery` says which signal is due at a reading; to send it is its caller's part.
 //!
 //! Contracts speak of the list of calls so far (`specs/Calls`): a recovery stands for every list of calls that led to it, and each call
-//! takes each such list to that list with this call. Which signal is due is a function of the list (`specs/Due`). `laws` says what that
+//! takes each such list to that list with this call. Which signal is due is a function of the list (`specs/DueSignals`). `laws` says what that
 //! function keeps to, so that nobody has to believe it:
 //!
 //! - No process is given a signal twice, and none is due before the beginning.

@@ -16,7 +16,7 @@
 //! | `finish` | 2 a member | 1 a member |
 //! | `calm` | none | none |
 //!
-//! What a pass asks of what is kept (`specs/Knowing`) are facts that hold of each host that stands for a step.
+//! What a pass asks of what is kept (`specs/PassPremises`) are facts that hold of each host that stands for a step.
 #![tactic(auto)]
 
 mod due_before_input;

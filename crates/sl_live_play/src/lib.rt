@@ -3,7 +3,7 @@
 //!
 //! Nothing is put out before the end: each printed line is a reply of a closed history, which was compared with what the threads of its machine
 //! did. Where records of a machine differ, the case is put out in place of all. The clause of `play_live` is `Owes` in
-//! specs/Living.antt: what is due by what was read, and how much of it was put out.
+//! specs/LiveOwed.antt: what is due by what was read, and how much of it was put out.
 //!
 //! A host runs in it as the daemon of a cell (`LiveHost`). A cell writes each step down twice, so before a step it asks its daemon how long a
 //! list in the step's replies may be. A host's step has one reply with a list at most: what its own line is answered at once. That is the

@@ -1,6 +1,6 @@
 //! A host's pair by what a run tells of it: which write landed when, what was answered, and what sessions were shown.
 //!
-//! There is no code here, and no world. A log (`specs/Logs`) tells by the steps of a run what happened to a pair, and `IsLog` is what is
+//! There is no code here, and no world. A log (`specs/PairLogs/Logs`) tells by the steps of a run what happened to a pair, and `IsLog` is what is
 //! asked of it: that one write follows another, that a session is over where the next of its host joins, and that each block has the turn
 //! above the one that its session was shown last. From a log come the states of a pair, two small steps for each step of the run, and so
 //! all that `sl_ballots` proves of runs. Whoever has a world owes `IsLog`, and nothing of states.

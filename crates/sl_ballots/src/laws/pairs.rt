@@ -1,10 +1,10 @@
 //! A host's block in a pair of sectors: why it is a register.
 //!
-//! There is no code here, and no world: each function is a law of the small steps of `specs/Steps`, which say what writers and the disk do
+//! There is no code here, and no world: each function is a law of the small steps of `specs/Pairs/Steps`, which say what writers and the disk do
 //! with the two sectors. A block is written alternately to the first and to the second with a rising turn. Reads are no steps: they sample
 //! a sector of the pair at a moment.
 //!
-//! The argument, in sentences (`specs/Invariant` has the first in full):
+//! The argument, in sentences (`specs/Pairs/Invariant` has the first in full):
 //!
 //! - The known turn stands, and beside it the turn before, the turn after, or a torn sector: what is written next goes there.
 //! - So a block that lands whole is the pair's from then on, and a torn write takes away none that was answered ok.

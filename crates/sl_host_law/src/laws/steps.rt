@@ -2,7 +2,7 @@
 //! three passes are made, and what comes last is done. A pass goes by the numbers of the members that it begins with, and finds each again
 //! when its turn comes, since a part may take members out.
 //!
-//! The law on the whole asks of an input what `MayTake` says (specs/Whole): that open calls are their members', that a conversion which an
+//! The law on the whole asks of an input what `MayTake` says (specs/Steps/StepsFollow): that open calls are their members', that a conversion which an
 //! answer ends may be, that a line's calls fit their lease. `sl_step_law` shows it of each input that may come.
 
 ghost use Rattle.sl_host_law.specs.Steps.Beginnings.{BeginningsFollow};
