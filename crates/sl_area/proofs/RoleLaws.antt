@@ -1,7 +1,7 @@
 -- No two sectors of a resource's area share a byte: all but the value's have numbers, and that of the value is the last.
 use Rattle.sl_area.proofs.SizeLaws.{HasRoom, has_room, pair_number, sectors_of_blocks, sectors_of_pairs}
-use Rattle.sl_area.specs.Layouts.{Sizes, layout_of}
-use Rattle.sl_area.specs.Places.{block_sectors}
+use Rattle.sl_area.specs.AreaSizes.{Sizes, layout_of}
+use Rattle.sl_area.specs.AreaLayout.{block_sectors}
 use Rattle.sl_area.specs.Roles.{IsRole, Role, RolesAreApart, block, leader, pair, place_at, request, role_offset, value}
 use Rattle.sl_area.specs.Sectors.{Apart}
 use Rattle.std.proofs.Common.{Bool, ap, arith, false, inl, inr, refl, subst, true, ℕ, ◌*◌, ◌+◌, ◌-◌, ◌<◌, ◌≡◌, ◌≢◌, ◌≤◌, ◌⊎◌}

@@ -1,6 +1,6 @@
 -- What every row of the table of sizes gives.
-use Rattle.sl_area.specs.Layouts.{IsGeometry, Sizes, layout_of, roomy}
-use Rattle.sl_area.specs.Places.{block_sectors}
+use Rattle.sl_area.specs.AreaSizes.{IsGeometry, Sizes, layout_of, roomy}
+use Rattle.sl_area.specs.AreaLayout.{block_sectors}
 use Rattle.sl_area.specs.Roles.{IsHost, IsRole, LiesIn, PlacesLieInArea, Role, block, leader, pair, place_at, request, role_offset, value}
 use Rattle.sl_words.proofs.WordLaws.{and_true, or_true}
 use Rattle.std.proofs.Common.{ap, arith, sym}

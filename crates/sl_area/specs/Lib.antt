@@ -1,5 +1,8 @@
-pub mod Layouts
-pub mod Places
+pub mod AreaSizes
+pub mod AreaLayout
+pub mod AreaRecords
+pub mod Pairs
+pub mod TornLeader
 pub mod Sectors
 pub mod Roles
 pub mod MemArea

@@ -1,6 +1,6 @@
 -- The sectors of an area by what stands in them, and how they lie.
-use Rattle.sl_area.specs.Layouts.{IsGeometry, Sizes, layout_of}
-use Rattle.sl_area.specs.Places.{block_offset, delta_offset, in_area, is_base, leader_offset, pair_offset, request_offset, value_offset}
+use Rattle.sl_area.specs.AreaSizes.{IsGeometry, Sizes, layout_of}
+use Rattle.sl_area.specs.AreaLayout.{block_offset, delta_offset, in_area, is_base, leader_offset, pair_offset, request_offset, value_offset}
 use Rattle.sl_area.specs.Sectors.{Apart, SectorPlace}
 use Rattle.std.specs.Prelude.{Bool, IsTrue, false, true, ℕ, ◌+◌, ◌≡◌, ◌≢◌, ◌≤◌}
 

@@ -2,9 +2,9 @@
 ghost use Rattle.std.specs.Io.KnownBytes.{Keeps};
 ghost use Rattle.std.specs.Prelude.{List, None, OnErr, OnOk, Option, length, ℕ, ◌*◌, ◌≡◌};
 ghost use Rattle.sl_area.specs.Sectors.{IsReadAt, KeepsOthers, Replaces};
-ghost use Rattle.sl_words.specs.Causes.{HasCause};
+ghost use Rattle.sl_io.specs.FaultCauses.{HasCause};
 
-use crate::place::Place;
+use crate::sector_place::Place;
 use sl_io::Failed;
 
 /// A disk that is read and written in whole sectors.

@@ -7,10 +7,10 @@
 //! is a seek, and the loops of `sl_io`.
 ghost use Rattle.std.specs.Prelude.{IsOk, IsTrue, ◌≡◌, ◌↔◌};
 ghost use Rattle.sl_area.specs.FileArea.{file_faults};
-ghost use Rattle.sl_words.specs.Causes.{HasCause};
+ghost use Rattle.sl_io.specs.FaultCauses.{HasCause};
 
 use crate::area::Area;
-use crate::place::Place;
+use crate::sector_place::Place;
 use sl_io::{Failed, FaultCount, ReadSource, WriteSink, fill, write_all};
 use std::fs::OpenOptions;
 use std::io::{Read, Seek, SeekFrom, Write};

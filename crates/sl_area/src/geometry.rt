@@ -1,11 +1,11 @@
 //! Sizes of a run, and where its records stand.
 ghost use Rattle.std.specs.Int.{is_in_range};
 ghost use Rattle.std.specs.Prelude.{IfOk, IfSome, IsOk, IsSome, IsTrue, true, ◌%◌, ◌&&◌, ◌*◌, ◌+◌, ◌<◌, ◌==◌, ◌^◌, ◌≡◌, ◌≤◌, ◌↔◌};
-ghost use Rattle.sl_area.specs.Layouts.{IsGeometry, is_geometry, layout_of, paired_sizes, roomy, sizes};
-ghost use Rattle.sl_area.specs.Places.{block_offset, block_place, block_sectors, delta_offset, is_base, leader_offset, pair_offset, request_offset, value_offset};
+ghost use Rattle.sl_area.specs.AreaSizes.{IsGeometry, is_geometry, layout_of, paired_sizes, roomy, sizes};
+ghost use Rattle.sl_area.specs.AreaLayout.{block_offset, block_place, block_sectors, delta_offset, is_base, leader_offset, pair_offset, request_offset, value_offset};
 ghost use Rattle.sl_area.specs.Roles.{place_at};
 
-use crate::place::Place;
+use crate::sector_place::Place;
 use sl_sector::is_first_turn;
 use std::marker::Model;
 use thiserror::Error;
@@ -21,7 +21,7 @@ pub struct Geometry {
 
 impl Model for Geometry {
     ghost use Rattle.std.specs.Prelude.{refl};
-    ghost use Rattle.sl_area.specs.Layouts.{Sizes, IsGeometry};
+    ghost use Rattle.sl_area.specs.AreaSizes.{Sizes, IsGeometry};
 
     ghost Value = { Sizes };
 

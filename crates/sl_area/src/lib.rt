@@ -10,10 +10,10 @@ pub mod file_area;
 pub mod geometry;
 pub mod laws;
 pub mod mem_area;
-pub mod place;
+pub mod sector_place;
 
 pub use area::Area;
 pub use file_area::FileArea;
 pub use geometry::{BadGeometry, Geometry};
 pub use mem_area::MemArea;
-pub use place::Place;
+pub use sector_place::Place;

@@ -6,10 +6,10 @@ ghost use Rattle.std.specs.Io.KnownBytes.{Keeps};
 ghost use Rattle.std.specs.Prelude.{IfOk, IsErr, IsTrue, OnErr, OnOk, Some, length, replicate, ◌*◌, ◌+◌, ◌≡◌, ◌≤◌, ◌↔◌};
 ghost use Rattle.sl_area.specs.MemArea.{after_read, after_write, fails_at};
 ghost use Rattle.sl_area.specs.Sectors.{IsReadAt, KeepsOthers, Replaces, put_at};
-ghost use Rattle.sl_words.specs.Causes.{HasCause};
+ghost use Rattle.sl_io.specs.FaultCauses.{HasCause};
 
 use crate::area::Area;
-use crate::place::Place;
+use crate::sector_place::Place;
 use sl_io::{Failed, PlannedFaults};
 use std::alloc::{AllocError, Global};
 use std::marker::Model;

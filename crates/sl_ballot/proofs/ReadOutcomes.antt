@@ -1,8 +1,8 @@
 -- What a read comes to: it stops the ballot, or each block lets it pass.
 use Rattle.sl_ballot.specs.Laws.{IsStoppedBy, Passes}
 use Rattle.sl_ballot.specs.Machine.{unless_stopped}
-use Rattle.sl_ballot.specs.declared.ballot.BallotStep.TheVariants.{Ahead, Rival}
-use Rattle.sl_ballot.specs.declared.ballot.BallotStep.{BallotStep}
+use Rattle.sl_ballot.specs.declared.whole_ballot.BallotStep.TheVariants.{Ahead, Rival}
+use Rattle.sl_ballot.specs.declared.whole_ballot.BallotStep.{BallotStep}
 use Rattle.sl_trace.specs.Ballots.{block_ahead, block_rival}
 use Rattle.sl_sector.specs.declared.sector.Block.{Block}
 use Rattle.sl_words.proofs.WordLaws.{and_true}

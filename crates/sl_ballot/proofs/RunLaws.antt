@@ -5,7 +5,7 @@ use Rattle.sl_ballot.specs.Laws.{IsEndWith, IsRunEnd, IsStoppedBy, Passes, RunsE
 use Rattle.sl_ballot.specs.Limits.{limited}
 use Rattle.sl_ballot.specs.Machine.{ends_with, phase2_step}
 use Rattle.sl_ballot.specs.Runs.{run_from}
-use Rattle.sl_ballot.specs.declared.ballot.BallotStep.{BallotStep}
+use Rattle.sl_ballot.specs.declared.whole_ballot.BallotStep.{BallotStep}
 use Rattle.sl_trace.specs.Ballots.{phase1_block, phase2_block, value_of, value_to_write}
 use Rattle.sl_sector.specs.declared.sector.Block.{Block}
 use Rattle.sl_sector.specs.declared.sector.Owner.{Owner}

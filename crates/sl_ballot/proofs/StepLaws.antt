@@ -2,10 +2,10 @@
 use Rattle.sl_ballot.proofs.ReadOutcomes.{stopped_or_on}
 use Rattle.sl_ballot.specs.Laws.{IsEndWith, IsStoppedBy, StepsFollowPhases}
 use Rattle.sl_ballot.specs.Machine.{BallotState, after_step, ends_with, is_reading, phase1_step, phase2_step, step_in}
-use Rattle.sl_ballot.specs.declared.ballot.BallotStep.TheVariants.{Ahead, Go, Lost, Rival, Won}
-use Rattle.sl_ballot.specs.declared.ballot.BallotStep.{BallotStep}
-use Rattle.sl_ballot.specs.declared.ballot.Phase.TheVariants.{Ended, Phase1Read, Phase1Write, Phase2Read, Phase2Write}
-use Rattle.sl_ballot.specs.declared.ballot.Phase.{Phase}
+use Rattle.sl_ballot.specs.declared.whole_ballot.BallotStep.TheVariants.{Ahead, Go, Lost, Rival, Won}
+use Rattle.sl_ballot.specs.declared.whole_ballot.BallotStep.{BallotStep}
+use Rattle.sl_ballot.specs.declared.whole_ballot.Phase.TheVariants.{Ended, Phase1Read, Phase1Write, Phase2Read, Phase2Write}
+use Rattle.sl_ballot.specs.declared.whole_ballot.Phase.{Phase}
 use Rattle.sl_trace.specs.Ballots.{phase2_block, same_owner, value_of}
 use Rattle.sl_sector.specs.declared.sector.Block.{Block}
 use Rattle.sl_sector.specs.declared.sector.Owner.{Owner}

@@ -1,7 +1,7 @@
 -- Stops, and an own block among the others.
 use Rattle.sl_ballot.specs.Laws.{StopsAreOne}
-use Rattle.sl_ballot.specs.declared.ballot.BallotStep.TheVariants.{Ahead, Rival}
-use Rattle.sl_ballot.specs.declared.ballot.BallotStep.{BallotStep}
+use Rattle.sl_ballot.specs.declared.whole_ballot.BallotStep.TheVariants.{Ahead, Rival}
+use Rattle.sl_ballot.specs.declared.whole_ballot.BallotStep.{BallotStep}
 use Rattle.sl_trace.specs.Ballots.{block_ahead, block_rival, greater_bal, in_instance, value_of}
 use Rattle.sl_trace.specs.declared.lease.Stop.TheVariants.{BlockAhead, BlockRival, BlockTorn}
 use Rattle.sl_trace.specs.declared.lease.Stop.{Stop}

@@ -1,9 +1,9 @@
 -- What the rules of a ballot come to, in words that don't follow its steps.
 use Rattle.sl_ballot.specs.Machine.{BallotState, after_step, is_reading, step_of, unless_stopped}
 use Rattle.sl_ballot.specs.Runs.{ballot_run}
-use Rattle.sl_ballot.specs.declared.ballot.BallotStep.TheVariants.{Ahead, Go, Lost, Rival, Won}
-use Rattle.sl_ballot.specs.declared.ballot.BallotStep.{BallotStep}
-use Rattle.sl_ballot.specs.declared.ballot.Phase.TheVariants.{Phase1Read, Phase2Read}
+use Rattle.sl_ballot.specs.declared.whole_ballot.BallotStep.TheVariants.{Ahead, Go, Lost, Rival, Won}
+use Rattle.sl_ballot.specs.declared.whole_ballot.BallotStep.{BallotStep}
+use Rattle.sl_ballot.specs.declared.whole_ballot.Phase.TheVariants.{Phase1Read, Phase2Read}
 use Rattle.sl_trace.specs.Ballots.{moded_block, phase1_block, phase2_block, stop_among, value_of, value_to_write}
 use Rattle.sl_trace.specs.declared.lease.Stop.TheVariants.{BlockAhead, BlockRival, BlockTorn}
 use Rattle.sl_sector.specs.Records.{Fits, IsBlock}

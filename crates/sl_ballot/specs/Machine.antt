@@ -1,9 +1,9 @@
 -- A ballot from its begin to its end, on the blocks that its two reads gave.
 use Rattle.sl_ballot.specs.Limits.{limited}
-use Rattle.sl_ballot.specs.declared.ballot.BallotStep.TheVariants.{Ahead, Go, Lost, Rival, Won}
-use Rattle.sl_ballot.specs.declared.ballot.BallotStep.{BallotStep}
-use Rattle.sl_ballot.specs.declared.ballot.Phase.TheVariants.{Ended, Phase1Read, Phase1Write, Phase2Read, Phase2Write}
-use Rattle.sl_ballot.specs.declared.ballot.Phase.{Phase}
+use Rattle.sl_ballot.specs.declared.whole_ballot.BallotStep.TheVariants.{Ahead, Go, Lost, Rival, Won}
+use Rattle.sl_ballot.specs.declared.whole_ballot.BallotStep.{BallotStep}
+use Rattle.sl_ballot.specs.declared.whole_ballot.Phase.TheVariants.{Ended, Phase1Read, Phase1Write, Phase2Read, Phase2Write}
+use Rattle.sl_ballot.specs.declared.whole_ballot.Phase.{Phase}
 use Rattle.sl_ballot.specs.declared.number.Limit.{Limit}
 use Rattle.sl_trace.specs.Ballots.{block_ahead, block_rival, phase2_block, same_owner, value_of}
 use Rattle.sl_sector.specs.declared.sector.Block.{Block}

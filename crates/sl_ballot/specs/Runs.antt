@@ -1,7 +1,7 @@
 -- A whole ballot in one place: begin, write, read, write, read.
 use Rattle.sl_ballot.specs.Machine.{phase2_step, unless_stopped}
 use Rattle.sl_ballot.specs.Limits.{limited}
-use Rattle.sl_ballot.specs.declared.ballot.BallotStep.{BallotStep}
+use Rattle.sl_ballot.specs.declared.whole_ballot.BallotStep.{BallotStep}
 use Rattle.sl_ballot.specs.declared.number.Limit.{Limit}
 use Rattle.sl_trace.specs.Ballots.{phase1_block, phase2_block}
 use Rattle.sl_sector.specs.declared.sector.Block.{Block}

@@ -11,15 +11,14 @@
 //! are all whole, and on a read of all hosts' blocks, in which a torn one is absent.
 #![tactic(auto)]
 
-mod ballot;
 mod blocks;
 mod instance;
 pub mod laws;
 mod number;
 mod phases;
 mod reads;
+mod whole_ballot;
 
-pub use ballot::{Ballot, BallotStep, Phase, ballot_run};
 pub use blocks::{same_owner, stop_among, value_of, value_to_write};
 pub use instance::{instance_of, owner_of};
 pub use number::{Limit, next_mbal};
@@ -27,3 +26,4 @@ pub use phases::{
     moded_block, phase1_after_read, phase1_block, phase2_after_read, phase2_block, proposing,
 };
 pub use reads::{stop_of, value_after_read};
+pub use whole_ballot::{Ballot, BallotStep, Phase, ballot_run};

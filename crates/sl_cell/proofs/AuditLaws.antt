@@ -11,7 +11,7 @@ use Rattle.sl_cell.specs.declared.seat.Made.{Made}
 use Rattle.sl_words.proofs.Lists.{got_index, there_is}
 use Rattle.sl_words.proofs.Places.{count_push, position_none}
 use Rattle.sl_words.proofs.CaseLaws.{false_is_true}
-use Rattle.sl_trace.specs.Connections.{Connection, after_move, connections}
+use Rattle.sl_trace.specs.WatchdogConnections.{Connection, after_move, connections}
 use Rattle.sl_trace.specs.Traces.{Setting}
 use Rattle.sl_trace.specs.declared.effects.Call.{Call}
 use Rattle.sl_trace.specs.declared.effects.Entry.{Entry}

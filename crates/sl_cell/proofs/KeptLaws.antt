@@ -12,7 +12,7 @@ use Rattle.sl_world_law.proofs.NextNumbers.{calls_next, jobs_next}
 use Rattle.sl_run.specs.Lawful.{IsGiven, IsSetting}
 use Rattle.sl_run.specs.declared.header.Header.{Header}
 use Rattle.sl_text.specs.Forms.{Form}
-use Rattle.sl_trace.specs.Connections.{Connection, after_move, connections}
+use Rattle.sl_trace.specs.WatchdogConnections.{Connection, after_move, connections}
 use Rattle.sl_trace.specs.Traces.{IsTrace, Setting, Trace, is_expected, last_reading, next_call, next_job, takes_number}
 use Rattle.sl_trace.specs.declared.command.Command.{Command}
 use Rattle.sl_trace.specs.declared.effects.Call.{Call}

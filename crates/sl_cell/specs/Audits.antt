@@ -8,7 +8,7 @@ use Rattle.sl_cell.specs.declared.seat.Made.TheVariants.{Applied, Tested, Took, 
 use Rattle.sl_cell.specs.declared.seat.Made.{Made}
 use Rattle.sl_cell.specs.declared.seat.Part.TheVariants.{Delta, Resource}
 use Rattle.sl_cell.specs.declared.seat.Part.{Part}
-use Rattle.sl_trace.specs.Connections.{Connection, connections, test_holds}
+use Rattle.sl_trace.specs.WatchdogConnections.{Connection, connections, test_holds}
 use Rattle.sl_trace.specs.Traces.{Setting, Trace, is_expected}
 use Rattle.sl_trace.specs.declared.effects.Call.{Call}
 use Rattle.sl_trace.specs.declared.effects.Entry.{Entry}

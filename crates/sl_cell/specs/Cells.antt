@@ -8,7 +8,7 @@ use Rattle.sl_cell.specs.declared.seat.Part.TheVariants.{Delta, Resource}
 use Rattle.sl_cell.specs.declared.seat.Part.{Part}
 use Rattle.sl_world_state.specs.Daemons.{entry_of, spare_numbers}
 use Rattle.sl_world_state.specs.declared.daemon.Most.{Most}
-use Rattle.sl_trace.specs.Connections.{connections, test_holds}
+use Rattle.sl_trace.specs.WatchdogConnections.{connections, test_holds}
 use Rattle.sl_trace.specs.Traces.{IsTrace, Setting, Trace, is_expected, last_reading, next_call, next_job}
 use Rattle.sl_trace.specs.declared.effects.Call.{Call}
 use Rattle.sl_trace.specs.declared.effects.Effects.{Effects}

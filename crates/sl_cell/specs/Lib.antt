@@ -1,5 +1,5 @@
 pub mod Copies
-pub mod Rooms
+pub mod CopyRoom
 pub mod Seats
 pub mod Cells
 pub mod Stations

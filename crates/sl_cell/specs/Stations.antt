@@ -1,5 +1,5 @@
 -- A setting that is there, whatever it is.
-use Rattle.sl_area.specs.Layouts.{layout_of}
+use Rattle.sl_area.specs.AreaSizes.{layout_of}
 use Rattle.sl_trace.specs.Traces.{Setting}
 use Rattle.std.specs.Prelude.{Err, false, []}
 

@@ -9,7 +9,7 @@ ghost use Rattle.sl_cell.specs.DifferenceCases.{FaultIn, IsCase, IsFault, Stops,
 ghost use Rattle.sl_cell.specs.Seats.{SeatState};
 ghost use Rattle.sl_cell.specs.declared.audit.Differ.{Differ as DifferOf};
 ghost use Rattle.sl_cell.specs.declared.seat.Made.{Made as MadeOf};
-ghost use Rattle.sl_trace.specs.Connections.{after_move};
+ghost use Rattle.sl_trace.specs.WatchdogConnections.{after_move};
 ghost use Rattle.sl_trace.specs.Traces.{Setting};
 ghost use Rattle.std.specs.Prelude.{All, Contains, IfErr, IfOk, IsTrue, List, None, OnOk, fold, length, [], ◌++◌, ◌<◌, ◌∷◌, ◌↔◌, ◌≡◌, ◌≤◌, ℕ};
 

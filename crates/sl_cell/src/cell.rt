@@ -7,7 +7,7 @@ ghost use Rattle.sl_cell.specs.declared.audit.Differ.{Differ as DifferOf};
 ghost use Rattle.sl_world_state.specs.Daemons.{begun_with};
 ghost use Rattle.sl_run.specs.Lawful.{IsSetting};
 ghost use Rattle.sl_run.specs.Headers.{IsHeader};
-ghost use Rattle.sl_trace.specs.Connections.{given_connection};
+ghost use Rattle.sl_trace.specs.WatchdogConnections.{given_connection};
 ghost use Rattle.sl_trace.specs.Traces.{IsTrace};
 ghost use Rattle.sl_words.specs.Bounds.{moments};
 ghost use Rattle.std.specs.Prelude.{IfErr, IfOk, None, map, reverse, [], ◌<◌, ◌≡◌};

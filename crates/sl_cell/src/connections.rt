@@ -1,6 +1,6 @@
 //! The connections of a machine to its watchdog daemon.
 
-ghost use Rattle.sl_trace.specs.Connections.{after_move, given_connection, renewed_connection, test_holds};
+ghost use Rattle.sl_trace.specs.WatchdogConnections.{after_move, given_connection, renewed_connection, test_holds};
 ghost use Rattle.sl_words.specs.Bounds.{moments};
 ghost use Rattle.std.specs.List.{list_any};
 ghost use Rattle.std.specs.Prelude.{All, IfOk, bytes_eq, filter, fold, length, map, nat_le, not, ◌+◌, ◌<◌, ◌≡◌, ◌≤◌};
@@ -20,7 +20,7 @@ pub struct Connection {
 }
 
 impl Model for Connection {
-    ghost use Rattle.sl_trace.specs.Connections.{Connection as ConnectionState};
+    ghost use Rattle.sl_trace.specs.WatchdogConnections.{Connection as ConnectionState};
     ghost use Rattle.std.specs.Prelude.{refl};
 
     ghost Value = { ConnectionState };

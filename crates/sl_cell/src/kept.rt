@@ -88,7 +88,7 @@ pub struct Kept<D: Teller, J: Station> {
 
 impl<D: Teller, J: Station> Model for Kept<D, J> {
     ghost use Rattle.sl_cell.specs.Cells.{IsLeft, KeptState};
-    ghost use Rattle.sl_trace.specs.Connections.{connections as connections_after};
+    ghost use Rattle.sl_trace.specs.WatchdogConnections.{connections as connections_after};
     ghost use Rattle.std.specs.Prelude.{reverse, ◌≡◌};
 
     ghost Value = { KeptState };

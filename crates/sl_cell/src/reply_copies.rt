@@ -1,7 +1,7 @@
 //! Copies of replies that can't fail.
 
 ghost use Rattle.sl_cell.specs.Copies.{AreShort, lists_in, sessions_in, states_in};
-ghost use Rattle.sl_cell.specs.Rooms.{HasRoom};
+ghost use Rattle.sl_cell.specs.CopyRoom.{HasRoom};
 ghost use Rattle.std.specs.Prelude.{length, vec_capacity, vec_len, OnOk, [], ℕ, ◌<◌, ◌≡◌, ◌≤◌};
 
 use crate::copies::Blank;

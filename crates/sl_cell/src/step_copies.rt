@@ -1,7 +1,7 @@
 //! Copies of what a step did, and of what came to it.
 
 ghost use Rattle.sl_cell.specs.Copies.{AreWithin};
-ghost use Rattle.sl_cell.specs.Rooms.{Holds};
+ghost use Rattle.sl_cell.specs.CopyRoom.{Holds};
 ghost use Rattle.sl_world_state.specs.declared.daemon.Most.{Most};
 ghost use Rattle.std.specs.Prelude.{length, IfOk, OnOk, ℕ, ◌≡◌, ◌≤◌};
 

@@ -1,5 +1,5 @@
 -- What is given for an action: the action that is read has it, and it is read as the action.
-use Rattle.sl_area.specs.Layouts.{Sizes, layout_of}
+use Rattle.sl_area.specs.AreaSizes.{Sizes, layout_of}
 use Rattle.sl_cli.proofs.ArgumentTexts.{hosts_read, hosts_written, lockspace_read, lockspace_written, stretch_read, stretch_written}
 use Rattle.sl_cli.proofs.SizeWords.{IsOfRow, IsSaid, few_hosts, geometry_for, row_geometry, row_of, row_written_for, said_read, said_written, same_says}
 use Rattle.sl_cli.specs.Actions.{Given, action_in, area_in, dump_in, init_in, named_in, other_in, read_leader_in, resource_in, upgrade_in, without_format}
@@ -10,7 +10,7 @@ use Rattle.sl_direct.specs.Actions.{IsAction, IsStretch}
 use Rattle.sl_direct.specs.declared.action.Action.TheVariants.{Dump, InitLockspace, InitResource, ReadLeader, Upgrade}
 use Rattle.sl_direct.specs.declared.action.Action.{Action}
 use Rattle.sl_text.specs.Numbers.{number_of}
-use Rattle.sl_trace.specs.Commands.{IsResourceArg, is_resource_word, lockspace_word, moded_word, resource_of_word}
+use Rattle.sl_trace.specs.CommandForms.{IsResourceArg, is_resource_word, lockspace_word, moded_word, resource_of_word}
 use Rattle.sl_trace.specs.declared.command.LockspaceArg.{LockspaceArg}
 use Rattle.sl_trace.specs.declared.command.ResourceArg.{ResourceArg}
 use Rattle.sl_words.proofs.CaseLaws.{none_some}

@@ -1,9 +1,9 @@
 -- Words of several parts: what is read of the parts one by one is what the whole word stands for.
-use Rattle.sl_area.specs.Places.{is_base}
-use Rattle.sl_area.specs.Layouts.{Sizes, layout_of}
+use Rattle.sl_area.specs.AreaLayout.{is_base}
+use Rattle.sl_area.specs.AreaSizes.{Sizes, layout_of}
 use Rattle.sl_cli.specs.Arguments.{is_new_lockspace, is_stretch, is_stretch_size, is_stretch_start, new_lockspace, paired_said, stretch_of}
 use Rattle.sl_cli.specs.CommandWords.{is_format}
-use Rattle.sl_cli.specs.Readings.{lockspace_read, no_host, number_part, stretch_read, text_part, three_read}
+use Rattle.sl_cli.specs.PartReadings.{lockspace_read, no_host, number_part, stretch_read, text_part, three_read}
 use Rattle.sl_text.proofs.PartLaws.{four_read-is}
 use Rattle.sl_text.specs.Forms.{word_at}
 use Rattle.sl_text.specs.Names.{is_name, is_path}

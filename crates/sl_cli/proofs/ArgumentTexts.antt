@@ -1,6 +1,6 @@
 -- Words of several parts and what they stand for: each has one word.
-use Rattle.sl_area.specs.Places.{is_base}
-use Rattle.sl_area.specs.Layouts.{Sizes, layout_of}
+use Rattle.sl_area.specs.AreaLayout.{is_base}
+use Rattle.sl_area.specs.AreaSizes.{Sizes, layout_of}
 use Rattle.sl_cli.specs.Arguments.{Stretch, is_host_count, is_new_lockspace, is_stretch, is_stretch_size, is_stretch_start, new_lockspace, room_for, stretch_of}
 use Rattle.sl_cli.specs.Spellings.{IsNewLockspace, IsStretchArg, stretch_word}
 use Rattle.sl_command.proofs.PartTexts.{base_small, number_read, number_written, range_small}
@@ -10,7 +10,7 @@ use Rattle.sl_text.proofs.PieceLaws.{join_with_byte-pieces, pieces-join_with_byt
 use Rattle.sl_text.specs.Forms.{coloned, is_free_of, pieces, word_at}
 use Rattle.sl_text.specs.Names.{is_name}
 use Rattle.sl_text.specs.Numbers.{number_of}
-use Rattle.sl_trace.specs.Commands.{lockspace_word}
+use Rattle.sl_trace.specs.CommandForms.{lockspace_word}
 use Rattle.sl_trace.specs.declared.command.LockspaceArg.{LockspaceArg}
 use Rattle.sl_words.proofs.WordLaws.{and_true}
 use Rattle.std.proofs.Common.{Bool, List, [], ap, arith, eqb, false, length, ltb, refl, sym, true, ℕ, ◌%◌, ◌/◌, ◌<◌, ◌^◌, ◌≡◌, ◌≤◌, ◌∙◌, ◌∷◌}

@@ -8,7 +8,7 @@ use Rattle.clap.specs.Walk.{Row, Rule, Text, at_row, default_rows, first_of, has
 use Rattle.clap.specs.declared.builder.action.ArgAction.TheVariants.{Set}
 use Rattle.clap.specs.declared.builder.value_parser.ValueParser.TheVariants as vp
 use Rattle.clap.specs.declared.parser.matches.ValueSource.TheVariants.{CommandLine}
-use Rattle.sl_cli.specs.CommandLine.{command_line}
+use Rattle.sl_cli.specs.ParserShape.{command_line}
 use Rattle.sl_cli.specs.CommandWords.{Use, is_given, use_of, value_of}
 use Rattle.std.proofs.Common.{Bool, List, None, Option, Some, [], ap, cond, false, length, map, refl, sym, true, ℕ, ◌++◌, ◌||◌, ◌≡◌, ◌∙◌, ◌∷◌, append-nil, arith, suc}
 use Rattle.std.proofs.lemmas.Bool.{eqb-true, or_parts, or_right}

@@ -14,9 +14,9 @@ use Rattle.sl_cli.proofs.LiveLaws.{live_read}
 use Rattle.sl_cli.proofs.ReaderSteps.{AreTexts}
 use Rattle.sl_cli.proofs.ParserTurns.{Fails, fails_with, first_fails}
 use Rattle.sl_cli.specs.Actions.{action_in}
-use Rattle.sl_cli.specs.CommandLine.{command_line}
+use Rattle.sl_cli.specs.ParserShape.{command_line}
 use Rattle.sl_cli.specs.CommandWords.{Use, command_in, given_by, nothing_taken, uses_from}
-use Rattle.sl_cli.specs.Parses.{IsRefused, TakenAs, given_in, met_in, said_by}
+use Rattle.sl_cli.specs.ParserMeets.{IsRefused, TakenAs, given_in, met_in, said_by}
 use Rattle.sl_cli.specs.declared.parsed_command.Met.{Met}
 use Rattle.sl_cli.specs.declared.command_words.Words.TheVariants.{Direct, Live, Replay}
 use Rattle.sl_words.specs.Words.{choose}

@@ -10,7 +10,7 @@ use Rattle.sl_cli.proofs.ReaderSteps.{AreTexts, At, Step, end_fails, place_in, r
 use Rattle.sl_cli.proofs.ParserTurns as turns
 use Rattle.sl_cli.proofs.ParserTurns.{Fails, Pending, after, turn, unsettled, values_of, walk_at}
 use Rattle.sl_cli.specs.CommandWords.{Taken, Use, given_by, next_taken, nothing_taken, uses_from}
-use Rattle.sl_cli.specs.Parses.{given_in}
+use Rattle.sl_cli.specs.ParserMeets.{given_in}
 use Rattle.std.proofs.Common.{Bool, List, None, Option, Some, [], ap, false, inl, inr, refl, subst, sym, ℕ, ◌≡◌, ◌∙◌, ◌∷◌}
 use Rattle.std.specs.List.{fold}
 use Rattle.std.specs.Prelude.{codes, option_and_then}

@@ -10,7 +10,7 @@ use Rattle.sl_cli.proofs.Letters.{behind, first_char}
 use Rattle.sl_cli.proofs.ReaderSteps.{AreTexts, word_cases}
 use Rattle.sl_cli.proofs.ParserTurns.{Fails, Pending, Plain, fails_with, first_fails, is_short, no_dashes, no_long, walk_at}
 use Rattle.sl_cli.specs.CommandWords.{is_event_count, is_machine_count, is_seed, seeded_in, seeding_in, use_of, without_dashes}
-use Rattle.sl_cli.specs.Parses.{seeding_of}
+use Rattle.sl_cli.specs.ParserMeets.{seeding_of}
 use Rattle.sl_cli.specs.declared.command_words.Words.{Words}
 use Rattle.std.proofs.Common.{Bool, List, None, Option, Some, [], ap, eqb, false, inl, inr, refl, subst, sym, true, ℕ, ◌&&◌, ◌≡◌, ◌∙◌, ◌∷◌, ◌⊎◌}
 use Rattle.std.proofs.lemmas.Bool.{cases_Bool, eqb-true}

@@ -6,7 +6,7 @@ use Rattle.clap.specs.Kinds.{HasKind, IsAmong, Kinds}
 use Rattle.clap.specs.Values.{kind_of}
 use Rattle.clap.specs.declared.error.Error.{Error}
 use Rattle.clap.specs.declared.error.kind.ErrorKind.TheVariants as kind
-use Rattle.sl_cli.specs.CommandLine.{command_line}
+use Rattle.sl_cli.specs.ParserShape.{command_line}
 use Rattle.sl_cli.specs.declared.command_words.WordsError.{WordsError}
 use Rattle.std.proofs.Common.{Err, Result, [], ap, inl, inr, refl, subst, true, ◌≡◌, ◌∙◌}
 

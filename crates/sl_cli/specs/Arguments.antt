@@ -1,6 +1,6 @@
 -- Words that stand for something: sizes, the area that a new lockspace or a resource gets, its hosts, and a stretch of a file.
-use Rattle.sl_area.specs.Layouts.{Sizes, layout_of, roomy, sizes}
-use Rattle.sl_area.specs.Places.{is_base}
+use Rattle.sl_area.specs.AreaSizes.{Sizes, layout_of, roomy, sizes}
+use Rattle.sl_area.specs.AreaLayout.{is_base}
 use Rattle.sl_text.specs.Forms.{exactly, pieces, word_at}
 use Rattle.sl_text.specs.Names.{is_name, is_path}
 use Rattle.sl_text.specs.Numbers.{is_number_that, number_of}

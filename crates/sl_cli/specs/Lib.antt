@@ -1,7 +1,7 @@
 pub mod Actions
 pub mod Arguments
-pub mod CommandLine
+pub mod ParserShape
 pub mod CommandWords
-pub mod Parses
-pub mod Readings
+pub mod ParserMeets
+pub mod PartReadings
 pub mod Spellings

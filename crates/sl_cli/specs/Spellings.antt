@@ -1,5 +1,5 @@
 -- The words of an action: each has one spelling, and options may come in any order.
-use Rattle.sl_area.specs.Layouts.{IsGeometry, Sizes, geometries, layout_of}
+use Rattle.sl_area.specs.AreaSizes.{IsGeometry, Sizes, geometries, layout_of}
 use Rattle.sl_cli.specs.Actions.{Given, action_in}
 use Rattle.sl_cli.specs.Arguments.{is_stretch_size, is_stretch_start}
 use Rattle.sl_cli.specs.CommandWords.{Use, given_by, is_given, is_plain, nothing_taken, options, said_in, uses_from}
@@ -8,10 +8,10 @@ use Rattle.sl_cli.specs.declared.command_words.Words.{Words}
 use Rattle.sl_direct.specs.Actions.{IsAction}
 use Rattle.sl_direct.specs.declared.action.Action.TheVariants.{Dump, InitLockspace, InitResource, ReadLeader, Upgrade}
 use Rattle.sl_direct.specs.declared.action.Action.{Action}
-use Rattle.sl_area.specs.Places.{is_base}
+use Rattle.sl_area.specs.AreaLayout.{is_base}
 use Rattle.sl_text.specs.Forms.{coloned}
 use Rattle.sl_text.specs.Names.{is_name, is_path}
-use Rattle.sl_trace.specs.Commands.{IsResourceArg, lockspace_word, moded_word}
+use Rattle.sl_trace.specs.CommandForms.{IsResourceArg, lockspace_word, moded_word}
 use Rattle.sl_trace.specs.declared.command.LockspaceArg.{LockspaceArg}
 use Rattle.sl_words.specs.Words.{choose}
 use Rattle.std.specs.List.{list_all, list_any}

@@ -1,11 +1,11 @@
 //! Words that stand for something: sizes, the area that a new lockspace or a resource gets, its hosts, and a stretch of a file.
 
-ghost use Rattle.sl_area.specs.Layouts.{layout_of};
+ghost use Rattle.sl_area.specs.AreaSizes.{layout_of};
 ghost use Rattle.sl_cli.specs.Arguments.{for_hosts, is_host_count, is_new_lockspace, is_stretch, is_stretch_size, is_stretch_start, new_lockspace, paired_said, room_for, sizes_of, sizes_said, stretch_of};
-ghost use Rattle.sl_cli.specs.Readings.{lockspace_read, stretch_read};
+ghost use Rattle.sl_cli.specs.PartReadings.{lockspace_read, stretch_read};
 ghost use Rattle.sl_text.specs.Numbers.{is_number_that, number_of};
 ghost use Rattle.sl_text.specs.Walks.{left_after, next_as};
-ghost use Rattle.sl_trace.specs.Commands as commands;
+ghost use Rattle.sl_trace.specs.CommandForms as commands;
 ghost use Rattle.sl_words.specs.Words.{choose};
 ghost use Rattle.std.specs.Int.{is_in_range};
 ghost use Rattle.std.specs.Prelude.{Some, option_map, true, ◌≡◌};

@@ -3,15 +3,15 @@
 ghost use Rattle.clap.specs.Values.{kind_of};
 ghost use Rattle.sl_cli.specs.Actions.{action_in};
 ghost use Rattle.sl_cli.specs.CommandWords.{command_in, is_only, said_in};
-ghost use Rattle.sl_cli.specs.Parses.{IsRefused, TakenAs, said_by};
+ghost use Rattle.sl_cli.specs.ParserMeets.{IsRefused, TakenAs, said_by};
 ghost use Rattle.sl_cli.specs.Spellings.{CanBeDone};
 ghost use Rattle.sl_cli.specs.declared.command_words.Words.TheVariants.{Direct};
 ghost use Rattle.sl_cli.specs.declared.command_words.WordsError.TheVariants.{Bad, NoMemory};
 ghost use Rattle.std.specs.Prelude.{Err, IfOk, IfSome, None, Some, map, option_and_then, option_map, string_bytes, ◌≡◌};
 
-use crate::command_line::command_line;
 use crate::folder::Folder;
 use crate::parsed_command::{Given, Met, met_in};
+use crate::parser_shape::command_line;
 use clap::Error;
 use clap::error::ErrorKind;
 use sl_direct::Action;

@@ -1,7 +1,7 @@
 //! The words of the command line.
 //!
 //! A line's words say `replay`, `gen` with its numbers, `live` with a folder, or `direct` with an action and its options, or ask for the help
-//! or the version; all other words say nothing. `command_line` tells the argument parser, the kit's `clap`, which commands and options there are. `parsed_command` takes what the
+//! or the version; all other words say nothing. `parser_shape` tells the argument parser, the kit's `clap`, which commands and options there are. `parsed_command` takes what the
 //! parser found for each option and makes the action of it; `arguments` reads the words that stand for something: sizes, an area, its
 //! hosts, a stretch of a file. `command_words` puts these together: it is all that the rest of the program knows of words. `texts` has what the
 //! program says of itself.
@@ -14,11 +14,11 @@
 #![tactic(auto)]
 
 mod arguments;
-mod command_line;
 mod command_words;
 mod folder;
 pub mod laws;
 mod parsed_command;
+mod parser_shape;
 mod texts;
 
 pub use command_words::{Words, WordsError, read_words};

@@ -5,7 +5,7 @@ ghost use Rattle.clap.specs.Simple.{subcommand_rows_of};
 ghost use Rattle.clap.specs.Walk.{first_of, rows_of};
 ghost use Rattle.sl_cli.specs.Actions.{action_in, area_in, dump_in, init_in, lockspace_in, other_in, read_leader_in, resource_in, upgrade_in};
 ghost use Rattle.sl_cli.specs.CommandWords.{is_event_count, is_format, is_machine_count, is_seed, seeding_in};
-ghost use Rattle.sl_cli.specs.Parses.{given_in, met_in, named_met, seeding_of};
+ghost use Rattle.sl_cli.specs.ParserMeets.{given_in, met_in, named_met, seeding_of};
 ghost use Rattle.sl_cli.specs.Spellings.{CanBeDone};
 ghost use Rattle.sl_text.specs.Numbers.{number_of};
 ghost use Rattle.sl_words.specs.Words.{choose};

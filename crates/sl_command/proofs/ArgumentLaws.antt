@@ -1,13 +1,13 @@
 -- Words of several parts: what is read of the parts one by one is what the whole word stands for.
-use Rattle.sl_area.specs.Layouts.{Layout}
-use Rattle.sl_area.specs.Places.{is_base}
+use Rattle.sl_area.specs.AreaSizes.{Layout}
+use Rattle.sl_area.specs.AreaLayout.{is_base}
 use Rattle.sl_command.specs.Arguments.{asked_read, beside, front_read, is_request_word, lockspace_read, longer_read, name_part, number_part, path_part, request_of_word, resource_read, resource_with, shared_part, shared_read}
 use Rattle.sl_text.proofs.PartLaws.{five_read-is, four_read-is}
 use Rattle.sl_text.specs.Forms.{pieces, word_at}
 use Rattle.sl_text.specs.Names.{is_name, is_path}
 use Rattle.sl_text.specs.Numbers.{is_number_text, is_number_that, number_of}
 use Rattle.sl_text.specs.Walks.{Part, Unread, at_end, next_part, past_word, past_words, unread}
-use Rattle.sl_trace.specs.Commands.{is_lockspace_word, is_resource_front, is_resource_word, is_shared_word, lockspace_of_word, resource_of_word}
+use Rattle.sl_trace.specs.CommandForms.{is_lockspace_word, is_resource_front, is_resource_word, is_shared_word, lockspace_of_word, resource_of_word}
 use Rattle.sl_trace.specs.declared.command.ResourceArg.{ResourceArg}
 use Rattle.sl_words.specs.Results.{◌>>=◌}
 use Rattle.sl_words.specs.Words.{choose}

@@ -1,11 +1,11 @@
 -- The forms of commands and the texts of commands agree.
-use Rattle.sl_area.specs.Layouts.{IsGeometry, Layout, Sizes}
+use Rattle.sl_area.specs.AreaSizes.{IsGeometry, Layout, Sizes}
 use Rattle.sl_command.proofs.CommandTexts.{command_of_words}
 use Rattle.sl_command.proofs.WrittenCommands.{command_of_text}
-use Rattle.sl_command.specs.Verbs.{answered}
+use Rattle.sl_command.specs.VerbReads.{answered}
 use Rattle.sl_text.proofs.PieceLaws.{join_with_byte-pieces}
 use Rattle.sl_text.specs.Forms.{bad_column, made_by, spaced, words_of}
-use Rattle.sl_trace.specs.Commands.{ReadsCommands, SpellsCommand, command_in, command_or, forms}
+use Rattle.sl_trace.specs.CommandForms.{ReadsCommands, SpellsCommand, command_in, command_or, forms}
 use Rattle.sl_trace.specs.declared.command.BadCommand.{BadCommand}
 use Rattle.sl_trace.specs.declared.command.Command.{Command}
 use Rattle.std.proofs.Common.{None, Option, Some, ap, arith, sym, ℕ, ◌<◌, ◌^◌, ◌≡◌, ◌∙◌}

@@ -1,12 +1,12 @@
 -- What is read of a command's text is a command that it may name, and the text is that command's.
-use Rattle.sl_area.specs.Layouts.{Layout}
+use Rattle.sl_area.specs.AreaSizes.{Layout}
 use Rattle.sl_command.proofs.PartTexts.{asked_read, lockspace_read, number_read, range_small, resource_read, shared_read}
 use Rattle.sl_command.proofs.VerbLaws.{clearing_lver}
 use Rattle.sl_text.proofs.HexLaws.{IsBytes-hex_bytes, hex_text-hex_bytes, hex_word_size, length-hex_bytes}
 use Rattle.sl_text.specs.Forms.{Form, coloned, exactly, fits_whole, fitting, made_by, word_at}
 use Rattle.sl_text.specs.Names.{is_path}
 use Rattle.sl_text.specs.Numbers.{IsBytes, hex_bytes, hex_text, is_hex_word, is_number_that, number_of}
-use Rattle.sl_trace.specs.Commands.{IsCommand, IsLockspaceArg, IsProcess, IsResourceArg, IsValueArg, acquire_form, asked_of_word, command_words, forms, is_asked_word, is_lockspace_word, is_process_word, is_resource_word, is_shared_word, lockspace_form, lockspace_of_word, lockspace_word, moded_word, option_words, resource_of_word, resource_parts}
+use Rattle.sl_trace.specs.CommandForms.{IsCommand, IsLockspaceArg, IsProcess, IsResourceArg, IsValueArg, acquire_form, asked_of_word, command_words, forms, is_asked_word, is_lockspace_word, is_process_word, is_resource_word, is_shared_word, lockspace_form, lockspace_of_word, lockspace_word, moded_word, option_words, resource_of_word, resource_parts}
 use Rattle.sl_trace.specs.declared.command.Command.TheVariants.{Acquire, AddLockspace, Convert, GetLvb, HostStatus, InqLockspace, Release, ReleaseOrphan, RemLockspace, Request, RunProgram, SetKillpath, SetLvb, Status, TakeOver}
 use Rattle.sl_trace.specs.declared.command.Command.{Command}
 use Rattle.sl_trace.specs.declared.command.LockspaceArg.{LockspaceArg}

@@ -1,5 +1,5 @@
 -- Words and lines that are written one behind another.
-use Rattle.sl_command.specs.Lines.{behind, class_text, counted, line_text}
+use Rattle.sl_command.specs.OutputLines.{behind, class_text, counted, line_text}
 use Rattle.sl_sector.proofs.TextLaws.{join_with_byte-cons}
 use Rattle.sl_sector.specs.RecordTexts.{dash_for_none}
 use Rattle.sl_text.specs.Forms.{as_bytes, spaced}

@@ -1,13 +1,13 @@
 -- Parts of words and the texts of their values: a number, a lockspace and a resource each have one word.
-use Rattle.sl_area.specs.Layouts.{Layout}
-use Rattle.sl_area.specs.Places.{is_base}
+use Rattle.sl_area.specs.AreaSizes.{Layout}
+use Rattle.sl_area.specs.AreaLayout.{is_base}
 use Rattle.sl_text.proofs.FreeLaws.{decimal_free, name_free, path_free}
 use Rattle.sl_text.proofs.NumberLaws.{decimal-number_of, is_number_text-decimal, number_of-decimal}
 use Rattle.sl_text.proofs.PieceLaws.{join_with_byte-pieces, pieces-join_with_byte}
 use Rattle.sl_text.specs.Forms.{coloned, is_free_of, pieces, word_at}
 use Rattle.sl_text.specs.Names.{is_name, is_name_byte, is_path}
 use Rattle.sl_text.specs.Numbers.{is_number_that, number_of}
-use Rattle.sl_trace.specs.Commands.{IsLockspaceArg, IsResourceArg, asked_of_word, is_asked_word, is_lockspace_word, is_resource_front, is_resource_word, is_shared_word, lockspace_of_word, lockspace_word, moded_word, resource_of_word, resource_parts}
+use Rattle.sl_trace.specs.CommandForms.{IsLockspaceArg, IsResourceArg, asked_of_word, is_asked_word, is_lockspace_word, is_resource_front, is_resource_word, is_shared_word, lockspace_of_word, lockspace_word, moded_word, resource_of_word, resource_parts}
 use Rattle.sl_trace.specs.declared.command.LockspaceArg.{LockspaceArg}
 use Rattle.sl_trace.specs.declared.command.ResourceArg.{ResourceArg}
 use Rattle.sl_words.proofs.WordLaws.{and_true}

@@ -1,6 +1,6 @@
 -- Lists of forms that share their first tests, or that begin with one test or with another that takes no word of the first: what is read
 -- of them is read of the words that these tests take, and then of the forms that go on.
-use Rattle.sl_command.specs.Verbs.{flag_read}
+use Rattle.sl_command.specs.VerbReads.{flag_read}
 use Rattle.sl_text.proofs.FormLaws.{read_by-map}
 use Rattle.sl_text.specs.Forms.{Form, exactly, word_at}
 use Rattle.sl_text.specs.Walks.{Unread, column_behind, form_with, forms_behind, going_on, made_at_end, next_as, next_passes, past_word, read_by, read_from}

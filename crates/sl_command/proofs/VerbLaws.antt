@@ -1,13 +1,13 @@
 -- What is read behind a verb is what the verb's forms make, and fails at the same column.
-use Rattle.sl_area.specs.Layouts.{Layout}
+use Rattle.sl_area.specs.AreaSizes.{Layout}
 use Rattle.sl_command.proofs.SharedTests.{behind_test, behind_word, made_behind, map_some, next_as-value, one_kind, read_by-shared, some_before, some_go_on, two_kinds}
 use Rattle.sl_command.specs.Arguments.{is_asking_word, is_clearing_word, is_moded_word, moded_of_word, request_of_word}
-use Rattle.sl_command.specs.Verbs.{acquire_read, acquiring, asking_tests, clearing_tests, convert_read, for_process, force_with, held_by, holder_behind, killpath_read, killpath_tests, lockspace_behind, option_read, options_read, past_option, process_behind, process_tests, program_behind, program_read, program_tests, release_read, releaser_behind, releasing, request_read, value_read, value_tests, wanted, with_resource, with_value}
+use Rattle.sl_command.specs.VerbReads.{acquire_read, acquiring, asking_tests, clearing_tests, convert_read, for_process, force_with, held_by, holder_behind, killpath_read, killpath_tests, lockspace_behind, option_read, options_read, past_option, process_behind, process_tests, program_behind, program_read, program_tests, release_read, releaser_behind, releasing, request_read, value_read, value_tests, wanted, with_resource, with_value}
 use Rattle.sl_text.proofs.FormLaws.{read_by-end, read_by-one, read_by-other, read_by-verb, read_by-verbs, read_each-map, read_from-is}
 use Rattle.sl_text.specs.Forms.{Form, bad_column, exactly, made_by, pieces, word_at, words_of}
 use Rattle.sl_text.specs.Numbers.{hex_bytes, is_number_text, number_of}
 use Rattle.sl_text.specs.Walks.{Unread, at_end, form_with, forms_behind, going_on, next_as, next_passes, past_word, read_by, read_each, read_from, unread}
-use Rattle.sl_trace.specs.Commands.{asked_of_word, command_in, command_or, forms, is_lockspace_word, is_process_word, is_resource_front, is_resource_word, is_shared_word, lockspace_of_word, option_words, resource_of_word}
+use Rattle.sl_trace.specs.CommandForms.{asked_of_word, command_in, command_or, forms, is_lockspace_word, is_process_word, is_resource_front, is_resource_word, is_shared_word, lockspace_of_word, option_words, resource_of_word}
 use Rattle.sl_trace.specs.declared.command.Command.TheVariants.{AddLockspace, Convert, GetLvb, HostStatus, InqLockspace, Release, ReleaseOrphan, RemLockspace, Request, RunProgram, SetKillpath, SetLvb, Status}
 use Rattle.sl_trace.specs.declared.command.Command.{Command}
 use Rattle.sl_trace.specs.declared.command.LockspaceArg.{LockspaceArg}

@@ -1,9 +1,9 @@
 -- A command that may be named is read of its one text.
-use Rattle.sl_area.specs.Layouts.{Layout}
+use Rattle.sl_area.specs.AreaSizes.{Layout}
 use Rattle.sl_command.proofs.PartTexts.{asked_written, lockspace_written, number_written, range_small, resource_written, shared_written}
 use Rattle.sl_command.proofs.VerbLaws.{acquire_verb, add_lockspace_verb, convert_verb, get_lvb_verb, host_status_verb, inq_lockspace_verb, not_exclusive, program_verb, read_whole, release_verb, rem_lockspace_verb, request_verb, set_killpath_verb, set_lvb_verb, status_verb}
 use Rattle.sl_command.specs.Arguments.{beside, is_asking_word, is_clearing_word, is_moded_word, is_request_word, moded_of_word, request_of_word}
-use Rattle.sl_command.specs.Verbs.{acquiring, asking_tests, clearing_tests, for_process, force_with, held_by, holder_behind, killpath_read, killpath_tests, lockspace_behind, options_read, process_behind, process_tests, program_behind, program_tests, releaser_behind, releasing, value_behind, value_tests, wanted, with_resource, with_value}
+use Rattle.sl_command.specs.VerbReads.{acquiring, asking_tests, clearing_tests, for_process, force_with, held_by, holder_behind, killpath_read, killpath_tests, lockspace_behind, options_read, process_behind, process_tests, program_behind, program_tests, releaser_behind, releasing, value_behind, value_tests, wanted, with_resource, with_value}
 use Rattle.sl_text.proofs.FreeLaws.{decimal_free, hex_free, path_free}
 use Rattle.sl_text.proofs.HexLaws.{hex_bytes-hex_text, is_hex_word-hex_text}
 use Rattle.sl_text.proofs.NumberLaws.{number_of-decimal}
@@ -12,7 +12,7 @@ use Rattle.sl_text.specs.Forms.{coloned, exactly, is_free_of, spaced, word_at}
 use Rattle.sl_text.specs.Names.{is_path}
 use Rattle.sl_text.specs.Numbers.{IsBytes, hex_bytes, hex_text, is_hex_word, number_of}
 use Rattle.sl_text.specs.Walks.{Unread, column_behind, past_word, read_by, read_each}
-use Rattle.sl_trace.specs.Commands.{asked_of_word, IsCommand, IsLockspaceArg, IsProcess, IsRequestArg, IsResourceArg, IsValueArg, command_in, command_words, forms, is_lockspace_word, is_process_word, is_resource_word, is_shared_word, lockspace_of_word, lockspace_word, moded_word, resource_of_word, resource_parts, words_of_option}
+use Rattle.sl_trace.specs.CommandForms.{asked_of_word, IsCommand, IsLockspaceArg, IsProcess, IsRequestArg, IsResourceArg, IsValueArg, command_in, command_words, forms, is_lockspace_word, is_process_word, is_resource_word, is_shared_word, lockspace_of_word, lockspace_word, moded_word, resource_of_word, resource_parts, words_of_option}
 use Rattle.sl_trace.specs.declared.command.Command.TheVariants.{Acquire, AddLockspace, Convert, GetLvb, HostStatus, InqLockspace, Release, ReleaseOrphan, RemLockspace, Request, RunProgram, SetKillpath, SetLvb, Status, TakeOver}
 use Rattle.sl_trace.specs.declared.command.Command.{Command}
 use Rattle.sl_trace.specs.declared.command.LockspaceArg.{LockspaceArg}

@@ -1,11 +1,11 @@
 -- Arguments of commands as they are read: each word with the tests of its parts, which are taken one by one.
-use Rattle.sl_area.specs.Layouts.{Layout}
-use Rattle.sl_area.specs.Places.{is_base}
+use Rattle.sl_area.specs.AreaSizes.{Layout}
+use Rattle.sl_area.specs.AreaLayout.{is_base}
 use Rattle.sl_text.specs.Forms.{exactly}
 use Rattle.sl_text.specs.Names.{is_name, is_path}
 use Rattle.sl_text.specs.Numbers.{is_number_that, number_of}
 use Rattle.sl_text.specs.Walks.{Part, Unread, at_end, four_read, next_part, past_word, past_words}
-use Rattle.sl_trace.specs.Commands.{asked_of_word, is_asked_word, is_resource_word, is_shared_word, resource_of_word}
+use Rattle.sl_trace.specs.CommandForms.{asked_of_word, is_asked_word, is_resource_word, is_shared_word, resource_of_word}
 use Rattle.sl_trace.specs.declared.command.LockspaceArg.{LockspaceArg}
 use Rattle.sl_trace.specs.declared.command.ResourceArg.{ResourceArg}
 use Rattle.sl_words.specs.Bounds.{record_numbers}

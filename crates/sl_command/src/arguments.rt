@@ -6,12 +6,12 @@
 
 ghost use Rattle.std.specs.Int.{is_in_range};
 ghost use Rattle.std.specs.Prelude.{IfOk, ◌≡◌};
-ghost use Rattle.sl_area.specs.Layouts.{layout_of};
-ghost use Rattle.sl_area.specs.Places.{is_base};
+ghost use Rattle.sl_area.specs.AreaSizes.{layout_of};
+ghost use Rattle.sl_area.specs.AreaLayout.{is_base};
 ghost use Rattle.sl_command.specs.Arguments as arguments;
 ghost use Rattle.sl_text.specs.Numbers.{is_number_that, number_of};
 ghost use Rattle.sl_text.specs.Walks.{left_after, next_as, past_words};
-ghost use Rattle.sl_trace.specs.Commands as commands;
+ghost use Rattle.sl_trace.specs.CommandForms as commands;
 ghost use Rattle.sl_words.specs.Words.{choose};
 
 use sl_area::Geometry;

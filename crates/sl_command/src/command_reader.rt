@@ -5,10 +5,10 @@
 //! that no form takes there: one past the end where a word is missing.
 
 ghost use Rattle.std.specs.Prelude.{IfOk, Ok, false, true, ◌==◌, ◌↔◌, ◌≡◌};
-ghost use Rattle.sl_area.specs.Layouts.{layout_of};
-ghost use Rattle.sl_command.specs.Verbs as verbs;
+ghost use Rattle.sl_area.specs.AreaSizes.{layout_of};
+ghost use Rattle.sl_command.specs.VerbReads as verbs;
 ghost use Rattle.sl_text.specs.Walks.{read_by};
-ghost use Rattle.sl_trace.specs.Commands as commands;
+ghost use Rattle.sl_trace.specs.CommandForms as commands;
 ghost use Rattle.sl_trace.specs.declared.command.Command.{Command};
 ghost use Rattle.sl_trace.specs.declared.command.Command.TheVariants.{GetLvb};
 

@@ -3,7 +3,7 @@
 ghost use Rattle.std.specs.Prelude.{IfOk, IsSome, OnErr, OnOk, codes, decimal, false, true, string_bytes, ◌++◌, ◌∷◌, ◌≡◌, []};
 ghost use Rattle.sl_text.specs.Forms.{coloned, spaced};
 ghost use Rattle.sl_text.specs.Numbers.{hex_text};
-ghost use Rattle.sl_trace.specs.Commands as commands;
+ghost use Rattle.sl_trace.specs.CommandForms as commands;
 ghost use Rattle.sl_trace.specs.Jobs.{process_named};
 ghost use Rattle.sl_trace.specs.declared.command.Command.TheVariants.{Acquire, ReleaseOrphan, SetKillpath, TakeOver};
 

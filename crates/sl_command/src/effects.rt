@@ -1,7 +1,7 @@
 //! The lines that a step of a daemon writes, with their line feeds: what it did, in the order of the classes of effects.
 
 ghost use Rattle.std.specs.Prelude.{OnErr, OnOk, codes, decimal, ◌++◌, ◌∷◌, ◌≡◌, []};
-ghost use Rattle.sl_command.specs.Lines.{class_text, line_text};
+ghost use Rattle.sl_command.specs.OutputLines.{class_text, line_text};
 ghost use Rattle.sl_sector.specs.RecordTexts.{record_words};
 ghost use Rattle.sl_text.specs.Forms.{as_bytes};
 ghost use Rattle.sl_trace.specs.EffectTexts as texts;

@@ -4,7 +4,7 @@
 //! could not is `torn`.
 
 ghost use Rattle.std.specs.Prelude.{IfOk, OnErr, OnOk, codes, decimal, false, map, ◌++◌, ◌∷◌, ◌≡◌, []};
-ghost use Rattle.sl_command.specs.Lines.{behind, host_word, host_words, session_word};
+ghost use Rattle.sl_command.specs.OutputLines.{behind, host_word, host_words, session_word};
 ghost use Rattle.sl_sector.specs.RecordTexts.{dash_for_none};
 ghost use Rattle.sl_text.specs.Forms.{spaced};
 ghost use Rattle.sl_text.specs.Numbers.{hex_text};

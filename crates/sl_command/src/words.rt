@@ -1,7 +1,7 @@
 //! Words and numbers, written one behind another.
 
 ghost use Rattle.std.specs.Prelude.{OnOk, decimal, flat_map, ◌++◌, ◌∷◌, ◌≡◌};
-ghost use Rattle.sl_command.specs.Lines.{counted};
+ghost use Rattle.sl_command.specs.OutputLines.{counted};
 
 use sl_text::number::push_number;
 use std::alloc::AllocError;

@@ -5,7 +5,7 @@ use Rattle.sl_delta.specs.OwnSector.{OwnState, OwnStands, after_answer, after_ca
 use Rattle.sl_host_state.specs.declared.kept_parts.JoinCall.{JoinCall}
 use Rattle.sl_host_state.specs.MadeEffects.{joining_calling}
 use Rattle.sl_host_state.specs.HostStands.{JoinStands}
-use Rattle.sl_trace.specs.Deltas.{DeltaLease, join_step_of, next_after_deciding, next_after_join_read, next_after_join_write, next_after_verify, next_after_watch, next_by_time, next_in_joining, next_on_wake}
+use Rattle.sl_trace.specs.DeltaDecisions.{DeltaLease, join_step_of, next_after_deciding, next_after_join_read, next_after_join_write, next_after_verify, next_after_watch, next_by_time, next_in_joining, next_on_wake}
 use Rattle.sl_trace.specs.Sessions.{delta_written, generation_in, is_join_call}
 use Rattle.sl_trace.specs.declared.delta.DeltaNext.TheVariants.{Nothing}
 use Rattle.sl_trace.specs.declared.delta.DeltaNext.{DeltaNext}

@@ -1,9 +1,9 @@
 -- What a session writes on its id's sector is a record.
 use Rattle.sl_delta.specs.OwnSector.{IsOwnRecord}
-use Rattle.sl_area.specs.Layouts.{IsGeometry, Sizes}
+use Rattle.sl_area.specs.AreaSizes.{IsGeometry, Sizes}
 use Rattle.sl_sector.specs.Records.{AreBytes, Fits}
 use Rattle.sl_sector.specs.declared.sector.DeltaState.{DeltaState}
-use Rattle.sl_trace.specs.Deltas.{DeltaLease, is_renewal_due}
+use Rattle.sl_trace.specs.DeltaDecisions.{DeltaLease, is_renewal_due}
 use Rattle.sl_trace.specs.declared.delta.DeltaKnown.{DeltaKnown}
 use Rattle.sl_text.specs.Names.{is_name}
 use Rattle.sl_words.specs.Bounds.{is_number, moments, most_hosts}

@@ -9,7 +9,7 @@ use Rattle.sl_delta.specs.declared.steps.DeltaIn.TheVariants.{Answered as Told, 
 use Rattle.sl_delta.specs.declared.steps.DeltaIn.{DeltaIn}
 use Rattle.sl_delta.specs.DeltaDecisions.{after_join}
 use Rattle.sl_delta.specs.declared.steps.DeltaOut.{DeltaOut}
-use Rattle.sl_trace.specs.Deltas.{next_after_free, next_after_renewal, next_renewal}
+use Rattle.sl_trace.specs.DeltaDecisions.{next_after_free, next_after_renewal, next_renewal}
 use Rattle.sl_trace.specs.declared.delta.DeltaNext.TheVariants.{Nothing}
 use Rattle.sl_trace.specs.declared.delta.DeltaNext.{DeltaNext}
 use Rattle.sl_trace.specs.declared.effects.Purpose.TheVariants.{Joining, Lease, Leaving, Renewal, RequestRead, RequestWrite, SeeRequest, Survey, ValueRead, ValueWrite}

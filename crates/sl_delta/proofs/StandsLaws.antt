@@ -2,7 +2,7 @@
 use Rattle.sl_delta.specs.OwnSector.{IsBusy, IsTold, OwnState, OwnStands, after_answer, newest_told}
 use Rattle.sl_host_state.specs.HeardInputs.{answered_at}
 use Rattle.sl_host_state.specs.declared.kept_parts.JoinCall.{JoinCall}
-use Rattle.sl_trace.specs.Deltas.{join_step_of}
+use Rattle.sl_trace.specs.DeltaDecisions.{join_step_of}
 use Rattle.sl_trace.specs.Sessions.{delta_written, is_delta_purpose, is_free_purpose, is_join_call, is_renewal}
 use Rattle.sl_trace.specs.declared.session.Session.{Session}
 use Rattle.sl_trace.specs.Traces.{Answered, Submitted, bytes_given, gave}

@@ -1,5 +1,5 @@
 -- An answer is decided alike before and after it is heard.
-use Rattle.sl_area.specs.Layouts.{IsGeometry, Sizes}
+use Rattle.sl_area.specs.AreaSizes.{IsGeometry, Sizes}
 use Rattle.sl_delta.proofs.EnoughLaws.{told_is}
 use Rattle.sl_delta.specs.DeltaDecisions.{after_join}
 use Rattle.sl_delta.specs.OwnSector.{OwnState, after_answer}
@@ -7,7 +7,7 @@ use Rattle.sl_delta.specs.Steps.{FitsRead, IsFitAnswer, IsOwnRead, IsSized, Leas
 use Rattle.sl_delta.specs.declared.lease.Standing.TheVariants.{Declined, Gone, Holds, Joins}
 use Rattle.sl_delta.specs.declared.lease.Standing.{Standing}
 use Rattle.sl_delta.specs.declared.steps.DeltaOut.{DeltaOut}
-use Rattle.sl_sector.specs.Spelling.{IsSectorSize}
+use Rattle.sl_sector.specs.SectorLayouts.{IsSectorSize}
 use Rattle.sl_trace.specs.Sessions.{is_join_call, is_survey_purpose}
 use Rattle.sl_trace.specs.declared.delta.DeltaNext.TheVariants.{Nothing}
 use Rattle.sl_trace.specs.declared.delta.DeltaNext.{DeltaNext}

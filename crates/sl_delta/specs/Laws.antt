@@ -1,5 +1,5 @@
 -- What is kept of an id's sector is enough for every decision, and is what a host keeps of its session.
-use Rattle.sl_area.specs.Layouts.{Sizes}
+use Rattle.sl_area.specs.AreaSizes.{Sizes}
 use Rattle.sl_delta.specs.DeltaDecisions.{after_join, on_wake}
 use Rattle.sl_delta.specs.OwnSector.{OwnState, OwnStands, after_answer, after_call, joining_told, known_with, lease_of, without_calls}
 use Rattle.sl_delta.specs.Steps.{IsFitInput, LeaseState, after_step, begun, is_over, out_of_step}
@@ -10,7 +10,7 @@ use Rattle.sl_host_state.specs.HeardInputs.{joining_hearing}
 use Rattle.sl_host_state.specs.KeptState.{HostState, JoinState}
 use Rattle.sl_host_state.specs.declared.kept_parts.OpenCall.{OpenCall}
 use Rattle.sl_host_state.specs.MadeEffects.{joining_calling, known_calling}
-use Rattle.sl_trace.specs.Deltas.{next_in_joining, next_on_wake}
+use Rattle.sl_trace.specs.DeltaDecisions.{next_in_joining, next_on_wake}
 use Rattle.sl_trace.specs.Sessions.{delta_written, generation_in, given_number}
 use Rattle.sl_trace.specs.declared.session.Session.{Session}
 use Rattle.sl_time.specs.Times.{TimingNumbers}

@@ -1,5 +1,5 @@
 -- What a session keeps of its calls on its id's sector, how a call and an answer change it, and which lists of calls it stands for.
-use Rattle.sl_area.specs.Layouts.{Sizes, layout_of}
+use Rattle.sl_area.specs.AreaSizes.{Sizes, layout_of}
 use Rattle.sl_delta.specs.declared.answer.SectorAnswer.TheVariants.{Failed as FailedSector, Read as ReadSector, Written as WrittenSector}
 use Rattle.sl_delta.specs.declared.answer.SectorAnswer.{SectorAnswer}
 use Rattle.sl_host_state.specs.HeardInputs.{answered_at}
@@ -9,7 +9,7 @@ use Rattle.sl_host_state.specs.NewHost.{new_joining}
 use Rattle.sl_host_state.specs.HostStands.{JoinStands}
 use Rattle.sl_sector.specs.Records.{Fits, IsDelta}
 use Rattle.sl_sector.specs.declared.sector.DeltaRec.{DeltaRec}
-use Rattle.sl_trace.specs.Deltas.{DeltaLease, join_step_of}
+use Rattle.sl_trace.specs.DeltaDecisions.{DeltaLease, join_step_of}
 use Rattle.sl_trace.specs.Sessions.{delta_written, free_write, generation_in, is_delta_purpose, is_free_purpose, is_join_call, is_renewal, renewal_in, seq_in}
 use Rattle.sl_trace.specs.declared.delta.DeltaKnown.{DeltaKnown}
 use Rattle.sl_trace.specs.declared.session.Session.{Session}

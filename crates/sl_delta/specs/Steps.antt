@@ -1,5 +1,5 @@
 -- A delta lease by itself: what each step gives, and what it makes of the lease.
-use Rattle.sl_area.specs.Places.{delta_of}
+use Rattle.sl_area.specs.AreaLayout.{delta_of}
 use Rattle.sl_delta.specs.DeltaDecisions.{after_join, on_wake}
 use Rattle.sl_delta.specs.OwnSector.{OwnState, after_answer, after_call, known_with, lease_of}
 use Rattle.sl_delta.specs.declared.lease.Standing.TheVariants.{Declined, Gone, Holds, Joins}
@@ -12,9 +12,9 @@ use Rattle.sl_delta.specs.declared.steps.DeltaIn.{DeltaIn}
 use Rattle.sl_delta.specs.declared.steps.DeltaOut.{DeltaOut}
 use Rattle.sl_delta.specs.declared.steps.Outcome.TheVariants.{Joined, Left, NotJoined}
 use Rattle.sl_delta.specs.declared.steps.Outcome.{Outcome}
-use Rattle.sl_sector.specs.Spelling.{IsSectorSize}
+use Rattle.sl_sector.specs.SectorLayouts.{IsSectorSize}
 use Rattle.sl_sector.specs.declared.sector.DeltaRec.{DeltaRec}
-use Rattle.sl_trace.specs.Deltas.{next_after_free, next_after_renewal, next_free, next_renewal}
+use Rattle.sl_trace.specs.DeltaDecisions.{next_after_free, next_after_renewal, next_free, next_renewal}
 use Rattle.sl_trace.specs.Sessions.{is_survey_purpose, stage_after}
 use Rattle.sl_trace.specs.declared.stage.Stage.TheVariants.{Ended as EndedStage, Freeing, Looking, Refused as RefusedStage, Standing as Stands}
 use Rattle.sl_trace.specs.declared.stage.Stage.{Stage}

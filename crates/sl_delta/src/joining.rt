@@ -3,10 +3,10 @@
 //! The watched sector is the one that the first read gave. Every later read of the watch, and the deciding read, must give the same bytes:
 //! a record that changed has a writer that lives. The verify read must give the own claim: another's may have landed over it.
 
-ghost use Rattle.sl_area.specs.Layouts.{layout_of, sector_with};
+ghost use Rattle.sl_area.specs.AreaSizes.{layout_of, sector_with};
 ghost use Rattle.sl_delta.specs.DeltaDecisions.{IsFitNext, after_deciding, after_join, after_join_read, after_join_write, after_verify, after_watch, claim_next, claim_waited, first_renewal, first_spelled, is_over_since, on_wake, time_next, watch_next, watched_in};
 ghost use Rattle.sl_delta.specs.OwnSector.{IsOwnRecord, answer_in, lease_of};
-ghost use Rattle.sl_trace.specs.Deltas.{claim_on, id_held, id_lost, next_after_first};
+ghost use Rattle.sl_trace.specs.DeltaDecisions.{claim_on, id_held, id_lost, next_after_first};
 ghost use Rattle.sl_words.specs.Bounds.{moments};
 ghost use Rattle.sl_sector.specs.declared.sector.Rec.TheVariants.{DeltaIs};
 ghost use Rattle.sl_trace.specs.declared.delta.DeltaNext.TheVariants.{RefuseJoin};
@@ -96,7 +96,7 @@ fn by_time(timing: &Timing, now: u64, made: u64, answered: u64, step: JoinStep) 
 
 impl OwnSector {
     /// After the first read: a torn sector or another lockspace's refuses; a free record needs no watch.
-    #[tactic(auto, unfolding(sl_trace::specs::Deltas::next_after_first))]
+    #[tactic(auto, unfolding(sl_trace::specs::DeltaDecisions::next_after_first))]
     fn after_first(&self, sector: &Image) -> DeltaNext
         ensures exact { result ≡ next_after_first (lease_of self.now) sector.now }
         ensures fit { IsFitNext result }

@@ -65,8 +65,7 @@ pub struct DeltaLease {
 }
 
 impl Model for DeltaLease {
-    ghost use Rattle.sl_delta.specs.Steps.{LeaseState};
-    ghost use Rattle.sl_delta.specs.Steps.{IsWithinStep};
+    ghost use Rattle.sl_delta.specs.Steps.{LeaseState, IsWithinStep};
 
     ghost Value = { LeaseState };
 

@@ -6,13 +6,12 @@ ghost use Rattle.sl_sector.specs.Records.{Fits};
 ghost use Rattle.sl_trace.specs.Sessions.{given_number, is_join_call};
 ghost use Rattle.sl_trace.specs.declared.session.Session.{Session};
 ghost use Rattle.sl_text.specs.Names.{is_name};
-ghost use Rattle.sl_trace.specs.Traces.{Answered, Submitted};
+ghost use Rattle.sl_trace.specs.Traces.{Answered, Submitted, bytes_given};
 ghost use Rattle.sl_trace.specs.declared.effects.JoinStep.TheVariants.{FirstRead};
 ghost use Rattle.sl_trace.specs.declared.input.Answer.{Answer};
 ghost use Rattle.sl_words.specs.Bounds.{moments};
 ghost use Rattle.std.specs.Arc.{arc_value};
 ghost use Rattle.std.specs.Option.{option_map_or};
-ghost use Rattle.sl_trace.specs.Traces.{bytes_given};
 ghost use Rattle.sl_trace.specs.declared.effects.Purpose.TheVariants.{Joining};
 ghost use Rattle.std.specs.Prelude.{ℕ, cond, option_map, IfSome, IsTrue, List, None, Some, false, true, is_none, [], ◌<◌, ◌∷◌, ◌≡◌, ◌≤◌};
 

@@ -1,7 +1,7 @@
 //! What a call's purpose says of the own sector.
 
 ghost use Rattle.sl_delta.specs.Steps.{writes_own, writes_step};
-ghost use Rattle.sl_trace.specs.Deltas.{join_step_of};
+ghost use Rattle.sl_trace.specs.DeltaDecisions.{join_step_of};
 ghost use Rattle.sl_trace.specs.Sessions.{is_delta_purpose, is_free_purpose, is_join_call, is_renewal, is_survey_purpose};
 ghost use Rattle.sl_trace.specs.declared.effects.JoinStep.TheVariants.{ClaimWrite, FirstRead};
 ghost use Rattle.std.specs.Prelude.{◌≡◌};

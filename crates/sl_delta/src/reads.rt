@@ -1,15 +1,15 @@
 //! What a sector that was read tells.
 
-ghost use Rattle.sl_area.specs.Layouts.{Sizes, layout_of, program_digest};
+ghost use Rattle.sl_area.specs.AreaSizes.{Sizes, layout_of, program_digest};
 ghost use Rattle.sl_delta.specs.OwnSector.{IsOwnRecord, lease_of};
-ghost use Rattle.sl_area.specs.Places.{delta_of as delta_at};
+ghost use Rattle.sl_area.specs.AreaLayout.{delta_of as delta_at};
 ghost use Rattle.sl_delta.specs.DeltaDecisions.{watched_in};
 ghost use Rattle.sl_delta.specs.Steps.{FitsRead, IsWholeRead, is_other, shows_other};
 ghost use Rattle.sl_words.specs.Words.{some_is};
 ghost use Rattle.sl_sector.specs.Bitmaps.{no_bits};
 ghost use Rattle.sl_sector.specs.Records.{Fits};
-ghost use Rattle.sl_sector.specs.Spelling.{decoded, delta_in};
-ghost use Rattle.sl_trace.specs.Deltas.{delta_record, host_of_delta, version_in, version_of};
+ghost use Rattle.sl_sector.specs.SectorLayouts.{decoded, delta_in};
+ghost use Rattle.sl_trace.specs.DeltaDecisions.{delta_record, host_of_delta, version_in, version_of};
 ghost use Rattle.sl_trace.specs.Sightings.{is_free_state};
 ghost use Rattle.sl_words.specs.Bounds.{moments};
 ghost use Rattle.std.specs.Arc.{arc_value};

@@ -3,7 +3,7 @@
 ghost use Rattle.sl_delta.specs.DeltaDecisions.{IsFitNext};
 ghost use Rattle.sl_delta.specs.OwnSector.{answer_in, known_with, lease_of};
 ghost use Rattle.sl_sector.specs.Records.{Fits};
-ghost use Rattle.sl_trace.specs.Deltas.{has_seq_left, is_renewal_due, next_after_free, next_after_renewal, next_free, next_renewal};
+ghost use Rattle.sl_trace.specs.DeltaDecisions.{has_seq_left, is_renewal_due, next_after_free, next_after_renewal, next_free, next_renewal};
 ghost use Rattle.sl_words.specs.Bounds.{moments};
 ghost use Rattle.std.specs.Prelude.{Bool, IsTrue, ◌+◌, ◌<◌, ◌≡◌, ◌≤◌};
 
@@ -37,7 +37,7 @@ impl OwnSector {
 
     /// The renewal that is due on a wake of a joined session, with these bits; `recovering` says whether recovery has begun, `leaving` for
     /// which job it leaves. What is written is a record.
-    #[tactic(auto, unfolding(sl_trace::specs::Deltas::next_renewal))]
+    #[tactic(auto, unfolding(sl_trace::specs::DeltaDecisions::next_renewal))]
     pub fn renewal(
         &self,
         now: u64,

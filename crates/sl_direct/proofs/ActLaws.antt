@@ -3,13 +3,13 @@ use Rattle.sl_direct.proofs.DiskLaws.{AllApart, all_written, front_written}
 use Rattle.sl_direct.proofs.LookLaws.{one_line}
 use Rattle.sl_direct.specs.Actions.{Acts, Directs, IsFront, PutsOut, Writes, last_lines, output_of}
 use Rattle.sl_direct.specs.FreshAreas.{Write}
-use Rattle.sl_direct.specs.Steps.{BrokeOff, HasActed, Wrote}
+use Rattle.sl_direct.specs.HalfDone.{BrokeOff, HasActed, Wrote}
 use Rattle.sl_direct.specs.declared.action.Action.TheVariants.{Dump, InitLockspace, InitResource, ReadLeader, Upgrade}
 use Rattle.sl_direct.specs.declared.action.Action.{Action}
 use Rattle.sl_direct.specs.declared.action.Directed.TheVariants.{AreaFault, Done, WriteFault}
 use Rattle.sl_direct.specs.declared.action.Directed.{Directed}
 use Rattle.sl_text.specs.Forms.{as_bytes}
-use Rattle.sl_words.specs.Causes.{Rose}
+use Rattle.sl_io.specs.FaultCauses.{Rose}
 use Rattle.std.proofs.Common.{List, Option, [], ap, append_assoc, arith, inl, inr, refl, subst, sym, take, take-append-drop, drop, ℕ, ◌++◌, ◌∙◌, ◌∷◌, ◌≡◌, ◌≤◌, ◌⊎◌}
 use Rattle.std.proofs.KnownBytes.{Appends-trans}
 use Rattle.std.specs.Io.KnownBytes.{Appends}

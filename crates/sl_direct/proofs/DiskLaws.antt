@@ -2,7 +2,7 @@
 use Rattle.sl_area.specs.Sectors.{Apart, KeepsOthers, SectorPlace, put_at}
 use Rattle.sl_direct.specs.Disks.{Holds, HoldsFront, IsBrokenOff, IsInitialised, IsOutside, Stands}
 use Rattle.sl_direct.specs.FreshAreas.{Write, place_of}
-use Rattle.sl_direct.specs.Steps.{AllFit, BrokeOff, Wrote, WroteFront, written}
+use Rattle.sl_direct.specs.HalfDone.{AllFit, BrokeOff, Wrote, WroteFront, written}
 use Rattle.std.proofs.Common.{All, Err, List, None, Ok, Option, Result, Some, [], ap, append_assoc, arith, drop, get_or, inl, inr, length, map, refl, subst, sym, take, take-append-drop, ℕ, ◌++◌, ◌+◌, ◌-◌, ◌<◌, ◌∙◌, ◌∷◌, ◌≡◌, ◌≤◌, ◌⊎◌}
 use Rattle.std.proofs.lemmas.List.FromFn.{map-range_with_len_more, take-map-range_with_len}
 use Rattle.std.specs.List.{range_with_len}

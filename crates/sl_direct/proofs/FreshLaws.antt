@@ -2,16 +2,17 @@
 use Rattle.sha2.specs.Sha256.{sha256}
 use Rattle.sl_area.proofs.FreshRecords.{fresh_block_at_is, fresh_delta_is, leader_record_is, no_request_is, no_value_is}
 use Rattle.sl_area.proofs.SizeLaws.{HasRoom, has_room}
-use Rattle.sl_area.specs.Layouts.{IsGeometry, Layout, Sizes, layout_of}
-use Rattle.sl_area.specs.Places.{block_offset, block_sectors, fresh_block_at, fresh_delta, fresh_leader, leader_record, no_request, no_value, pair_offset}
+use Rattle.sl_area.specs.AreaSizes.{IsGeometry, Layout, Sizes, layout_of}
+use Rattle.sl_area.specs.AreaLayout.{block_offset, block_sectors, pair_offset}
+use Rattle.sl_area.specs.AreaRecords.{fresh_block_at, fresh_delta, fresh_leader, leader_record, no_request, no_value}
 use Rattle.sl_area.specs.Sectors.{Apart, KeepsOthers, SectorPlace}
 use Rattle.sl_direct.proofs.DiskLaws.{AllApart, BrokeOff-behind, BrokeOff-front, Wrote-append, broke_first}
 use Rattle.sl_direct.specs.FreshAreas.{Write, block_write, block_writes, delta_write, leader_write, lockspace_writes, place_of, request_write, resource_writes, value_write, write_of}
-use Rattle.sl_direct.specs.Steps.{BrokeOff, Wrote}
+use Rattle.sl_direct.specs.HalfDone.{BrokeOff, Wrote}
 use Rattle.sl_sector.proofs.SpellingLaws.{length-spelling}
 use Rattle.sl_sector.proofs.WrittenBytes.{sha256_is_digest}
 use Rattle.sl_sector.specs.Records.{IsRecord}
-use Rattle.sl_sector.specs.Spelling.{IsSectorSize, spelling}
+use Rattle.sl_sector.specs.SectorLayouts.{IsSectorSize, spelling}
 use Rattle.sl_sector.specs.declared.sector.Rec.TheVariants.{DeltaIs, RequestIs, ValueIs}
 use Rattle.sl_sector.specs.declared.sector.Rec.{Rec}
 use Rattle.sl_text.specs.Names.{is_name}

@@ -1,9 +1,9 @@
 -- What was read, and what was told of it.
-use Rattle.sl_area.specs.Layouts.{Sizes}
+use Rattle.sl_area.specs.AreaSizes.{Sizes}
 use Rattle.sl_area.specs.Sectors.{IsReadAt}
 use Rattle.sl_direct.specs.Actions.{AreReadAt}
 use Rattle.sl_direct.specs.Lines.{dump_lines, is_its_leader, leader_in_sector, leader_line, sector_line}
-use Rattle.sl_direct.specs.Steps.{AreTold, HasActed, IsToldAt}
+use Rattle.sl_direct.specs.HalfDone.{AreTold, HasActed, IsToldAt}
 use Rattle.sl_direct.specs.declared.action.Action.TheVariants.{ReadLeader}
 use Rattle.sl_direct.specs.declared.action.Directed.TheVariants.{Done, NotTheLeader}
 use Rattle.sl_text.specs.Forms.{as_bytes}

@@ -1,11 +1,11 @@
 -- An area that is upgraded: what was read of it still counts after further reads, its blocks one behind another, and the writes.
-use Rattle.sl_area.specs.Layouts.{Layout, Sizes, layout_of}
-use Rattle.sl_area.specs.Places.{leader_offset}
+use Rattle.sl_area.specs.AreaSizes.{Layout, Sizes, layout_of}
+use Rattle.sl_area.specs.AreaLayout.{leader_offset}
 use Rattle.sl_area.specs.Roles.{IsHost, place_at}
 use Rattle.sl_area.specs.Sectors.{IsReadAt, KeepsOthers, Replaces, SectorPlace}
 use Rattle.sl_direct.proofs.DiskLaws.{BrokeOff-behind, BrokeOff-front, Wrote-append, broke_first}
 use Rattle.sl_direct.specs.FreshAreas.{Write}
-use Rattle.sl_direct.specs.Steps.{BrokeOff, HasActed, Wrote}
+use Rattle.sl_direct.specs.HalfDone.{BrokeOff, HasActed, Wrote}
 use Rattle.sl_direct.specs.Upgrades.{AreOld, PairsUp, ReadsBlock, ReadsBlocks, ReadsLeader, StopsBehind, TellsOther, old_leader_in, other_line, pair_writes, pairs_down, right_leader, torn_line, upgrade_line, upgrade_writes}
 use Rattle.sl_direct.specs.declared.action.Action.TheVariants.{Upgrade}
 use Rattle.sl_direct.specs.declared.action.Directed.TheVariants.{AreaFault, Done, NoMemory, NotTheLeader, TornBlock, WriteFault}
@@ -13,7 +13,7 @@ use Rattle.sl_direct.specs.declared.action.Directed.{Directed}
 use Rattle.sha2.specs.Sha256.{sha256}
 use Rattle.sl_direct.specs.Lines.{has_names}
 use Rattle.sl_sector.specs.Records.{IsBlock, IsLeader}
-use Rattle.sl_sector.specs.Spelling.{Spells, block_in}
+use Rattle.sl_sector.specs.SectorLayouts.{Spells, block_in}
 use Rattle.sl_sector.specs.declared.sector.Bad.{Bad}
 use Rattle.sl_sector.specs.declared.sector.Rec.TheVariants.{BlockIs, DeltaIs, LeaderIs, PairIs, PairLeaderIs, RequestIs, ValueIs}
 use Rattle.sl_sector.specs.declared.sector.Rec.{Rec}

@@ -1,6 +1,6 @@
 -- What an upgrade tells of an area's content.
-use Rattle.sl_area.specs.Layouts.{Sizes, layout_of}
-use Rattle.sl_area.specs.Places.{block_offset, leader_offset}
+use Rattle.sl_area.specs.AreaSizes.{Sizes, layout_of}
+use Rattle.sl_area.specs.AreaLayout.{block_offset, leader_offset}
 use Rattle.sl_direct.proofs.AreaLaws.{done_is_none, ended_as, refused_is_none}
 use Rattle.sl_direct.specs.Actions.{Acts, Directs}
 use Rattle.sl_direct.specs.Laws.{UpgradeIsTold, can_upgrade, has_block, sector_at}

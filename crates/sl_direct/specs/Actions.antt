@@ -1,5 +1,5 @@
 -- What an action on an area owes: by what it found there, what it leaves there, what it prints, and how it ended.
-use Rattle.sl_area.specs.Layouts.{IsGeometry, layout_of}
+use Rattle.sl_area.specs.AreaSizes.{IsGeometry, layout_of}
 use Rattle.sl_area.specs.Roles.{IsBase}
 use Rattle.sl_area.specs.Sectors.{IsReadAt}
 use Rattle.sl_direct.specs.Disks.{IsBrokenOff, IsInitialised}
@@ -13,7 +13,7 @@ use Rattle.sl_direct.specs.declared.action.Directed.{Directed}
 use Rattle.sl_text.specs.Forms.{as_bytes}
 use Rattle.sl_text.specs.Names.{is_name}
 use Rattle.sl_trace.specs.declared.command.ResourceArg.{ResourceArg}
-use Rattle.sl_words.specs.Causes.{Rose}
+use Rattle.sl_io.specs.FaultCauses.{Rose}
 use Rattle.std.specs.Io.KnownBytes.{Appends, Keeps}
 use Rattle.std.specs.List.{list_all}
 use Rattle.std.specs.Prelude.{Bool, IsTrue, List, Option, false, length, map, true, [], ⊤, ℕ, ◌%◌, ◌++◌, ◌+◌, ◌/◌, ◌<◌, ◌^◌, ◌∷◌, ◌≡◌, ◌≤◌, ◌⊎◌}

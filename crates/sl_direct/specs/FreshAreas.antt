@@ -1,9 +1,10 @@
 -- What is written to the area of a lockspace or of a resource that is initialised, in the order in which it is written.
 use Rattle.sha2.specs.Sha256.{sha256}
-use Rattle.sl_area.specs.Layouts.{Layout}
-use Rattle.sl_area.specs.Places.{block_offset, block_sectors, delta_offset, fresh_block_at, fresh_delta, fresh_leader, leader_offset, leader_record, no_request, no_value, request_offset, value_offset}
+use Rattle.sl_area.specs.AreaSizes.{Layout}
+use Rattle.sl_area.specs.AreaLayout.{block_offset, block_sectors, delta_offset, leader_offset, request_offset, value_offset}
+use Rattle.sl_area.specs.AreaRecords.{fresh_block_at, fresh_delta, fresh_leader, leader_record, no_request, no_value}
 use Rattle.sl_area.specs.Sectors.{SectorPlace}
-use Rattle.sl_sector.specs.Spelling.{spelling}
+use Rattle.sl_sector.specs.SectorLayouts.{spelling}
 use Rattle.sl_sector.specs.declared.sector.Rec.TheVariants.{DeltaIs, RequestIs, ValueIs}
 use Rattle.sl_sector.specs.declared.sector.Rec.{Rec}
 use Rattle.std.specs.List.{range_with_len}

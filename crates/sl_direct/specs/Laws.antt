@@ -1,7 +1,8 @@
 -- What holds of areas that were initialised, and of what is told of a leader.
 use Rattle.sha2.specs.Sha256.{sha256}
-use Rattle.sl_area.specs.Layouts.{IsGeometry, Sizes, layout_of}
-use Rattle.sl_area.specs.Places.{block_offset, delta_offset, fresh_block, fresh_delta, fresh_leader, fresh_pair, leader_offset, leader_record, no_request, no_value, pair_offset, request_offset, value_offset}
+use Rattle.sl_area.specs.AreaSizes.{IsGeometry, Sizes, layout_of}
+use Rattle.sl_area.specs.AreaLayout.{block_offset, delta_offset, leader_offset, pair_offset, request_offset, value_offset}
+use Rattle.sl_area.specs.AreaRecords.{fresh_block, fresh_delta, fresh_leader, fresh_pair, leader_record, no_request, no_value}
 use Rattle.sl_direct.specs.Actions.{Directs, IsAction}
 use Rattle.sl_direct.specs.Disks.{Holds, HoldsFront}
 use Rattle.sl_direct.specs.FreshAreas.{leader_write, lockspace_writes, resource_writes}
@@ -11,7 +12,7 @@ use Rattle.sl_direct.specs.declared.action.Action.{Action}
 use Rattle.sl_direct.specs.Upgrades.{old_block_in, old_leader_in, right_leader}
 use Rattle.sl_direct.specs.declared.action.Directed.TheVariants.{Done, NotTheLeader, TornBlock}
 use Rattle.sl_direct.specs.declared.action.Directed.{Directed}
-use Rattle.sl_sector.specs.Spelling.{decoded}
+use Rattle.sl_sector.specs.SectorLayouts.{decoded}
 use Rattle.sl_sector.specs.declared.sector.Bad.{Bad}
 use Rattle.sl_sector.specs.declared.sector.Rec.TheVariants.{BlockIs, DeltaIs, PairIs, RequestIs, ValueIs}
 use Rattle.sl_sector.specs.declared.sector.Rec.{Rec}

@@ -4,5 +4,5 @@ pub mod Writes
 pub mod Lines
 pub mod Upgrades
 pub mod Actions
-pub mod Steps
+pub mod HalfDone
 pub mod Laws

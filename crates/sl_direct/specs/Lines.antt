@@ -1,7 +1,7 @@
 -- What is printed: of an area that was initialised, of a leader, of a sector.
 use Rattle.sha2.specs.Sha256.{sha256}
 use Rattle.sl_sector.specs.RecordTexts.{bad_words, record_words}
-use Rattle.sl_sector.specs.Spelling.{decoded}
+use Rattle.sl_sector.specs.SectorLayouts.{decoded}
 use Rattle.sl_sector.specs.declared.sector.Bad.TheVariants.{BadKind}
 use Rattle.sl_sector.specs.declared.sector.Bad.{Bad}
 use Rattle.sl_sector.specs.declared.sector.Leader.{Leader}

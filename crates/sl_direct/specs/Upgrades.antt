@@ -1,7 +1,7 @@
 -- An area without pairs that becomes one with pairs: what is read of it, what is written, and what is told.
 use Rattle.sha2.specs.Sha256.{sha256}
-use Rattle.sl_area.specs.Layouts.{Layout, Sizes, layout_of}
-use Rattle.sl_area.specs.Places.{block_offset, leader_offset, pair_offset}
+use Rattle.sl_area.specs.AreaSizes.{Layout, Sizes, layout_of}
+use Rattle.sl_area.specs.AreaLayout.{block_offset, leader_offset, pair_offset}
 use Rattle.sl_area.specs.Roles.{IsHost}
 use Rattle.sl_area.specs.Sectors.{IsReadAt}
 use Rattle.sl_direct.specs.FreshAreas.{Write, write_of}
@@ -11,7 +11,7 @@ use Rattle.sl_direct.specs.declared.action.Directed.TheVariants.{AreaFault, Done
 use Rattle.sl_direct.specs.declared.action.Directed.{Directed}
 use Rattle.sl_sector.specs.RecordTexts.{bad_words}
 use Rattle.sl_sector.specs.Records.{IsBlock}
-use Rattle.sl_sector.specs.Spelling.{block_in, decoded}
+use Rattle.sl_sector.specs.SectorLayouts.{block_in, decoded}
 use Rattle.sl_sector.specs.declared.sector.Bad.TheVariants.{BadKind}
 use Rattle.sl_sector.specs.declared.sector.Bad.{Bad}
 use Rattle.sl_sector.specs.declared.sector.Block.{Block}

@@ -1,13 +1,13 @@
 //! An action, done to an area and told to a sink.
 ghost use Rattle.sl_direct.specs.Actions.{Directs, IsAction, PutsOut, last_lines};
-ghost use Rattle.sl_direct.specs.Steps.{HasActed};
+ghost use Rattle.sl_direct.specs.HalfDone.{HasActed};
 ghost use Rattle.sl_direct.specs.declared.action.Directed.TheVariants.{AreaFault};
 ghost use Rattle.sl_text.specs.Forms.{as_bytes};
-ghost use Rattle.sl_words.specs.Causes.{Rose};
+ghost use Rattle.sl_io.specs.FaultCauses.{Rose};
 ghost use Rattle.std.specs.Prelude.{[], ◌++◌, ◌≡◌, ◌≤◌};
 
 use crate::action::{Action, Directed};
-use crate::areas::{init_lockspace, init_resource};
+use crate::fresh_areas::{init_lockspace, init_resource};
 use crate::looks::{dump, read_leader};
 use crate::upgrade::upgrade;
 use sl_area::Area;

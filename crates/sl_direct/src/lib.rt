@@ -26,23 +26,23 @@
 //! | `NoMemory` | as it was | the lines of the sectors that were told before |
 //! | `WriteFault` | as one of these left it | a front of its output |
 //!
-//! `areas` writes, with the records of `fresh`; `upgrade` reads and writes; `looks` reads; `lines` has the lines; `direct` puts them out. The clause of `run_direct` is
+//! `fresh_areas` writes, with the records of `fresh_records`; `upgrade` reads and writes; `looks` reads; `lines` has the lines; `direct` puts them out. The clause of `run_direct` is
 //! the table (`Directs` in specs/Actions.antt), and `laws` says what it comes to: which records stand, that the leader stands last, that a
 //! leader is told exactly where it is the resource's, and that what was initialised is found.
 #![tactic(auto)]
 
 pub mod action;
-mod areas;
 mod direct;
-mod fresh;
+mod fresh_areas;
+mod fresh_records;
 pub mod laws;
 mod lines;
 mod looks;
 mod upgrade;
 
 pub use action::{Action, Directed};
-pub use areas::{write_record, write_resource};
 pub use direct::run_direct;
+pub use fresh_areas::{write_record, write_resource};
 
 /// Bytes of the longest sector.
 const LONGEST_SECTOR: usize = 4096;

@@ -3,7 +3,7 @@ ghost use Rattle.sl_direct.specs.Lines as texts;
 ghost use Rattle.sl_direct.specs.Upgrades as upgrades;
 ghost use Rattle.sha2.specs.Sha256.{sha256};
 ghost use Rattle.sl_sector.specs.RecordTexts.{bad_text};
-ghost use Rattle.sl_sector.specs.Spelling.{IsSectorSize, decoded};
+ghost use Rattle.sl_sector.specs.SectorLayouts.{IsSectorSize, decoded};
 ghost use Rattle.sl_text.specs.Forms.{spaced};
 ghost use Rattle.std.specs.Prelude.{IfOk, OnErr, OnOk, [], length, string_bytes, false, true, ◌++◌, ◌∷◌, ◌≡◌};
 

@@ -1,13 +1,13 @@
 //! Sectors of an area that are read and told.
-ghost use Rattle.sl_area.specs.Layouts.{IsGeometry};
+ghost use Rattle.sl_area.specs.AreaSizes.{IsGeometry};
 ghost use Rattle.sl_area.specs.Roles.{IsBase, place_at};
 ghost use Rattle.sl_direct.specs.Actions.{IsStretch};
 ghost use Rattle.sl_direct.specs.Lines as texts;
-ghost use Rattle.sl_direct.specs.Steps.{AreTold, HasActed, IsStopped, IsToldAt};
+ghost use Rattle.sl_direct.specs.HalfDone.{AreTold, HasActed, IsStopped, IsToldAt};
 ghost use Rattle.sl_direct.specs.declared.action.Action.TheVariants.{Dump, ReadLeader};
 ghost use Rattle.sl_direct.specs.declared.action.Directed.TheVariants.{AreaFault};
-ghost use Rattle.sl_sector.specs.Spelling.{IsSectorSize};
-ghost use Rattle.sl_words.specs.Causes.{Rose};
+ghost use Rattle.sl_sector.specs.SectorLayouts.{IsSectorSize};
+ghost use Rattle.sl_io.specs.FaultCauses.{Rose};
 ghost use Rattle.std.specs.Io.KnownBytes.{Keeps};
 ghost use Rattle.std.specs.Prelude.{IfErr, IfOk, OnErr, OnOk, [], length, ℕ, ◌%◌, ◌*◌, ◌++◌, ◌/◌, ◌<◌, ◌^◌, ◌∷◌, ◌≡◌, ◌≤◌};
 

@@ -4,25 +4,25 @@
 //! sector zeros: from then on neither a host that works with pairs nor one that works without finds a leader there. The leader comes back
 //! last, as the record of an area with pairs. So an upgrade that was cut off in between leaves an area that is refused, or, where all pairs
 //! stand, one with pairs whose leader is torn.
-ghost use Rattle.sl_area.specs.Layouts.{IsGeometry, layout_of};
+ghost use Rattle.sl_area.specs.AreaSizes.{IsGeometry, layout_of};
 ghost use Rattle.sl_area.specs.Roles.{IsBase, IsHost};
 ghost use Rattle.sl_direct.specs.Actions.{IsAction};
 ghost use Rattle.sl_direct.specs.FreshAreas.{write_of};
-ghost use Rattle.sl_direct.specs.Steps.{BrokeOff, HasActed, Wrote};
+ghost use Rattle.sl_direct.specs.HalfDone.{BrokeOff, HasActed, Wrote};
 ghost use Rattle.sl_direct.specs.Upgrades as upgrades;
 ghost use Rattle.sl_direct.specs.Upgrades.{AreOld, PairsUp, ReadsBlock, ReadsBlocks, ReadsLeader, StopsBehind, TellsOther, last_write, pair_writes, pairs_down, turn_write, upgrade_writes, zeros_write};
 ghost use Rattle.sl_direct.specs.declared.action.Action.TheVariants.{Upgrade};
 ghost use Rattle.sl_direct.specs.declared.action.Directed.TheVariants.{AreaFault, NoMemory};
 ghost use Rattle.sl_sector.specs.Records.{IsBlock, IsLeader};
 ghost use Rattle.sl_sector.specs.declared.sector.Block.{Block};
-ghost use Rattle.sl_sector.specs.Spelling.{IsSectorSize};
-ghost use Rattle.sl_words.specs.Causes.{HasCause, Rose};
+ghost use Rattle.sl_sector.specs.SectorLayouts.{IsSectorSize};
+ghost use Rattle.sl_io.specs.FaultCauses.{HasCause, Rose};
 ghost use Rattle.std.specs.Io.KnownBytes.{Keeps};
 ghost use Rattle.std.specs.Prelude.{IfErr, IfOk, All, IfSome, List, MatchResult, OnErr, OnOk, Some, if◌then◌else◌, length, true, [], ◌+◌, ◌∷◌, ◌≡◌, ◌≤◌};
 
 use crate::LONGEST_SECTOR;
 use crate::action::Directed;
-use crate::areas::write_record;
+use crate::fresh_areas::write_record;
 use crate::lines::{has_names, push_other_line, push_torn_line, push_upgrade_line};
 use sl_area::{Area, Geometry, Place};
 use sl_io::Failed;

@@ -1,6 +1,7 @@
 -- The records of moment 0, sector by sector of a resource's area.
-use Rattle.sl_area.specs.Layouts.{Layout, layout_of}
-use Rattle.sl_area.specs.Places.{area_sectors, block_sectors, fresh_block_at, fresh_leader, leader_record, no_request, no_value}
+use Rattle.sl_area.specs.AreaSizes.{Layout, layout_of}
+use Rattle.sl_area.specs.AreaLayout.{area_sectors, block_sectors}
+use Rattle.sl_area.specs.AreaRecords.{fresh_block_at, fresh_leader, leader_record, no_request, no_value}
 use Rattle.sl_disks.specs.Initial.{line_at, resource_at}
 use Rattle.sl_run.specs.Worlds.{initial_of_resource, initial_record}
 use Rattle.sl_run.specs.declared.header.Header.{Header}

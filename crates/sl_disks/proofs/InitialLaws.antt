@@ -4,8 +4,9 @@ use Rattle.sl_sector.specs.declared.sector.DeltaRec.{DeltaRec}
 use Rattle.sha2.specs.Sha256.{sha256}
 use Rattle.sl_area.proofs.FreshRecords.{fresh_block_at_is, leader_record_is, no_request_is, no_value_is}
 use Rattle.sl_area.proofs.SizeLaws.{has_room}
-use Rattle.sl_area.specs.Layouts.{IsGeometry, Sizes, layout_of, sector_with}
-use Rattle.sl_area.specs.Places.{area_sectors, fresh_block_at, fresh_delta, fresh_leader, in_area, leader_record, no_request, no_value}
+use Rattle.sl_area.specs.AreaSizes.{IsGeometry, Sizes, layout_of, sector_with}
+use Rattle.sl_area.specs.AreaLayout.{area_sectors, in_area}
+use Rattle.sl_area.specs.AreaRecords.{fresh_block_at, fresh_delta, fresh_leader, leader_record, no_request, no_value}
 use Rattle.sl_run.specs.Headers.{IsHeader}
 use Rattle.sl_run.specs.Worlds.{clock_reading, initial_bytes, initial_delta, initial_of_lockspace, initial_of_resource, initial_record, member_delta}
 use Rattle.sl_run.specs.declared.header.FirstReading.{FirstReading}
@@ -16,7 +17,7 @@ use Rattle.sl_run.specs.declared.header.SessionLine.{SessionLine}
 use Rattle.sl_sector.proofs.SpellingLaws.{length-spelling}
 use Rattle.sl_sector.proofs.WrittenBytes.{sha256_is_digest}
 use Rattle.sl_sector.specs.Records.{IsDelta, IsRecord}
-use Rattle.sl_sector.specs.Spelling.{IsSectorSize}
+use Rattle.sl_sector.specs.SectorLayouts.{IsSectorSize}
 use Rattle.sl_sector.specs.declared.sector.Rec.TheVariants.{DeltaIs, RequestIs, ValueIs}
 use Rattle.sl_sector.specs.declared.sector.Rec.{Rec}
 use Rattle.sl_text.specs.Names.{is_name}

@@ -1,5 +1,5 @@
 -- Disks as they are kept, and what stands on them.
-use Rattle.sl_area.specs.Layouts.{layout_of}
+use Rattle.sl_area.specs.AreaSizes.{layout_of}
 use Rattle.sl_run.specs.Headers.{IsHeader}
 use Rattle.sl_run.specs.Worlds.{initial_bytes, mebibyte}
 use Rattle.sl_run.specs.declared.header.Disk.{Disk}

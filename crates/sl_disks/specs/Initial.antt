@@ -1,7 +1,7 @@
 -- Whose area has a place at moment 0.
 use Rattle.sl_run.specs.declared.header.FirstReading.{FirstReading}
-use Rattle.sl_area.specs.Layouts.{layout_of}
-use Rattle.sl_area.specs.Places.{in_area}
+use Rattle.sl_area.specs.AreaSizes.{layout_of}
+use Rattle.sl_area.specs.AreaLayout.{in_area}
 use Rattle.sl_run.specs.declared.header.Header.{Header}
 use Rattle.sl_run.specs.declared.header.LockspaceLine.{LockspaceLine}
 use Rattle.sl_run.specs.declared.header.ResourceLine.{ResourceLine}

@@ -4,8 +4,9 @@
 //! No disk is laid out. What stands at a place is worked out when it is asked for, so a world of many mebibytes takes no more room than
 //! what was written to it.
 
-ghost use Rattle.sl_area.specs.Layouts.{layout_of};
-ghost use Rattle.sl_area.specs.Places.{area_sectors, fresh_block, fresh_block_at, fresh_delta, fresh_leader, fresh_pair, in_area, leader_record, no_request, no_value};
+ghost use Rattle.sl_area.specs.AreaSizes.{layout_of};
+ghost use Rattle.sl_area.specs.AreaLayout.{area_sectors, in_area};
+ghost use Rattle.sl_area.specs.AreaRecords.{fresh_block, fresh_block_at, fresh_delta, fresh_leader, fresh_pair, leader_record, no_request, no_value};
 ghost use Rattle.sl_run.specs.Headers.{IsHeader};
 ghost use Rattle.sl_run.specs.Worlds.{clock_reading, initial_delta, initial_of_lockspace, initial_of_resource, initial_record, member_delta};
 ghost use Rattle.sl_sector.specs.Records.{IsRecord};

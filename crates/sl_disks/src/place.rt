@@ -1,7 +1,7 @@
 //! Where calls lie.
 
 ghost use Rattle.sl_world_state.specs.ShownWorlds.{is_placed_in, place_at, place_in};
-ghost use Rattle.sl_run.specs.Events as events;
+ghost use Rattle.sl_run.specs.Refusals as refusals;
 ghost use Rattle.sl_run.specs.Worlds.{mebibyte};
 ghost use Rattle.std.specs.Prelude.{IfOk, bytes_eq, nat_le, position, ◌&&◌, ◌*◌, ◌+◌, ◌-◌, ◌/◌, ◌≡◌};
 
@@ -37,7 +37,7 @@ const MEBIBYTE: u128 = 1 << 20;
 
 /// How many sectors a call has.
 pub fn sectors_of(op: &Op) -> u32
-    ensures { result ≡ events.sectors_of op.now }
+    ensures { result ≡ refusals.sectors_of op.now }
 {
     match op {
         Op::ReadSectors { sectors } => *sectors,
@@ -47,7 +47,7 @@ pub fn sectors_of(op: &Op) -> u32
 
 /// Where a call's last sector ends, on a disk with such sectors.
 fn end_of(sector: u32, call: &Call) -> u128
-    ensures { result ≡ call.now.offset + (events.sectors_of call.now.op - 1) * sector + sector }
+    ensures { result ≡ call.now.offset + (refusals.sectors_of call.now.op - 1) * sector + sector }
 {
     let before = sectors_of(&call.op).saturating_sub(1);
     u128::from(call.offset) + u128::from(before) * u128::from(sector) + u128::from(sector)

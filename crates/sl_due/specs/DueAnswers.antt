@@ -1,6 +1,6 @@
 -- What an answer makes due, by what its call was for.
-use Rattle.sl_due.specs.DueDelta.{after_free, after_join_answer, after_renewal, after_survey}
-use Rattle.sl_due.specs.DueLease.{after_lease_answer, with_command}
+use Rattle.sl_due.specs.CarriedDelta.{after_free, after_join_answer, after_renewal, after_survey}
+use Rattle.sl_due.specs.CarriedLease.{after_lease_answer, with_command}
 use Rattle.sl_due.specs.DueRequests.{after_request_read, after_see_request, after_value_read}
 use Rattle.sl_due.specs.Steps.{Step, add_reply, seen, when, with_some}
 use Rattle.sl_trace.specs.Leases.{value_written}

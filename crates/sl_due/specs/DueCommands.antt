@@ -1,20 +1,23 @@
 -- What a command makes due: it is decided as data on the trace before its line, its refusals in order; then the decision is carried out.
-use Rattle.sl_area.specs.Places.{delta_offset, value_offset}
-use Rattle.sl_due.specs.DueFirst.{signal_and_refuse}
-use Rattle.sl_due.specs.DueLease.{carry_lease, grant_for, read_area}
+use Rattle.sl_area.specs.AreaLayout.{delta_offset, value_offset}
+use Rattle.sl_due.specs.DueRecovery.{signal_and_refuse}
+use Rattle.sl_due.specs.CarriedLease.{carry_lease, grant_for, read_area}
 use Rattle.sl_due.specs.Steps.{Step, add_call_at, add_call_of, add_end, add_reply, seen, with_input}
 use Rattle.sl_due.specs.declared.decision.Decision.TheVariants.{ConvertsTo, GetsValue, GivesUp, Joins, Leaves, ReadsArea, Replies, Requests, SetsValue, Shares, TakesOver}
 use Rattle.sl_due.specs.declared.decision.Decision.{Decision}
-use Rattle.sl_trace.specs.Counts.{busy_process, holds_already, is_killpath_limit, limit_met, may_act, next_value_seq, other_holder, pending_call}
+use Rattle.sl_trace.specs.Counts.{busy_process, holds_already, limit_met, may_act, next_value_seq, other_holder, pending_call}
+use Rattle.sl_trace.specs.KillPrograms.{is_killpath_limit}
 use Rattle.sl_trace.specs.Jobs.{wanted_mode}
-use Rattle.sl_trace.specs.LeaseWork.{convert_next, lease_place, release_next, within_turn}
+use Rattle.sl_trace.specs.Conversions.{convert_next}
+use Rattle.sl_trace.specs.LeaseDecisions.{lease_place, within_turn}
+use Rattle.sl_trace.specs.Releases.{release_next}
 use Rattle.sl_trace.specs.declared.lease.Aim.TheVariants.{Converts, Releases}
 use Rattle.sl_trace.specs.Leases.{holdings_on, known, orphan_on, shared_on, spot_of}
 use Rattle.sl_sector.specs.declared.sector.Rec.TheVariants.{ValueIs}
 use Rattle.sl_trace.specs.Sessions.{generation_of, holdings_of, is_active, is_joined, is_session_arg, last_renewal, last_seq, present_sessions, session_named, sessions}
 use Rattle.sl_trace.specs.Sightings.{sessions_seen, states_seen}
 use Rattle.sl_trace.specs.declared.session.Session.{Session}
-use Rattle.sl_trace.specs.Limits.{most_lockspaces}
+use Rattle.sl_trace.specs.CountLimits.{most_lockspaces}
 use Rattle.sl_trace.specs.Traces.{Setting, Trace, end_of, is_orphan, is_shared, next_job, no_process, spot_of_grant}
 use Rattle.sl_trace.specs.declared.command.Command.TheVariants.{Acquire, AddLockspace, Convert, GetLvb, HostStatus, InqLockspace, Release, ReleaseOrphan, RemLockspace, Request, RunProgram, SetKillpath, SetLvb, Status, TakeOver}
 use Rattle.sl_trace.specs.declared.command.Command.{Command}

@@ -1,12 +1,12 @@
 -- What the calls on requests and values make due.
-use Rattle.sl_area.specs.Layouts.{Layout, record_in}
-use Rattle.sl_area.specs.Places.{leader_of, read_at, request_offset}
-use Rattle.sl_due.specs.DueFirst.{send}
+use Rattle.sl_area.specs.AreaSizes.{Layout, record_in}
+use Rattle.sl_area.specs.AreaLayout.{leader_of, read_at, request_offset}
+use Rattle.sl_due.specs.DueRecovery.{send}
 use Rattle.sl_due.specs.Steps.{Step, add_call_at, add_reply, seen, when, with_some}
 use Rattle.sl_trace.specs.Leases.{exclusive_on, is_leader_of, spot_of_call}
 use Rattle.sl_request.specs.Requests.{check_request}
 use Rattle.sl_sector.specs.Bitmaps.{bitmap_of}
-use Rattle.sl_sector.specs.Spelling.{request_in, value_in}
+use Rattle.sl_sector.specs.SectorLayouts.{request_in, value_in}
 use Rattle.sl_sector.specs.declared.sector.Rec.TheVariants.{RequestIs}
 use Rattle.sl_trace.specs.declared.session.Session.{Session}
 use Rattle.sl_time.specs.Times.{fail}

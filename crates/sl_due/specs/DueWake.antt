@@ -1,11 +1,11 @@
 -- What a wake makes due, and what comes last in each step.
-use Rattle.sl_due.specs.DueDelta.{carry_delta, for_joining}
-use Rattle.sl_due.specs.DueFirst.{remove_connection}
-use Rattle.sl_due.specs.DueLease.{settle}
+use Rattle.sl_due.specs.CarriedDelta.{carry_delta, for_joining}
+use Rattle.sl_due.specs.DueTimeOuts.{remove_connection}
+use Rattle.sl_due.specs.CarriedLease.{settle}
 use Rattle.sl_due.specs.DueRequests.{bits_due}
 use Rattle.sl_due.specs.Steps.{Step, for_each, seen, when}
 use Rattle.sl_trace.specs.Leases.{lease_spots, open_on}
-use Rattle.sl_trace.specs.Deltas.{delta_known, delta_of_session, next_free, next_on_wake, next_renewal}
+use Rattle.sl_trace.specs.DeltaDecisions.{delta_known, delta_of_session, next_free, next_on_wake, next_renewal}
 use Rattle.sl_trace.specs.Sessions.{calls_of, has_open_write, holdings_of, is_active, is_joined, open_calls_of, present_sessions, recovery_of}
 use Rattle.sl_trace.specs.declared.session.Session.{Session}
 use Rattle.sl_trace.specs.Traces.{is_running}

@@ -2,5 +2,6 @@
 
 pub mod causes;
 pub mod due;
+pub mod idle_jobs;
 pub mod lawful_traces;
 pub mod recovery;

@@ -13,4 +13,4 @@ pub mod SettingsMatter
 pub mod QuietPremisesTell
 pub mod Ballots
 pub mod Witness
-pub mod Premises
+pub mod QuietPremises

@@ -1,31 +1,35 @@
 -- A daemon that reads a joining at an offset within a sector does what is due, and breaks the law of first reads.
-use Rattle.sl_due.specs.Due.{after_input, before_input, due, due_step}
+use Rattle.sl_due.specs.Due.{after_input, before_input, due, due_step, IsHostTrace}
 use Rattle.sl_due.specs.DueAnswers.{after_answer, after_answer_of}
 use Rattle.sl_due.specs.DueCommands.{after_end, carry_decision, decided, on_line}
-use Rattle.sl_due.specs.DueDelta.{after_free, after_join_answer, after_renewal, after_survey, carry_delta, see_requests}
-use Rattle.sl_due.specs.DueFirst.{begin_recoveries, begin_recovery, kill_holders, kills, refuse, signal_and_refuse, time_out, time_outs}
+use Rattle.sl_due.specs.CarriedDelta.{after_free, after_join_answer, after_renewal, after_survey, carry_delta, see_requests}
+use Rattle.sl_due.specs.DueRecovery.{begin_recoveries, begin_recovery, kill_holders, kills, signal_and_refuse}
+use Rattle.sl_due.specs.DueTimeOuts.{refuse, time_out, time_outs}
 use Rattle.sl_due.specs.DueInputs.{leave_holdings, on_exit, on_spawned, take_input}
-use Rattle.sl_due.specs.DueLease.{after_lease_answer, carry_lease, settle}
+use Rattle.sl_due.specs.CarriedLease.{after_lease_answer, carry_lease, settle}
 use Rattle.sl_due.specs.DueRequests.{after_request_read, after_see_request, after_value_read, request_refusal}
 use Rattle.sl_due.specs.DueWake.{finish, finish_session, join_on_wake, on_wake, renew_on_wake, settle_on_wake, settlings}
 use Rattle.sl_trace.specs.Ballots.{instance_of, phase1_block, phase2_block, stop_of}
-use Rattle.sl_trace.specs.LeaseWork.{after_bytes, area_next, begin_next, lease_next, settle_begin, settle_next, within_turn}
+use Rattle.sl_trace.specs.LeaseDecisions.{after_bytes, area_next, begin_next, lease_next, settle_begin, settle_next, within_turn}
 use Rattle.sl_trace.specs.Leases.{known}
 use Rattle.sl_run.specs.Lvm.{begins, goes_on_with, lvm_turn}
 use Rattle.sl_run.specs.LvmLines.{lvm_forms}
 use Rattle.sl_report.specs.Reports.{count_event}
-use Rattle.sl_report.specs.ScheduleLines.{event_forms, header_forms, header_of, header_tests}
-use Rattle.sl_run.specs.Events.{event_tests, first_change, pass_tests}
+use Rattle.sl_report.specs.EventLines.{event_forms}
+use Rattle.sl_report.specs.HeaderLines.{header_forms, header_of}
+use Rattle.sl_report.specs.HeaderRefusals.{header_tests}
+use Rattle.sl_run.specs.Refusals.{event_tests}
+use Rattle.sl_run.specs.Premises.{pass_tests}
+use Rattle.sl_run.specs.EventChanges.{first_change}
 use Rattle.sl_run.specs.Locks.{locks_after, told_effects}
 use Rattle.sl_run.specs.Worlds.{initial_record, machine_of_header}
-use Rattle.sl_sector.specs.Fields.{u32_at, u32_bytes, u64_at, u64_bytes}
-use Rattle.sl_sector.specs.Spelling.{block_rules, checked_part, decoded, delta_rules, field_bytes, fields_of, leader_rules, magic, own_rules, request_rules, spelling, value_rules}
-use Rattle.sl_trace.specs.Deltas.{next_after_deciding, next_after_first, next_after_verify, next_after_watch, next_in_joining, next_on_wake, next_renewal}
+use Rattle.sl_sector.specs.FieldBytes.{u32_at, u32_bytes, u64_at, u64_bytes}
+use Rattle.sl_sector.specs.SectorLayouts.{block_rules, checked_part, decoded, delta_rules, field_bytes, fields_of, leader_rules, magic, own_rules, request_rules, spelling, value_rules}
+use Rattle.sl_trace.specs.DeltaDecisions.{next_after_deciding, next_after_first, next_after_verify, next_after_watch, next_in_joining, next_on_wake, next_renewal}
 use Rattle.sl_text.specs.Names.{padded_text}
-use Rattle.sl_trace.specs.Commands.{forms}
+use Rattle.sl_trace.specs.CommandForms.{forms}
 use Rattle.sl_trace.specs.EffectTexts.{reply_words}
 use Rattle.std.specs.Fmt.{digits}
-use Rattle.sl_due.specs.Due.{IsHostTrace}
 use Rattle.sl_examples.specs.SettingsMatter.{SettingsMatter, joins_within_sector, reads_within_sectors}
 use Rattle.sl_run.specs.Lawful.{Lawful}
 use Rattle.sl_run.specs.LawfulDelta.{LawfulLook}

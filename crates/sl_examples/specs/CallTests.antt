@@ -1,6 +1,7 @@
 -- The laws of calls once more, as tests that compute: on delta sectors, areas, blocks and leaders. Each test mirrors one field of a law.
-use Rattle.sl_area.specs.Layouts.{record_in, sector_with}
-use Rattle.sl_area.specs.Places.{area_sectors, block_offset, block_sectors, is_base, needs_again}
+use Rattle.sl_area.specs.AreaSizes.{record_in, sector_with}
+use Rattle.sl_area.specs.AreaLayout.{area_sectors, block_offset, block_sectors, is_base}
+use Rattle.sl_area.specs.Pairs.{needs_again}
 use Rattle.sl_run.specs.LawfulArea.{is_area_work, is_block_work, is_delta_record, is_of_format, is_same_read, leaders_read, open_block_work, record_offset}
 use Rattle.sl_run.specs.LawfulCalls.{may_submit}
 use Rattle.sl_run.specs.LawfulDelta.{is_on_own_sector}
@@ -9,21 +10,21 @@ use Rattle.sl_run.specs.LawForms.{cut_at, newest_moves, older}
 use Rattle.sl_trace.specs.Ballots.{ballot_blocks, moded_block, owner_of, phase1_block, phase2_block, same_owner, stop_of}
 use Rattle.sl_trace.specs.Leases.{base_turn, block_written, blocks_bytes, blocks_given, ended_ballots, freed, is_again, is_area_read, is_at, is_block_read, is_leader_of, last_blocks, Leader_freed, leader_given, Leader_taken, leader_written, leaders_given, lease_calls, lease_step, own_block, Phase1_read, Phase1_write, Phase2_read, Phase2_write, spot_of_call, turn_written}
 use Rattle.sl_sector.specs.Bitmaps.{no_bits}
-use Rattle.sl_sector.specs.Spelling.{delta_in}
+use Rattle.sl_sector.specs.SectorLayouts.{delta_in}
 use Rattle.sl_sector.specs.declared.sector.Block.{Block}
 use Rattle.sl_sector.specs.declared.sector.DeltaRec.{DeltaRec}
 use Rattle.sl_sector.specs.declared.sector.DeltaState.TheVariants.{Claimed, Free, Live}
 use Rattle.sl_sector.specs.declared.sector.Leader.{Leader}
 use Rattle.sl_sector.specs.declared.sector.Rec.TheVariants.{BlockIs, DeltaIs, PairIs}
 use Rattle.sl_sector.specs.declared.sector.Rec.{Rec}
-use Rattle.sl_trace.specs.Deltas.{claim_of, delta_of_session, delta_record, first_answered, first_bytes}
+use Rattle.sl_trace.specs.DeltaDecisions.{claim_of, delta_of_session, delta_record, first_answered, first_bytes}
 use Rattle.sl_trace.specs.Sessions.{calls_of, delta_written, generation_of, has_open_delta, holdings_of, is_active, is_delta_purpose, is_join_call, is_leaving, is_survey_purpose, join_call, joined_after, last_seq, me, open_calls_of, recovery_of, session_named, session_numbered, sessions, stage_of}
 use Rattle.sl_trace.specs.Sightings.{counted_over, is_free_state}
 use Rattle.sl_trace.specs.declared.session.Session.{Session}
 use Rattle.sl_trace.specs.declared.stage.Stage.TheVariants.{Claiming, Deciding, Ended, FirstRenewing, Freeing, Looking, Refused, Standing, Verifying, Waiting}
 use Rattle.sl_trace.specs.declared.stage.Stage.{Stage}
 use Rattle.sl_time.specs.Times.{dead, fail, join_max, take_over}
-use Rattle.sl_trace.specs.Connections.{is_registered, registers_with}
+use Rattle.sl_trace.specs.WatchdogConnections.{is_registered, registers_with}
 use Rattle.sl_trace.specs.Traces.{gave, is_ok_answer, is_write, new_call, record_of, same_place, Setting, Submitted, Trace}
 use Rattle.sl_trace.specs.declared.effects.Entry.{Entry}
 use Rattle.sl_trace.specs.declared.effects.JoinStep.TheVariants.{ClaimWrite, DecidingRead, FirstRead, FirstRenewal, VerifyRead, WatchRead}

@@ -1,14 +1,15 @@
 -- The causes of ok replies once more, as tests that compute, for trying them on runs.
-use Rattle.sl_area.specs.Layouts.{Layout, record_in}
-use Rattle.sl_area.specs.Places.{leader_of, read_at}
+use Rattle.sl_area.specs.AreaSizes.{Layout, record_in}
+use Rattle.sl_area.specs.AreaLayout.{leader_of, read_at}
 use Rattle.sl_run.specs.Caused.{Answering, after_entry, before_entry, converting_step, the_session}
-use Rattle.sl_trace.specs.Counts.{is_killpath_limit, may_act}
+use Rattle.sl_trace.specs.KillPrograms.{is_killpath_limit}
+use Rattle.sl_trace.specs.Counts.{may_act}
 use Rattle.sl_trace.specs.Jobs.{command_of, job_of_start}
 use Rattle.sl_trace.specs.Leases.{Leader_freed, Leader_taken, Mode_cleared, StepKind, holdings_on, is_at, lver_written, spot_of, value_written}
 use Rattle.sl_request.specs.Requests.{check_request}
 use Rattle.sl_run.specs.Runs.{daemons_of}
 use Rattle.sl_run.specs.Worlds.{World}
-use Rattle.sl_sector.specs.Spelling.{request_in, value_in}
+use Rattle.sl_sector.specs.SectorLayouts.{request_in, value_in}
 use Rattle.sl_sector.specs.declared.sector.Rec.TheVariants.{RequestIs}
 use Rattle.sl_sector.specs.declared.sector.Rec.{Rec}
 use Rattle.sl_trace.specs.Sessions.{generation_of, is_active, is_join_call, is_session_arg, session_of_job}

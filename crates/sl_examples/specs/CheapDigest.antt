@@ -1,11 +1,11 @@
 -- A cheap digest, with which long examples compute. It is for examples alone: sums collide.
-use Rattle.sl_area.specs.Layouts.{layout_of}
+use Rattle.sl_area.specs.AreaSizes.{layout_of}
 use Rattle.sl_report.specs.Languages.{Language, language_of}
 use Rattle.sl_report.specs.Schedules.{replay_lines}
 use Rattle.sl_run.specs.Worlds.{Program}
-use Rattle.sl_sector.specs.Fields.{u32_bytes}
+use Rattle.sl_sector.specs.FieldBytes.{u32_bytes}
 use Rattle.sl_text.specs.Forms.{as_bytes}
-use Rattle.sl_trace.specs.Commands.{forms}
+use Rattle.sl_trace.specs.CommandForms.{forms}
 use Rattle.std.specs.Prelude.{List, replicate, sum, ℕ, ◌++◌}
 
 -- The sum of the bytes, and zeros.

@@ -1,9 +1,9 @@
 -- Traces made by hand: the trace that a run gives a daemon, and one entry more.
-use Rattle.sl_area.specs.Layouts.{sector_with}
+use Rattle.sl_area.specs.AreaSizes.{sector_with}
 use Rattle.sl_examples.specs.CheapDigest.{cheap_language, cheap_program}
 use Rattle.sl_examples.specs.LawTests.{broken_laws}
 use Rattle.sl_examples.specs.WorldTests.{read_events}
-use Rattle.sl_report.specs.Replay.{allowed, due_run}
+use Rattle.sl_report.specs.DueRuns.{allowed, due_run}
 use Rattle.sl_report.specs.Schedules.{Header_read, Header_refused, event_lines_of, numbered_lines, read_header}
 use Rattle.sl_run.specs.Runs.{world_after}
 use Rattle.sl_run.specs.Worlds.{Daemon, World, daemon_numbered, machine_at, world_with}

@@ -1,13 +1,13 @@
 -- The laws once more, as tests that compute, for trying them on runs and on literal traces. Each test mirrors one field of a law.
 use Rattle.sl_examples.specs.CallTests.{area_test, before_call, block_test, both_after, calls_test, delta_test, each_call, has_won, implies, leader_test}
-use Rattle.sl_area.specs.Places.{is_base, value_offset}
+use Rattle.sl_area.specs.AreaLayout.{is_base, value_offset}
 use Rattle.sl_run.specs.LawfulEnd.{gives_up, takes_over}
 use Rattle.sl_run.specs.LawfulLeader.{open_writes_on}
 use Rattle.sl_run.specs.LawfulModes.{shared_since}
 use Rattle.sl_run.specs.LawfulParting.{is_leaving_write}
 use Rattle.sl_run.specs.LawfulRecovery.{was_killed}
 use Rattle.sl_run.specs.LawfulValue.{held_since, writes_since}
-use Rattle.sl_run.specs.LawfulWatchdog.{acts_until, is_covered}
+use Rattle.sl_run.specs.LawfulConnections.{acts_until, is_covered}
 use Rattle.sl_trace.specs.Ballots.{same_owner}
 use Rattle.sl_trace.specs.Counts.{next_value_seq}
 use Rattle.sl_trace.specs.Jobs.{jobs_of_session}
@@ -20,7 +20,7 @@ use Rattle.sl_trace.specs.Sessions.{calls_of, free_write, generation_of, has_ope
 use Rattle.sl_trace.specs.Sightings.{counted_over}
 use Rattle.sl_trace.specs.declared.session.Begun.{Begun}
 use Rattle.sl_trace.specs.declared.session.Session.{Session}
-use Rattle.sl_trace.specs.Connections.{connection_named, connections, registers, unregisters}
+use Rattle.sl_trace.specs.WatchdogConnections.{connection_named, connections, registers, unregisters}
 use Rattle.sl_trace.specs.EffectTexts.{is_ok_reply}
 use Rattle.sl_trace.specs.Traces.{exited_by, has_orphan_of, held_by, holdings, is_answered_ok, is_ended_by, is_ok_answer, is_orphan, is_shared, is_write, last_reading, line_in, same_place, Setting, spot_of_grant, Submitted, submitted, Trace}
 use Rattle.sl_trace.specs.declared.effects.Entry.{Entry}

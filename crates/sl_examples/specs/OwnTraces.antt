@@ -1,13 +1,13 @@
 -- Traces by literal answers, of which a world would not give each: what is due on them keeps every law, and each ok reply has its cause.
-use Rattle.sl_area.specs.Layouts.{layout_with, sector_with}
-use Rattle.sl_area.specs.Places.{no_request}
+use Rattle.sl_area.specs.AreaSizes.{layout_with, sector_with}
+use Rattle.sl_area.specs.AreaRecords.{no_request}
 use Rattle.sl_due.specs.Due.{due}
 use Rattle.sl_examples.specs.CauseTests.{uncaused_in}
 use Rattle.sl_examples.specs.CheapDigest.{cheap_digest}
 use Rattle.sl_examples.specs.LawTests.{broken_in}
 use Rattle.sl_examples.specs.HandmadeTraces.{block, leader}
 use Rattle.sl_sector.specs.declared.sector.Rec.TheVariants.{RequestIs}
-use Rattle.sl_trace.specs.Commands.{command_in, forms}
+use Rattle.sl_trace.specs.CommandForms.{command_in, forms}
 use Rattle.sl_trace.specs.Traces.{Setting, Trace}
 use Rattle.sl_trace.specs.declared.input.Answer.TheVariants.{Failed, Read, Written}
 use Rattle.sl_trace.specs.declared.input.Input.TheVariants.{Answer as Told, Exit, Line, Wake}

@@ -5,9 +5,10 @@ use Rattle.sl_examples.specs.WorldTests.{read_events}
 use Rattle.sl_trace.specs.Ballots.{in_instance, next_mbal}
 use Rattle.sl_trace.specs.Counts.{held_here, limit_met, may_act}
 use Rattle.sl_trace.specs.Leases.{is_leader_of, is_on, known, open_on, owed, spot_of}
-use Rattle.sl_report.specs.Replay.{allowed, due_run}
+use Rattle.sl_report.specs.DueRuns.{allowed, due_run}
 use Rattle.sl_report.specs.Schedules.{Header_read, Header_refused, event_lines_of, numbered_lines, read_header}
-use Rattle.sl_run.specs.Events.{happens, machine_of}
+use Rattle.sl_run.specs.EventChanges.{happens}
+use Rattle.sl_run.specs.Inputs.{machine_of}
 use Rattle.sl_run.specs.Quiet.{before_command, blocks_needed, calls_needed, job_calls, leader_there, request_there}
 use Rattle.sl_run.specs.Runs.{Happening, world_after}
 use Rattle.sl_run.specs.Safety.{block_there, pair_there}

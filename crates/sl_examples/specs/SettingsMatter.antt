@@ -1,5 +1,5 @@
 -- Without what a setting must be: what is due is then not lawful.
-use Rattle.sl_area.specs.Layouts.{layout_with}
+use Rattle.sl_area.specs.AreaSizes.{layout_with}
 use Rattle.sl_due.specs.Due.{IsHostTrace, due}
 use Rattle.sl_examples.specs.CheapDigest.{cheap_digest}
 use Rattle.sl_run.specs.Lawful.{Lawful}

@@ -1,5 +1,5 @@
 -- What safety says of a world, as tests that compute.
-use Rattle.sl_area.specs.Layouts.{record_in}
+use Rattle.sl_area.specs.AreaSizes.{record_in}
 use Rattle.sl_examples.specs.CheapDigest.{cheap_language, cheap_program, replay_cheap}
 use Rattle.sl_examples.specs.LawTests.{broken_in_world}
 use Rattle.sl_examples.specs.RefusedLines.{LastLine}
@@ -7,22 +7,22 @@ use Rattle.sl_examples.specs.WorkedSchedules.{Row, same_lines}
 use Rattle.sl_trace.specs.Ballots.{same_owner}
 use Rattle.sl_trace.specs.Leases.{holdings_on}
 use Rattle.sl_report.specs.Languages.{whole_language}
-use Rattle.sl_report.specs.Replay.{allowed, due_run}
+use Rattle.sl_report.specs.DueRuns.{allowed, due_run}
 use Rattle.sl_report.specs.Schedules.{EventLine, Header_read, Header_refused, event_lines_of, numbered_lines, read_header, replay_lines}
 use Rattle.sl_run.specs.Conflicts.{has_conflict, world_holdings}
-use Rattle.sl_run.specs.Events.{happens}
+use Rattle.sl_run.specs.EventChanges.{happens}
 use Rattle.sl_run.specs.Runs.{Happening, world_after}
 use Rattle.sl_run.specs.Safety.{Found, SessionId, ballots_of, block_there, found_generation, is_course_of, is_over, landed_in_own, same_lockspace, session_of_world, setting_in, trace_of}
 use Rattle.sl_run.specs.Worlds.{Course, Landing, Machine, World, content, daemons_on, is_open, is_write_course, resets_after, world_with}
 use Rattle.sl_run.specs.declared.event.Event.{Event}
 use Rattle.sl_run.specs.declared.header.Header.{Header}
-use Rattle.sl_sector.specs.Spelling.{delta_in}
+use Rattle.sl_sector.specs.SectorLayouts.{delta_in}
 use Rattle.sl_sector.specs.declared.sector.Owner.{Owner}
-use Rattle.sl_trace.specs.Deltas.{own_offset}
+use Rattle.sl_trace.specs.DeltaDecisions.{own_offset}
 use Rattle.sl_trace.specs.Sessions.{is_join_call, joined_after, sessions}
 use Rattle.sl_trace.specs.Sightings.{counts_over}
 use Rattle.sl_text.specs.Forms.{as_bytes}
-use Rattle.sl_trace.specs.Connections.{connection_named}
+use Rattle.sl_trace.specs.WatchdogConnections.{connection_named}
 use Rattle.sl_trace.specs.Traces.{is_shared}
 use Rattle.sl_trace.specs.declared.effects.JoinStep.TheVariants.{ClaimWrite}
 use Rattle.sl_trace.specs.declared.effects.Purpose.{Purpose}

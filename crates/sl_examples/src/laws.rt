@@ -1,5 +1,5 @@
 //! Laws.
 
 pub mod ballots;
-pub mod premises;
+pub mod quiet_premises;
 pub mod witness;

@@ -1,7 +1,7 @@
 -- Candidates, one kind of event after another.
 use Rattle.sl_generate.specs.Candidates.{call_candidates, first_with, life_candidates, time_candidates, work_event}
 use Rattle.sl_world_state.specs.KeptWorld.{KeptState, MachineState, machine_in}
-use Rattle.sl_report.specs.Generator.{with_call}
+use Rattle.sl_report.specs.GeneratedSchedules.{with_call}
 use Rattle.sl_run.specs.declared.event.Event.TheVariants.{AnswerCall, Do, DropWrite, Test}
 use Rattle.sl_run.specs.declared.event.Event.{Event}
 use Rattle.sl_words.proofs.Lists.{there_is}

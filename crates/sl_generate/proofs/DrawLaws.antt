@@ -1,5 +1,5 @@
 -- Draws are made modulo 2^64.
-use Rattle.sl_report.specs.Generator.{next_state}
+use Rattle.sl_report.specs.GeneratedSchedules.{next_state}
 use Rattle.std.proofs.Common.{ℕ, ◌≡◌}
 use Rattle.std.proofs.Math.Nat.{mod-add-mod}
 use Rattle.std.specs.Prelude.{◌%◌, ◌*◌, ◌+◌, ◌^◌}

@@ -1,9 +1,9 @@
 -- A drawn run in which each daemon does what is due is the one that the plain program computes.
 use Rattle.sl_generate.specs.GeneratedIsPlain.{GeneratedIsPlain}
-use Rattle.sl_report.specs.Generator.{IsGenerated, draw_of, gen_event, gen_header, gen_line, gen_run, next_state}
-use Rattle.sl_report.specs.Replay.{effects_of}
+use Rattle.sl_report.specs.GeneratedSchedules.{IsGenerated, draw_of, gen_event, gen_header, gen_line, gen_run, next_state}
+use Rattle.sl_report.specs.DueRuns.{effects_of}
 use Rattle.sl_report.specs.Reports.{end_line, no_counts, run_counts}
-use Rattle.sl_run.specs.Events.{happens}
+use Rattle.sl_run.specs.EventChanges.{happens}
 use Rattle.sl_run.specs.Runs.{Happening}
 use Rattle.sl_run.specs.Worlds.{World, world_with}
 use Rattle.sl_run.specs.declared.event.Event.{Event}

@@ -1,6 +1,6 @@
 -- A header's lines, one behind the other.
 use Rattle.sl_generate.specs.HeaderLines.{gen_session}
-use Rattle.sl_report.specs.Generator.{gen_host_name, gen_path, gen_resource}
+use Rattle.sl_report.specs.GeneratedSchedules.{gen_host_name, gen_path, gen_resource}
 use Rattle.sl_run.specs.declared.header.ResourceLine.{ResourceLine}
 use Rattle.sl_run.specs.declared.header.SessionLine.{SessionLine}
 use Rattle.std.proofs.Common.{List, [], ap, ap₂, arith, map, sym, ℕ, ◌*◌, ◌++◌, ◌+◌, ◌∙◌, ◌∷◌, ◌≡◌}

@@ -1,8 +1,9 @@
 -- The lines of a header are read as the header, by computation.
 use Rattle.sl_generate.specs.HeaderLines.{HeadersAreRead, header_lines}
-use Rattle.sl_report.specs.Generator.{gen_header}
+use Rattle.sl_report.specs.GeneratedSchedules.{gen_header}
 use Rattle.sl_report.specs.Languages.{language_of}
-use Rattle.sl_report.specs.ScheduleLines.{header_forms, header_of, header_tests}
+use Rattle.sl_report.specs.HeaderLines.{header_forms, header_of}
+use Rattle.sl_report.specs.HeaderRefusals.{header_tests}
 use Rattle.sl_report.specs.Schedules.{Header_read, numbered_lines, read_header}
 use Rattle.sl_run.specs.Worlds.{Program}
 use Rattle.sl_text.specs.Forms.{as_bytes}

@@ -1,5 +1,5 @@
 -- The names of generated daemons and resources are names: letters, digits and a bar, and few of them.
-use Rattle.sl_report.specs.Generator.{gen_host_name}
+use Rattle.sl_report.specs.GeneratedSchedules.{gen_host_name}
 use Rattle.sl_text.proofs.NumberLaws.{is_number_text-decimal}
 use Rattle.sl_text.specs.Names.{is_name, is_name_byte}
 use Rattle.sl_text.specs.Numbers.{is_number_text}

@@ -1,6 +1,7 @@
 -- In a timely world a time of 0 may pass.
 use Rattle.sl_world_state.specs.SaneWorlds.{IsSane}
-use Rattle.sl_run.specs.Events.{clock_after, drifts, event_tests, growth_of, is_late_landing, pass_tests}
+use Rattle.sl_run.specs.Premises.{clock_after, drifts, growth_of, is_late_landing, pass_tests}
+use Rattle.sl_run.specs.Refusals.{event_tests}
 use Rattle.sl_run.specs.Worlds.{Course, Machine, Stamp, World, first_that, machine_at, may_land, resets_after}
 use Rattle.sl_run.specs.declared.event.Refusal.TheVariants.{LimitMoment, PremiseDrift, PremiseLanding, PremiseWatchdog, Syntax}
 use Rattle.sl_run_law.proofs.Front.RunsFromFronts.{number_place}

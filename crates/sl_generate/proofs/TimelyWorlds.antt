@@ -1,9 +1,12 @@
 -- Each event that may happen leaves a world timely: a time that passes is tested, a keepalive rests on now, and a write that a step makes is newer
 -- than each reset.
-use Rattle.sl_area.specs.Layouts.{layout_with}
+use Rattle.sl_area.specs.AreaSizes.{layout_with}
 use Rattle.sl_words.proofs.Lists.{contains_cases, contains_none, got_inside, kept, kept_inside}
 use Rattle.sl_words.proofs.Truth.{second_is_false}
-use Rattle.sl_run.specs.Events.{after_effects, after_step, after_test, change_call, daemon_number, event_tests, fated, first_change, happens, input_of, is_late_landing, machine_of, may_happen, new_course, next_step, pass_tests, passed, sampled_more, sectors_left, take_step}
+use Rattle.sl_run.specs.EventChanges.{after_effects, after_step, after_test, change_call, daemon_number, fated, first_change, happens, new_course, next_step, passed, sampled_more, take_step}
+use Rattle.sl_run.specs.Refusals.{event_tests, may_happen, sectors_left}
+use Rattle.sl_run.specs.Premises.{is_late_landing, pass_tests}
+use Rattle.sl_run.specs.Inputs.{input_of, machine_of}
 use Rattle.sl_run.specs.Worlds.{Course, Dropped, Landed, Machine, Program, Stamp, Torn, World, machine_at, machine_of_header, may_land, reading_now, resets_after, stamp_now, world_with}
 use Rattle.sl_run.specs.declared.event.Event.TheVariants.{Pass}
 use Rattle.sl_run.specs.declared.event.Event.{Event}
@@ -20,7 +23,7 @@ use Rattle.sl_run_law.specs.WorldsGoOn.{time_of}
 use Rattle.sl_run_law.specs.Machines.{EachMachine}
 use Rattle.sl_time.specs.Times.{TimingNumbers}
 use Rattle.sl_generate.specs.TimelyWorlds.{EventsStayTimely, FirstWorldsAreTimely, IsTimely, IsTimelyBy}
-use Rattle.sl_trace.specs.Connections.{test_holds}
+use Rattle.sl_trace.specs.WatchdogConnections.{test_holds}
 use Rattle.sl_trace.specs.Traces.{is_ok_answer}
 use Rattle.sl_trace.specs.declared.effects.Call.{Call}
 use Rattle.sl_trace.specs.declared.effects.Effects.{Effects}

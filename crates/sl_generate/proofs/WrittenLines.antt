@@ -1,12 +1,12 @@
 -- What is put out of the two lines.
 use Rattle.sl_generate.specs.GeneratorPlay.{All, Generates, MadeOf, Nothing, Part}
 use Rattle.sl_generate.specs.declared.generator.Generated.TheVariants.{Done, NoMemory, WriteFault}
-use Rattle.sl_report.specs.Headline.{IsFrontOf}
+use Rattle.sl_report.specs.OwedReports.{IsFrontOf}
 use Rattle.sl_run.specs.declared.header.Header.{Header}
 use Rattle.sl_text.specs.Forms.{Form}
 use Rattle.sl_trace.specs.Traces.{Setting, Trace}
 use Rattle.sl_trace.specs.declared.command.Command.{Command}
-use Rattle.sl_words.specs.Causes.{Rose}
+use Rattle.sl_io.specs.FaultCauses.{Rose}
 use Rattle.std.proofs.Common.{Bool, List, None, Option, Some, [], append-nil, drop, length, subst, sym, take, ℕ, ◌≡◌, ◌≤◌}
 use Rattle.std.proofs.lemmas.List.{take-append-drop}
 use Rattle.std.specs.Io.KnownBytes.{Appends}

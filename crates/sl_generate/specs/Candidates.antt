@@ -1,7 +1,7 @@
 -- The candidates of an event, one kind of event after another.
 use Rattle.sl_world_state.specs.KeptWorld.{KeptState}
 use Rattle.sl_world_state.specs.Refusals.{refusal_in}
-use Rattle.sl_report.specs.Generator.{gen_host_name, gen_path, gen_resource_word, with_call}
+use Rattle.sl_report.specs.GeneratedSchedules.{gen_host_name, gen_path, gen_resource_word, with_call}
 use Rattle.sl_run.specs.declared.event.Event.TheVariants.{AnswerCall, Crash, Do, DropWrite, ExitOf, GiveCommand, Pass, Reset, Restart, StartDaemon, Test, WakeUp}
 use Rattle.sl_run.specs.declared.event.Event.{Event}
 use Rattle.sl_run.specs.declared.header.Header.{Header}

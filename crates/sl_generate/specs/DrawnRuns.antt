@@ -2,7 +2,7 @@
 --
 -- A run is shown to be drawn from its end: whatever is drawn behind an event is drawn before it, with the event in front. So a program that goes from
 -- event to event never has to know the run that it makes.
-use Rattle.sl_report.specs.Generator.{IsGenerated, next_state}
+use Rattle.sl_report.specs.GeneratedSchedules.{IsGenerated, next_state}
 use Rattle.sl_report.specs.Reports.{Counts, run_counts}
 use Rattle.sl_run.specs.Runs.{AfterEachFront, Happening, IsRun, world_after}
 use Rattle.sl_run.specs.Worlds.{World}

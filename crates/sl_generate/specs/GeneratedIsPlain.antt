@@ -1,7 +1,7 @@
 -- What is written is the plain program's text.
 use Rattle.sl_generate.specs.GeneratorPlay.{GeneratedOf}
-use Rattle.sl_report.specs.Generator.{gen_lines}
-use Rattle.sl_report.specs.Headline.{SoundRun}
+use Rattle.sl_report.specs.GeneratedSchedules.{gen_lines}
+use Rattle.sl_report.specs.OwedReports.{SoundRun}
 use Rattle.sl_run.specs.Worlds.{Program}
 use Rattle.sl_text.specs.Forms.{as_bytes}
 use Rattle.std.specs.Prelude.{Bool, List, ℕ, ◌≡◌}

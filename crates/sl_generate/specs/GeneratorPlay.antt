@@ -6,10 +6,11 @@ use Rattle.sl_generate.specs.declared.generator.Generated.{Generated}
 use Rattle.sl_world_state.specs.SaneWorlds.{ReadsCommands, WorldStands}
 use Rattle.sl_play.specs.PlayIsOwed.{EachStood}
 use Rattle.sl_play.specs.Plays.{PlayState}
-use Rattle.sl_report.specs.Generator.{IsGenerated, gen_event, gen_header, gen_line}
-use Rattle.sl_report.specs.Headline.{IsFrontOf, Promise}
+use Rattle.sl_report.specs.GeneratedSchedules.{IsGenerated, gen_event, gen_header, gen_line}
+use Rattle.sl_report.specs.OwedReports.{IsFrontOf, Promise}
 use Rattle.sl_report.specs.Reports.{count_event, end_line, no_counts, run_counts}
-use Rattle.sl_run.specs.Events.{happens, may_happen}
+use Rattle.sl_run.specs.EventChanges.{happens}
+use Rattle.sl_run.specs.Refusals.{may_happen}
 use Rattle.sl_run.specs.Headers.{IsHeader}
 use Rattle.sl_run.specs.Runs.{Happening, HasSteps}
 use Rattle.sl_run.specs.Worlds.{Program, World, world_with}
@@ -21,7 +22,7 @@ use Rattle.sl_generate.specs.TimelyWorlds.{AreTimely}
 use Rattle.sl_trace.specs.Traces.{Setting, Trace}
 use Rattle.sl_trace.specs.declared.command.Command.{Command}
 use Rattle.sl_trace.specs.declared.effects.Effects.{Effects}
-use Rattle.sl_words.specs.Causes.{Rose}
+use Rattle.sl_io.specs.FaultCauses.{Rose}
 use Rattle.std.specs.Io.KnownBytes.{Appends}
 use Rattle.std.specs.Prelude.{Bool, List, Option, length, true, [], ℕ, ◌+◌, ◌-◌, ◌∷◌, ◌≡◌}
 

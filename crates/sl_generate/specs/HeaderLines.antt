@@ -1,5 +1,5 @@
 -- The lines of a generated schedule's header.
-use Rattle.sl_report.specs.Generator.{gen_header, gen_host_name}
+use Rattle.sl_report.specs.GeneratedSchedules.{gen_header, gen_host_name}
 use Rattle.sl_report.specs.Languages.{language_of}
 use Rattle.sl_report.specs.Schedules.{Header_read, numbered_lines, read_header}
 use Rattle.sl_run.specs.Worlds.{Program, mebibyte}

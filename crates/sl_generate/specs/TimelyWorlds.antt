@@ -1,6 +1,7 @@
 -- Worlds in which time may stand still: no keepalive is too old, and no write of before a reset may land too late.
 use Rattle.sl_world_state.specs.SaneWorlds.{IsSane}
-use Rattle.sl_run.specs.Events.{happens, may_happen}
+use Rattle.sl_run.specs.EventChanges.{happens}
+use Rattle.sl_run.specs.Refusals.{may_happen}
 use Rattle.sl_run.specs.Worlds.{Course, Machine, Program, Stamp, World, machine_at, may_land, world_with}
 use Rattle.sl_run.specs.declared.event.Event.TheVariants.{Pass}
 use Rattle.sl_run.specs.declared.event.Event.{Event}

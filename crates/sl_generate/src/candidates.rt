@@ -4,7 +4,7 @@
 
 ghost use Rattle.sl_generate.specs.Candidates.{call_candidates, due_resets, first_with, life_candidates, rare_event, time_candidates, useful_tests, work_event};
 ghost use Rattle.sl_play.specs.Plays.{state_of};
-ghost use Rattle.sl_report.specs.Generator.{gen_host_name};
+ghost use Rattle.sl_report.specs.GeneratedSchedules.{gen_host_name};
 ghost use Rattle.sl_world_law.specs.DrawnCandidates.{candidates_in, least_ended_in};
 ghost use Rattle.std.specs.Prelude.{IfOk, OnOk, [], codes, decimal, length, ◌++◌, ◌∷◌, ◌≡◌, ◌≤◌};
 

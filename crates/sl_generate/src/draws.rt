@@ -1,7 +1,7 @@
 //! Draws: numbers that follow from a seed.
 
 ghost use Rattle.sl_generate.specs.DrawnRuns.{state_behind};
-ghost use Rattle.sl_report.specs.Generator.{draw_of, next_state};
+ghost use Rattle.sl_report.specs.GeneratedSchedules.{draw_of, next_state};
 ghost use Rattle.std.specs.Prelude.{◌≡◌};
 
 /// What a draw gives: the upper 31 bits of the state.

@@ -6,7 +6,7 @@ ghost use Rattle.sl_generate.specs.DrawnRuns.{IsDrawn};
 ghost use Rattle.sl_generate.specs.GeneratorPlay.{DrawsAll, Generates, IsDrawing, MayGenerate, TakesDrawn};
 ghost use Rattle.sl_play.specs.PlayIsOwed.{EachStood};
 ghost use Rattle.sl_play.specs.Plays.{StaysAs, state_of};
-ghost use Rattle.sl_report.specs.Generator.{gen_header, gen_line};
+ghost use Rattle.sl_report.specs.GeneratedSchedules.{gen_header, gen_line};
 ghost use Rattle.sl_report.specs.Reports as reports;
 ghost use Rattle.sl_run.specs.Worlds.{world_with};
 ghost use Rattle.sl_text.specs.Forms.{as_bytes};

@@ -1,7 +1,7 @@
 //! The header of the schedules that are generated.
 
 ghost use Rattle.sl_generate.specs.HeaderLines.{gen_session};
-ghost use Rattle.sl_report.specs.Generator.{gen_header, gen_path, gen_resource};
+ghost use Rattle.sl_report.specs.GeneratedSchedules.{gen_header, gen_path, gen_resource};
 ghost use Rattle.sl_text.specs.Names.{is_name};
 ghost use Rattle.std.specs.List.{range_with_len};
 ghost use Rattle.std.specs.Prelude.{IfOk, codes, decimal, map, true, [], ◌++◌, ◌∷◌, ◌≡◌, ◌≤◌};

@@ -1,6 +1,6 @@
 //! The texts of the commands that are drawn.
 
-ghost use Rattle.sl_report.specs.Generator.{gen_path, gen_resource_word};
+ghost use Rattle.sl_report.specs.GeneratedSchedules.{gen_path, gen_resource_word};
 ghost use Rattle.sl_text.specs.Forms.{coloned, spaced};
 ghost use Rattle.std.specs.Prelude.{IfOk, OnOk, codes, decimal, false, [], ◌*◌, ◌++◌, ◌∷◌, ◌<◌, ◌^◌, ◌≡◌};
 

@@ -1,12 +1,12 @@
 -- Made runs are as promised, and what is owed of them grows with that.
 use Rattle.sl_headline.specs.PromisedRuns.{AsksAreRead, IsPromised, MadeReplaysArePromised, MadeReportsArePromised, MadeRunsArePromised, PromisedRun}
 use Rattle.sl_headline.proofs.Quiet.Start.MadeRunsQuiet.{made_runs_are_quiet}
-use Rattle.sl_report.specs.Headline.{HeadersAreGood, Promise, ReplayHeadline, ReplayOf, ReplayOwed, SoundRun, is_whole_status}
+use Rattle.sl_report.specs.OwedReports.{HeadersAreGood, Promise, ReplayHeadline, ReplayOf, ReplayOwed, SoundRun, is_whole_status}
 use Rattle.sl_report.specs.Host.{DueIsLawful}
 use Rattle.sl_report.specs.Languages.{Language}
 use Rattle.sl_run.specs.Safety.{LawfulRun}
 use Rattle.sl_sound.proofs.Reports.OneReport.{owed_is_headline}
-use Rattle.sl_sector.specs.Spelling.{IsDigest}
+use Rattle.sl_sector.specs.SectorLayouts.{IsDigest}
 use Rattle.sl_sound.proofs.OwedGrows.{Grows, made_replays_are_sound, owed_by, replay_grows}
 use Rattle.sl_sound.proofs.Soundness.{made_runs_are_sound, sound_runs_are_served}
 use Rattle.sl_sound.specs.MadeRuns.{MadeRun}

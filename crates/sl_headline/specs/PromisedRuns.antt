@@ -1,14 +1,14 @@
 -- What is promised of the runs that the program tells.
-use Rattle.sl_report.specs.Headline.{HeadersAreGood, ReplayHeadline, ReplayOf, ReplayOwed}
+use Rattle.sl_report.specs.OwedReports.{HeadersAreGood, ReplayHeadline, ReplayOf, ReplayOwed}
 use Rattle.sl_report.specs.Host.{DueIsLawful}
 use Rattle.sl_report.specs.Languages.{Language}
 use Rattle.sl_run.specs.Headers.{IsHeader}
 use Rattle.sl_run.specs.Quiet.{QuietIsGranted}
-use Rattle.sl_run.specs.HeldOverTime.{VolumesAreSafe}
+use Rattle.sl_run.specs.LvmPromises.{VolumesAreSafe}
 use Rattle.sl_run.specs.Runs.{AfterEachFront, Happening}
 use Rattle.sl_run.specs.Worlds.{Program, world_with}
 use Rattle.sl_run.specs.declared.header.Header.{Header}
-use Rattle.sl_sector.specs.Spelling.{IsDigest}
+use Rattle.sl_sector.specs.SectorLayouts.{IsDigest}
 use Rattle.sl_sound.specs.MadeRuns.{MadeRun, ServedRun}
 use Rattle.sl_sound.specs.SoundLaws.{DaemonsDoWhatIsDue}
 use Rattle.sl_trace.specs.Traces.{Setting, Trace}

@@ -1,10 +1,10 @@
 pub mod FewAsks
 pub mod LockAsks
 pub mod FittingRuns
-pub mod LocksAreTaken
+pub mod LocksTakenInRuns
 pub mod DueCallsFit
 pub mod LockNames
 pub mod WholeProgramReads
 pub mod VersionsWereTold
 pub mod OneVersion
-pub mod SameIsUnchanged
+pub mod SameInRuns

@@ -1,6 +1,7 @@
 -- An answer that is told part by part is heard as the state functions say.
-use Rattle.sl_area.specs.Layouts.{Layout, layout_of}
-use Rattle.sl_area.specs.Places.{blocks_part, needs_again, pairs_kept}
+use Rattle.sl_area.specs.AreaSizes.{Layout, layout_of}
+use Rattle.sl_area.specs.AreaLayout.{blocks_part}
+use Rattle.sl_area.specs.Pairs.{needs_again, pairs_kept}
 use Rattle.sl_host_state.specs.HeardInputs.{hearing, heard_answer, is_heeded_by, job_hearing, kept_heard, lease_told, member_hearing, members_hearing, quiet_hearing, setting_of, shows_other_by, turn_heard}
 use Rattle.sl_host_state.specs.KeptState.{HostState, LeaseState, MemberState}
 use Rattle.sl_host_state.specs.MadeEffects.{is_lease_on, lowered}
@@ -22,7 +23,7 @@ use Rattle.sl_member.specs.HostMembers.{AreApart, changed_member, member_with, s
 use Rattle.sl_sector.specs.declared.sector.Block.{Block}
 use Rattle.sl_sector.specs.declared.sector.Leader.{Leader}
 use Rattle.sl_sector.specs.declared.sector.PairBlock.{PairBlock}
-use Rattle.sl_trace.specs.LeaseWork.{asked_again, first_step, part_read, read_of_step}
+use Rattle.sl_trace.specs.LeaseDecisions.{asked_again, first_step, part_read, read_of_step}
 use Rattle.sl_trace.specs.declared.effects.LeaseRead.TheVariants.{OfArea, OfBlock, OfFree, OfPhase1, OfPhase2}
 use Rattle.sl_trace.specs.declared.effects.LeaseRead.{LeaseRead}
 use Rattle.sl_trace.specs.declared.effects.LeaseStep.TheVariants.{ClearMode, FreeLeader, Phase1Read, Phase1Write, Phase2Read, Phase2Write, ReadAgain, ReadArea, ReadBeforeBlock, ReadBeforeFree, SetMode, TakeLeader}

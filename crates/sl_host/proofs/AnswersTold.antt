@@ -1,6 +1,6 @@
 -- What is told to members one after another is told as a whole; refused members that are over go one by one.
-use Rattle.sl_area.specs.Layouts.{Layout, Sizes, layout_of}
-use Rattle.sl_area.specs.Places.{pair_back}
+use Rattle.sl_area.specs.AreaSizes.{Layout, Sizes, layout_of}
+use Rattle.sl_area.specs.Pairs.{pair_back}
 use Rattle.sl_host_state.specs.HeardInputs.{renewed_of}
 use Rattle.sl_host_state.specs.KeptState.{MemberState}
 use Rattle.sl_host_state.specs.declared.kept_parts.OpenCall.{OpenCall}
@@ -9,7 +9,7 @@ use Rattle.sl_member.specs.Members.{RunOf, own_told, renewing_told}
 use Rattle.sl_member.specs.HostMembers.{AreApart, MembersState, changed_member, member_with, told_survey}
 use Rattle.sl_words.proofs.Lists.{contains_cases, contains_first, contains_more, contains_none, find_inside, got_inside}
 use Rattle.sl_sector.specs.declared.sector.PairBlock.{PairBlock}
-use Rattle.sl_trace.specs.LeaseWork.{part_read, read_of_step}
+use Rattle.sl_trace.specs.LeaseDecisions.{part_read, read_of_step}
 use Rattle.sl_trace.specs.Sessions.{is_join_call, same_join_step}
 use Rattle.sl_trace.specs.declared.session.Begun.{Begun}
 use Rattle.sl_trace.specs.declared.effects.JoinStep.TheVariants.{ClaimWrite, DecidingRead, FirstRead, FirstRenewal, VerifyRead, WatchRead}

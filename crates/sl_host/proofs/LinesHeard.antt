@@ -6,7 +6,7 @@ use Rattle.sl_member.specs.Members.{leaving_begun}
 use Rattle.sl_member.specs.HostMembers.{left_by}
 use Rattle.sl_trace.specs.Sessions.{is_session_arg}
 use Rattle.sl_trace.specs.declared.session.Begun.{Begun}
-use Rattle.sl_trace.specs.Traces.{KillProgram}
+use Rattle.sl_trace.specs.KillPrograms.{KillProgram}
 use Rattle.sl_trace.specs.declared.command.Command.TheVariants.{Acquire, AddLockspace, Convert, GetLvb, HostStatus, InqLockspace, Release, ReleaseOrphan, RemLockspace, Request, RunProgram, SetKillpath, SetLvb, Status, TakeOver}
 use Rattle.sl_trace.specs.declared.command.Command.{Command}
 use Rattle.sl_trace.specs.declared.command.LockspaceArg.{LockspaceArg}

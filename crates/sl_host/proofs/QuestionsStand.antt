@@ -1,15 +1,15 @@
 -- What a table finds is what the definitions ask for.
 use Rattle.sl_host_law.specs.Decisions.CommandDecisions.{is_open_on}
-use Rattle.std.specs.Prelude.{bytes_eq, nat_le, nat_lt, ◌%◌, ◌*◌, ◌+◌, ◌-◌, ◌/◌, ◌<◌, ◌≤◌}
+use Rattle.std.specs.Prelude.{bytes_eq, nat_le, nat_lt, ◌%◌, ◌*◌, ◌+◌, ◌-◌, ◌/◌, ◌<◌, ◌≤◌, Bool, List, None, Option, Some, [], cond, false, filter, find, is_some, map, not, true, ℕ, ◌&&◌, ◌==◌, ◌∷◌, ◌≡◌, ◌||◌}
 use Rattle.std.specs.Cmp.Lexicographic.{nat_list_eq_equiv}
 use Rattle.sl_tables.specs.Opens.{is_on_area, least_on}
 use Rattle.sl_host_state.specs.declared.kept_parts.OpenCall.{OpenCall}
-use Rattle.sl_area.specs.Layouts.{Layout, Sizes, layout_of}
+use Rattle.sl_area.specs.AreaSizes.{Layout, Sizes, layout_of}
 use Rattle.std.proofs.lemmas.Bool.{cases_lt, le-leb, leb-true, lt-ltb}
 use Rattle.std.proofs.lemmas.Bool.Decides.{Decides-eqb, Decides-ltb}
 use Rattle.sl_words.proofs.WordLaws.{and_true}
 use Rattle.std.proofs.Math.Nat.{div-add-mod, mul-le-mul_left}
-use Rattle.std.proofs.Common.{arith, inl, inr, mod-lt, subst, sym, true≢false}
+use Rattle.std.proofs.Common.{arith, inl, inr, mod-lt, subst, sym, true≢false, ap, refl, ◌∙◌}
 use Rattle.sl_tables.specs.Children.{child_of}
 use Rattle.sl_tables.specs.Holdings.{fits, least_holder}
 use Rattle.sl_tables.specs.declared.children.ChildState.{ChildState}
@@ -20,9 +20,7 @@ use Rattle.sl_trace.specs.declared.effects.Mode.TheVariants.{Exclusive}
 use Rattle.sl_trace.specs.declared.effects.Spot.{Spot}
 use Rattle.sl_host.specs.BookQuestions.{held_under}
 use Rattle.sl_words.specs.Words.{choose, least, some_is}
-use Rattle.std.proofs.Common.{ap, refl, ◌∙◌}
 use Rattle.std.specs.List.{list_any}
-use Rattle.std.specs.Prelude.{Bool, List, None, Option, Some, [], bytes_eq, cond, false, filter, find, is_some, map, nat_le, nat_lt, not, true, ℕ, ◌%◌, ◌&&◌, ◌*◌, ◌+◌, ◌-◌, ◌/◌, ◌<◌, ◌==◌, ◌∷◌, ◌≡◌, ◌≤◌, ◌||◌}
 
 -- ---- children
 

@@ -1,6 +1,6 @@
 -- What a read tells a member's lease is told of the lease as it has heard it: what is kept of the first of two reads stays.
-use Rattle.sl_area.specs.Layouts.{Layout, Sizes, layout_of}
-use Rattle.sl_area.specs.Places.{pairs_kept}
+use Rattle.sl_area.specs.AreaSizes.{Layout, Sizes, layout_of}
+use Rattle.sl_area.specs.Pairs.{pairs_kept}
 use Rattle.sl_host.proofs.AnswersTold.{number_of, the_member}
 use Rattle.sl_host.specs.HeardAnswers.{IsTold, first_to, is_over_in, lease_heard}
 use Rattle.sl_host.specs.declared.told_answers.Told.TheVariants.{Again, Gave}
@@ -22,7 +22,7 @@ use Rattle.sl_words.proofs.Lists.{find_inside, in_map, kept_inside}
 use Rattle.sl_sector.specs.declared.sector.Block.{Block}
 use Rattle.sl_sector.specs.declared.sector.Leader.{Leader}
 use Rattle.sl_sector.specs.declared.sector.PairBlock.{PairBlock}
-use Rattle.sl_trace.specs.LeaseWork.{first_step, part_read}
+use Rattle.sl_trace.specs.LeaseDecisions.{first_step, part_read}
 use Rattle.sl_trace.specs.Leases.{is_second}
 use Rattle.sl_trace.specs.Traces.{same_spot}
 use Rattle.sl_trace.specs.declared.effects.LeaseStep.{LeaseStep}

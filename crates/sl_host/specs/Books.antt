@@ -9,7 +9,8 @@ use Rattle.sl_host_state.specs.declared.kept_parts.ValuePair.{ValuePair}
 use Rattle.sl_sector.specs.declared.sector.Rec.TheVariants.{BlockIs, LeaderIs, PairIs, PairLeaderIs, ValueIs}
 use Rattle.sl_tables.specs.declared.holdings.Holder.TheVariants.{Is}
 use Rattle.sl_tables.specs.declared.holdings.Sought.{Sought}
-use Rattle.sl_trace.specs.Traces.{Child, KillProgram, Submitted, job_of, new_call, new_child, same_place, with_program, without_program}
+use Rattle.sl_trace.specs.Traces.{Child, Submitted, job_of, new_call, new_child, same_place}
+use Rattle.sl_trace.specs.KillPrograms.{KillProgram, with_program, without_program}
 use Rattle.sl_trace.specs.declared.command.Command.{Command}
 use Rattle.sl_trace.specs.declared.effects.Call.{Call}
 use Rattle.sl_trace.specs.declared.effects.Effects.{Effects}

@@ -1,20 +1,17 @@
 -- What a host does to its books is what the state functions say.
-use Rattle.std.specs.Prelude.{Bool, map}
-use Rattle.sl_host.specs.Books.{books_calling, books_counting, books_exiting, books_numbering, books_spawning}
+use Rattle.std.specs.Prelude.{Bool, map, List, Result, filter, not, ℕ, ◌≡◌}
+use Rattle.sl_host.specs.Books.{books_calling, books_counting, books_exiting, books_numbering, books_spawning, BooksState, books_ending, books_granting, books_moving, books_signalling, books_starting, host_of}
 use Rattle.sl_trace.specs.Traces.{Submitted}
-use Rattle.sl_host_state.specs.MadeEffects.{calling, member_calling}
+use Rattle.sl_host_state.specs.MadeEffects.{calling, member_calling, is_ended_by_move, with_end, with_grant, with_move, with_signal, with_start}
 use Rattle.sl_host_state.specs.HeardInputs.{counted, heard_exit, heard_number, heard_start}
-use Rattle.sl_area.specs.Layouts.{layout_of}
+use Rattle.sl_area.specs.AreaSizes.{layout_of}
 use Rattle.sl_host_state.specs.KeptState.{MemberState}
-use Rattle.sl_host_state.specs.MadeEffects.{is_ended_by_move, with_end, with_grant, with_move, with_signal, with_start}
 use Rattle.sl_trace.specs.declared.command.Command.{Command}
 use Rattle.sl_trace.specs.declared.effects.End.{End}
 use Rattle.sl_trace.specs.declared.effects.Grant.{Grant}
 use Rattle.sl_trace.specs.declared.effects.Move.{Move}
 use Rattle.sl_trace.specs.declared.effects.Sent.{Sent}
 use Rattle.sl_trace.specs.declared.effects.Start.{Start}
-use Rattle.sl_host.specs.Books.{BooksState, books_ending, books_granting, books_moving, books_signalling, books_starting, host_of}
-use Rattle.std.specs.Prelude.{List, Result, filter, not, ℕ, ◌≡◌}
 
 -- Of a host that reads lines so, with these members and books.
 pub record BooksFollow (read : List ℕ → Result Command ℕ) (ms : List MemberState) (b : BooksState) : Type 0 where

@@ -1,6 +1,6 @@
 -- What a host that hears an answer is asked, and what is told to whom.
 use Rattle.sl_host_law.specs.Replies.Answers.{IsOpen}
-use Rattle.sl_area.specs.Places.{pairs_kept}
+use Rattle.sl_area.specs.Pairs.{pairs_kept}
 use Rattle.sl_host.specs.declared.told_answers.Told.TheVariants.{Again, Gave}
 use Rattle.sl_host.specs.declared.told_answers.Told.{Told}
 use Rattle.sl_host_state.specs.HeardInputs.{asked_at, renewed_of, turn_heard}
@@ -11,7 +11,7 @@ use Rattle.sl_member.specs.Leases.{first_among, kept_shown, read_shown}
 use Rattle.sl_sector.specs.declared.sector.Block.{Block}
 use Rattle.sl_sector.specs.declared.sector.Leader.{Leader}
 use Rattle.sl_sector.specs.declared.sector.PairBlock.{PairBlock}
-use Rattle.sl_trace.specs.LeaseWork.{first_step, part_read}
+use Rattle.sl_trace.specs.LeaseDecisions.{first_step, part_read}
 use Rattle.sl_trace.specs.declared.effects.Spot.{Spot}
 use Rattle.sl_host_state.specs.KeptState.{HostKept, HostState, LeaseState, MemberState}
 use Rattle.sl_host_state.specs.MadeEffects.{is_lease_on}
@@ -24,7 +24,7 @@ use Rattle.sl_member.specs.Laws.{IsAwaited, IsWaitingFor, area_of_call}
 use Rattle.sl_member.specs.Members.{IsKnown, RunOf, own_told, renewing_told}
 use Rattle.sl_member.specs.SeenSessions.{shows_other_by}
 use Rattle.sl_member.specs.HostMembers.{member_with, side_with, told_survey}
-use Rattle.sl_area.specs.Layouts.{Layout, Sizes, layout_of}
+use Rattle.sl_area.specs.AreaSizes.{Layout, Sizes, layout_of}
 use Rattle.sl_trace.specs.declared.session.Begun.{Begun}
 use Rattle.sl_trace.specs.declared.effects.LeaseStep.{LeaseStep}
 use Rattle.sl_trace.specs.declared.effects.Purpose.TheVariants.{Joining, Leaving, Renewal, RequestRead, RequestWrite, SeeRequest, Survey, ValueRead, ValueWrite}

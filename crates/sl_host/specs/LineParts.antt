@@ -4,7 +4,7 @@ use Rattle.sl_host_state.specs.KeptState.{HostState}
 use Rattle.sl_host_state.specs.MadeEffects.{lowered}
 use Rattle.sl_member.specs.HostMembers.{left_by}
 use Rattle.sl_trace.specs.Sessions.{is_session_arg}
-use Rattle.sl_trace.specs.Traces.{KillProgram}
+use Rattle.sl_trace.specs.KillPrograms.{KillProgram}
 use Rattle.sl_trace.specs.declared.command.Command.TheVariants.{RemLockspace}
 use Rattle.sl_trace.specs.declared.command.Command.{Command}
 use Rattle.sl_trace.specs.declared.command.LockspaceArg.{LockspaceArg}

@@ -1,5 +1,5 @@
 -- A host before any step, as code makes it.
-use Rattle.sl_area.specs.Layouts.{Sizes, layout_of}
+use Rattle.sl_area.specs.AreaSizes.{Sizes, layout_of}
 use Rattle.sl_host_state.specs.KeptState.{HostKept, Made, MemberState}
 use Rattle.sl_member.specs.Members.{RunOf, blank_member}
 use Rattle.sl_trace.specs.Sessions.{given_session}

@@ -5,7 +5,7 @@ ghost use Rattle.sl_host_state.specs.StepQuestions.{stopper_in, ungranted_in};
 ghost use Rattle.sl_trace.specs.Counts.{busy_among};
 ghost use Rattle.sl_trace.specs.Jobs.{is_asking_lease, is_program};
 ghost use Rattle.sl_tables.specs.Holdings.{fits};
-ghost use Rattle.sl_trace.specs.Limits.{most_children, most_holders};
+ghost use Rattle.sl_trace.specs.CountLimits.{most_children, most_holders};
 ghost use Rattle.sl_trace.specs.Traces.{is_orphan, is_shared};
 ghost use Rattle.sl_host.specs.BookQuestions.{alone, held_under, sought_on};
 ghost use Rattle.sl_words.specs.Words.{choose, least};

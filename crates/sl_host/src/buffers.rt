@@ -1,9 +1,10 @@
-//! The effects of a step in progress, class by class, with memory for some more.
+//! The effects of a step in progress, class by class, with memory for some more. A step seldom makes some of each class, so the lists of the others
+//! keep their memory for the next step.
 
 ghost use Rattle.sl_trace.specs.Traces.{no_effects};
 ghost use Rattle.sl_host.specs.Books.{AreFew, BuffersState};
 ghost use Rattle.std.specs.List.{list_any};
-ghost use Rattle.std.specs.Prelude.{IfOk, length, [], ◌+◌, ◌++◌, ◌-◌, ◌<◌, ◌==◌, ◌^◌, ◌∷◌, ◌≡◌, ◌≤◌};
+ghost use Rattle.std.specs.Prelude.{IfOk, OnErr, OnOk, length, [], ◌+◌, ◌++◌, ◌-◌, ◌<◌, ◌==◌, ◌^◌, ◌∷◌, ◌≡◌, ◌≤◌};
 
 use sl_sector::{Block, DeltaRec, DeltaState, Leader, PairBlock, Rec, Request, ValueRec};
 use sl_text::{Data, FilePath, Name, Seq};
@@ -14,6 +15,7 @@ use sl_trace::{
 use sl_words::Room;
 use std::alloc::{AllocError, Global};
 use std::marker::Model;
+use std::mem;
 
 /// The types within a call.
 type WithinCall = (
@@ -82,6 +84,18 @@ fn is_of(start: &Start, process: u32) -> bool
     ensures { result ≡ (start.now.process == process) }
 {
     start.process == process
+}
+
+/// The elements of a list, which then has none: its memory stays where there were none.
+fn taken<T>(list: &mut Room<T>, none: Room<T>) -> Vec<T>
+    requires { none.items ≡ [] }
+    ensures all { result.items ≡ list.old.items }
+    ensures left { list.new.items ≡ [] }
+{
+    if list.as_slice().is_empty() {
+        return none.into_vec();
+    }
+    mem::replace(list, none).into_vec()
 }
 
 impl Buffers {
@@ -223,10 +237,34 @@ impl Buffers {
         self.more_calls -= 1;
     }
 
-    /// The effects.
-    pub fn into_effects(self) -> Effects
-        ensures exact { result ≡ self.made }
-        ensures few { AreFew self.most self.most_calls result }
+    /// Sees that there is memory for so many calls, and so many of each other class. An `Err` is want of memory, and changes nothing.
+    pub fn reserve(&mut self, room: usize, more_calls: usize) -> Result<(), AllocError>
+        requires made { self.old.made ≡ no_effects }
+        requires few { (room < 2 ^ 32) × (more_calls < 2 ^ 32) }
+        ensures ok { OnOk result (self.new ≡ record { made = no_effects; left = room; calls = more_calls; most = room; most_calls = more_calls }) }
+        ensures err { OnErr result (self.new ≡ self.old) }
+    {
+        self.ends.reserve(room)?;
+        self.signals.reserve(room)?;
+        self.moves.reserve(room)?;
+        self.grants.reserve(room)?;
+        self.starts.reserve(room)?;
+        self.replies.reserve(room)?;
+        self.calls.reserve(more_calls)?;
+        self.left = room;
+        self.more_calls = more_calls;
+        self.most = room;
+        self.most_calls = more_calls;
+        Ok(())
+    }
+
+    /// The effects are taken out, and nothing is left to be made until memory is taken anew. A class of which none was made keeps its memory; in
+    /// the place of the other lists stand those of `none`.
+    pub fn take(&mut self, none: Buffers) -> Effects
+        requires { none.made ≡ no_effects }
+        ensures exact { result ≡ self.old.made }
+        ensures few { AreFew self.old.most self.old.most_calls result }
+        ensures left { self.new ≡ record { made = no_effects; left = 0; calls = 0; most = 0; most_calls = 0 } }
     {
         let Buffers {
             ends,
@@ -240,15 +278,20 @@ impl Buffers {
             more_calls: _,
             most: _,
             most_calls: _,
-        } = self;
-        Effects {
-            ends: Seq::new(ends.into_vec()),
-            signals: Seq::new(signals.into_vec()),
-            moves: Seq::new(moves.into_vec()),
-            grants: Seq::new(grants.into_vec()),
-            starts: Seq::new(starts.into_vec()),
-            replies: Seq::new(replies.into_vec()),
-            calls: Seq::new(calls.into_vec()),
-        }
+        } = none;
+        let made = Effects {
+            ends: Seq::new(taken(&mut self.ends, ends)),
+            signals: Seq::new(taken(&mut self.signals, signals)),
+            moves: Seq::new(taken(&mut self.moves, moves)),
+            grants: Seq::new(taken(&mut self.grants, grants)),
+            starts: Seq::new(taken(&mut self.starts, starts)),
+            replies: Seq::new(taken(&mut self.replies, replies)),
+            calls: Seq::new(taken(&mut self.calls, calls)),
+        };
+        self.left = 0;
+        self.more_calls = 0;
+        self.most = 0;
+        self.most_calls = 0;
+        made
     }
 }

@@ -3,7 +3,7 @@
 ghost use Rattle.sl_host_law.specs.Decisions.CommandDecisions.{busy_refused, holds_there, killpath_decision, other_at, pending_refused, process_refused};
 ghost use Rattle.sl_host_state.specs.StepQuestions.{ungranted_in};
 ghost use Rattle.sl_trace.specs.Jobs.{is_asking_lease, is_program};
-ghost use Rattle.sl_trace.specs.Limits.{most_children, most_holders};
+ghost use Rattle.sl_trace.specs.CountLimits.{most_children, most_holders};
 ghost use Rattle.sl_trace.specs.Traces.{is_orphan};
 ghost use Rattle.sl_host.specs.BookQuestions.{held_under, state_in};
 ghost use Rattle.std.specs.List.{list_any};

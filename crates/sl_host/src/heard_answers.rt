@@ -4,7 +4,7 @@
 //! calls of which a member keeps nothing. A member that has gone keeps nothing any more: then the tables alone change. With the answer to its last write
 //! a refused member goes.
 
-ghost use Rattle.sl_area.specs.Layouts.{layout_of};
+ghost use Rattle.sl_area.specs.AreaSizes.{layout_of};
 ghost use Rattle.sl_delta.specs.OwnSector.{answer_in};
 ghost use Rattle.sl_host_state.specs.HeardInputs.{heard_answer, job_hearing};
 ghost use Rattle.sl_host_law.specs.Steps.Leases.{lease_at};

@@ -9,7 +9,6 @@ ghost use Rattle.std.specs.Prelude.{◌+◌, ◌<◌, ◌^◌, ◌≡◌};
 use crate::buffers::Buffers;
 use crate::host::Host;
 use sl_trace::Effects;
-use std::mem;
 
 impl Host {
     /// A process has exited: a child of this number has, unless the step starts it, and its kill program goes.
@@ -58,7 +57,7 @@ impl Host {
     }
 
     /// A step is over: its effects are taken out, and the next call is the first of the next step. Nothing is left to be made until memory
-    /// is taken anew; `none` is what stands in their place.
+    /// is taken anew; `none` stands in the place of the lists that are taken out.
     pub fn rest(&mut self, none: Buffers) -> Effects
         requires { none ≡ record { made = no_effects; left = 0; calls = 0; most = 0; most_calls = 0 } }
         ensures effects { result ≡ self.old.kept.made }
@@ -69,6 +68,6 @@ impl Host {
         ensures most { (self.new.most ≡ 0) × (self.new.most_calls ≡ 0) × (self.new.seats ≡ self.old.seats) }
     {
         self.books.first_call = self.books.next_call();
-        mem::replace(&mut self.books.made, none).into_effects()
+        self.books.made.take(none)
     }
 }

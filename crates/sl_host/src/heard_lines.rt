@@ -1,7 +1,7 @@
 //! A line, heard: it is a job from here on, or it is answered at once.
 
 ghost use Rattle.sl_host_state.specs.HeardInputs.{answered_line, heard_line, heard_number, program_answered};
-ghost use Rattle.sl_trace.specs.Traces.{is_done, kill_program_in, with_program};
+ghost use Rattle.sl_trace.specs.KillPrograms.{is_done, kill_program_in, with_program};
 ghost use Rattle.sl_trace.specs.declared.reply.Reply.TheVariants.{BadCommand as Misread};
 ghost use Rattle.sl_host.specs.Books.{books_answering};
 ghost use Rattle.sl_host.specs.Host.{Becomes, SameRun};

@@ -25,7 +25,7 @@ pub struct Host {
 }
 
 impl Model for Host {
-    ghost use Rattle.sl_trace.specs.Limits.{most_lockspaces};
+    ghost use Rattle.sl_trace.specs.CountLimits.{most_lockspaces};
     ghost use Rattle.sl_host.specs.Books.{kept_of};
     ghost use Rattle.sl_host.specs.Host.{HostView};
     ghost use Rattle.std.specs.Prelude.{◌≡◌, ◌≤◌};

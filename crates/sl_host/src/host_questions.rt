@@ -1,7 +1,7 @@
 //! What a host is asked by those who act on it.
 
 ghost use Rattle.sl_tables.specs.Holdings.{fits};
-ghost use Rattle.sl_trace.specs.Limits.{most_lockspaces};
+ghost use Rattle.sl_trace.specs.CountLimits.{most_lockspaces};
 ghost use Rattle.sl_trace.specs.Traces.{first_child};
 ghost use Rattle.sl_host.specs.BookQuestions.{leases_in, most_counted, sought_on};
 ghost use Rattle.sl_host.specs.Views.{books_of};

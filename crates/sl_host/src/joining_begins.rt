@@ -5,7 +5,7 @@ ghost use Rattle.sl_member.specs.Members.{IsOwnCall, blank_member};
 ghost use Rattle.sl_member.specs.HostMembers.{member_with};
 ghost use Rattle.sl_trace.specs.Sessions.{joining_session};
 ghost use Rattle.sl_text.specs.Names.{is_name};
-ghost use Rattle.sl_trace.specs.Limits.{most_lockspaces};
+ghost use Rattle.sl_trace.specs.CountLimits.{most_lockspaces};
 ghost use Rattle.sl_trace.specs.Traces.{new_call};
 ghost use Rattle.sl_trace.specs.declared.effects.JoinStep.TheVariants.{FirstRead};
 ghost use Rattle.sl_trace.specs.declared.effects.Purpose.TheVariants.{Joining};

@@ -10,7 +10,7 @@ ghost use Rattle.sl_member.specs.Members.{blank_member};
 ghost use Rattle.sl_member.specs.HostMembers.{MembersState, member_with};
 ghost use Rattle.sl_trace.specs.Sessions.{given_session};
 ghost use Rattle.sl_text.specs.Names.{is_name};
-ghost use Rattle.sl_trace.specs.Limits.{most_lockspaces};
+ghost use Rattle.sl_trace.specs.CountLimits.{most_lockspaces};
 ghost use Rattle.sl_host.specs.NewHosts.{MayBeGiven, books_begun, kept_begun, members_given, setting_begun};
 ghost use Rattle.sl_host.specs.Host.{ReadAs};
 ghost use Rattle.sl_host.specs.MemberRun.{run_in};

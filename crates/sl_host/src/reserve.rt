@@ -9,9 +9,8 @@ ghost use Rattle.sl_host.specs.NumbersLast.{NumbersLast};
 ghost use Rattle.std.specs.Prelude.{OnErr, OnOk, true, ◌+◌, ◌<◌, ◌^◌, ◌≡◌, ◌≤◌};
 
 use crate::books::Books;
-use crate::buffers::Buffers;
 use crate::host::Host;
-use std::alloc::{AllocError, Global};
+use std::alloc::AllocError;
 
 /// No more effects of one class are made in a step.
 const MOST_EFFECTS: u64 = 2_147_483_647;
@@ -56,7 +55,7 @@ fn last(reached: Reached, left: usize, calls: usize) -> bool
 impl Books {
     /// Takes what a step needs that makes no more effects of a class than `left`, but calls, and no more calls than `calls`. An `Err` is want of
     /// memory or of numbers, and changes nothing.
-    pub fn reserve(&mut self, alloc: Global, left: usize, calls: usize) -> Result<(), AllocError>
+    pub fn reserve(&mut self, left: usize, calls: usize) -> Result<(), AllocError>
         requires { self.old.made ≡ no_effects }
         ensures ok { OnOk result (self.new ≡ record self.old { left = left; calls = calls; most = left; most_calls = calls }) }
         ensures err { OnErr result (self.new ≡ self.old) }
@@ -74,22 +73,20 @@ impl Books {
         if !last(reached, left, calls) {
             return Err(AllocError);
         }
-        let made = Buffers::new(alloc, left, calls)?;
         self.connected.reserve(left)?;
         self.holdings.reserve(left)?;
         self.children.reserve(left)?;
         self.jobs.reserve(left)?;
         self.programs.reserve(left)?;
         self.unanswered.reserve(calls)?;
-        self.made = made;
-        Ok(())
+        self.made.reserve(left, calls)
     }
 }
 
 impl Host {
     /// Takes what the next step needs, between two steps: it makes no more effects of each class but calls than `left`, and no more calls than
     /// `calls`. An `Err` is want of memory or of numbers, and changes nothing.
-    pub fn reserve(&mut self, alloc: Global, left: usize, calls: usize) -> Result<(), AllocError>
+    pub fn reserve(&mut self, left: usize, calls: usize) -> Result<(), AllocError>
         requires { self.old.kept.made ≡ no_effects }
         ensures ok { OnOk result (self.new ≡ record self.old { left = left; calls = calls; most = left; most_calls = calls }) }
         ensures err { OnErr result (self.new ≡ self.old) }
@@ -97,6 +94,6 @@ impl Host {
         ensures entries { OnOk result (self.old.kept.entries < 2 ^ 63) }
     {
         self.members.reserve(0, calls)?;
-        self.books.reserve(alloc, left, calls)
+        self.books.reserve(left, calls)
     }
 }

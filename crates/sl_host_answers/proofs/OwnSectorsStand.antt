@@ -7,7 +7,7 @@ use Rattle.sl_host_law.specs.Steps.Passes.{at_member, member_numbered}
 use Rattle.sl_host_state.specs.KeptState.{HostKept, HostState, MemberState}
 use Rattle.sl_host_state.specs.declared.kept_parts.OpenCall.{OpenCall}
 use Rattle.sl_member.specs.Members.{MemberKept, RunOf, own_of}
-use Rattle.sl_trace.specs.Deltas.{next_after_renewal}
+use Rattle.sl_trace.specs.DeltaDecisions.{next_after_renewal}
 use Rattle.sl_trace.specs.declared.delta.DeltaNext.TheVariants.{MoveConnection}
 use Rattle.sl_trace.specs.declared.delta.DeltaNext.{DeltaNext}
 use Rattle.sl_trace.specs.declared.session.Session.{Session}

@@ -1,6 +1,6 @@
 -- A request, by what was read of leader and request.
-use Rattle.sl_area.specs.Layouts.{Layout}
-use Rattle.sl_area.specs.Places.{leader_of, read_at}
+use Rattle.sl_area.specs.AreaSizes.{Layout}
+use Rattle.sl_area.specs.AreaLayout.{leader_of, read_at}
 use Rattle.sl_due.specs.DueRequests.{owner_read, request_refusal}
 use Rattle.sl_host_answers.specs.Requests.{owner_by, refusal_by}
 use Rattle.sl_host_law.specs.Answers.Requests.{requesting, writing_request}
@@ -8,7 +8,7 @@ use Rattle.sl_host_state.specs.KeptState.{HostState}
 use Rattle.sl_host_state.specs.MadeEffects.{with_reply}
 use Rattle.sl_trace.specs.Leases.{is_leader_of}
 use Rattle.sl_request.specs.Requests.{check_request}
-use Rattle.sl_sector.specs.Spelling.{request_in}
+use Rattle.sl_sector.specs.SectorLayouts.{request_in}
 use Rattle.sl_sector.specs.declared.sector.Leader.{Leader}
 use Rattle.sl_sector.specs.declared.sector.Request.{Request}
 use Rattle.sl_trace.specs.declared.session.Session.{Session}

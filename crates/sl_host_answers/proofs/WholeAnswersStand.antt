@@ -1,5 +1,5 @@
 -- An answer that is heard and then acted on is answered.
-use Rattle.sl_area.specs.Layouts.{layout_of}
+use Rattle.sl_area.specs.AreaSizes.{layout_of}
 use Rattle.sl_host_answers.specs.WholeAnswers.{HeardKnown, IsHeard, MayAnswer, due_for, due_of, found_for, is_job_call, is_joining_purpose, joined_on}
 use Rattle.sl_host_answers.specs.Facts.{JoinKnown, ReadKnown, ToldKnown}
 use Rattle.sl_host_answers.specs.JoiningAnswers.{join_answer}
@@ -12,7 +12,7 @@ use Rattle.sl_host_state.specs.HeardInputs.{heard_answer, hearing, is_heeded_by,
 use Rattle.sl_host_state.specs.KeptState.{HostKept, HostState, Made, MemberState, state_of}
 use Rattle.sl_host_state.specs.MadeEffects.{has_write_open}
 use Rattle.sl_host_state.specs.declared.kept_parts.OpenCall.{OpenCall}
-use Rattle.sl_host.specs.HeardAnswers.{IsTold}
+use Rattle.sl_host.specs.HeardAnswers.{IsTold, is_untold}
 use Rattle.sl_host.specs.declared.told_answers.Told.{Told}
 use Rattle.sl_host_law.specs.Questions.Answers.{spot_in}
 use Rattle.sl_host_law.specs.Steps.Leases.{lease_at}
@@ -30,7 +30,6 @@ use Rattle.sl_trace.specs.declared.effects.Purpose.{Purpose}
 use Rattle.sl_trace.specs.declared.input.Answer.TheVariants.{Failed}
 use Rattle.sl_trace.specs.declared.input.Answer.{Answer}
 use Rattle.sl_host.specs.BookQuestions.{state_in}
-use Rattle.sl_host.specs.HeardAnswers.{is_untold}
 use Rattle.sl_words.proofs.CaseLaws.{none_some, some_value}
 use Rattle.std.proofs.Common.{ap, arith, refl, subst, sym, true≢false, ◌∙◌}
 use Rattle.std.proofs.lemmas.Bool.Decides.{Decides-eqb}

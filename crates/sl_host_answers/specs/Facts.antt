@@ -1,5 +1,5 @@
 -- What is known of a host that has heard an answer, which the parts of what is due to it rely on. Each holds by a law.
-use Rattle.sl_area.specs.Layouts.{layout_of}
+use Rattle.sl_area.specs.AreaSizes.{layout_of}
 use Rattle.sl_host_answers.specs.declared.own_sectors.JoinAnswer.{JoinAnswer}
 use Rattle.sl_host_law.specs.Questions.Jobs.{command_in, goes_on_in}
 use Rattle.sl_host_law.specs.Steps.Leases.{blocks_at, kept_blocks, lease_at}
@@ -9,7 +9,7 @@ use Rattle.sl_host_work.specs.SectorPlaces.{IsArea, IsPlaced}
 use Rattle.sl_member.specs.HostMembers.{member_with}
 use Rattle.sl_sector.specs.declared.sector.Block.{Block}
 use Rattle.sl_trace.specs.declared.delta.DeltaNext.TheVariants.{Join}
-use Rattle.sl_trace.specs.Commands.{IsCommand}
+use Rattle.sl_trace.specs.CommandForms.{IsCommand}
 use Rattle.sl_trace.specs.declared.command.Command.{Command}
 use Rattle.sl_trace.specs.declared.effects.Grant.{Grant}
 use Rattle.sl_trace.specs.declared.effects.LeaseStep.{LeaseStep}

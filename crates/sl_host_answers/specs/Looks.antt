@@ -1,5 +1,5 @@
 -- A look at a request, as it is found before it is heeded.
-use Rattle.sl_area.specs.Layouts.{Layout}
+use Rattle.sl_area.specs.AreaSizes.{Layout}
 use Rattle.sl_due.specs.DueRequests.{signal_of_force, signal_of_request}
 use Rattle.sl_host_law.specs.Questions.Members.{exclusive_at}
 use Rattle.sl_host_state.specs.KeptState.{HostState, MemberState}

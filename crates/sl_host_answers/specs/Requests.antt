@@ -1,5 +1,5 @@
 -- Requests, by what the read of leader and request gave.
-use Rattle.sl_area.specs.Layouts.{Layout}
+use Rattle.sl_area.specs.AreaSizes.{Layout}
 use Rattle.sl_trace.specs.Leases.{is_leader_of}
 use Rattle.sl_request.specs.Requests.{check_request}
 use Rattle.sl_sector.specs.declared.sector.Leader.{Leader}

@@ -1,5 +1,5 @@
 -- The whole of an answer: what it makes due once the host has heard it, what is known of that, and how much it takes.
-use Rattle.sl_area.specs.Layouts.{Sizes, layout_of}
+use Rattle.sl_area.specs.AreaSizes.{Sizes, layout_of}
 use Rattle.sl_due.specs.DueRequests.{value_reply}
 use Rattle.sl_host_answers.specs.Facts.{JoinKnown, ReadKnown, RequestKnown, SurveyKnown, WorkKnown}
 use Rattle.sl_host_answers.specs.JoiningAnswers.{join_answer, joining_by}
@@ -22,7 +22,7 @@ use Rattle.sl_lease.specs.Bounds.{IsInstance}
 use Rattle.sl_lease.specs.Reads.{sectors_read}
 use Rattle.sl_lease.specs.Steps.{is_read_step}
 use Rattle.sl_member.specs.HostMembers.{member_with}
-use Rattle.sl_trace.specs.Deltas.{next_after_free, next_after_renewal}
+use Rattle.sl_trace.specs.DeltaDecisions.{next_after_free, next_after_renewal}
 use Rattle.sl_trace.specs.Sessions.{is_survey_purpose}
 use Rattle.sl_trace.specs.declared.command.Command.{Command}
 use Rattle.sl_trace.specs.declared.effects.LeaseStep.{LeaseStep}

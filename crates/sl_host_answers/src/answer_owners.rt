@@ -1,7 +1,7 @@
 //! Of which session, area and sectors an answer is.
 
-ghost use Rattle.sl_area.specs.Layouts.{layout_of, record_in};
-ghost use Rattle.sl_area.specs.Places.{request_offset};
+ghost use Rattle.sl_area.specs.AreaSizes.{layout_of, record_in};
+ghost use Rattle.sl_area.specs.AreaLayout.{request_offset};
 ghost use Rattle.sl_host_answers.specs.Looks.{exclusive_under};
 ghost use Rattle.sl_host_law.specs.Questions.Answers.{spot_in};
 ghost use Rattle.sl_host_work.specs.SectorPlaces.{IsArea};

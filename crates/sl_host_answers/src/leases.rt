@@ -1,7 +1,7 @@
 //! Work on a lease goes on after the answer to its call: its job's while that runs, a settling while its session is active. What comes next is
 //! decided by what is kept of the lease and, after a read, by the leader and the blocks that it gave.
 
-ghost use Rattle.sl_area.specs.Layouts.{layout_of};
+ghost use Rattle.sl_area.specs.AreaSizes.{layout_of};
 ghost use Rattle.sl_host_answers.specs.Facts.{LeaseKnown, LeaseTold, ToldKnown, WorkKnown};
 ghost use Rattle.sl_host_answers.specs.Leases.{aim_on, mode_wanted, next_on};
 ghost use Rattle.sl_host_law.specs.Questions.Answers.{spot_in};

@@ -1,6 +1,6 @@
 //! A holder's look at a request, answered: its process is told of one that asks for more.
 
-ghost use Rattle.sl_area.specs.Layouts.{layout_of};
+ghost use Rattle.sl_area.specs.AreaSizes.{layout_of};
 ghost use Rattle.sl_due.specs.DueRequests.{signal_of_force, signal_of_request};
 ghost use Rattle.sl_host_answers.specs.Looks.{look_of, member_look, signal_by};
 ghost use Rattle.sl_host_law.specs.Answers.Requests.{seeing_request};

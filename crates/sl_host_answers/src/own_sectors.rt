@@ -12,7 +12,7 @@ ghost use Rattle.sl_host_work.specs.NextDecisions.{IsPlain};
 ghost use Rattle.sl_host_work.specs.SectorPlaces.{IsPlaced};
 ghost use Rattle.sl_host_work.specs.TimedWork.{ArePlaced};
 ghost use Rattle.sl_member.specs.HostMembers.{member_with};
-ghost use Rattle.sl_trace.specs.Deltas.{next_after_free, next_after_renewal};
+ghost use Rattle.sl_trace.specs.DeltaDecisions.{next_after_free, next_after_renewal};
 ghost use Rattle.sl_trace.specs.Sessions.{is_join_done};
 ghost use Rattle.sl_trace.specs.declared.delta.DeltaNext.TheVariants.{EndLeaving};
 ghost use Rattle.sl_trace.specs.declared.input.Answer.TheVariants.{Failed, Written};

@@ -1,8 +1,8 @@
 //! Calls on requests and values, answered: a request is written or refused after the read of leader and request, a value is told, and the holder
 //! under an exclusive lease is told of a request that asks for more.
 
-ghost use Rattle.sl_area.specs.Layouts.{layout_of};
-ghost use Rattle.sl_area.specs.Places.{leader_of, read_at};
+ghost use Rattle.sl_area.specs.AreaSizes.{layout_of};
+ghost use Rattle.sl_area.specs.AreaLayout.{leader_of, read_at};
 ghost use Rattle.sl_due.specs.DueRequests.{value_reply};
 ghost use Rattle.sl_host_answers.specs.Facts.{RequestKnown};
 ghost use Rattle.sl_host_answers.specs.Requests.{old_refusal, owner_by, refusal_by};
@@ -12,9 +12,9 @@ ghost use Rattle.sl_host_state.specs.MadeEffects.{with_reply};
 ghost use Rattle.sl_host_work.specs.SectorPlaces.{IsArea};
 ghost use Rattle.sl_trace.specs.Leases.{is_leader_of};
 ghost use Rattle.sl_request.specs.Requests.{check_request};
-ghost use Rattle.sl_sector.specs.Spelling.{request_in};
+ghost use Rattle.sl_sector.specs.SectorLayouts.{request_in};
 ghost use Rattle.sl_trace.specs.Sessions.{is_join_done};
-ghost use Rattle.sl_trace.specs.Commands.{IsCommand};
+ghost use Rattle.sl_trace.specs.CommandForms.{IsCommand};
 ghost use Rattle.sl_trace.specs.declared.command.Command.TheVariants.{Request as Requests};
 ghost use Rattle.sl_trace.specs.declared.input.Answer.TheVariants.{Read};
 ghost use Rattle.sl_host.specs.Host.{Becomes, SameRun, Spends};

@@ -1,7 +1,7 @@
 //! A read of all ids, answered: the session's recovery may have begun by what it showed, and where others ask for what the session holds, the requests
 //! under its exclusive leases are read.
 
-ghost use Rattle.sl_area.specs.Layouts.{layout_of};
+ghost use Rattle.sl_area.specs.AreaSizes.{layout_of};
 ghost use Rattle.sl_host_answers.specs.Facts.{SurveyKnown};
 ghost use Rattle.sl_host_answers.specs.Surveys.{SameHoldings, acting, leases_of, member_shown, reading_asked, shown_of, spots_of, stopping_by};
 ghost use Rattle.sl_host_law.specs.Answers.Surveys.{is_asked_by, reading_request, reading_request_on, surveyed_in};

@@ -1,14 +1,14 @@
 -- Each command comes to what the member decides that has the lockspace.
 use Rattle.sl_host_lines.specs.CommandRefusals.{acquire_in, add_in, convert_in, converting, first_refusal, get_in, getting, giving_up, leave_in, refused_or, release_in, release_orphan_in, releasing_orphan, report_in, request_in, set_in, setting, take_over_in, taking_over}
-use Rattle.sl_area.specs.Layouts.{Sizes, layout_of}
+use Rattle.sl_area.specs.AreaSizes.{Sizes, layout_of}
 use Rattle.sl_due.specs.DueCommands.{unless_refused}
 use Rattle.sl_due.specs.declared.decision.Decision.TheVariants.{GetsValue, GivesUp, Joins, Leaves, Replies, Requests}
 use Rattle.sl_due.specs.declared.decision.Decision.{Decision}
 use Rattle.sl_host_law.specs.Decisions.CommandDecisions.{acquire_decision, add_decision, busy_refused, convert_decision, decision_of, held_of, holder_decision, holds_there, joined_refused, leave_decision, limit_refused, member_acquires, member_named, member_of, member_refusal, member_sets, orphan_at, orphan_decision, other_at, pending_refused, process_refused, report_decision, request_decision, serving_holding, take_over_decision, value_seq, with_member}
 use Rattle.sl_host_state.specs.KeptState.{HostKept, HostState, MemberState, state_of}
 use Rattle.sl_trace.specs.Leases.{spot_of}
-use Rattle.sl_trace.specs.Commands.{IsResourceArg}
-use Rattle.sl_trace.specs.Limits.{most_lockspaces}
+use Rattle.sl_trace.specs.CommandForms.{IsResourceArg}
+use Rattle.sl_trace.specs.CountLimits.{most_lockspaces}
 use Rattle.sl_trace.specs.Traces.{is_orphan, is_shared, no_process}
 use Rattle.sl_trace.specs.declared.command.Command.TheVariants.{Acquire, AddLockspace, Convert, GetLvb, HostStatus, InqLockspace, Release, ReleaseOrphan, RemLockspace, Request, RunProgram, SetKillpath, SetLvb, Status, TakeOver}
 use Rattle.sl_trace.specs.declared.command.Command.{Command}

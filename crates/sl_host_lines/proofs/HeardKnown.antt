@@ -1,5 +1,5 @@
 -- What is known of a host before its line is known once the line is heard, and once a holding has ended.
-use Rattle.sl_area.specs.Layouts.{Sizes}
+use Rattle.sl_area.specs.AreaSizes.{Sizes}
 use Rattle.sl_host_law.specs.Questions.Members.{exclusive_at}
 use Rattle.sl_host_law.specs.Steps.Leases.{kept_blocks, lease_at}
 use Rattle.sl_host_lines.specs.LineFacts.{LeaseReady, MayConvertAt, MayReleaseAt}

@@ -7,7 +7,7 @@ use Rattle.sl_host_state.specs.declared.kept_parts.JobState.{JobState}
 use Rattle.sl_host_work.proofs.HoldersFew.{holders_are_few}
 use Rattle.sl_host_work.proofs.RefusalsStand.{stopping_is}
 use Rattle.sl_host_work.specs.Holders.{holders_under}
-use Rattle.sl_host_work.specs.Kills.{holders_of_all}
+use Rattle.sl_host_work.specs.KilledMembers.{holders_of_all}
 use Rattle.sl_host_work.specs.Stops.{stopped_of, stopping}
 use Rattle.sl_host_work.specs.declared.recoveries.Stopped.{Stopped}
 use Rattle.sl_trace.specs.declared.command.Command.{Command}

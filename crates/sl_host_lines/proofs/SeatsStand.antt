@@ -8,7 +8,7 @@ use Rattle.sl_host_state.specs.HeardInputs.{heard_line}
 use Rattle.sl_host_state.specs.KeptState.{HostState, Made}
 use Rattle.sl_member.specs.Members.{MemberKept, blank_member}
 use Rattle.sl_trace.specs.Sessions.{joining_session}
-use Rattle.sl_trace.specs.Limits.{most_lockspaces}
+use Rattle.sl_trace.specs.CountLimits.{most_lockspaces}
 use Rattle.sl_trace.specs.declared.command.Command.TheVariants.{AddLockspace}
 use Rattle.sl_trace.specs.declared.command.Command.{Command}
 use Rattle.sl_trace.specs.declared.command.LockspaceArg.{LockspaceArg}

@@ -4,7 +4,7 @@ use Rattle.sl_due.specs.declared.decision.Decision.{Decision}
 use Rattle.sl_host_law.specs.Decisions.CommandDecisions.{busy_refused, held_of, holds_there, joined_refused, limit_refused, member_acquires, member_converts, member_named, member_refusal, member_sets, orphan_at, other_at, pending_refused, process_refused, serving_holding, value_seq}
 use Rattle.sl_host_state.specs.KeptState.{HostState, MemberState}
 use Rattle.sl_trace.specs.Leases.{spot_of}
-use Rattle.sl_trace.specs.Limits.{most_lockspaces}
+use Rattle.sl_trace.specs.CountLimits.{most_lockspaces}
 use Rattle.sl_trace.specs.Traces.{is_orphan, is_shared, no_process}
 use Rattle.sl_trace.specs.declared.command.LockspaceArg.{LockspaceArg}
 use Rattle.sl_trace.specs.declared.command.ResourceArg.{ResourceArg}

@@ -1,5 +1,5 @@
 -- Lists that commands are answered by, and memory for them.
-use Rattle.sl_area.specs.Layouts.{Sizes}
+use Rattle.sl_area.specs.AreaSizes.{Sizes}
 use Rattle.sl_trace.specs.declared.command.Command.TheVariants.{HostStatus, Status}
 use Rattle.sl_trace.specs.declared.command.Command.{Command}
 use Rattle.std.specs.Prelude.{Bool, false, true, ℕ, ◌≤◌}

@@ -3,7 +3,7 @@
 ghost use Rattle.sl_host_lines.specs.CommandRefusals.{acquire_in, first_refusal, leases_in, shared_beside};
 ghost use Rattle.sl_host_law.specs.Decisions.CommandDecisions.{busy_refused, held_on, limit_reached, limit_refused, member_acquires, member_named, member_refusal, pending_refused, process_refused, with_member};
 ghost use Rattle.sl_host_state.specs.MadeEffects.{is_lease_on};
-ghost use Rattle.sl_trace.specs.Limits.{most_resources};
+ghost use Rattle.sl_trace.specs.CountLimits.{most_resources};
 ghost use Rattle.sl_host.specs.BookQuestions.{state_in};
 ghost use Rattle.std.specs.List.{list_any};
 ghost use Rattle.std.specs.Prelude.{[], cond, is_none, length, nat_le, option_and_then, ◌%◌, ◌-◌, ◌∷◌, ◌≡◌};

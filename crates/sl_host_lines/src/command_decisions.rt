@@ -1,10 +1,10 @@
 //! What a command comes to.
 
-ghost use Rattle.sl_area.specs.Layouts.{layout_of};
+ghost use Rattle.sl_area.specs.AreaSizes.{layout_of};
 ghost use Rattle.sl_host_lines.specs.ListMemory.{FitsLists};
 ghost use Rattle.sl_host_law.specs.Decisions.CommandDecisions.{decision_of};
 ghost use Rattle.sl_host_state.specs.KeptState.{state_of};
-ghost use Rattle.sl_trace.specs.Commands.{IsCommand};
+ghost use Rattle.sl_trace.specs.CommandForms.{IsCommand};
 ghost use Rattle.sl_host.specs.BookQuestions.{state_in};
 ghost use Rattle.sl_host.specs.Host.{ReadAs};
 ghost use Rattle.std.specs.Prelude.{List, cond, ℕ, ◌≡◌};

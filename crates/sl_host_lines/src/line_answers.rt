@@ -1,7 +1,7 @@
 //! Lines that are answered at once, and those that make a call: an area, a request or a value is read, a value is written.
 
-ghost use Rattle.sl_area.specs.Layouts.{layout_of};
-ghost use Rattle.sl_area.specs.Places.{area_sectors, is_base, value_offset};
+ghost use Rattle.sl_area.specs.AreaSizes.{layout_of};
+ghost use Rattle.sl_area.specs.AreaLayout.{area_sectors, is_base, value_offset};
 ghost use Rattle.sl_due.specs.declared.decision.Decision.TheVariants.{GetsValue, ReadsArea, Replies, Requests, SetsValue};
 ghost use Rattle.sl_host_law.specs.Steps.LineSteps.{deciding, lining};
 ghost use Rattle.sl_host_state.specs.HeardInputs.{heard_line};

@@ -1,7 +1,7 @@
 //! Lines on a lockspace: it is left, or joined.
 
-ghost use Rattle.sl_area.specs.Layouts.{layout_of};
-ghost use Rattle.sl_area.specs.Places.{delta_offset};
+ghost use Rattle.sl_area.specs.AreaSizes.{layout_of};
+ghost use Rattle.sl_area.specs.AreaLayout.{delta_offset};
 ghost use Rattle.sl_due.specs.declared.decision.Decision.TheVariants.{Joins, Leaves};
 ghost use Rattle.sl_host_law.specs.Steps.LineSteps.{deciding};
 ghost use Rattle.sl_host_law.specs.Steps.Passes.{at_member};
@@ -10,8 +10,8 @@ ghost use Rattle.sl_host_lines.specs.LineFacts.{IsTimely};
 ghost use Rattle.sl_host_lines.specs.Seats.{HasSeat, IsSeat};
 ghost use Rattle.sl_host_work.specs.Stops.{stopped_of};
 ghost use Rattle.sl_member.specs.HostMembers.{member_with};
-ghost use Rattle.sl_trace.specs.Commands.{IsLockspaceArg};
-ghost use Rattle.sl_trace.specs.Limits.{most_lockspaces};
+ghost use Rattle.sl_trace.specs.CommandForms.{IsLockspaceArg};
+ghost use Rattle.sl_trace.specs.CountLimits.{most_lockspaces};
 ghost use Rattle.sl_trace.specs.declared.command.Command.TheVariants.{AddLockspace};
 ghost use Rattle.sl_host.specs.Host.{Becomes, SameRun, Spends};
 ghost use Rattle.sl_host.specs.Notes.{NotesState};

@@ -1,13 +1,13 @@
 //! A line: what it says is decided on the host as it has come to its input, then it is heard and carried out.
 
-ghost use Rattle.sl_area.specs.Layouts.{layout_of};
+ghost use Rattle.sl_area.specs.AreaSizes.{layout_of};
 ghost use Rattle.sl_host_lines.specs.ListMemory.{FitsLists};
 ghost use Rattle.sl_host_law.specs.Decisions.CommandDecisions.{decision_of};
 ghost use Rattle.sl_host_law.specs.Steps.LineSteps.{deciding, lining};
 ghost use Rattle.sl_host_lines.specs.LeavingsBegin.{line_cost};
 ghost use Rattle.sl_host_lines.specs.LineFacts.{DecisionKnown, IsTimely, LineKnown};
 ghost use Rattle.sl_host_lines.specs.Seats.{HasSeat};
-ghost use Rattle.sl_trace.specs.Commands.{IsCommand};
+ghost use Rattle.sl_trace.specs.CommandForms.{IsCommand};
 ghost use Rattle.sl_host.specs.BookQuestions.{state_in};
 ghost use Rattle.sl_host.specs.Host.{Becomes, SameRun, Spends};
 ghost use Rattle.sl_host.specs.Notes.{NotesState};

@@ -1,6 +1,6 @@
 -- What is found of a session that holds nothing, and what its last act leaves of what is known.
 use Rattle.sl_delta.specs.DeltaDecisions.{IsFitNext}
-use Rattle.sl_area.specs.Layouts.{layout_of}
+use Rattle.sl_area.specs.AreaSizes.{layout_of}
 use Rattle.sl_host_law.specs.Answers.CarriedDecisions.{carrying, own_sector, writing_own}
 use Rattle.sl_host_law.specs.Decisions.CommandDecisions.{held_of}
 use Rattle.sl_host_law.specs.StepParts.Ends.{ending_in, finishing, freeing_for, freeing_in, removing}
@@ -21,7 +21,7 @@ use Rattle.sl_sector.specs.Records.{Fits}
 use Rattle.sl_sector.specs.declared.sector.DeltaRec.{DeltaRec}
 use Rattle.sl_sector.specs.declared.sector.DeltaState.TheVariants.{Free}
 use Rattle.sl_sector.specs.declared.sector.Rec.TheVariants.{DeltaIs}
-use Rattle.sl_trace.specs.Deltas.{DeltaLease, delta_record, next_free}
+use Rattle.sl_trace.specs.DeltaDecisions.{DeltaLease, delta_record, next_free}
 use Rattle.sl_trace.specs.declared.delta.DeltaKnown.{DeltaKnown}
 use Rattle.sl_trace.specs.declared.delta.DeltaNext.TheVariants.{Disconnect, EndLeaving, Join, MoveConnection, Nothing, ReadOwn, RefuseJoin, RegisterAndRead, WriteClaim, WriteFirst, WriteFree, WriteRenewal}
 use Rattle.sl_trace.specs.declared.delta.DeltaNext.{DeltaNext}

@@ -1,5 +1,5 @@
 -- Parts of a step that take jobs and members away and add none, and leave holdings, and spots and numbers of leases, as they are.
-use Rattle.sl_area.specs.Layouts.{Layout, Sizes}
+use Rattle.sl_area.specs.AreaSizes.{Layout, Sizes}
 use Rattle.sl_host_law.specs.StepParts.Signals.{over}
 use Rattle.sl_host_passes.specs.PassesLessen.{IsNoMore, leases_in}
 use Rattle.sl_host_state.specs.KeptState.{HostKept, HostState, LeaseState, MemberState}

@@ -2,11 +2,10 @@
 use Rattle.sl_host_law.specs.Answers.RefusalsFollow.{refusing, timing_out}
 use Rattle.sl_host_law.specs.StepParts.Ends.{removing}
 use Rattle.sl_host_law.specs.StepParts.Recoveries.{killing, recovering_in}
-use Rattle.sl_host_law.specs.StepParts.Refusals.{signalling_and_refusing}
+use Rattle.sl_host_law.specs.StepParts.Refusals.{signalling_and_refusing, jobs_but, numbers_of, refusing_jobs}
 use Rattle.sl_host_law.specs.StepParts.Signals.{over, sending, signalling, telling}
 use Rattle.sl_host_law.specs.Questions.Jobs.{is_overdue_in, joining_in}
 use Rattle.sl_host_law.specs.Questions.Members.{holders_in}
-use Rattle.sl_host_law.specs.StepParts.Refusals.{jobs_but, numbers_of, refusing_jobs}
 use Rattle.sl_host_law.specs.Steps.Passes.{at_job, at_member, for_jobs, for_members, job_with, member_numbered}
 use Rattle.sl_host_law.specs.Steps.StepFunction.{before_taking}
 use Rattle.sl_host_passes.proofs.LessIsLeft.{IsMemberOf, Lessens, by_move, by_reply, by_signal, by_start, leases_same, less_by, lessens_not, lessens_on, lessens_over, lessens_some, lessens_where, member_same}

@@ -10,7 +10,7 @@ use Rattle.sl_host_state.specs.MadeEffects.{with_signal, with_start}
 use Rattle.sl_host_state.specs.declared.kept_parts.JobState.{JobState}
 use Rattle.sl_host_work.proofs.RefusalsStand.{no_recovery_is, recovery_is}
 use Rattle.sl_host_work.specs.Holders.{holders_under, signalling_all}
-use Rattle.sl_host_work.specs.Kills.{count_under, holders_of_all, unread}
+use Rattle.sl_host_work.specs.KilledMembers.{count_under, holders_of_all, unread}
 use Rattle.sl_host_work.specs.Stops.{recovering_of, stopped_of, stopping, stopping_cost}
 use Rattle.sl_host_work.specs.declared.recoveries.Stopped.{Stopped}
 use Rattle.sl_member.specs.HostMembers.{member_with}

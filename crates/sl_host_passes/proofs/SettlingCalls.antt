@@ -1,6 +1,7 @@
 -- A settling makes one call, or none, and never writes the second phase: what is known of leases stays, and no lease comes or goes.
-use Rattle.sl_area.specs.Layouts.{IsGeometry, Layout, Sizes, layout_of}
-use Rattle.sl_area.specs.Places.{is_base, leader_offset, leader_record}
+use Rattle.sl_area.specs.AreaSizes.{IsGeometry, Layout, Sizes, layout_of}
+use Rattle.sl_area.specs.AreaLayout.{is_base, leader_offset}
+use Rattle.sl_area.specs.AreaRecords.{leader_record}
 use Rattle.sl_host_law.proofs.Calls.MemberCalls.SpotsMore.{one_spot, spot_itself}
 use Rattle.sl_host.proofs.AnswersTold.{the_member}
 use Rattle.sl_host_law.proofs.Answers.PhaseTwoFollows.{within_cases}
@@ -33,7 +34,7 @@ use Rattle.sl_lease.specs.LeaseQuestions.{TopStands}
 use Rattle.sl_lease.specs.Bounds.{IsInstance}
 use Rattle.sl_lease.specs.Side.{is_named}
 use Rattle.sl_trace.specs.Ballots.{moded_block, phase1_block}
-use Rattle.sl_trace.specs.LeaseWork.{LeasePlace, begin_next, owes_block, phase1_next, settle_begin, settle_next, settle_owed, within_turn}
+use Rattle.sl_trace.specs.LeaseDecisions.{LeasePlace, begin_next, owes_block, phase1_next, settle_begin, settle_next, settle_owed, within_turn}
 use Rattle.sl_trace.specs.Leases.{LeaseKnown, Phase2_write, StepKind, block_of_record, block_written, is_at, is_lease_call, is_spot_before, kind_of_step, mode_gen_of, owed, own_known, same_kind, spot_of_call}
 use Rattle.sl_trace.specs.declared.lease.Aim.TheVariants.{Settles}
 use Rattle.sl_trace.specs.declared.lease.LeaseNext.TheVariants.{AnswerJob, BecomeExclusive, BecomeShared, GrantJob, Nothing, ReadFor, WriteBlock, WriteLeader}

@@ -1,5 +1,5 @@
 -- Joinings that go on, and renewals, take members and jobs away and add none; so what is known of members, leases and holdings stays.
-use Rattle.sl_area.specs.Layouts.{Sizes}
+use Rattle.sl_area.specs.AreaSizes.{Sizes, IsGeometry}
 use Rattle.sl_host_law.specs.Answers.CarriedDecisions.{carrying, connecting, own_sector, reading_own, registering, surveying, writing_own}
 use Rattle.sl_host_law.specs.Answers.RefusalsFollow.{refusing}
 use Rattle.sl_host_law.specs.Answers.WakingsFollow.{joining_by_time}
@@ -20,12 +20,11 @@ use Rattle.sl_host_work.specs.SectorPlaces.{IsArea, IsPlaced}
 use Rattle.sl_host_work.specs.TimedWork.{ArePlaced}
 use Rattle.sl_lease.specs.LeaseQuestions.{TopStands}
 use Rattle.sl_lease.specs.Bounds.{IsInstance}
-use Rattle.sl_area.specs.Layouts.{IsGeometry}
 use Rattle.sl_words.proofs.Lists.{find_inside}
 use Rattle.sl_sector.specs.declared.sector.DeltaRec.{DeltaRec}
 use Rattle.sl_sector.specs.declared.sector.DeltaState.TheVariants.{Live}
 use Rattle.sl_sector.specs.declared.sector.Rec.TheVariants.{DeltaIs}
-use Rattle.sl_trace.specs.Deltas.{delta_record, is_renewal_due}
+use Rattle.sl_trace.specs.DeltaDecisions.{delta_record, is_renewal_due}
 use Rattle.sl_trace.specs.declared.delta.DeltaNext.TheVariants.{Disconnect, EndLeaving, Join, MoveConnection, Nothing, ReadOwn, RefuseJoin, RegisterAndRead, WriteClaim, WriteFirst, WriteFree, WriteRenewal}
 use Rattle.sl_trace.specs.declared.delta.DeltaNext.{DeltaNext}
 use Rattle.sl_trace.specs.declared.session.Session.{Session}

@@ -1,5 +1,5 @@
 -- What is known of what a host keeps as a pass begins.
-use Rattle.sl_area.specs.Layouts.{IsGeometry, Sizes}
+use Rattle.sl_area.specs.AreaSizes.{IsGeometry, Sizes}
 use Rattle.sl_host_law.specs.Decisions.CommandDecisions.{is_active_member}
 use Rattle.sl_host_law.specs.Steps.Leases.{kept_blocks, lease_at}
 use Rattle.sl_host_state.specs.KeptState.{HostKept, LeaseState, MemberState}

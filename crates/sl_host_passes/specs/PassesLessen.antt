@@ -2,7 +2,7 @@
 -- takes a number.
 pub use Rattle.sl_host.specs.BookQuestions.{leases_in}
 use Rattle.sl_host_state.specs.KeptState.{HostKept, MemberState}
-use Rattle.sl_host_work.specs.Kills.{count_under}
+use Rattle.sl_host_work.specs.KilledMembers.{count_under}
 use Rattle.sl_trace.specs.declared.effects.Grant.{Grant}
 use Rattle.sl_member.specs.HostMembers.{member_with}
 use Rattle.std.specs.Option.{option_map_or}

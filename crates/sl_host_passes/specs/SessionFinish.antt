@@ -5,7 +5,7 @@ use Rattle.sl_host_law.specs.StepParts.Wakes.{delta_in}
 use Rattle.sl_host_law.specs.Questions.Members.{has_call_open}
 use Rattle.sl_host_state.specs.KeptState.{HostState, MemberState}
 use Rattle.sl_host_state.specs.MadeEffects.{has_write_open}
-use Rattle.sl_trace.specs.Deltas.{next_free}
+use Rattle.sl_trace.specs.DeltaDecisions.{next_free}
 use Rattle.sl_trace.specs.declared.delta.DeltaNext.TheVariants.{Disconnect, Nothing, WriteFree}
 use Rattle.sl_trace.specs.declared.delta.DeltaNext.{DeltaNext}
 use Rattle.sl_trace.specs.declared.session.Session.{Session}

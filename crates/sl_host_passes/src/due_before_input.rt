@@ -10,7 +10,7 @@ ghost use Rattle.sl_host_law.specs.StepParts.Signals.{over};
 ghost use Rattle.sl_host_law.specs.Steps.Passes.{at_job, at_member, for_jobs, for_members};
 ghost use Rattle.sl_host_law.specs.Steps.StepFunction.{before_taking};
 ghost use Rattle.sl_host_passes.specs.PassesLessen.{IsNoMore, holders_among};
-ghost use Rattle.sl_host_work.specs.Kills.{holders_of_all};
+ghost use Rattle.sl_host_work.specs.KilledMembers.{holders_of_all};
 ghost use Rattle.sl_host.specs.Host.{Becomes, SameRun, Spends};
 ghost use Rattle.sl_host.specs.Notes.{NotesState};
 ghost use Rattle.std.specs.Prelude.{length, ◌*◌, ◌+◌, ◌≡◌, ◌≤◌};

@@ -4,7 +4,7 @@ ghost use Rattle.sl_host_passes.specs.NextMoment.{found_moments, least_by, next_
 ghost use Rattle.sl_host_passes.specs.PassPremises.{JobsApart};
 ghost use Rattle.sl_host_state.specs.HeardInputs.{quiet_to};
 ghost use Rattle.sl_host_state.specs.HostStands.{IsQuiet, job_moments, kill_moment, member_moments, recovery_moment};
-ghost use Rattle.sl_host_work.specs.Kills.{unread};
+ghost use Rattle.sl_host_work.specs.KilledMembers.{unread};
 ghost use Rattle.sl_host.specs.BookQuestions.{state_in};
 ghost use Rattle.sl_host.specs.Host.{Becomes, SameRun, Spends};
 ghost use Rattle.sl_host.specs.Notes.{NotesState};

@@ -10,7 +10,7 @@ ghost use Rattle.sl_host_passes.specs.SessionFinish.{IsLast, ending_next, freein
 ghost use Rattle.sl_host_passes.specs.PassPremises.{FinishKnown};
 ghost use Rattle.sl_host_work.specs.SectorPlaces.{IsPlaced};
 ghost use Rattle.sl_sector.specs.Records.{Fits};
-ghost use Rattle.sl_trace.specs.Deltas.{next_free};
+ghost use Rattle.sl_trace.specs.DeltaDecisions.{next_free};
 ghost use Rattle.sl_host.specs.BookQuestions.{held_under, state_in};
 ghost use Rattle.sl_host.specs.Host.{Becomes, SameRun, Spends};
 ghost use Rattle.sl_host.specs.Notes.{NotesState};

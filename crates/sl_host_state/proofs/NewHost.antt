@@ -4,7 +4,7 @@ use Rattle.sl_host_state.specs.NewHost.{IsOfProgram, given_sessions, new_host, n
 use Rattle.sl_host_state.specs.HostStands.{AskedStands, HostStands, JoinStands, Keeps, MemberStands, WatchKeeps, config_of}
 use Rattle.sl_trace.specs.Sessions.{given_session, is_present}
 use Rattle.sl_trace.specs.declared.session.Session.{Session}
-use Rattle.sl_trace.specs.Connections.{given_connection}
+use Rattle.sl_trace.specs.WatchdogConnections.{given_connection}
 use Rattle.sl_trace.specs.Traces.{Setting}
 use Rattle.sl_trace.specs.declared.input.Given.{Given}
 use Rattle.sl_time.specs.Times.{TimingNumbers, fail}

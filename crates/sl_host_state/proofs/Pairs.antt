@@ -1,7 +1,9 @@
 -- What is kept of pairs stands for a lease's calls: what a read is heard to give is what its call says that it gave, what is known of a
 -- first read is what is kept of it, and the answer to the newest call, or one more call, keeps this so.
-use Rattle.sl_area.specs.Layouts.{Layout}
-use Rattle.sl_area.specs.Places.{blocks_of, blocks_part, leader_read, needs_again, pair_read, pairs_kept}
+use Rattle.sl_area.specs.AreaSizes.{Layout}
+use Rattle.sl_area.specs.Pairs.{blocks_of, needs_again, pair_read, pairs_kept}
+use Rattle.sl_area.specs.TornLeader.{leader_read}
+use Rattle.sl_area.specs.AreaLayout.{blocks_part}
 use Rattle.sl_host_state.specs.HeardInputs.{blocks_heard, blocks_shown, is_area_step, is_last_phase, is_phase_step, kept_heard, leader_shown, pair_hearing, read_heard, turn_heard}
 use Rattle.sl_host_state.specs.KeptState.{PairState}
 use Rattle.sl_host_state.specs.MadeEffects.{pair_calling}

@@ -1,15 +1,16 @@
 -- What answers a question of a step, by the equations of the lists that it goes through.
-use Rattle.sl_due.specs.DueFirst.{is_kill_due}
+use Rattle.sl_due.specs.DueRecovery.{is_kill_due}
 use Rattle.sl_due.specs.Steps.{Step, seen}
 use Rattle.sl_host_state.specs.StepQuestions.{QuestionsAreAnswered, is_kill_due_in, stopper_in, ungranted_in}
 use Rattle.sl_host_state.specs.KeptState.{Config, HostState, JobState}
 use Rattle.sl_host_state.specs.HostStands.{Stands, kept_job}
-use Rattle.sl_trace.specs.Counts.{busy_among, child_count, holder_count, stopper_of, ungranted}
+use Rattle.sl_trace.specs.Counts.{busy_among, child_count, holder_count, ungranted}
+use Rattle.sl_trace.specs.KillPrograms.{stopper_of, KillProgram, kill_programs}
 use Rattle.sl_trace.specs.Jobs.{is_asking_lease, is_program}
 use Rattle.sl_trace.specs.declared.session.Begun.{Begun}
-use Rattle.sl_trace.specs.Connections.{Connection, connections}
-use Rattle.sl_trace.specs.Limits.{most_children}
-use Rattle.sl_trace.specs.Traces.{KillProgram, kill_programs, last_reading, running_jobs, same_place}
+use Rattle.sl_trace.specs.WatchdogConnections.{Connection, connections}
+use Rattle.sl_trace.specs.CountLimits.{most_children}
+use Rattle.sl_trace.specs.Traces.{last_reading, running_jobs, same_place}
 use Rattle.sl_trace.specs.declared.command.Command.{Command}
 use Rattle.sl_trace.specs.declared.effects.Grant.{Grant}
 use Rattle.sl_trace.specs.declared.input.Input.{Input}

@@ -1,5 +1,5 @@
 -- A step that is over, and a lease without a call.
-use Rattle.sl_area.specs.Layouts.{Layout}
+use Rattle.sl_area.specs.AreaSizes.{Layout}
 use Rattle.sl_due.specs.Due.{IsDue}
 use Rattle.sl_due.specs.Steps.{Step}
 use Rattle.sl_host_state.specs.HeardInputs.{rested}

@@ -1,25 +1,27 @@
 -- What an input makes of the kept state, and what a step's beginning and end do. An input is heard before anything is decided on it:
 -- an answer by the one thing that waits for it, a line as a job, an exit by the children.
-use Rattle.sl_area.specs.Layouts.{Layout}
-use Rattle.sl_area.specs.Places.{BlocksRead, blocks_of, leader_read, needs_again, pair_read, pairs_kept}
+use Rattle.sl_area.specs.AreaSizes.{Layout}
+use Rattle.sl_area.specs.Pairs.{BlocksRead, blocks_of, needs_again, pair_read, pairs_kept}
+use Rattle.sl_area.specs.TornLeader.{leader_read}
 use Rattle.sl_host_state.specs.KeptState.{HostState, JobState, JoinCall, JoinState, LeaseCall, LeaseState, MemberState, OpenCall, PairState, TopNumber}
 use Rattle.sl_host_state.specs.MadeEffects.{has_write_open, lowered}
 use Rattle.sl_host_state.specs.HostStands.{is_there, top_mbal}
 use Rattle.sl_trace.specs.Ballots.{is_ahead, same_owner, stop_of, value_of}
 use Rattle.sl_trace.specs.Leases.{given_with, is_leader_of, is_second, name_sought, shows_settled}
-use Rattle.sl_trace.specs.LeaseWork.{first_step, part_read}
+use Rattle.sl_trace.specs.LeaseDecisions.{first_step, part_read}
 use Rattle.sl_trace.specs.declared.lease.Stop.{Stop}
 use Rattle.sl_sector.specs.declared.sector.Block.{Block}
 use Rattle.sl_sector.specs.declared.sector.Leader.{Leader}
 use Rattle.sl_sector.specs.declared.sector.Owner.{Owner}
 use Rattle.sl_sector.specs.declared.sector.PairBlock.{PairBlock}
-use Rattle.sl_trace.specs.Deltas.{join_step_of}
+use Rattle.sl_trace.specs.DeltaDecisions.{join_step_of}
 use Rattle.sl_trace.specs.Sessions.{is_delta_purpose, is_join_call, is_renewal, is_session_arg, is_survey_purpose, shows_other_in}
 use Rattle.sl_trace.specs.declared.delta.DeltaKnown.{DeltaKnown}
 use Rattle.sl_trace.specs.declared.session.Renewing.{Renewing}
 use Rattle.sl_due.specs.DueRequests.{owner_asked}
 use Rattle.sl_time.specs.Times.{fail}
-use Rattle.sl_trace.specs.Traces.{Child, KillProgram, Setting, bytes_given, child_after, is_done, is_ok_answer, job_of, kill_program_in, no_effects, with_program, without_program}
+use Rattle.sl_trace.specs.Traces.{Child, Setting, bytes_given, child_after, is_ok_answer, job_of, no_effects}
+use Rattle.sl_trace.specs.KillPrograms.{KillProgram, is_done, kill_program_in, with_program, without_program}
 use Rattle.sl_trace.specs.declared.command.Command.TheVariants.{RemLockspace}
 use Rattle.sl_trace.specs.declared.command.Command.{Command}
 use Rattle.sl_trace.specs.declared.effects.Effects.{Effects}

@@ -13,7 +13,7 @@
 -- - jobs: the running jobs are those kept, each with its child and the call for which it waits.
 -- - holdings, children, programs: so are these.
 -- - quiet: nothing that is due by time before an input is due below `quiet_until`.
-use Rattle.sl_area.specs.Layouts.{Layout, layout_of}
+use Rattle.sl_area.specs.AreaSizes.{Layout, layout_of}
 use Rattle.sl_due.specs.Due.{IsHostTrace}
 use Rattle.sl_due.specs.DueRequests.{is_asked}
 use Rattle.sl_due.specs.Steps.{Step, seen}
@@ -27,13 +27,14 @@ use Rattle.sl_sector.specs.declared.sector.Block.{Block}
 use Rattle.sl_sector.specs.declared.sector.Owner.{Owner}
 use Rattle.sl_sector.specs.declared.sector.PairBlock.{PairBlock}
 use Rattle.sl_sector.specs.declared.sector.ValueRec.{ValueRec}
-use Rattle.sl_trace.specs.Deltas.{claim_of, delta_known, first_answered, first_bytes, join_step_of}
+use Rattle.sl_trace.specs.DeltaDecisions.{claim_of, delta_known, first_answered, first_bytes, join_step_of}
 use Rattle.sl_trace.specs.Sessions.{calls_of, is_delta_purpose, is_joined, leaving_of, me, present_sessions, refused_after, renewing, sessions}
 use Rattle.sl_trace.specs.Sightings.{seen_records, sightings}
 use Rattle.sl_trace.specs.declared.session.Begun.{Begun}
 use Rattle.sl_time.specs.Times.{fail}
-use Rattle.sl_trace.specs.Connections.{connections}
-use Rattle.sl_trace.specs.Traces.{Child, Job, Setting, Submitted, Trace, children, first_child, holdings, job_numbered, job_of, kill_programs, last_reading, next_call, next_job, no_effects, outstanding, reply_to, running_jobs, submitted, waiting_call}
+use Rattle.sl_trace.specs.WatchdogConnections.{connections}
+use Rattle.sl_trace.specs.Traces.{Child, Job, Setting, Submitted, Trace, children, first_child, holdings, job_numbered, job_of, last_reading, next_call, next_job, no_effects, outstanding, reply_to, running_jobs, submitted, waiting_call}
+use Rattle.sl_trace.specs.KillPrograms.{kill_programs}
 use Rattle.sl_trace.specs.declared.effects.Op.TheVariants.{ReadSectors, WriteRecord}
 use Rattle.sl_trace.specs.declared.effects.Op.{Op}
 use Rattle.sl_trace.specs.declared.input.Input.{Input}

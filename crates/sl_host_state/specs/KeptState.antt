@@ -16,7 +16,7 @@ pub use Rattle.sl_host_state.specs.declared.kept_parts.OpenCall.{OpenCall}
 pub use Rattle.sl_host_state.specs.declared.kept_parts.TopNumber.{TopNumber}
 pub use Rattle.sl_host_state.specs.declared.kept_parts.ValuePair.{ValuePair}
 pub use Rattle.sl_host_state.specs.declared.kept_parts.WaitingCall.{WaitingCall}
-use Rattle.sl_area.specs.Layouts.{Layout, Sizes, layout_of}
+use Rattle.sl_area.specs.AreaSizes.{Layout, Sizes, layout_of}
 use Rattle.sl_sector.specs.declared.sector.Block.{Block}
 use Rattle.sl_sector.specs.declared.sector.DeltaRec.{DeltaRec}
 use Rattle.sl_sector.specs.declared.sector.PairBlock.{PairBlock}
@@ -25,7 +25,8 @@ use Rattle.sl_trace.specs.declared.session.Begun.{Begun}
 use Rattle.sl_trace.specs.declared.session.Renewing.{Renewing}
 use Rattle.sl_trace.specs.declared.session.Session.{Session}
 use Rattle.sl_time.specs.Times.{TimingNumbers}
-use Rattle.sl_trace.specs.Traces.{Child, KillProgram}
+use Rattle.sl_trace.specs.Traces.{Child}
+use Rattle.sl_trace.specs.KillPrograms.{KillProgram}
 use Rattle.sl_trace.specs.declared.command.Command.{Command}
 use Rattle.sl_trace.specs.declared.effects.Effects.{Effects}
 use Rattle.sl_trace.specs.declared.effects.Grant.{Grant}

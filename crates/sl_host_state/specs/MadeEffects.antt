@@ -1,6 +1,6 @@
 -- What an effect makes of the kept state: for each function of `sl_due` that adds one to a step, the function of states that follows
 -- it. A law says that it does; a method of a host says that it makes this change.
-use Rattle.sl_area.specs.Layouts.{Layout}
+use Rattle.sl_area.specs.AreaSizes.{Layout}
 use Rattle.sl_host_state.specs.KeptState.{HostState, JobState, JoinState, LeaseCall, LeaseState, MemberState, PairState}
 use Rattle.sl_host_state.specs.NewHost.{new_member}
 use Rattle.sl_host_state.specs.HostStands.{free_written, is_joining, kept_call, kept_waiting, newest_of, no_pair, pair_of}

@@ -1,5 +1,5 @@
 -- A new host, before any step: its members are the sessions that its setting gives.
-use Rattle.sl_area.specs.Layouts.{Layout, Sizes, layout_of}
+use Rattle.sl_area.specs.AreaSizes.{Layout, Sizes, layout_of}
 use Rattle.sl_host_state.specs.KeptState.{Config, HostState, JoinState, MemberState}
 use Rattle.sl_host_state.specs.HostStands.{HostStands, config_of}
 use Rattle.sl_trace.specs.Sessions.{given_number, given_session}

@@ -1,13 +1,14 @@
 -- Questions of a step that go through more than one list, and what answers them of a host.
-use Rattle.sl_due.specs.DueFirst.{begins_now, is_kill_due}
+use Rattle.sl_due.specs.DueRecovery.{begins_now, is_kill_due}
 use Rattle.sl_due.specs.Steps.{Step, seen}
 use Rattle.sl_host_state.specs.KeptState.{HostState}
 use Rattle.sl_host_state.specs.HostStands.{Stands}
-use Rattle.sl_trace.specs.Counts.{busy_among, busy_process, child_count, holder_count, stopper_of}
+use Rattle.sl_trace.specs.Counts.{busy_among, busy_process, child_count, holder_count}
+use Rattle.sl_trace.specs.KillPrograms.{stopper_of}
 use Rattle.sl_trace.specs.Jobs.{is_asking_lease, is_program}
 use Rattle.sl_trace.specs.declared.session.Begun.{Begun}
-use Rattle.sl_trace.specs.Connections.{is_registered}
-use Rattle.sl_trace.specs.Limits.{most_children}
+use Rattle.sl_trace.specs.WatchdogConnections.{is_registered}
+use Rattle.sl_trace.specs.CountLimits.{most_children}
 use Rattle.sl_trace.specs.Traces.{same_place}
 use Rattle.sl_trace.specs.declared.command.Command.{Command}
 use Rattle.sl_trace.specs.declared.effects.Spot.{Spot}

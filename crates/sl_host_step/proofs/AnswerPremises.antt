@@ -10,9 +10,9 @@ use Rattle.sl_host_step.proofs.StepsMayCome.{at_input}
 use Rattle.sl_host_step.proofs.KnownWholeAnswers as known
 use Rattle.sl_host_step.specs.Moments.{AtInput}
 use Rattle.sl_host_step.specs.InputReach.{reach_at, reach_in}
-use Rattle.sl_host_step.specs.Rooms.{HasLeft, ScratchState, Suffices}
-use Rattle.sl_host_step.specs.declared.rooms.Reach.TheVariants.{Few}
-use Rattle.sl_host_step.specs.declared.rooms.Reach.{Reach}
+use Rattle.sl_host_step.specs.StepMemory.{HasLeft, ScratchState, Suffices}
+use Rattle.sl_host_step.specs.declared.step_memory.Reach.TheVariants.{Few}
+use Rattle.sl_host_step.specs.declared.step_memory.Reach.{Reach}
 use Rattle.sl_member.specs.HostMembers.{member_with}
 use Rattle.sl_trace.specs.Sessions.{is_survey_purpose}
 use Rattle.sl_trace.specs.declared.input.Answer.{Answer}

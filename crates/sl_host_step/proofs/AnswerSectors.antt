@@ -1,5 +1,5 @@
 -- An answer that comes as a step begins: how many sectors it is, by the purpose of its call; and so at the input, for the open calls stay.
-use Rattle.sl_area.specs.Layouts.{Layout, Sizes, layout_of}
+use Rattle.sl_area.specs.AreaSizes.{Layout, Sizes, layout_of}
 use Rattle.sl_due.specs.Due.{before_input}
 use Rattle.sl_due.specs.Steps.{Step, begin_step}
 use Rattle.sl_host_answers.specs.WholeAnswers.{FitsHeard, FitsSectors, calls_for, calls_of, effects_for, effects_of, is_joining_purpose, is_writing, takes_sectors}
@@ -17,15 +17,15 @@ use Rattle.sl_host_step.proofs.CallsStay.{calls_stay, config_stays}
 use Rattle.sl_host_step.proofs.StepsMayCome.{comes_plainly, expected_at}
 use Rattle.sl_host_step.specs.Moments.{AtInput, StepComes}
 use Rattle.sl_host_step.specs.InputReach.{reach_at, reach_in}
-use Rattle.sl_host_step.specs.Rooms.{HasLeft, reached}
-use Rattle.sl_host_step.specs.declared.rooms.Reach.TheVariants.{Few}
-use Rattle.sl_host_step.specs.declared.rooms.Reach.{Reach}
+use Rattle.sl_host_step.specs.StepMemory.{HasLeft, reached}
+use Rattle.sl_host_step.specs.declared.step_memory.Reach.TheVariants.{Few}
+use Rattle.sl_host_step.specs.declared.step_memory.Reach.{Reach}
 use Rattle.sl_host_step.specs.AwaitedCalls.{joins_at}
 use Rattle.sl_lease.specs.Steps.{is_read_step}
 use Rattle.sl_member.specs.HostMembers.{member_with}
 use Rattle.sl_words.proofs.Lists.{find_inside}
 use Rattle.sl_trace.specs.Sessions.{is_survey_purpose}
-use Rattle.sl_sector.specs.Spelling.{IsSectorSize}
+use Rattle.sl_sector.specs.SectorLayouts.{IsSectorSize}
 use Rattle.sl_step_law.proofs.AnswersAreKnown.{answers_are_known, sector_size}
 use Rattle.sl_step_law.proofs.CallsAsk.{calls_ask}
 use Rattle.sl_step_law.proofs.HostsAreReady.{hosts_are_ready}

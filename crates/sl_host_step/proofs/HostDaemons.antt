@@ -1,5 +1,5 @@
 -- A host as a daemon: it begins, tells what may come, and steps.
-use Rattle.sl_area.specs.Layouts.{layout_of}
+use Rattle.sl_area.specs.AreaSizes.{layout_of}
 use Rattle.sl_world_state.specs.Daemons.{IsNumbered, IsStep, MayCome, begun_with, entry_of}
 use Rattle.sl_world_state.specs.declared.daemon.Site.{Site}
 use Rattle.sl_host_state.specs.KeptState.{Made, state_of}
@@ -8,14 +8,14 @@ use Rattle.sl_host_step.proofs.ExpectedInputs.{expected_is as expected_by_kept}
 use Rattle.sl_host_step.proofs.ServesOn.{are_numbered, calls_sound, keeps_on}
 use Rattle.sl_host_step.specs.ExpectedInputs.{expected_in}
 use Rattle.sl_host_step.specs.Moments.{HasStepped, StepComes}
-use Rattle.sl_host_step.specs.Rooms.{most_of}
+use Rattle.sl_host_step.specs.StepMemory.{most_of}
 use Rattle.sl_host_step.specs.HostServes.{Serves, whole_commands}
 use Rattle.sl_run.specs.Lawful.{IsGiven, IsSetting}
 use Rattle.sl_run.specs.Headers.{IsHeader}
 use Rattle.sl_run.specs.declared.header.Header.{Header}
 use Rattle.sl_host_law.specs.Steps.SoundHosts.{IsSound}
 use Rattle.sl_host_state.specs.HostStands.{HostStands}
-use Rattle.sl_trace.specs.Commands.{command_in, forms}
+use Rattle.sl_trace.specs.CommandForms.{command_in, forms}
 use Rattle.sl_step_law.proofs.HostsBegin.{hosts_begin}
 use Rattle.sl_step_law.specs.LastValues.{IsByteInput}
 use Rattle.sl_trace.specs.Traces.{Setting, Trace, is_expected}

@@ -1,5 +1,5 @@
 -- What an answer asks of a host is known: before the host hears it, and as it has heard it.
-use Rattle.sl_area.specs.Layouts.{Layout, layout_of}
+use Rattle.sl_area.specs.AreaSizes.{Layout, layout_of}
 use Rattle.sl_due.specs.Steps.{with_input}
 use Rattle.sl_host_answers.specs.Facts.{LeaseKnown, LeaseRead as ReadOfLease, ReadKnown, RequestKnown, SurveyKnown, WorkKnown}
 use Rattle.sl_host_law.proofs.SharedFacts.PlainLists.{all_from}
@@ -32,7 +32,7 @@ use Rattle.sl_step_law.proofs.PlacesAreKnown.{places_are_known}
 use Rattle.sl_step_law.specs.LeaseAnswers.{LeaseHeard}
 use Rattle.sl_step_law.specs.AnswersAwaited.{IsMembersCall}
 use Rattle.sl_step_law.specs.Moments.{IsMoment}
-use Rattle.sl_trace.specs.LeaseWork.{asked_again}
+use Rattle.sl_trace.specs.LeaseDecisions.{asked_again}
 use Rattle.sl_trace.specs.declared.effects.LeaseRead.{LeaseRead}
 use Rattle.sl_trace.specs.declared.effects.LeaseStep.{LeaseStep}
 use Rattle.sl_trace.specs.declared.effects.Purpose.TheVariants.{Lease}

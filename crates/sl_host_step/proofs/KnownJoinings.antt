@@ -1,6 +1,6 @@
 -- A joining is over only by the write of its first renewal, and by then it has claimed a generation.
-use Rattle.sl_area.specs.Layouts.{Layout, layout_of, record_in}
-use Rattle.sl_area.specs.Places.{is_base}
+use Rattle.sl_area.specs.AreaSizes.{Layout, layout_of, record_in}
+use Rattle.sl_area.specs.AreaLayout.{is_base}
 use Rattle.sl_delta.specs.DeltaDecisions.{after_join, claim_next, is_over_since, verified}
 use Rattle.sl_delta.specs.OwnSector.{OwnState, lease_of}
 use Rattle.sl_host_answers.specs.Facts.{JoinKnown}
@@ -15,9 +15,9 @@ use Rattle.sl_host_step.proofs.StepsMayCome.{IsAtInput}
 use Rattle.sl_host_work.specs.SectorPlaces.{IsPlaced}
 use Rattle.sl_member.specs.HostMembers.{member_with}
 use Rattle.sl_words.proofs.Lists.{find_inside, in_map, kept_inside}
-use Rattle.sl_sector.specs.Spelling.{delta_in}
+use Rattle.sl_sector.specs.SectorLayouts.{delta_in}
 use Rattle.sl_sector.specs.declared.sector.DeltaRec.{DeltaRec}
-use Rattle.sl_trace.specs.Deltas.{next_after_first}
+use Rattle.sl_trace.specs.DeltaDecisions.{next_after_first}
 use Rattle.sl_trace.specs.Sightings.{is_free_state}
 use Rattle.sl_trace.specs.declared.delta.DeltaNext.TheVariants.{Join, Nothing, RefuseJoin, RegisterAndRead}
 use Rattle.sl_trace.specs.declared.delta.DeltaNext.{DeltaNext}

@@ -1,5 +1,5 @@
 -- What a line asks of a host that has come to it is known.
-use Rattle.sl_area.specs.Layouts.{layout_of}
+use Rattle.sl_area.specs.AreaSizes.{layout_of}
 use Rattle.sl_due.specs.declared.decision.Decision.TheVariants.{ConvertsTo, GetsValue, GivesUp, Joins, Leaves, ReadsArea, Replies, Requests, SetsValue, Shares, TakesOver}
 use Rattle.sl_due.specs.declared.decision.Decision.{Decision}
 use Rattle.sl_host_lines.specs.LineFacts.{DecisionKnown, IsTimely, LeaseReady as LeaseMayWork, LineKnown}
@@ -16,7 +16,7 @@ use Rattle.sl_step_law.proofs.MomentsAreKnown.{moments_are_known}
 use Rattle.sl_step_law.proofs.PlacesAreKnown.{places_are_known}
 use Rattle.sl_step_law.specs.KnownHosts.{DecisionIs, LeaseReady}
 use Rattle.sl_step_law.specs.Moments.{IsMoment}
-use Rattle.sl_trace.specs.Commands.{command_in, forms}
+use Rattle.sl_trace.specs.CommandForms.{command_in, forms}
 use Rattle.sl_trace.specs.Traces.{spot_of_grant}
 use Rattle.sl_trace.specs.declared.command.Command.{Command}
 use Rattle.sl_trace.specs.declared.effects.Spot.{Spot}

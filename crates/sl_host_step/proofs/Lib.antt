@@ -15,3 +15,4 @@ pub mod ServesOn
 pub mod AnswerPremises
 pub mod SpelledBytes
 pub mod SpareRoom
+pub mod LockZeros

@@ -1,5 +1,5 @@
 -- What a line asks of the host that has come to it.
-use Rattle.sl_area.specs.Layouts.{Layout, layout_of}
+use Rattle.sl_area.specs.AreaSizes.{Layout, layout_of}
 use Rattle.sl_host_lines.specs.LeavingsBegin.{line_cost}
 use Rattle.sl_host_lines.specs.LineFacts.{LineKnown}
 use Rattle.sl_host_lines.specs.Seats.{HasSeat}
@@ -9,17 +9,17 @@ use Rattle.sl_host_step.proofs.KnownLines as known
 use Rattle.sl_host_step.specs.Moments.{AtInput, StepComes}
 use Rattle.sl_host_passes.specs.PassesLessen.{leases_in}
 use Rattle.sl_host_step.specs.InputReach.{reach_of}
-use Rattle.sl_host_step.specs.Rooms.{EndsWith, HasLeft, calls_for, left_for, reached}
-use Rattle.sl_host_step.specs.declared.rooms.Reach.TheVariants.{All, Few}
-use Rattle.sl_host_step.specs.declared.rooms.Reach.{Reach}
+use Rattle.sl_host_step.specs.StepMemory.{EndsWith, HasLeft, calls_for, left_for, reached}
+use Rattle.sl_host_step.specs.declared.step_memory.Reach.TheVariants.{All, Few}
+use Rattle.sl_host_step.specs.declared.step_memory.Reach.{Reach}
 use Rattle.sl_host_step.specs.JoiningSeats.{HasPlace, MayBeSeated}
-use Rattle.sl_command.specs.Verbs.{answered}
+use Rattle.sl_command.specs.VerbReads.{answered}
 use Rattle.sl_member.specs.Members.{MemberKept, blank_member}
 use Rattle.sl_trace.specs.Sessions.{joining_session}
 use Rattle.sl_trace.specs.declared.command.BadCommand.{BadCommand}
 use Rattle.sl_host.specs.MemberRun.{run_in}
 use Rattle.sl_text.specs.Names.{is_name}
-use Rattle.sl_trace.specs.Commands.{IsCommand, command_in, forms}
+use Rattle.sl_trace.specs.CommandForms.{IsCommand, command_in, forms}
 use Rattle.sl_trace.specs.declared.command.Command.TheVariants as commands
 use Rattle.sl_trace.specs.declared.command.Command.{Command}
 use Rattle.sl_trace.specs.declared.input.Input.TheVariants.{Line}

@@ -1,9 +1,9 @@
 -- How much a step may make is the same by a count of leases that stops at the greatest one; and the room that is taken for a reach.
 use Rattle.sl_host_passes.specs.PassesLessen.{leases_in}
-use Rattle.sl_host_step.specs.Rooms.{HasLeft, HasRoom, IsFarEnough, calls_for, calls_near, calls_within, counts_of, counts_within, effects_near, effects_within, left_for, reach_when, reached, room_end}
-use Rattle.sl_host_step.specs.declared.rooms.Counts.{Counts}
-use Rattle.sl_host_step.specs.declared.rooms.Reach.TheVariants.{All, Few}
-use Rattle.sl_host_step.specs.declared.rooms.Reach.{Reach}
+use Rattle.sl_host_step.specs.StepMemory.{HasLeft, HasRoom, IsFarEnough, calls_for, calls_near, calls_within, counts_of, counts_within, effects_near, effects_within, left_for, reach_when, reached, room_end}
+use Rattle.sl_host_step.specs.declared.step_memory.Counts.{Counts}
+use Rattle.sl_host_step.specs.declared.step_memory.Reach.TheVariants.{All, Few}
+use Rattle.sl_host_step.specs.declared.step_memory.Reach.{Reach}
 use Rattle.sl_host_state.specs.KeptState.{HostKept}
 use Rattle.sl_host.specs.BookQuestions.{most_counted}
 use Rattle.sl_host.specs.Books.{AreFew}

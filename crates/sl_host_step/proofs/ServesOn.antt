@@ -13,8 +13,8 @@ use Rattle.sl_host_step.specs.HostServes.{Keeping}
 use Rattle.sl_step_law.proofs.EffectsAreSound.{effects_are_sound}
 use Rattle.sl_step_law.proofs.LastValues.{steps_are_taken_plainly}
 use Rattle.sl_step_law.specs.LastValues.{IsByteInput}
-use Rattle.sl_trace.specs.Commands.{command_in, forms}
-use Rattle.sl_area.specs.Layouts.{layout_of}
+use Rattle.sl_trace.specs.CommandForms.{command_in, forms}
+use Rattle.sl_area.specs.AreaSizes.{layout_of}
 use Rattle.sl_trace.specs.Traces.{Setting, Trace}
 use Rattle.sl_trace.specs.declared.effects.Call.{Call}
 use Rattle.sl_trace.specs.declared.effects.Effects.{Effects}

@@ -3,8 +3,8 @@ use Rattle.sl_host_passes.specs.PassesLessen.{leases_in}
 use Rattle.sl_host_state.specs.KeptState.{HostKept}
 use Rattle.sl_host_step.specs.Moments.{HasStepped}
 use Rattle.sl_host_step.specs.SpareRoom.{Rests, spare_of}
-use Rattle.sl_host_step.specs.Rooms.{HasRoom, ScratchState, Suffices, calls_for, calls_near, effects_near, effects_within, left_for}
-use Rattle.sl_host_step.specs.declared.rooms.Reach.TheVariants.{All}
+use Rattle.sl_host_step.specs.StepMemory.{HasRoom, ScratchState, Suffices, calls_for, calls_near, effects_near, effects_within, left_for}
+use Rattle.sl_host_step.specs.declared.step_memory.Reach.TheVariants.{All}
 use Rattle.sl_host_step.specs.HostServes.{IsIdle, Keeping, Serves}
 use Rattle.sl_host.specs.Host.{HostView}
 use Rattle.sl_trace.specs.Traces.{Setting, Trace, no_effects}

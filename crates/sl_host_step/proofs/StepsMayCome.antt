@@ -1,7 +1,7 @@
 -- A step that may come, as the laws of a host's step ask of it: at its input the host is ready, and at the end of what it makes due it has come to a
 -- moment of which all is known.
 use Rattle.sl_due_facts.proofs.Acts.StepsKeep.{expected_there}
-use Rattle.sl_area.specs.Layouts.{layout_of}
+use Rattle.sl_area.specs.AreaSizes.{layout_of}
 use Rattle.sl_due.specs.Due.{before_input, due_step}
 use Rattle.sl_due.specs.DueWake.{is_wake, on_wake}
 use Rattle.sl_due.specs.Steps.{Step, begin_step, when}
@@ -17,7 +17,7 @@ use Rattle.sl_step_law.proofs.MomentsAreKnown.{moments_are_known}
 use Rattle.sl_step_law.specs.LastValues.{ComesPlainly, IsByteInput}
 use Rattle.sl_step_law.specs.Moments.{IsMoment, taken_host, taken_step}
 use Rattle.sl_step_law.specs.ReadyHosts.{InputComes, IsReady}
-use Rattle.sl_trace.specs.Commands.{command_in, forms}
+use Rattle.sl_trace.specs.CommandForms.{command_in, forms}
 use Rattle.sl_trace.specs.Traces.{Setting, Trace, is_expected}
 use Rattle.sl_trace.specs.declared.command.Command.{Command}
 use Rattle.sl_trace.specs.declared.input.Input.TheVariants.{Wake}

@@ -1,5 +1,5 @@
 -- Whether an input may come to a host between two steps, by what it keeps.
-use Rattle.sl_area.specs.Layouts.{Layout, layout_of}
+use Rattle.sl_area.specs.AreaSizes.{Layout, layout_of}
 use Rattle.sl_host_state.specs.KeptState.{HostKept, HostState}
 use Rattle.sl_host_state.specs.HostStands.{HostStands}
 use Rattle.sl_host_state.specs.declared.kept_parts.OpenCall.{OpenCall}

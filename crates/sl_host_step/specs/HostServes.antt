@@ -1,12 +1,12 @@
 -- For which settings and traces a host serves as a daemon: between steps it stands for the trace, and is sound.
-use Rattle.sl_area.specs.Layouts.{layout_of}
+use Rattle.sl_area.specs.AreaSizes.{layout_of}
 use Rattle.sl_host_law.specs.Steps.SoundHosts.{IsSound}
 use Rattle.sl_host_state.specs.KeptState.{HostKept, state_of}
 use Rattle.sl_host_state.specs.HostStands.{HostStands}
 use Rattle.sl_run.specs.Lawful.{IsSetting}
 use Rattle.sl_run.specs.declared.header.Header.{Header}
 use Rattle.sl_text.specs.Forms.{Form}
-use Rattle.sl_trace.specs.Commands.{command_in, forms}
+use Rattle.sl_trace.specs.CommandForms.{command_in, forms}
 use Rattle.sl_trace.specs.Traces.{Setting, Trace}
 use Rattle.sl_trace.specs.declared.command.Command.{Command}
 use Rattle.sl_host.specs.Host.{HostView}

@@ -1,7 +1,7 @@
 -- How far an input reaches of what a host keeps.
 use Rattle.sl_host_state.specs.KeptState.{HostKept}
-use Rattle.sl_host_step.specs.declared.rooms.Reach.TheVariants.{All, Few}
-use Rattle.sl_host_step.specs.declared.rooms.Reach.{Reach}
+use Rattle.sl_host_step.specs.declared.step_memory.Reach.TheVariants.{All, Few}
+use Rattle.sl_host_step.specs.declared.step_memory.Reach.{Reach}
 use Rattle.sl_trace.specs.Sessions.{is_survey_purpose}
 use Rattle.sl_trace.specs.declared.command.Command.TheVariants.{RemLockspace}
 use Rattle.sl_trace.specs.declared.command.Command.{Command}

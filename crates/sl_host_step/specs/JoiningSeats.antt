@@ -1,11 +1,11 @@
 -- The member that a line joins with, made before the step begins.
-use Rattle.sl_area.specs.Layouts.{layout_of}
+use Rattle.sl_area.specs.AreaSizes.{layout_of}
 use Rattle.sl_host_state.specs.KeptState.{HostKept}
-use Rattle.sl_host_step.specs.Rooms.{calls_for}
+use Rattle.sl_host_step.specs.StepMemory.{calls_for}
 use Rattle.sl_member.specs.Members.{MemberKept, blank_member}
 use Rattle.sl_trace.specs.Sessions.{joining_session}
 use Rattle.sl_text.specs.Names.{is_name}
-use Rattle.sl_trace.specs.Commands.{IsCommand}
+use Rattle.sl_trace.specs.CommandForms.{IsCommand}
 use Rattle.sl_trace.specs.declared.command.Command.TheVariants.{AddLockspace}
 use Rattle.sl_trace.specs.declared.command.Command.{Command}
 use Rattle.sl_host.specs.Host.{HostView}

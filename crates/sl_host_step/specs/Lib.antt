@@ -1,6 +1,6 @@
 pub mod HostServes
 pub mod ExpectedInputs
-pub mod Rooms
+pub mod StepMemory
 pub mod InputReach
 pub mod Moments
 pub mod JoiningSeats

@@ -7,7 +7,7 @@ use Rattle.sl_host_law.specs.Steps.WakePasses.{waking}
 use Rattle.sl_host_state.specs.HeardInputs.{begun, quiet_to}
 use Rattle.sl_host_state.specs.KeptState.{HostKept, HostState, state_of}
 use Rattle.sl_host_state.specs.HostStands.{IsQuiet}
-use Rattle.sl_host_step.specs.Rooms.{calls_for, left_for}
+use Rattle.sl_host_step.specs.StepMemory.{calls_for, left_for}
 use Rattle.sl_host_step.specs.HostServes.{IsIdle, Keeping, ReadsWhole}
 use Rattle.sl_step_law.specs.LastValues.{IsByteInput}
 use Rattle.sl_trace.specs.Traces.{Setting, Trace}

@@ -1,7 +1,7 @@
 -- A host between two steps: nothing stands by, or the room of one step more.
 use Rattle.sl_host_state.specs.KeptState.{HostKept}
-use Rattle.sl_host_step.specs.Rooms.{HasRoom, ScratchState, Suffices}
-use Rattle.sl_host_step.specs.declared.rooms.Reach.TheVariants.{All}
+use Rattle.sl_host_step.specs.StepMemory.{HasRoom, ScratchState, Suffices}
+use Rattle.sl_host_step.specs.declared.step_memory.Reach.TheVariants.{All}
 use Rattle.sl_host_step.specs.HostServes.{IsIdle}
 use Rattle.sl_host_step.specs.AwaitedCalls.{joins_at}
 use Rattle.sl_trace.specs.declared.input.Answer.TheVariants.{Failed, Read, Written}

@@ -2,19 +2,19 @@
 
 ghost use Rattle.sl_world_state.specs.Daemons.{IsNumbered, IsStep, MayCome, begun_with, entry_of, read_of};
 ghost use Rattle.sl_host_step.specs.SpareRoom.{spare_of, takes_more};
-ghost use Rattle.sl_host_step.specs.Rooms.{most_of};
+ghost use Rattle.sl_host_step.specs.StepMemory.{most_of};
 ghost use Rattle.sl_host_step.specs.HostServes.{IsIdle, Serves, whole_commands};
 ghost use Rattle.sl_host_step.specs.AwaitedCalls.{joins_at};
 ghost use Rattle.sl_trace.specs.Traces.{Setting, Trace};
 ghost use Rattle.sl_run.specs.Lawful.{IsSetting};
-ghost use Rattle.sl_run.specs.Events.{is_for_locks};
+ghost use Rattle.sl_run.specs.Refusals.{is_for_locks};
 ghost use Rattle.sl_run.specs.Headers.{IsHeader};
-ghost use Rattle.std.specs.Prelude.{IfOk, IsOk, Ok, OnErr, OnOk, false, length, max, [], ◌∷◌, ◌≡◌, ◌≤◌};
+ghost use Rattle.std.specs.Prelude.{IfOk, IsOk, Ok, OnErr, OnOk, count_by, false, length, max, [], ◌∷◌, ◌==◌, ◌≡◌, ◌≤◌};
 
 use crate::bytes::{are_byte_sectors, is_byte_input};
 use crate::expected_inputs::is_expected;
 use crate::input_steps::{step_at, step_read};
-use crate::rooms::{Scratch, calls_for, left_for, stand_by};
+use crate::step_memory::{Scratch, calls_for, left_for, stand_by};
 use sl_command::parse_command;
 use sl_host::{Config, Host};
 use sl_host_work::process_named;
@@ -27,6 +27,16 @@ use std::marker::Model;
 
 /// The process by which lvmlockd holds.
 const LOCK_PROCESS: u32 = 1_000_000;
+
+/// How many zeros that number has: so many stand in each command for the process.
+const LOCK_ZEROS: usize = 6;
+
+/// How many zeros a text has.
+fn zeros(text: &[u8]) -> usize
+    ensures { result ≡ count_by (λ c. c == 48) text.now }
+{
+    text.iter().filter(|byte| **byte == b'0').count()
+}
 
 /// Whether a command is for that process.
 fn acts_for_locks(command: &Command) -> bool
@@ -109,6 +119,10 @@ impl Daemon for HostDaemon {
     ghost makes = { most_of };
 
     fn is_for_locks(header: &Header, text: &[u8]) -> bool {
+        // the step parses the text again, so here it is parsed only where it can name the process
+        if zeros(text) < LOCK_ZEROS {
+            return false;
+        }
         match parse_command(text, &header.geometry) {
             Ok(command) => acts_for_locks(&command),
             Err(_) => false,

@@ -1,6 +1,6 @@
 //! Whether an input may come, by what a host keeps.
 
-ghost use Rattle.sl_area.specs.Layouts.{layout_of};
+ghost use Rattle.sl_area.specs.AreaSizes.{layout_of};
 ghost use Rattle.sl_host_step.specs.ExpectedInputs.{expected_in, is_answer_of};
 ghost use Rattle.sl_host.specs.BookQuestions.{state_in};
 ghost use Rattle.std.specs.Option.{option_map_or};

@@ -2,7 +2,7 @@
 
 ghost use Rattle.sl_world_state.specs.Daemons.{read_of};
 ghost use Rattle.sl_host_step.specs.Moments.{HasStepped, StepComes};
-ghost use Rattle.sl_host_step.specs.Rooms.{ScratchState};
+ghost use Rattle.sl_host_step.specs.StepMemory.{ScratchState};
 ghost use Rattle.sl_host_step.specs.AwaitedCalls.{joins_at};
 ghost use Rattle.sl_host_step.specs.SpareRoom.{Rests, takes_more};
 ghost use Rattle.sl_host.specs.Host.{HostView};
@@ -10,8 +10,8 @@ ghost use Rattle.std.specs.Prelude.{IfOk, IsOk, OnErr, OnOk, false, true, ◌≡
 
 use crate::answer::{step_answer, step_images};
 use crate::line::step_line;
-use crate::rooms::Scratch;
 use crate::step::{step_exit, step_number, step_start, step_wake};
+use crate::step_memory::Scratch;
 use sl_host::Host;
 use sl_sector::Images;
 use sl_trace::{Effects, Input};

@@ -8,7 +8,7 @@ mod expected_inputs;
 mod input_steps;
 pub mod laws;
 mod line;
-mod rooms;
 mod step;
+mod step_memory;
 
 pub use daemon::HostDaemon;

@@ -1,23 +1,23 @@
 //! A line of a step: it is read, the memory that its command takes is made, then the step begins and the line is taken. But for one that leaves a
 //! lockspace it reaches few things, however much the host holds.
 
-ghost use Rattle.sl_area.specs.Layouts.{layout_of};
+ghost use Rattle.sl_area.specs.AreaSizes.{layout_of};
 ghost use Rattle.sl_host_lines.specs.ListMemory.{FitsLists};
 ghost use Rattle.sl_host_lines.specs.Seats.{HasSeat};
 ghost use Rattle.sl_host_state.specs.KeptState.{HostKept};
 ghost use Rattle.sl_host_step.specs.Moments.{AtEnd, AtInput, HasStepped, StepComes};
 ghost use Rattle.sl_host_step.specs.InputReach.{reach_of};
-ghost use Rattle.sl_host_step.specs.Rooms.{EndsWith, HasLeft, ScratchState, Suffices};
-ghost use Rattle.sl_host_step.specs.declared.rooms.Reach.TheVariants.{Few};
+ghost use Rattle.sl_host_step.specs.StepMemory.{EndsWith, HasLeft, ScratchState, Suffices};
+ghost use Rattle.sl_host_step.specs.declared.step_memory.Reach.TheVariants.{Few};
 ghost use Rattle.sl_host_step.specs.JoiningSeats.{HasPlace, MayBeSeated};
 ghost use Rattle.sl_host_step.specs.SpareRoom.{Rests};
-ghost use Rattle.sl_trace.specs.Commands.{command_in, forms};
+ghost use Rattle.sl_trace.specs.CommandForms.{command_in, forms};
 ghost use Rattle.sl_trace.specs.declared.input.Input.TheVariants.{Line as LineOf};
 ghost use Rattle.sl_host.specs.Host.{HostView};
 ghost use Rattle.std.specs.Prelude.{Err, IfOk, List, Ok, OnErr, OnOk, false, ℕ, ◌≡◌, ◌≤◌};
 
-use crate::rooms::{Reach, Scratch, calls_for};
 use crate::step::{conclude, start};
+use crate::step_memory::{Reach, Scratch, calls_for};
 use sl_command::parse_command;
 use sl_host::Host;
 use sl_host_lines::{Lists, misread, take_line};

@@ -5,13 +5,13 @@
 //! may be due by time, else of one with the reach of its input. The states that a step comes to are `AtInput`, `AtEnd` and `AllDone` of
 //! specs/Moments.antt; what each part asks of its host is known there, by the laws of a host's step.
 
-ghost use Rattle.sl_area.specs.Layouts.{layout_of};
+ghost use Rattle.sl_area.specs.AreaSizes.{layout_of};
 ghost use Rattle.sl_host_passes.specs.PassesLessen.{IsNoMore};
 ghost use Rattle.sl_host_state.specs.KeptState.{HostKept};
 ghost use Rattle.sl_host_step.specs.Moments.{AllDone, AtEnd, AtInput, HasStepped, IsCalmed, IsOver, StepComes};
-ghost use Rattle.sl_host_step.specs.Rooms.{EndsWith, HasLeft, HasRoom, IsFarEnough, ScratchState, Suffices};
-ghost use Rattle.sl_host_step.specs.declared.rooms.Reach.TheVariants.{All, Few};
-ghost use Rattle.sl_host_step.specs.declared.rooms.Reach.{Reach as ReachOf};
+ghost use Rattle.sl_host_step.specs.StepMemory.{EndsWith, HasLeft, HasRoom, IsFarEnough, ScratchState, Suffices};
+ghost use Rattle.sl_host_step.specs.declared.step_memory.Reach.TheVariants.{All, Few};
+ghost use Rattle.sl_host_step.specs.declared.step_memory.Reach.{Reach as ReachOf};
 ghost use Rattle.sl_host_step.specs.SpareRoom.{Rests};
 ghost use Rattle.sl_host_step.specs.HostServes.{IsIdle};
 ghost use Rattle.sl_trace.specs.Traces.{no_effects};
@@ -21,7 +21,7 @@ ghost use Rattle.sl_host.specs.Books.{AreFew};
 ghost use Rattle.sl_host.specs.Host.{HostView, SameRun};
 ghost use Rattle.std.specs.Prelude.{IfOk, IsOk, List, OnErr, OnOk, false, length, true, ℕ, ◌*◌, ◌<◌, ◌^◌, ◌≡◌, ◌≤◌};
 
-use crate::rooms::{Reach, Scratch, room};
+use crate::step_memory::{Reach, Scratch, room};
 use sl_host::{Buffers, Host};
 use sl_host_passes::{begin_step, calm, exit, finish, spawned, wake};
 use sl_trace::Effects;

@@ -1,6 +1,7 @@
 -- What a session's lease writes is, by the kind of areas, what its member does.
-use Rattle.sl_area.specs.Layouts.{Layout, layout_of}
-use Rattle.sl_area.specs.Places.{block_place, block_record, leader_record}
+use Rattle.sl_area.specs.AreaSizes.{Layout, layout_of}
+use Rattle.sl_area.specs.AreaLayout.{block_place}
+use Rattle.sl_area.specs.AreaRecords.{block_record, leader_record}
 use Rattle.sl_host.specs.BookQuestions.{state_in}
 use Rattle.sl_host.specs.Host.{Becomes, HostView}
 use Rattle.sl_host_law.specs.Answers.LeaseDecisions.{block_at, record_at, turn_next, writing_block}

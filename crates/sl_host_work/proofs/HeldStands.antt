@@ -1,6 +1,6 @@
 -- What is found of a session's holdings on an area.
 use Rattle.sl_host_work.specs.LeaseWork.{held_with, otherwise_under}
-use Rattle.sl_lease.specs.declared.evidence.Held.{Held}
+use Rattle.sl_lease.specs.declared.outer_facts.Held.{Held}
 use Rattle.sl_trace.specs.declared.session.Session.{Session}
 use Rattle.sl_tables.specs.Holdings.{fits, is_holder, is_in_mode}
 use Rattle.sl_tables.specs.declared.holdings.Holder.TheVariants.{Anyone, Is}

@@ -1,7 +1,7 @@
 -- Members have no more holders than there are holdings.
 use Rattle.sl_host_state.specs.KeptState.{MemberState}
-use Rattle.sl_host_work.specs.Kills.{count_under, holders_of_all}
-use Rattle.sl_host_work.specs.Rooms.{HoldersAreFew}
+use Rattle.sl_host_work.specs.KilledMembers.{count_under, holders_of_all}
+use Rattle.sl_host_work.specs.FewHolders.{HoldersAreFew}
 use Rattle.sl_member.specs.HostMembers.{AreApart}
 use Rattle.sl_trace.specs.Traces.{is_orphan}
 use Rattle.sl_trace.specs.declared.effects.Grant.{Grant}

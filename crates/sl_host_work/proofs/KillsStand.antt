@@ -4,7 +4,7 @@ use Rattle.sl_host_law.specs.StepParts.Signals.{over, signalling}
 use Rattle.sl_host_work.proofs.ListPasses.{drop_next, over_next}
 use Rattle.sl_host_state.specs.KeptState.{HostKept, HostState, MemberState, state_of}
 use Rattle.sl_host_work.specs.Holders.{SameButSignals, holders_under, signalling_all}
-use Rattle.sl_host_work.specs.Kills.{count_of, count_under, holders_at, holders_of_all, is_killed, killed_of, killing_at, killing_of, unread}
+use Rattle.sl_host_work.specs.KilledMembers.{count_of, count_under, holders_at, holders_of_all, is_killed, killed_of, killing_at, killing_of, unread}
 use Rattle.sl_trace.specs.declared.command.Command.{Command}
 use Rattle.sl_trace.specs.declared.effects.Grant.{Grant}
 use Rattle.sl_trace.specs.declared.effects.Signal.TheVariants.{Kill}

@@ -1,5 +1,5 @@
 -- A lease decides by what its host keeps.
-use Rattle.sl_area.specs.Layouts.{Layout, Sizes, layout_of}
+use Rattle.sl_area.specs.AreaSizes.{Layout, Sizes, layout_of}
 use Rattle.sl_host.specs.BookQuestions.{state_in}
 use Rattle.sl_host.specs.declared.told_answers.Told.TheVariants.{Again, Gave}
 use Rattle.sl_host.specs.declared.told_answers.Told.{Told}
@@ -18,14 +18,16 @@ use Rattle.sl_lease.specs.LeaseQuestions.{TopStands, read_asked, read_given}
 use Rattle.sl_lease.specs.Bounds.{IsInstance}
 use Rattle.sl_lease.specs.Side.{is_named, known_with, place_of}
 use Rattle.sl_lease.specs.Steps.{IsFitNext, is_first_step}
-use Rattle.sl_lease.specs.declared.evidence.Held.{Held}
+use Rattle.sl_lease.specs.declared.outer_facts.Held.{Held}
 use Rattle.sl_lease.specs.declared.side.Side.{Side}
 use Rattle.sl_member.specs.Members.{MemberKept, owner_in, seen_in, side_in}
 use Rattle.sl_member.specs.SeenSessions.{SeenBy, over_by}
 use Rattle.sl_sector.specs.Records.{Fits}
 use Rattle.sl_sector.specs.declared.sector.Block.{Block}
 use Rattle.sl_sector.specs.declared.sector.Leader.{Leader}
-use Rattle.sl_trace.specs.LeaseWork.{LeasePlace, after_write, asked_again, convert_next, lease_next, release_next, settle_begin, within_turn}
+use Rattle.sl_trace.specs.LeaseDecisions.{LeasePlace, after_write, asked_again, lease_next, settle_begin, within_turn}
+use Rattle.sl_trace.specs.Conversions.{convert_next}
+use Rattle.sl_trace.specs.Releases.{release_next}
 use Rattle.sl_trace.specs.Leases.{LeaseKnown}
 use Rattle.sl_trace.specs.declared.lease.Aim.TheVariants.{Converts, Releases, Settles}
 use Rattle.sl_trace.specs.declared.lease.Aim.{Aim}

@@ -1,9 +1,12 @@
 -- Whatever a lease does next: of all things a conversion to shared that is done makes a holding shared alone, and it is the exclusive one; and
 -- the own block is written within its turn, by who has written one before or has just read the area by the name that was sought.
 use Rattle.sl_host_work.specs.NextDecisions.{IsOfHeld, LeasesAreOfHeld, writes_own_block}
-use Rattle.sl_area.specs.Places.{blocks_of, leader_read}
+use Rattle.sl_area.specs.Pairs.{blocks_of}
+use Rattle.sl_area.specs.TornLeader.{leader_read}
 use Rattle.sl_trace.specs.Ballots.{ballot_blocks, is_ahead, moded_block, phase1_block, phase2_block, same_owner, stop_of, value_of}
-use Rattle.sl_trace.specs.LeaseWork.{LeasePlace, after_bytes, after_clearing, after_freeing, after_moding, after_phase1, after_phase2, after_read, after_take, after_write, area_next, asked_again, begin_next, begin_or_refuse, convert_next, first_step, heard, leader_for, lease_next, looks_for_shared, lost_next, named_area_next, owes_block, phase1_next, phase2_next, refuses, refuses_block, release_next, settle_begin, settle_next, settle_owed, stop_reply, stopped_next, unstopped_next, whole_area_next, within_turn, won_next}
+use Rattle.sl_trace.specs.LeaseDecisions.{LeasePlace, after_bytes, after_clearing, after_freeing, after_moding, after_phase1, after_phase2, after_read, after_take, after_write, area_next, asked_again, begin_next, begin_or_refuse, first_step, heard, leader_for, lease_next, looks_for_shared, lost_next, named_area_next, owes_block, phase1_next, phase2_next, refuses, refuses_block, settle_begin, settle_next, settle_owed, stop_reply, stopped_next, unstopped_next, whole_area_next, within_turn, won_next}
+use Rattle.sl_trace.specs.Conversions.{convert_next}
+use Rattle.sl_trace.specs.Releases.{release_next}
 use Rattle.sl_trace.specs.Leases.{LeaseKnown, instance_for, is_leader_of, mode_gen_of, owed, owed_free, own_known, shared_elsewhere}
 use Rattle.sl_trace.specs.declared.lease.Aim.TheVariants.{Acquires, Converts, Releases, Settles}
 use Rattle.sl_trace.specs.declared.lease.Aim.{Aim}

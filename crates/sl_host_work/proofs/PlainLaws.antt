@@ -1,15 +1,15 @@
 -- No joining is refused, and no leaving ends, by a reply that a joining is done.
 use Rattle.sl_delta.specs.DeltaDecisions.{after_join, after_join_read, after_join_write, claim_next, first_renewal, is_over_since, on_wake, time_next, verified, watched_in}
 use Rattle.sl_delta.specs.OwnSector.{OwnState, lease_of}
-use Rattle.sl_area.specs.Layouts.{record_in, sector_with}
+use Rattle.sl_area.specs.AreaSizes.{record_in, sector_with}
 use Rattle.sl_host_state.specs.declared.kept_parts.JoinCall.{JoinCall}
 use Rattle.sl_host_work.specs.NextDecisions.{DeltasArePlain, IsPlain}
 use Rattle.sl_sector.specs.Bitmaps.{no_bits}
-use Rattle.sl_sector.specs.Spelling.{delta_in}
+use Rattle.sl_sector.specs.SectorLayouts.{delta_in}
 use Rattle.sl_sector.specs.declared.sector.DeltaRec.{DeltaRec}
 use Rattle.sl_sector.specs.declared.sector.DeltaState.TheVariants.{Claimed, Live}
 use Rattle.sl_sector.specs.declared.sector.Rec.TheVariants.{DeltaIs}
-use Rattle.sl_trace.specs.Deltas.{DeltaLease, claim_on, delta_record, id_held, id_lost, next_after_first, next_after_free, next_after_renewal, where_watched}
+use Rattle.sl_trace.specs.DeltaDecisions.{DeltaLease, claim_on, delta_record, id_held, id_lost, next_after_first, next_after_free, next_after_renewal, where_watched}
 use Rattle.sl_trace.specs.Sightings.{is_free_state}
 use Rattle.sl_trace.specs.declared.delta.DeltaNext.TheVariants.{Nothing, ReadOwn, RefuseJoin, RegisterAndRead, WriteClaim, WriteFirst}
 use Rattle.sl_trace.specs.declared.delta.DeltaNext.{DeltaNext}

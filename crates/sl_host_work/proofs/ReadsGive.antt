@@ -1,7 +1,8 @@
 -- What a member's lease decides by behind a read is what the read gave, with what is kept of the first one; or, where it is to be made once
 -- more, what is kept.
-use Rattle.sl_area.specs.Layouts.{Layout, Sizes, layout_of}
-use Rattle.sl_area.specs.Places.{BlocksRead, blocks_of, leader_read, needs_again, read_once}
+use Rattle.sl_area.specs.AreaSizes.{Layout, Sizes, layout_of}
+use Rattle.sl_area.specs.Pairs.{BlocksRead, blocks_of, needs_again, read_once}
+use Rattle.sl_area.specs.TornLeader.{leader_read}
 use Rattle.sl_host.specs.declared.told_answers.Told.TheVariants.{Again, Gave}
 use Rattle.sl_host.specs.declared.told_answers.Told.{Told}
 use Rattle.sl_host_law.specs.Steps.Leases.{blocks_at, kept_blocks, lease_at}
@@ -15,7 +16,7 @@ use Rattle.sl_lease.specs.Steps.{is_read_step}
 use Rattle.sl_sector.specs.declared.sector.Block.{Block}
 use Rattle.sl_sector.specs.declared.sector.Leader.{Leader}
 use Rattle.sl_sector.specs.declared.sector.PairBlock.{PairBlock}
-use Rattle.sl_trace.specs.LeaseWork.{LeasePlace, after_bytes, after_read, area_next, asked_again, first_step, heard, lease_next, named_area_next, part_read}
+use Rattle.sl_trace.specs.LeaseDecisions.{LeasePlace, after_bytes, after_read, area_next, asked_again, first_step, heard, lease_next, named_area_next, part_read}
 use Rattle.sl_trace.specs.Leases.{LeaseKnown, given_with, is_leader_of, is_second}
 use Rattle.sl_trace.specs.declared.lease.Aim.{Aim}
 use Rattle.sl_trace.specs.declared.lease.LeaseNext.TheVariants.{AnswerJob, ReadFor}

@@ -13,7 +13,7 @@ use Rattle.sl_host_state.specs.declared.kept_parts.JoinCall.{JoinCall}
 use Rattle.sl_host_state.specs.declared.kept_parts.OpenCall.{OpenCall}
 use Rattle.sl_trace.specs.declared.lease.LeaseNext.{LeaseNext}
 use Rattle.sl_host_law.specs.Steps.Passes.{at_member, member_numbered}
-use Rattle.sl_area.specs.Layouts.{layout_of}
+use Rattle.sl_area.specs.AreaSizes.{layout_of}
 use Rattle.sl_host_state.specs.KeptState.{HostKept, HostState, MemberState}
 use Rattle.sl_member.specs.AskedRequests.{bits_within}
 use Rattle.sl_member.specs.Members.{MemberKept, RunOf, delta_lease, own_of}
@@ -22,7 +22,7 @@ use Rattle.sl_host_work.proofs.TurnsStand.{by_number}
 use Rattle.sl_host_work.specs.TimedWork.{joining_of, joining_on, renewal_of, renewal_written, renewing_by, settling_of, written_in}
 use Rattle.sl_sector.specs.declared.sector.DeltaRec.{DeltaRec}
 use Rattle.sl_sector.specs.declared.sector.DeltaState.TheVariants.{Live}
-use Rattle.sl_trace.specs.Deltas.{DeltaLease, delta_record, is_renewal_due, next_by_time, next_renewal}
+use Rattle.sl_trace.specs.DeltaDecisions.{DeltaLease, delta_record, is_renewal_due, next_by_time, next_renewal}
 use Rattle.sl_trace.specs.declared.delta.DeltaKnown.{DeltaKnown}
 use Rattle.sl_trace.specs.declared.delta.DeltaNext.TheVariants.{Nothing, WriteRenewal}
 use Rattle.sl_trace.specs.declared.delta.DeltaNext.{DeltaNext}

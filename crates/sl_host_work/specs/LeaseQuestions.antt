@@ -1,5 +1,5 @@
 -- What is asked of a lease when it decides what comes next.
-use Rattle.sl_area.specs.Layouts.{Layout, Sizes, layout_of}
+use Rattle.sl_area.specs.AreaSizes.{Layout, Sizes, layout_of}
 use Rattle.sl_host.specs.BookQuestions.{state_in}
 use Rattle.sl_host.specs.HeardAnswers.{IsTold}
 use Rattle.sl_host.specs.declared.told_answers.Told.TheVariants.{Again, Gave}
@@ -19,7 +19,7 @@ use Rattle.sl_lease.specs.Steps.{is_first_step, is_read_step}
 use Rattle.sl_sector.specs.declared.sector.Block.{Block}
 use Rattle.sl_sector.specs.Records.{Fits}
 use Rattle.sl_sector.specs.declared.sector.Leader.{Leader}
-use Rattle.sl_trace.specs.LeaseWork.{asked_again, first_step, within_turn}
+use Rattle.sl_trace.specs.LeaseDecisions.{asked_again, first_step, within_turn}
 use Rattle.sl_trace.specs.Leases.{LeaseKnown, is_leader_of, is_second}
 use Rattle.sl_trace.specs.declared.session.Session.{Session}
 use Rattle.sl_trace.specs.declared.lease.Aim.{Aim}

@@ -2,7 +2,7 @@
 use Rattle.sl_host_law.specs.Answers.LeaseDecisions.{converting, for_command_of, for_work_of}
 use Rattle.sl_host_state.specs.KeptState.{HostState}
 use Rattle.sl_lease.specs.Bounds.{IsBegun}
-use Rattle.sl_lease.specs.declared.evidence.Held.{Held}
+use Rattle.sl_lease.specs.declared.outer_facts.Held.{Held}
 use Rattle.sl_sector.specs.Records.{Fits}
 use Rattle.sl_sector.specs.declared.sector.Rec.TheVariants.{BlockIs, LeaderIs, PairIs, PairLeaderIs}
 use Rattle.sl_sector.specs.declared.sector.Rec.{Rec}

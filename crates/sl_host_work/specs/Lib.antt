@@ -4,8 +4,8 @@ pub mod NextDecisions
 pub mod LeaseQuestions
 pub mod TimedWork
 pub mod Holders
-pub mod Kills
+pub mod KilledMembers
 pub mod ProcessHoldings
-pub mod Rooms
+pub mod FewHolders
 pub mod Stops
 pub mod RefusalReplies

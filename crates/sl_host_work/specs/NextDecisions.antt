@@ -2,14 +2,16 @@
 use Rattle.sl_delta.specs.DeltaDecisions.{after_join, on_wake}
 use Rattle.sl_delta.specs.OwnSector.{OwnState}
 use Rattle.sl_lease.specs.Bounds.{IsBegun}
-use Rattle.sl_trace.specs.LeaseWork.{LeasePlace, convert_next, lease_next, release_next, settle_begin, within_turn}
+use Rattle.sl_trace.specs.LeaseDecisions.{LeasePlace, lease_next, settle_begin, within_turn}
+use Rattle.sl_trace.specs.Conversions.{convert_next}
+use Rattle.sl_trace.specs.Releases.{release_next}
 use Rattle.sl_trace.specs.Leases.{LeaseKnown}
 use Rattle.sl_trace.specs.declared.lease.Aim.TheVariants.{Converts, Releases, Settles}
 use Rattle.sl_trace.specs.declared.lease.Aim.{Aim}
 use Rattle.sl_trace.specs.declared.lease.LeaseNext.TheVariants.{AnswerJob, BecomeExclusive, BecomeShared, WriteBlock, WriteLeader}
 use Rattle.sl_trace.specs.declared.lease.LeaseNext.{LeaseNext}
 use Rattle.sl_sector.specs.Records.{Fits}
-use Rattle.sl_trace.specs.Deltas.{next_after_free, next_after_renewal}
+use Rattle.sl_trace.specs.DeltaDecisions.{next_after_free, next_after_renewal}
 use Rattle.sl_trace.specs.Sessions.{is_join_done}
 use Rattle.sl_trace.specs.declared.delta.DeltaNext.TheVariants.{EndLeaving, RefuseJoin}
 use Rattle.sl_trace.specs.declared.delta.DeltaNext.{DeltaNext}

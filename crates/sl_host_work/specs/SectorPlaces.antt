@@ -1,6 +1,6 @@
 -- Where sectors stand, and what may be written.
-use Rattle.sl_area.specs.Layouts.{Sizes, layout_of}
-use Rattle.sl_area.specs.Places.{is_base}
+use Rattle.sl_area.specs.AreaSizes.{Sizes, layout_of}
+use Rattle.sl_area.specs.AreaLayout.{is_base}
 use Rattle.sl_trace.specs.declared.session.Session.{Session}
 use Rattle.std.specs.Prelude.{IsTrue, ℕ, ◌≤◌}
 

@@ -10,7 +10,7 @@ use Rattle.sl_trace.specs.declared.lease.LeaseNext.{LeaseNext}
 use Rattle.sl_member.specs.HostMembers.{member_with}
 use Rattle.sl_sector.specs.declared.sector.DeltaRec.{DeltaRec}
 use Rattle.sl_sector.specs.declared.sector.DeltaState.TheVariants.{Live}
-use Rattle.sl_trace.specs.Deltas.{delta_record, is_renewal_due}
+use Rattle.sl_trace.specs.DeltaDecisions.{delta_record, is_renewal_due}
 use Rattle.sl_trace.specs.declared.delta.DeltaNext.TheVariants.{WriteRenewal}
 use Rattle.sl_trace.specs.declared.delta.DeltaNext.{DeltaNext}
 use Rattle.sl_trace.specs.declared.session.Session.{Session}

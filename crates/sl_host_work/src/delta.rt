@@ -2,8 +2,8 @@
 //!
 //! A joining acts for its job. A session that the setting gives has none, and never joins.
 
-ghost use Rattle.sl_area.specs.Layouts.{layout_of};
-ghost use Rattle.sl_area.specs.Places.{delta_offset};
+ghost use Rattle.sl_area.specs.AreaSizes.{layout_of};
+ghost use Rattle.sl_area.specs.AreaLayout.{delta_offset};
 ghost use Rattle.sl_delta.specs.DeltaDecisions.{IsFitNext};
 ghost use Rattle.sl_delta.specs.OwnSector.{IsOwnRecord};
 ghost use Rattle.sl_host_law.specs.Answers.CarriedDecisions.{carrying, connecting, for_job_of, reading_own, registering, surveying, writing_own};

@@ -1,6 +1,6 @@
 //! Grants: a process holds a resource from here on, a program is started that holds it, a holding goes on in another mode. The job is answered.
 
-ghost use Rattle.sl_due.specs.DueLease.{grant_of};
+ghost use Rattle.sl_due.specs.CarriedLease.{grant_of};
 ghost use Rattle.sl_host_law.specs.Answers.LeaseDecisions.{converting, for_command_of, for_work_of, granting_for, starting};
 ghost use Rattle.sl_host_state.specs.MadeEffects.{with_grant, with_reply};
 ghost use Rattle.sl_host_work.specs.LeaseWork.{converted_under, converting_under, otherwise_under};

@@ -1,7 +1,7 @@
 //! What a lease, and the holder of an id's sector, may do next; how many effects a pass makes at most.
 
 ghost use Rattle.sl_host_work.specs.NextDecisions.{DeltasArePlain, LeasesAreOfHeld};
-ghost use Rattle.sl_host_work.specs.Rooms.{HoldersAreFew};
+ghost use Rattle.sl_host_work.specs.FewHolders.{HoldersAreFew};
 
 /// A holding that becomes shared is the exclusive one, and no lease answers a joining.
 #[tactic(auto, using(crate::proofs::NextLaws::leases_are_of_held))]

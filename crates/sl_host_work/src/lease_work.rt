@@ -1,8 +1,9 @@
 //! What work on a lease comes to is done: at most one call, one reply, one grant, or the conversion of a holding with the call that it then
 //! owes.
 
-ghost use Rattle.sl_area.specs.Layouts.{layout_of};
-ghost use Rattle.sl_area.specs.Places.{block_offset, block_place, block_record, leader_record};
+ghost use Rattle.sl_area.specs.AreaSizes.{layout_of};
+ghost use Rattle.sl_area.specs.AreaLayout.{block_offset, block_place};
+ghost use Rattle.sl_area.specs.AreaRecords.{block_record, leader_record};
 ghost use Rattle.sl_host_law.specs.Answers.LeaseDecisions.{block_at, carrying_lease, read_from, reading, record_at, sectors_read, turn_next, writing_block, writing_leader};
 ghost use Rattle.sl_host_law.specs.Steps.Leases.{lease_at};
 ghost use Rattle.sl_host_law.specs.Steps.Passes.{member_numbered};

@@ -5,7 +5,7 @@ ghost use Rattle.sl_host_law.specs.StepParts.Signals.{over};
 ghost use Rattle.sl_host_law.specs.Questions.Jobs.{is_overdue_in};
 ghost use Rattle.sl_host_state.specs.StepQuestions.{begins_in, is_kill_due_in};
 ghost use Rattle.sl_host_work.specs.Holders.{SameButSignals};
-ghost use Rattle.sl_host_work.specs.Kills.{holders_at, holders_of_all, is_killed, killed_of, killing_at, unread};
+ghost use Rattle.sl_host_work.specs.KilledMembers.{holders_at, holders_of_all, is_killed, killed_of, killing_at, unread};
 ghost use Rattle.sl_host_work.specs.Stops.{overdue_of, recovering_of};
 ghost use Rattle.sl_member.specs.HostMembers.{member_with};
 ghost use Rattle.sl_host.specs.Host.{Becomes, SameRun, Spends};

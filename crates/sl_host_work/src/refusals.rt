@@ -5,7 +5,7 @@ ghost use Rattle.sl_host_law.specs.StepParts.Refusals.{replying_to};
 ghost use Rattle.sl_host_law.specs.Steps.Passes.{at_job, at_member};
 ghost use Rattle.sl_host_law.specs.StepParts.Recoveries.{recovering_in};
 ghost use Rattle.sl_host_work.specs.Holders.{holders_under};
-ghost use Rattle.sl_host_work.specs.Kills.{unread};
+ghost use Rattle.sl_host_work.specs.KilledMembers.{unread};
 ghost use Rattle.sl_host_work.specs.Stops.{parted_with, recovering_of, refusing_by, stopping, stopping_cost};
 ghost use Rattle.sl_host_law.specs.StepParts.Exits.{refusing_of};
 ghost use Rattle.sl_member.specs.HostMembers.{member_with};

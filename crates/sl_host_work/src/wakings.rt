@@ -18,8 +18,8 @@ ghost use Rattle.sl_words.specs.Bounds.{moments};
 ghost use Rattle.sl_delta.specs.DeltaDecisions.{IsFitNext};
 ghost use Rattle.std.specs.Prelude.{IfSome, Some, true, ◌<◌, ◌≡◌, ◌≤◌};
 
+use crate::asked_lease::settling_next;
 use crate::delta::{carry, write_own};
-use crate::lease_next::settling_next;
 use crate::lease_work::carry_lease;
 use sl_host::Host;
 use sl_member::Member;

@@ -1,6 +1,6 @@
 -- Evidence is true: what a session saw of an id stood there at a front, and the id's state at that front has the evidence.
-use Rattle.sl_area.specs.Layouts.{Layout}
-use Rattle.sl_area.specs.Places.{delta_offset}
+use Rattle.sl_area.specs.AreaSizes.{Layout}
+use Rattle.sl_area.specs.AreaLayout.{delta_offset}
 use Rattle.sl_run_law.proofs.Front.RunsFromFronts.{fronts_are_lawful}
 use Rattle.sl_id_safety.proofs.IdInterface.{StandsIn, same_offset, stands_in, stands_with}
 use Rattle.sl_id_safety.proofs.FrontsOfSteps.{front_at}

@@ -8,7 +8,8 @@ use Rattle.sl_run_law.proofs.Moment.LandsNow.{event_lands}
 use Rattle.sl_run_law.proofs.Moment.LaterThanFront.{fronts_go}
 use Rattle.sl_run_law.specs.Moment.MomentsFollowSteps.{IsKept}
 use Rattle.sl_words.proofs.Lists.{contains_cases, contains_none}
-use Rattle.sl_run.specs.Events.{first_change, happens, input_of, machine_of, next_step}
+use Rattle.sl_run.specs.EventChanges.{first_change, happens, next_step}
+use Rattle.sl_run.specs.Inputs.{input_of, machine_of}
 use Rattle.sl_run.specs.Runs.{Happening, world_after}
 use Rattle.sl_run.specs.Safety.{LawfulRun, world_at}
 use Rattle.sl_run.specs.Worlds.{Landing, Program, World, world_with}

@@ -1,6 +1,6 @@
 -- The interface of an id, said of the sessions of a world.
-use Rattle.sl_area.specs.Layouts.{Layout}
-use Rattle.sl_area.specs.Places.{delta_offset}
+use Rattle.sl_area.specs.AreaSizes.{Layout}
+use Rattle.sl_area.specs.AreaLayout.{delta_offset}
 use Rattle.sl_run_law.proofs.Course.MachinesMirror.{machines_mirror}
 use Rattle.sl_run_law.proofs.Front.RunsFromFronts.{fronts_are_lawful}
 use Rattle.sl_id_safety.proofs.JoinedStand.{joined_stand, same_ids_stand_together}

@@ -1,6 +1,6 @@
 -- A joined session has begun, has verified and stands at the place of an id.
-use Rattle.sl_area.specs.Layouts.{Layout}
-use Rattle.sl_area.specs.Places.{delta_offset}
+use Rattle.sl_area.specs.AreaSizes.{Layout}
+use Rattle.sl_area.specs.AreaLayout.{delta_offset}
 use Rattle.sl_run_law.specs.Course.CallStamps.{IsCourseOf}
 use Rattle.sl_id_safety.specs.JoinedStand.{JoinedStand, SameIdsStandTogether, StandingTogetherIsSameId, sector_offset}
 use Rattle.sl_id_safety.proofs.State.TraceBridge.{IsKnown, known}

@@ -1,7 +1,7 @@
 -- No joined session reads a foreign record in its own sector: while its survey waits for the answer it isn't over, and until it is over what
 -- stands at or above its claim is its own.
-use Rattle.sl_area.specs.Layouts.{layout_with}
-use Rattle.sl_area.specs.Places.{delta_of, delta_offset, sector_of}
+use Rattle.sl_area.specs.AreaSizes.{layout_with}
+use Rattle.sl_area.specs.AreaLayout.{delta_of, delta_offset, sector_of}
 use Rattle.sl_run_law.proofs.Course.Daemons.{OnDaemons, every_has, first_daemons}
 use Rattle.sl_run_law.proofs.Course.MachinesKeep.{header_machine}
 use Rattle.sl_run_law.proofs.Course.MachinesMirror.{machines_mirror}

@@ -1,7 +1,7 @@
 -- What lands in a joined session's sector, until it is over, is of its own writes, but what came before its claim: above the claim's
 -- number it alone has written, and what has no greater number than the claim came before it.
-use Rattle.sl_area.specs.Layouts.{Layout}
-use Rattle.sl_area.specs.Places.{delta_offset}
+use Rattle.sl_area.specs.AreaSizes.{Layout}
+use Rattle.sl_area.specs.AreaLayout.{delta_offset}
 use Rattle.sl_run_law.proofs.Front.JoinedLists.{placed_at}
 use Rattle.sl_id_safety.proofs.JoinedStand.{joined_stand}
 use Rattle.sl_id_safety.specs.Interface.{SectorsAreAlone}

@@ -1,6 +1,6 @@
 -- What stands in a joined session's sector, until it is over, is its own.
-use Rattle.sl_area.specs.Layouts.{Layout, record_in}
-use Rattle.sl_area.specs.Places.{delta_offset}
+use Rattle.sl_area.specs.AreaSizes.{Layout, record_in}
+use Rattle.sl_area.specs.AreaLayout.{delta_offset}
 use Rattle.sl_id_safety.proofs.JoinedStand.{joined_stand}
 use Rattle.sl_id_safety.specs.Interface.{SectorsStand}
 use Rattle.sl_id_safety.specs.JoinedStand.{sector_offset}
@@ -18,7 +18,7 @@ use Rattle.sl_ids.specs.Terms.{Terms}
 use Rattle.sl_run.specs.Safety.{world_at}
 use Rattle.sl_run.specs.Worlds.{Landing, World, content, first_landing, history_of}
 use Rattle.sl_run_law.specs.Sample.Samples.{numbered_landing}
-use Rattle.sl_sector.specs.Spelling.{delta_in}
+use Rattle.sl_sector.specs.SectorLayouts.{delta_in}
 use Rattle.sl_trace.specs.Traces.{same_place}
 use Rattle.std.proofs.Common.{ap, arith, inl, inr, refl, subst, sym, ◌∙◌}
 use Rattle.std.proofs.lemmas.Bool.{cases_lt, eq-eqb}

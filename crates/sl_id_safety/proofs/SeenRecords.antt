@@ -1,6 +1,6 @@
 -- A record that a session has seen of an id: the sample of a survey shows it.
-use Rattle.sl_area.specs.Layouts.{Layout, record_in}
-use Rattle.sl_area.specs.Places.{sector_of}
+use Rattle.sl_area.specs.AreaSizes.{Layout, record_in}
+use Rattle.sl_area.specs.AreaLayout.{sector_of}
 use Rattle.sl_run_law.proofs.Course.CallsAreDistinct.{each_distinct}
 use Rattle.sl_run_law.specs.Course.CallStamps.{AnswersAgree, IsAnsweredAs, IsCourseOf}
 use Rattle.sl_id_safety.specs.Interface.{sightings_of}
@@ -16,12 +16,12 @@ use Rattle.sl_run_law.proofs.Place.PlaceLaws.{promised}
 use Rattle.sl_run_law.proofs.Place.TracesOnMachines.{read_of}
 use Rattle.sl_words.proofs.Lists.{kept_inside, there_is}
 use Rattle.sl_words.proofs.Options.{mapped_value, then_value}
-use Rattle.sl_run.specs.Events.{sectors_of}
+use Rattle.sl_run.specs.Refusals.{sectors_of}
 use Rattle.sl_run.specs.Runs.{Happening}
 use Rattle.sl_run.specs.Safety.{Found, IsSession, LawfulRun, SessionId, is_course_of, setting_in, trace_of, world_at}
 use Rattle.sl_run.specs.Worlds.{Course, Program, Sampling, Stamp, World}
 use Rattle.sl_run.specs.declared.header.Header.{Header}
-use Rattle.sl_sector.specs.Spelling.{delta_in}
+use Rattle.sl_sector.specs.SectorLayouts.{delta_in}
 use Rattle.sl_sector.specs.declared.sector.DeltaRec.{DeltaRec}
 use Rattle.sl_trace.specs.Sessions.{calls_of, is_call_of, is_survey_purpose}
 use Rattle.sl_trace.specs.Sightings.{look_of, seen_records, sighted}

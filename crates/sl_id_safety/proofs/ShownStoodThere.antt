@@ -1,5 +1,5 @@
 -- What a read shows of an id's sector stood there at a front: it is the newest landing of the id's state at that front.
-use Rattle.sl_area.specs.Places.{sector_of}
+use Rattle.sl_area.specs.AreaLayout.{sector_of}
 use Rattle.sl_run_law.proofs.Front.RunsFromFronts.{fronts_are_lawful, run_after}
 use Rattle.sl_run_law.proofs.Front.JoinedLists.{contains_left, contains_right}
 use Rattle.sl_id_safety.proofs.FrontsOfSteps.{FrontAt, landed_before, landed_since}

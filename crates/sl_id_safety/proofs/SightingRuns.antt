@@ -1,9 +1,9 @@
 -- A run of sightings: its first and its last spell the same record, and its times are theirs.
-use Rattle.sl_area.specs.Layouts.{Layout, record_in}
+use Rattle.sl_area.specs.AreaSizes.{Layout, record_in}
 use Rattle.sl_run_law.proofs.Place.FoundInLists.{same_text}
 use Rattle.sl_words.proofs.Lists.{contains_first, contains_more}
 use Rattle.sl_words.proofs.Options.{mapped_value}
-use Rattle.sl_sector.specs.Spelling.{delta_in}
+use Rattle.sl_sector.specs.SectorLayouts.{delta_in}
 use Rattle.sl_sector.specs.declared.sector.DeltaRec.{DeltaRec}
 use Rattle.sl_trace.specs.Sightings.{current_run, has_seen, new_run, run_with, sighted}
 use Rattle.sl_trace.specs.declared.sighting.Run.{Run}

@@ -1,5 +1,5 @@
 -- Silence means over: the record of a run stood in its sector at the first sample and at the last, longer apart than its writer may act.
-use Rattle.sl_area.specs.Places.{delta_offset}
+use Rattle.sl_area.specs.AreaLayout.{delta_offset}
 use Rattle.sl_ids.proofs.Clocks.ClockLaws.{read_on}
 use Rattle.sl_run_law.proofs.Front.RunsFromFronts.{fronts_are_lawful}
 use Rattle.sl_id_safety.proofs.IdInterface.{StandsIn}

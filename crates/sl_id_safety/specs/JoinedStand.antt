@@ -1,5 +1,5 @@
 -- Where a joined session stands with its id: at the place of an id of the header, joined and verified, with what the world says of it.
-use Rattle.sl_area.specs.Places.{delta_offset}
+use Rattle.sl_area.specs.AreaLayout.{delta_offset}
 use Rattle.sl_id_safety.specs.State.IdStates.{name_of, session_at, standing_of}
 use Rattle.sl_id_safety.specs.State.StateLaws.{IsIdPlace}
 use Rattle.sl_run.specs.Runs.{Happening}

@@ -11,7 +11,7 @@
 //! - Beside a verified session that is not over no claim may land, and above its claim it alone has written.
 //! - Generations of landings don't fall, and no two landings spell the same.
 
-pub mod clocks;
+pub mod waits;
 
 ghost use Rattle.sl_ids.specs.Examples.{ShorterSilenceFails, ShorterWaitFails, ShorterWatchFails, SilentClaimFails, SomeIdIsTakenOver};
 ghost use Rattle.sl_ids.specs.Guards.{WaitsSuffice, WatchdogsBound};

@@ -1,5 +1,5 @@
 //! One id of one lockspace: why at most one of its sessions is alive (`laws`), and what clocks, watchdogs and waits give for that
-//! (`laws::clocks`).
+//! (`laws::waits`).
 #![tactic(auto)]
 
 pub mod laws;

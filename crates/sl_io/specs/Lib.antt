@@ -1,6 +1,7 @@
-pub mod Faults
+pub mod FaultCauses
+pub mod FaultCounts
 pub mod Planned
 pub mod TakenBytes
-pub mod Memory
+pub mod MemStreams
 pub mod ReadSources
 pub mod Adapters

@@ -1,5 +1,5 @@
 -- Calls of which some are to fail: which, is told before the first.
-use Rattle.sl_io.specs.Faults.{one_more}
+use Rattle.sl_io.specs.FaultCounts.{one_more}
 use Rattle.std.specs.List.{list_any}
 use Rattle.std.specs.Prelude.{Bool, List, if◌then◌else◌, ℕ, ◌==◌}
 

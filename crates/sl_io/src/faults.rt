@@ -1,6 +1,6 @@
 //! A failure of the outside, and the count that it rests on.
 ghost use Rattle.std.specs.Prelude.{◌≡◌, ◌≤◌};
-ghost use Rattle.sl_io.specs.Faults.{one_more};
+ghost use Rattle.sl_io.specs.FaultCounts.{one_more};
 
 use std::marker::Model;
 use thiserror::Error;

@@ -4,9 +4,9 @@
 //! counted, and takes no byte.
 ghost use Rattle.std.specs.Io.KnownBytes.{WriteAppends};
 ghost use Rattle.std.specs.Prelude.{IfOk, IsErr, IsTrue, Some, [], length, ◌≡◌, ◌↔◌};
-ghost use Rattle.sl_io.specs.Memory.{after_write, write_fails, write_len};
+ghost use Rattle.sl_io.specs.MemStreams.{after_write, write_fails, write_len};
 ghost use Rattle.sl_io.specs.TakenBytes.{TakesSome};
-ghost use Rattle.sl_words.specs.Causes.{HasCause};
+ghost use Rattle.sl_io.specs.FaultCauses.{HasCause};
 
 use crate::faults::Failed;
 use crate::mem_source::most_of;
@@ -26,7 +26,7 @@ pub struct MemSink {
 
 impl Model for MemSink {
     ghost use Rattle.std.specs.Prelude.{vec_capacity, vec_len, ◌+◌, ◌≤◌};
-    ghost use Rattle.sl_io.specs.Memory.{SinkState};
+    ghost use Rattle.sl_io.specs.MemStreams.{SinkState};
 
     ghost Value = { SinkState };
 

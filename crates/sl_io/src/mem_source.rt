@@ -5,9 +5,9 @@
 ghost use Rattle.std.specs.Io.KnownBytes.{ReadConsumes};
 ghost use Rattle.std.specs.Io.{ReadsAtMost};
 ghost use Rattle.std.specs.Prelude.{IfOk, IsErr, IsTrue, Some, length, min, take, ◌≡◌, ◌↔◌};
-ghost use Rattle.sl_io.specs.Memory.{after_read, most_of, read_len};
+ghost use Rattle.sl_io.specs.MemStreams.{after_read, most_of, read_len};
 ghost use Rattle.sl_io.specs.Planned.{fails_next};
-ghost use Rattle.sl_words.specs.Causes.{HasCause};
+ghost use Rattle.sl_io.specs.FaultCauses.{HasCause};
 
 use crate::faults::Failed;
 use crate::planned::PlannedFaults;
@@ -25,7 +25,7 @@ pub struct MemSource {
 
 impl Model for MemSource {
     ghost use Rattle.std.specs.Prelude.{drop, vec_len, ◌≤◌};
-    ghost use Rattle.sl_io.specs.Memory.{SourceState};
+    ghost use Rattle.sl_io.specs.MemStreams.{SourceState};
 
     ghost Value = { SourceState };
 

@@ -1,7 +1,7 @@
 //! The calls of a memory form, which fail where it was told so when it was made.
 ghost use Rattle.std.specs.Prelude.{IsErr, IsTrue, [], ◌≡◌, ◌≤◌, ◌↔◌};
 ghost use Rattle.sl_io.specs.Planned.{after_call, fails_next, with_fault};
-ghost use Rattle.sl_words.specs.Causes.{HasCause};
+ghost use Rattle.sl_io.specs.FaultCauses.{HasCause};
 
 use crate::faults::{Failed, FaultCount};
 use std::alloc::Global;

@@ -2,7 +2,7 @@
 ghost use Rattle.std.specs.Io.KnownBytes.{Consumes, IsAtEnd};
 ghost use Rattle.std.specs.Prelude.{IfOk, IsTrue, List, OnErr, false, length, vec_capacity, vec_len, ℕ, ◌++◌, ◌+◌, ◌≡◌, ◌≤◌};
 ghost use Rattle.sl_io.specs.ReadSources.{IsReading};
-ghost use Rattle.sl_words.specs.Causes.{HasCause, Rose};
+ghost use Rattle.sl_io.specs.FaultCauses.{HasCause, Rose};
 
 use crate::faults::Failed;
 use crate::source::Source;

@@ -2,7 +2,7 @@
 ghost use Rattle.std.specs.Prelude.{List, None, Option, ℕ};
 ghost use Rattle.std.specs.Io.KnownBytes.{WriteAppends};
 ghost use Rattle.sl_io.specs.TakenBytes.{TakesSome};
-ghost use Rattle.sl_words.specs.Causes.{HasCause};
+ghost use Rattle.sl_io.specs.FaultCauses.{HasCause};
 
 use crate::faults::Failed;
 

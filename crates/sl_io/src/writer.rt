@@ -2,7 +2,7 @@
 ghost use Rattle.std.specs.Io.KnownBytes.{Keeps};
 ghost use Rattle.std.specs.Prelude.{◌≡◌};
 ghost use Rattle.sl_io.specs.Adapters.{writer_faults, writer_of};
-ghost use Rattle.sl_words.specs.Causes.{HasCause};
+ghost use Rattle.sl_io.specs.FaultCauses.{HasCause};
 
 use crate::faults::{Failed, FaultCount};
 use crate::sink::Sink;

@@ -1,7 +1,7 @@
 //! Writing bytes to a sink, all of them or none after a fault.
 ghost use Rattle.std.specs.Io.KnownBytes.{Appends};
 ghost use Rattle.std.specs.Prelude.{OnOk, length, take, ℕ, ◌≤◌};
-ghost use Rattle.sl_words.specs.Causes.{HasCause};
+ghost use Rattle.sl_io.specs.FaultCauses.{HasCause};
 
 use crate::faults::Failed;
 use crate::sink::Sink;

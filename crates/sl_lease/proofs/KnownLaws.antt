@@ -1,14 +1,15 @@
 -- What is kept of a lease, and what is known of it by its calls.
-use Rattle.sl_area.specs.Layouts.{Layout}
-use Rattle.sl_area.specs.Places.{blocks_of, leader_read, needs_again}
+use Rattle.sl_area.specs.AreaSizes.{Layout}
+use Rattle.sl_area.specs.Pairs.{blocks_of, needs_again}
+use Rattle.sl_area.specs.TornLeader.{leader_read}
 use Rattle.sl_host_state.proofs.Pairs.{first_is_kept}
 use Rattle.sl_host_state.specs.KeptState.{LeaseState}
 use Rattle.sl_host_state.specs.HostStands.{LeaseStands}
 use Rattle.sl_lease.specs.LeaseQuestions.{IsLastRead, TopStands, area_asked, leader_given, read_asked, read_given}
 use Rattle.sl_lease.specs.Side.{known_with, layout_in, place_of}
-use Rattle.sl_lease.specs.declared.evidence.Held.{Held}
+use Rattle.sl_lease.specs.declared.outer_facts.Held.{Held}
 use Rattle.sl_lease.specs.declared.side.Side.{Side}
-use Rattle.sl_trace.specs.LeaseWork.{LeasePlace, after_bytes, after_read, after_write, area_next, asked_again, first_step, heard, lease_next, named_area_next, part_read, read_of_step, refuses, refuses_block, within_turn}
+use Rattle.sl_trace.specs.LeaseDecisions.{LeasePlace, after_bytes, after_read, after_write, area_next, asked_again, first_step, heard, lease_next, named_area_next, part_read, read_of_step, refuses, refuses_block, within_turn}
 use Rattle.sl_trace.specs.Leases.{LeaseKnown, is_leader_of, known_of, last_blocks}
 use Rattle.sl_trace.specs.declared.lease.Aim.TheVariants.{Acquires, Converts, Releases, Settles}
 use Rattle.sl_trace.specs.declared.lease.Aim.{Aim}

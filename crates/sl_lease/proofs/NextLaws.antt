@@ -4,10 +4,10 @@ use Rattle.sl_host_state.specs.HostStands.{top_mbal}
 use Rattle.sl_host_state.specs.declared.kept_parts.TopNumber.{TopNumber}
 use Rattle.sl_lease.specs.LeaseQuestions.{TopStands, begin_above, block_showing, gen_with}
 use Rattle.sl_lease.specs.Side.{known_with, place_of}
-use Rattle.sl_lease.specs.declared.evidence.Held.{Held}
+use Rattle.sl_lease.specs.declared.outer_facts.Held.{Held}
 use Rattle.sl_lease.specs.declared.side.Side.{Side}
 use Rattle.sl_trace.specs.Ballots.{in_instance, number_above, phase1_block}
-use Rattle.sl_trace.specs.LeaseWork.{LeasePlace, begin_next, phase1_next}
+use Rattle.sl_trace.specs.LeaseDecisions.{LeasePlace, begin_next, phase1_next}
 use Rattle.sl_trace.specs.Leases.{LeaseKnown, mode_gen_of, own_known, own_or_read}
 use Rattle.sl_trace.specs.declared.lease.Aim.{Aim}
 use Rattle.sl_trace.specs.declared.lease.Aim.TheVariants.{Settles}

@@ -1,6 +1,8 @@
 -- What a read gives, host by host, and what a second read gives with the first.
-use Rattle.sl_area.specs.Layouts.{Sizes, layout_of}
-use Rattle.sl_area.specs.Places.{BlocksRead, area_sectors, block_sectors, blocks_in, later_pair, leader_made, leader_of, pair_back, pair_kept, pair_merged, pair_read, pairs_of}
+use Rattle.sl_area.specs.AreaSizes.{Sizes, layout_of}
+use Rattle.sl_area.specs.Pairs.{BlocksRead, later_pair, pair_back, pair_kept, pair_merged, pair_read, pairs_of}
+use Rattle.sl_area.specs.TornLeader.{leader_made}
+use Rattle.sl_area.specs.AreaLayout.{area_sectors, block_sectors, blocks_in, leader_of}
 use Rattle.sl_host_state.specs.HeardInputs.{blocks_heard, is_area_step, is_block_step, turn_heard}
 use Rattle.sl_lease.specs.LeaseQuestions.{heard_with, leader_given}
 use Rattle.sl_lease.specs.Changes.{shows_blocks}
@@ -10,7 +12,7 @@ use Rattle.sl_sector.specs.declared.sector.Leader.{Leader}
 use Rattle.sl_sector.specs.declared.sector.PairBlock.{PairBlock}
 use Rattle.sl_trace.proofs.PlainReads.{blocks_plain}
 use Rattle.sl_trace.proofs.PlainWork.{again_plain}
-use Rattle.sl_trace.specs.LeaseWork.{first_step, part_read, read_of_step}
+use Rattle.sl_trace.specs.LeaseDecisions.{first_step, part_read, read_of_step}
 use Rattle.sl_trace.specs.declared.effects.LeaseRead.TheVariants.{OfArea, OfBlock, OfFree, OfPhase1, OfPhase2}
 use Rattle.sl_trace.specs.declared.effects.LeaseRead.{LeaseRead}
 use Rattle.sl_trace.specs.declared.effects.LeaseStep.TheVariants.{ClearMode, FreeLeader, Phase1Read, Phase1Write, Phase2Read, Phase2Write, ReadAgain, ReadArea, ReadBeforeBlock, ReadBeforeFree, SetMode, TakeLeader}

@@ -6,7 +6,7 @@ use Rattle.sl_ballot.specs.Limits.{limited, limited_block}
 use Rattle.sl_trace.specs.Ballots.{ballot_blocks, counted_lver, instance_of, is_counted_free, known_block, moded_block, owner_of, phase1_block, phase2_block, same_owner, whole_blocks, with_own}
 use Rattle.sl_trace.specs.declared.lease.Instance.TheVariants.{Begins, HeldAlready}
 use Rattle.sl_trace.specs.declared.lease.Instance.{Instance}
-use Rattle.sl_area.specs.Layouts.{IsGeometry, Sizes}
+use Rattle.sl_area.specs.AreaSizes.{IsGeometry, Sizes}
 use Rattle.sl_lease.specs.Bounds.{IsBegun, IsSession}
 use Rattle.sl_sector.specs.Records.{Fits, IsBlock, IsLeader}
 use Rattle.sl_sector.specs.declared.sector.Block.{Block}

@@ -1,6 +1,7 @@
 -- What is kept of a lease is what a host keeps of it.
-use Rattle.sl_area.specs.Layouts.{Layout}
-use Rattle.sl_area.specs.Places.{BlocksRead, blocks_of, leader_read, needs_again, pairs_kept, read_once}
+use Rattle.sl_area.specs.AreaSizes.{Layout}
+use Rattle.sl_area.specs.Pairs.{BlocksRead, blocks_of, needs_again, pairs_kept, read_once}
+use Rattle.sl_area.specs.TornLeader.{leader_read}
 use Rattle.sl_host_state.specs.HeardInputs.{blocks_heard, blocks_shown, concludes_at, is_area_step, is_block_step, is_free_step, is_last_phase, kept_heard, leader_shown, lease_hearing, pair_hearing, read_heard, settles_at, stop_shown, top_hearing, turn_heard, verified_at, won_at, won_hearing}
 use Rattle.sl_host_state.specs.KeptState.{LeaseState, PairState}
 use Rattle.sl_host_state.specs.MadeEffects.{lease_calling}
@@ -19,7 +20,7 @@ use Rattle.sl_sector.specs.declared.sector.PairBlock.{PairBlock}
 use Rattle.sl_sector.specs.declared.sector.Rec.TheVariants.{BlockIs, LeaderIs, PairIs, PairLeaderIs}
 use Rattle.sl_sector.specs.declared.sector.Rec.{Rec}
 use Rattle.sl_trace.specs.Ballots.{same_owner, stop_of, value_of}
-use Rattle.sl_trace.specs.LeaseWork.{asked_again, first_step, part_read, read_of_step}
+use Rattle.sl_trace.specs.LeaseDecisions.{asked_again, first_step, part_read, read_of_step}
 use Rattle.sl_trace.specs.Leases.{given_with, is_leader_of, is_second, name_sought}
 use Rattle.sl_trace.specs.Traces.{Submitted, is_ok_answer}
 use Rattle.sl_trace.specs.declared.effects.LeaseRead.TheVariants.{OfArea, OfBlock, OfFree, OfPhase1, OfPhase2}

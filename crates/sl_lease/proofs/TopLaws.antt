@@ -1,5 +1,5 @@
 -- The greatest of numbers, as it is found one by one.
-use Rattle.sl_area.specs.Places.{greatest_lver}
+use Rattle.sl_area.specs.TornLeader.{greatest_lver}
 use Rattle.sl_host_state.specs.HostStands.{top_mbal}
 use Rattle.sl_lease.specs.LeaseQuestions.{tops_found}
 use Rattle.sl_lease.specs.Changes.{mbals_found}

@@ -1,5 +1,5 @@
 -- What is kept of a lease is what a host keeps of it.
-use Rattle.sl_area.specs.Layouts.{Layout}
+use Rattle.sl_area.specs.AreaSizes.{Layout}
 use Rattle.sl_host_state.specs.HeardInputs.{kept_heard, lease_hearing, turn_heard}
 use Rattle.sl_host_state.specs.KeptState.{LeaseState, PairState}
 use Rattle.sl_host_state.specs.MadeEffects.{lease_calling}
@@ -13,7 +13,7 @@ use Rattle.sl_sector.specs.declared.sector.Block.{Block}
 use Rattle.sl_sector.specs.declared.sector.Leader.{Leader}
 use Rattle.sl_sector.specs.declared.sector.PairBlock.{PairBlock}
 use Rattle.sl_sector.specs.declared.sector.Rec.TheVariants.{BlockIs, LeaderIs, PairIs, PairLeaderIs}
-use Rattle.sl_trace.specs.LeaseWork.{asked_again}
+use Rattle.sl_trace.specs.LeaseDecisions.{asked_again}
 use Rattle.sl_trace.specs.Leases.{is_second}
 use Rattle.sl_trace.specs.Traces.{Submitted}
 use Rattle.sl_trace.specs.declared.effects.Call.{Call}

@@ -1,14 +1,15 @@
 -- What a lease is asked, by what is kept of it, what its session knows beside it, and what a read has shown.
-use Rattle.sl_area.specs.Layouts.{Layout}
-use Rattle.sl_area.specs.Places.{BlocksRead, blocks_of, leader_read}
+use Rattle.sl_area.specs.AreaSizes.{Layout}
+use Rattle.sl_area.specs.Pairs.{BlocksRead, blocks_of}
+use Rattle.sl_area.specs.TornLeader.{leader_read}
 use Rattle.sl_host_state.specs.HeardInputs.{is_area_step}
 use Rattle.sl_host_state.specs.KeptState.{LeaseState}
 use Rattle.sl_host_state.specs.HostStands.{top_mbal}
 use Rattle.sl_host_state.specs.declared.kept_parts.TopNumber.{TopNumber}
-use Rattle.sl_lease.specs.declared.evidence.Held.{Held}
+use Rattle.sl_lease.specs.declared.outer_facts.Held.{Held}
 use Rattle.sl_lease.specs.declared.side.Side.{Side}
 use Rattle.sl_trace.specs.Ballots.{ballot_blocks, moded_block, phase1_block, phase2_block, stop_of}
-use Rattle.sl_trace.specs.LeaseWork.{LeasePlace, after_phase1, after_phase2, asked_again, begin_next, first_step, leader_for, named_area_next, part_read, phase1_next, read_of_step, settle_next}
+use Rattle.sl_trace.specs.LeaseDecisions.{LeasePlace, after_phase1, after_phase2, asked_again, begin_next, first_step, leader_for, named_area_next, part_read, phase1_next, read_of_step, settle_next}
 use Rattle.sl_trace.specs.Leases.{LeaseKnown, first_kept, is_leader_of, last_blocks, owed_free}
 use Rattle.sl_trace.specs.declared.lease.Aim.{Aim}
 use Rattle.sl_trace.specs.declared.lease.LeaseNext.TheVariants.{AnswerJob, BecomeExclusive, BecomeShared, Nothing, ReadFor, WriteBlock, WriteLeader}

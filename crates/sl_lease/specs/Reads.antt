@@ -1,12 +1,14 @@
 -- What a host's read of blocks gives, and the places that it has for it.
-use Rattle.sl_area.specs.Layouts.{Sizes, layout_of}
-use Rattle.sl_area.specs.Places.{BlocksRead, area_sectors, block_sectors, blocks_in, blocks_of, later_pair, leader_made, leader_of, pair_back, pair_kept, pair_read, pairs_of, read_at}
+use Rattle.sl_area.specs.AreaSizes.{Sizes, layout_of}
+use Rattle.sl_area.specs.Pairs.{BlocksRead, blocks_of, later_pair, pair_back, pair_kept, pair_read, pairs_of}
+use Rattle.sl_area.specs.TornLeader.{leader_made}
+use Rattle.sl_area.specs.AreaLayout.{area_sectors, block_sectors, blocks_in, leader_of, read_at}
 use Rattle.sl_host_state.specs.HeardInputs.{is_area_step}
-use Rattle.sl_sector.specs.Spelling.{block_in}
+use Rattle.sl_sector.specs.SectorLayouts.{block_in}
 use Rattle.sl_sector.specs.declared.sector.Block.{Block}
 use Rattle.sl_sector.specs.declared.sector.Leader.{Leader}
 use Rattle.sl_sector.specs.declared.sector.PairBlock.{PairBlock}
-use Rattle.sl_trace.specs.LeaseWork.{asked_again}
+use Rattle.sl_trace.specs.LeaseDecisions.{asked_again}
 use Rattle.sl_trace.specs.declared.effects.LeaseStep.{LeaseStep}
 use Rattle.sl_words.specs.Words.{present}
 use Rattle.std.specs.List.{list_any, range_with_len}

@@ -1,10 +1,10 @@
 -- For whom a lease is kept, and what is known of it beside what it keeps.
-use Rattle.sl_area.specs.Layouts.{Layout, layout_of}
+use Rattle.sl_area.specs.AreaSizes.{Layout, layout_of}
 use Rattle.sl_host_state.specs.KeptState.{LeaseState}
 use Rattle.sl_host_state.specs.HostStands.{first_read, turn_kept}
-use Rattle.sl_lease.specs.declared.evidence.Held.{Held}
+use Rattle.sl_lease.specs.declared.outer_facts.Held.{Held}
 use Rattle.sl_lease.specs.declared.side.Side.{Side}
-use Rattle.sl_trace.specs.LeaseWork.{LeasePlace}
+use Rattle.sl_trace.specs.LeaseDecisions.{LeasePlace}
 use Rattle.sl_trace.specs.Leases.{LeaseKnown}
 use Rattle.sl_sector.specs.declared.sector.Block.{Block}
 use Rattle.sl_words.specs.Words.{is_empty}

@@ -8,17 +8,17 @@ ghost use Rattle.sl_lease.specs.LeaseQuestions.{TopStands, held_by_other, is_sha
 ghost use Rattle.sl_lease.specs.Bounds.{IsBegun, IsGranted, IsInstance, IsRead, IsSession};
 ghost use Rattle.sl_lease.specs.Side.{is_named, known_with, place_of};
 ghost use Rattle.sl_lease.specs.Steps.{IsFitNext, is_leader_step};
-ghost use Rattle.sl_lease.specs.declared.evidence.Held.{Held};
-ghost use Rattle.sl_trace.specs.LeaseWork.{after_phase1, after_phase2, ended_next, looks_for_shared, lost_next, stop_reply, stopped_next, unstopped_next, won_next};
+ghost use Rattle.sl_lease.specs.declared.outer_facts.Held.{Held};
+ghost use Rattle.sl_trace.specs.LeaseDecisions.{after_phase1, after_phase2, ended_next, looks_for_shared, lost_next, stop_reply, stopped_next, unstopped_next, won_next};
 ghost use Rattle.sl_trace.specs.Leases.{shared_elsewhere};
 ghost use Rattle.sl_trace.specs.declared.lease.LeaseNext.TheVariants.{WriteLeader};
 ghost use Rattle.sl_sector.specs.declared.sector.Block.{Block};
 ghost use Rattle.sl_words.specs.Words.{present};
 ghost use Rattle.std.specs.Prelude.{Bool, IsTrue, List, Option, find, length, ℕ, ◌<◌, ◌^◌, ◌≡◌};
 
-use crate::changes::is_ahead;
-use crate::evidence::{Evidence, Held};
+use crate::kept_changes::is_ahead;
 use crate::lease::Lease;
+use crate::outer_facts::{Evidence, Held};
 use crate::owed::mode_gen;
 use crate::side::Side;
 use sl_ballot::{moded_block, phase2_after_read, same_owner, value_of};

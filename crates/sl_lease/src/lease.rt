@@ -25,7 +25,7 @@ ghost use Rattle.sl_sector.specs.Records.{Fits};
 ghost use Rattle.sl_trace.specs.Leases.{is_second};
 ghost use Rattle.std.specs.Prelude.{IfSome, None, cond, option_map, unwrap_or, [], ◌+◌, ◌^◌, ◌≡◌, ◌≤◌};
 
-use crate::changes::{ballot_over, freed_by, is_phase2_write, is_second};
+use crate::kept_changes::{ballot_over, freed_by, is_phase2_write, is_second};
 use crate::pairs::Pairs;
 use sl_host_state::{LeaseCall, TopNumber, ValuePair};
 use sl_sector::{Block, Leader};

@@ -26,22 +26,24 @@
 //! what they change of a host's state (`laws`).
 #![tactic(auto)]
 
-mod answers;
-mod area;
+mod area_read;
 mod ballots;
-mod changes;
-mod evidence;
+mod block_reads;
+mod conversions;
+mod kept_answers;
+mod kept_changes;
 pub mod laws;
 mod lease;
 mod next;
+mod outer_facts;
 mod owed;
 mod pairs;
-mod reads;
 mod side;
+mod torn_leader;
 
-pub use evidence::{Evidence, Held};
+pub use block_reads::{Blocks, SectorBytes, Sectors, leader_of, reads_area, sectors_read};
 pub use lease::Lease;
 pub use next::{after_failure, after_first};
+pub use outer_facts::{Evidence, Held};
 pub use pairs::Pairs;
-pub use reads::{Blocks, SectorBytes, Sectors, leader_of, reads_area, sectors_read};
 pub use side::Side;

@@ -6,14 +6,14 @@
 //!
 //! A conversion to shared writes its mode while the leader stands, and frees the leader once it is done; one to exclusive goes the way of an
 //! acquire while its mode stands, and clears the mode once it is done. So what is held covers the process at each moment of either.
-ghost use Rattle.sl_host_state.specs.KeptState.{LeaseState};
 ghost use Rattle.sl_host_state.specs.HostStands.{LeaseStands};
 ghost use Rattle.sl_lease.specs.LeaseQuestions.{IsLastRead, TopStands, again_asked, exclusive_with, free_with, mode_with, phase1_ended, phase2_ended, read_asked, shared_with};
-ghost use Rattle.sl_lease.specs.Bounds.{IsBegun, IsInstance, IsRead, IsSession};
+ghost use Rattle.sl_lease.specs.Bounds.{IsInstance, IsRead, IsSession};
 ghost use Rattle.sl_lease.specs.Side.{is_named, known_with, layout_in, place_of};
-ghost use Rattle.sl_lease.specs.Steps.{IsFitNext, is_first_step, makes_call};
-ghost use Rattle.sl_lease.specs.declared.evidence.Held.{Held};
-ghost use Rattle.sl_trace.specs.LeaseWork.{LeasePlace, after_clearing, after_freeing, after_moding, after_take, after_write, asked_again, convert_next, lease_next, refuses, refuses_block, release_next, settle_begin, within_turn};
+ghost use Rattle.sl_lease.specs.Steps.{IsFitNext, is_first_step};
+ghost use Rattle.sl_lease.specs.declared.outer_facts.Held.{Held};
+ghost use Rattle.sl_trace.specs.LeaseDecisions.{LeasePlace, after_clearing, after_freeing, after_moding, after_take, after_write, asked_again, lease_next, refuses, refuses_block, settle_begin, within_turn};
+ghost use Rattle.sl_trace.specs.Releases.{release_next};
 ghost use Rattle.sl_trace.specs.declared.effects.LeaseRead.{LeaseRead as LeaseReadOf};
 ghost use Rattle.sl_trace.specs.declared.lease.Aim.TheVariants.{Converts, Releases, Settles};
 ghost use Rattle.sl_trace.specs.declared.lease.Aim.{Aim as AimOf};
@@ -26,14 +26,13 @@ ghost use Rattle.sl_trace.specs.declared.reply.Reply.TheVariants.{IoFault};
 ghost use Rattle.std.specs.Prelude.{Bool, IfSome, IsTrue, List, Option, Some, ℕ, ◌||◌, ◌≡◌};
 
 use crate::ballots::leader_for;
-use crate::changes::read_of_step;
-use crate::evidence::{Evidence, Held};
+use crate::kept_changes::read_of_step;
 use crate::lease::Lease;
+use crate::outer_facts::{Evidence, Held};
 use crate::owed::refuses;
 use crate::side::Side;
 use sl_ballot::{moded_block, stop_of};
 use sl_sector::{Block, Leader};
-use sl_text::Name;
 use sl_trace::{Aim, LeaseNext, LeaseRead, LeaseStep, Limited, Mode, Reply};
 
 impl Lease {
@@ -96,8 +95,8 @@ impl Lease {
     }
 
     /// What was decided, unless it writes a block whose turn would pass its limit. Only blocks of pairs have a turn.
-    #[tactic(auto, unfolding(sl_trace::specs::LeaseWork::within_turn))]
-    fn within_turn(&self, side: &Side, aim: Aim, next: LeaseNext) -> LeaseNext
+    #[tactic(auto, unfolding(sl_trace::specs::LeaseDecisions::within_turn))]
+    pub(crate) fn within_turn(&self, side: &Side, aim: Aim, next: LeaseNext) -> LeaseNext
         requires { IsSession side.now.geometry side.now.me }
         ensures exact { (h : Held) (over : ℕ → ℕ → Bool) (read : List (Option Block)) → result ≡ within_turn (place_of side.now) (known_with side.now self.now h over read) aim next }
         ensures fit { IsFitNext next → IsFitNext result }
@@ -246,7 +245,7 @@ impl Lease {
     }
 
     /// The own block with the shared mode is written.
-    fn set_mode(&self, side: &Side) -> LeaseNext
+    pub(crate) fn set_mode(&self, side: &Side) -> LeaseNext
         requires { IsSession side.now.geometry side.now.me }
         ensures exact { result ≡ mode_with side.now self.now }
         ensures fit { IsFitNext result }
@@ -358,7 +357,7 @@ impl Lease {
     }
 
     /// A settling begins: with pairs, one that writes a block reads the blocks first, once, for the turn and the next number alone.
-    #[tactic(auto, unfolding(sl_trace::specs::LeaseWork::settle_begin))]
+    #[tactic(auto, unfolding(sl_trace::specs::LeaseDecisions::settle_begin))]
     fn settle_first(&self, side: &Side, held: Held) -> LeaseNext
         requires { IsSession side.now.geometry side.now.me }
         ensures exact { (over : ℕ → ℕ → Bool) (read : List (Option Block)) → TopStands self.now read
@@ -399,35 +398,6 @@ impl Lease {
         match mode {
             Mode::Exclusive => self.write_leader(side, LeaseStep::FreeLeader, false, lver),
             Mode::Shared => self.clear_mode(),
-        }
-    }
-
-    /// What a conversion to this mode does first, of a resource of this name: to shared it writes the own block's mode, while the leader
-    /// still stands; to exclusive it reads the area, while the mode still stands.
-    pub fn convert(&self, side: &Side, mode: Mode, resource: Name) -> LeaseNext
-        requires { IsSession side.now.geometry side.now.me }
-        ensures exact { (held : Held) (over : ℕ → ℕ → Bool) (read : List (Option Block))
-            → result ≡ within_turn (place_of side.now) (known_with side.now self.now held over read) (Converts mode)
-            (convert_next (known_with side.now self.now held over read) mode resource) }
-        ensures decides { (held : Held) (over : ℕ → ℕ → Bool) (ms : List Submitted) → LeaseStands (layout_in side.now) side.now.lockspace side.now.me self.now ms
-            → result ≡ within_turn (place_of side.now) (known_of (layout_in side.now) side.now.lockspace side.now.me held.shared held.exclusive over ms) (Converts mode)
-            (convert_next (known_of (layout_in side.now) side.now.lockspace side.now.me held.shared held.exclusive over ms) mode resource) }
-        ensures fit { IsFitNext result }
-    {
-        let next = self.convert_known(side, mode, resource);
-        self.within_turn(side, Aim::Converts(mode), next)
-    }
-
-    /// The same, by what is kept of the lease.
-    fn convert_known(&self, side: &Side, mode: Mode, resource: Name) -> LeaseNext
-        requires { IsSession side.now.geometry side.now.me }
-        ensures exact { (held : Held) (over : ℕ → ℕ → Bool) (read : List (Option Block))
-            → result ≡ convert_next (known_with side.now self.now held over read) mode resource }
-        ensures fit { IsFitNext result }
-    {
-        match mode {
-            Mode::Shared => self.set_mode(side),
-            Mode::Exclusive => LeaseNext::ReadFor(LeaseStep::ReadArea { resource }),
         }
     }
 }

@@ -11,7 +11,7 @@ ghost use Rattle.sl_lease.specs.Bounds.{IsBegun, IsInstance, IsSession};
 ghost use Rattle.sl_lease.specs.Side.{known_with, place_of};
 ghost use Rattle.sl_lease.specs.Steps.{IsFitNext};
 ghost use Rattle.sl_trace.specs.Ballots.{moded_block, phase1_block};
-ghost use Rattle.sl_trace.specs.LeaseWork.{begin_next, owes_block, phase1_next, refuses, settle_next};
+ghost use Rattle.sl_trace.specs.LeaseDecisions.{begin_next, owes_block, phase1_next, refuses, settle_next};
 ghost use Rattle.sl_trace.specs.Leases.{block_of_host, mode_gen_of, owed, own_or_read};
 ghost use Rattle.sl_lease.specs.declared.side.Side.{Side};
 ghost use Rattle.sl_trace.specs.declared.lease.Aim.TheVariants.{Settles};
@@ -24,8 +24,8 @@ ghost use Rattle.sl_words.specs.Words.{choose, present, some_is};
 ghost use Rattle.std.specs.Option.{option_map_or};
 ghost use Rattle.std.specs.Prelude.{All, Bool, IfOk, IfSome, List, None, Option, Some, false, length, not, [], ℕ, ◌==◌, ◌∷◌, ◌≡◌, ◌≤◌};
 
-use crate::evidence::Held;
 use crate::lease::Lease;
+use crate::outer_facts::Held;
 use crate::side::Side;
 use sl_ballot::{Limit, moded_block, phase1_after_read, phase1_block};
 use sl_sector::Block;
@@ -129,7 +129,7 @@ impl Lease {
     }
 
     /// A ballot in `n` begins after a read: its number is above all that the session knows of the instance.
-    #[tactic(auto, unfolding(sl_trace::specs::LeaseWork::begin_next, sl_trace::specs::Ballots::phase1_block))]
+    #[tactic(auto, unfolding(sl_trace::specs::LeaseDecisions::begin_next, sl_trace::specs::Ballots::phase1_block))]
     pub(crate) fn begin(
         &self,
         side: &Side,
@@ -225,7 +225,7 @@ impl Lease {
     }
 
     /// A settling does what is owed first.
-    #[tactic(auto, unfolding(sl_trace::specs::LeaseWork::settle_next))]
+    #[tactic(auto, unfolding(sl_trace::specs::LeaseDecisions::settle_next))]
     pub(crate) fn settle_known(&self, side: &Side, held: Held) -> LeaseNext
         requires { IsSession side.now.geometry side.now.me }
         ensures exact { (over : ℕ → ℕ → Bool) (read : List (Option Block)) → TopStands self.now read

@@ -4,16 +4,12 @@
 //! whole is kept until the second one is there: sectors are sampled in rising order, so an old first sector may stand beside a second one
 //! that was being written. Of each host the block of the greater turn counts, of both answers.
 
-ghost use Rattle.sl_area.specs.Layouts.{layout_of};
-ghost use Rattle.sl_area.specs.Places.{fresh_leader, greatest_lver, later_pair, leader_made};
-ghost use Rattle.sl_lease.specs.Reads.{blocks_of_pairs, lvers_found, merged_with};
-ghost use Rattle.sl_sector.specs.Records.{Fits, IsBlock, IsLeader, IsPair};
-ghost use Rattle.sl_words.specs.Words.{present};
-ghost use Rattle.std.specs.Prelude.{All, IfOk, IfSome, None, find, length, option_map, replicate, slice_index_or, slice_set, ◌-◌, ◌<◌, ◌==◌, ◌≡◌, ◌≤◌};
+ghost use Rattle.sl_area.specs.Pairs.{later_pair};
+ghost use Rattle.sl_lease.specs.Reads.{blocks_of_pairs, merged_with};
+ghost use Rattle.sl_sector.specs.Records.{Fits, IsBlock, IsPair};
+ghost use Rattle.std.specs.Prelude.{All, IfOk, IfSome, None, length, option_map, replicate, slice_index_or, slice_set, ◌-◌, ◌<◌, ◌≡◌, ◌≤◌};
 
-use sl_area::Geometry;
-use sl_sector::{Block, Leader, PairBlock};
-use sl_text::Name;
+use sl_sector::{Block, PairBlock};
 use std::alloc::{AllocError, Global};
 use std::marker::Model;
 
@@ -130,69 +126,5 @@ pub(crate) fn turn_of(pairs: &[Option<PairBlock>], host: u32) -> Option<u64>
     match pair_at(pairs, host as usize - 1) {
         Some(pair) => Some(pair.turn),
         None => None,
-    }
-}
-
-/// The greatest lver among them; 0 where there is none.
-#[tactic(auto, using(crate::proofs::TopRules::tops))]
-fn greatest_lver(pairs: &[Option<PairBlock>]) -> u64
-    ensures { result ≡ greatest_lver (present pairs.now) }
-{
-    lver_found(pairs)
-}
-
-/// The same, as it is found one by one.
-fn lver_found(pairs: &[Option<PairBlock>]) -> u64
-    ensures { result ≡ lvers_found pairs.now }
-{
-    pairs
-        .iter()
-        .filter_map(|pair| *pair)
-        .map(|pair| pair.block.lver)
-        .fold(0, |top, lver| top.max(lver))
-}
-
-/// The first of them with this lver.
-fn first_with(pairs: &[Option<PairBlock>], lver: u64) -> Option<PairBlock>
-    ensures { result ≡ find (λ p. p.block.lver == lver) (present pairs.now) }
-{
-    pairs
-        .iter()
-        .filter_map(|pair| *pair)
-        .find(|pair| pair.block.lver == lver)
-}
-
-/// The leader for which a torn one is taken: never held, with the names that the least host's block of the greatest lver has. Where all
-/// lvers are 0 there is none.
-pub(crate) fn leader_made(geometry: &Geometry, pairs: &[Option<PairBlock>]) -> Option<Leader>
-    ensures exact { result ≡ leader_made (layout_of geometry.now) (present pairs.now) }
-    ensures rules { IfSome result IsLeader }
-{
-    let lver = greatest_lver(pairs);
-    match first_with(pairs, lver) {
-        Some(pair) => {
-            if lver > 0 {
-                Some(fresh_leader(geometry, pair.lockspace, pair.resource))
-            } else {
-                None
-            }
-        }
-        None => None,
-    }
-}
-
-/// A leader that was never held, of a resource with these names.
-fn fresh_leader(geometry: &Geometry, lockspace: Name, resource: Name) -> Leader
-    ensures exact { result ≡ fresh_leader (layout_of geometry.now) lockspace resource }
-    ensures rules { IsLeader result }
-{
-    Leader {
-        held: false,
-        num_hosts: geometry.hosts(),
-        lver: 0,
-        generation: 0,
-        owner: 0,
-        lockspace,
-        resource,
     }
 }

@@ -2,9 +2,9 @@
 use Rattle.sl_live.specs.ServedCalls.{IsMade, IsServed, place_of}
 use Rattle.sl_live.specs.declared.disks.Disk.{Disk}
 use Rattle.sl_area.proofs.SizeLaws.{has_room}
-use Rattle.sl_area.specs.Layouts.{IsGeometry, Sizes}
+use Rattle.sl_area.specs.AreaSizes.{IsGeometry, Sizes}
 use Rattle.sl_area.specs.Sectors.{SectorPlace}
-use Rattle.sl_sector.specs.Spelling.{IsSectorSize}
+use Rattle.sl_sector.specs.SectorLayouts.{IsSectorSize}
 use Rattle.sl_trace.specs.declared.effects.Call.{Call}
 use Rattle.sl_trace.specs.declared.input.Answer.{Answer}
 use Rattle.std.proofs.Common.{ap, get_or, refl, subst, sym, ◌∙◌}

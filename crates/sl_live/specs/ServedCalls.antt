@@ -3,13 +3,13 @@ use Rattle.sha2.specs.Sha256.{sha256}
 use Rattle.sl_area.specs.Sectors.{IsReadAt, KeepsOthers, Replaces, SectorPlace}
 use Rattle.sl_live.specs.declared.disks.Disk.{Disk}
 use Rattle.sl_sector.specs.Records.{IsRecord}
-use Rattle.sl_sector.specs.Spelling.{spelling}
+use Rattle.sl_sector.specs.SectorLayouts.{spelling}
 use Rattle.sl_trace.specs.declared.effects.Call.{Call}
 use Rattle.sl_trace.specs.declared.effects.Op.TheVariants.{ReadSectors, WriteRecord}
 use Rattle.sl_trace.specs.declared.effects.Op.{Op}
 use Rattle.sl_trace.specs.declared.input.Answer.TheVariants.{Failed, Read, Written}
 use Rattle.sl_trace.specs.declared.input.Answer.{Answer}
-use Rattle.sl_words.specs.Causes.{Rose}
+use Rattle.sl_io.specs.FaultCauses.{Rose}
 use Rattle.std.specs.Io.KnownBytes.{Keeps}
 use Rattle.std.specs.List.{slice_set}
 use Rattle.std.specs.Prelude.{List, Option, Some, bytes_eq, length, position, slice_get, ℕ, ◌%◌, ◌*◌, ◌<◌, ◌^◌, ◌≡◌, ◌≤◌}

@@ -13,7 +13,7 @@ use Rattle.sl_trace.specs.declared.input.Answer.{Answer}
 use Rattle.sl_trace.specs.declared.input.Input.TheVariants.{Answer as Told, Exit, Line, Number, Spawned, Wake}
 use Rattle.sl_trace.specs.declared.input.Input.{Input}
 use Rattle.sl_trace.specs.declared.effects.Call.{Call}
-use Rattle.sl_words.specs.Causes.{Rose}
+use Rattle.sl_io.specs.FaultCauses.{Rose}
 use Rattle.std.specs.List.{flat_map, position, remove}
 use Rattle.std.specs.Prelude.{All, Bool, Err, List, None, Ok, Option, Some, Result, false, if◌then◌else◌, length, map, nat_le, true, [], ℕ, ◌&&◌, ◌++◌, ◌+◌, ◌==◌, ◌∷◌, ◌≡◌, ◌≤◌, ◌⊎◌}
 

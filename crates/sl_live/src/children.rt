@@ -5,8 +5,7 @@
 
 ghost use Rattle.sl_live.specs.Turns.{Begins, Carries, Does, IsQuiet, act_of, kill_of, sent_by, started_in, without};
 ghost use Rattle.sl_outside.specs.Acts.{IsTold};
-ghost use Rattle.std.specs.Prelude.{IfNone, IfSome, OnErr, OnOk, length, map, position, vec_capacity, vec_len};
-ghost use Rattle.std.specs.Prelude.{[], ◌++◌, ◌+◌, ◌<◌, ◌==◌, ◌∷◌, ◌≡◌, ◌≤◌};
+ghost use Rattle.std.specs.Prelude.{IfNone, IfSome, OnErr, OnOk, length, map, position, vec_capacity, vec_len, [], ◌++◌, ◌+◌, ◌<◌, ◌==◌, ◌∷◌, ◌≡◌, ◌≤◌};
 ghost use Rattle.std.specs.VecDeque.{deque_capacity, deque_len};
 
 use sl_outside::Spawner;

@@ -5,7 +5,7 @@
 
 ghost use Rattle.sl_live.specs.ServedCalls.{CanMake, IsLeft, IsMade, IsOp, IsServed, disk_at, place_of};
 ghost use Rattle.sl_sector.specs.Records.{IsRecord};
-ghost use Rattle.sl_sector.specs.Spelling.{IsSectorSize};
+ghost use Rattle.sl_sector.specs.SectorLayouts.{IsSectorSize};
 ghost use Rattle.sl_trace.specs.Traces.{Setting, is_answer_for};
 ghost use Rattle.sl_trace.specs.declared.effects.Op.TheVariants.{ReadSectors, WriteRecord};
 ghost use Rattle.std.specs.Prelude.{IfNone, IfOk, IfSome, IsTrue, None, OnErr, bytes_eq, length, true, ◌<◌, ◌≡◌, ◌↔◌};

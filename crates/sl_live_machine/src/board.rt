@@ -1,7 +1,7 @@
 //! What the threads of a machine tell one another: lines to be given, what turns have made, and whether the machine ends.
 
 use sl_cell::{Made, Part};
-use sl_live_locks::{GivenLine, copy_reply};
+use sl_live_lines::{GivenLine, copy_reply};
 use sl_trace::{Entry, Input, JobReply, Purpose, Reply};
 use std::alloc::{AllocError, Global};
 use std::collections::VecDeque;

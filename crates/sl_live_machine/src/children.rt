@@ -4,8 +4,8 @@
 ghost use Rattle.sl_live.specs.Turns.{IsChildThread};
 ghost use Rattle.std.specs.Prelude.{IfOk, OnOk};
 
-use crate::post::Post;
 use crate::room::Room;
+use crate::script_waits::Post;
 use sl_cell::{Seat, Station, Teller};
 use sl_live::laws::child_step;
 use sl_outside::Spawner;

@@ -3,8 +3,8 @@
 ghost use Rattle.sl_live.specs.Turns.{IsDeviceThread};
 ghost use Rattle.std.specs.Prelude.{IfOk, OnOk};
 
-use crate::post::Post;
 use crate::room::Room;
+use crate::script_waits::Post;
 use sl_cell::{Seat, Station, Teller};
 use sl_live::laws::device_step;
 use sl_outside::{Device, Spawner};

@@ -10,8 +10,8 @@ mod children;
 mod device;
 mod lines;
 mod machine;
-mod post;
 mod room;
+mod script_waits;
 mod thread_roll;
 mod threads;
 mod ticker;
@@ -19,6 +19,6 @@ mod turn;
 mod worker;
 
 pub use machine::{Parts, Ran, run_machine};
-pub use post::{Post, fail_all};
+pub use script_waits::{Post, fail_all};
 pub use thread_roll::Roll;
 pub use threads::{Clocks, Stand};

@@ -7,11 +7,11 @@ ghost use Rattle.sl_live.specs.Turns.{IsLine, IsLineThread};
 ghost use Rattle.std.specs.Prelude.{IfOk, OnOk};
 
 use crate::board::Next;
-use crate::post::Post;
 use crate::room::Room;
+use crate::script_waits::Post;
 use crate::turn::give;
 use sl_cell::{Seat, Station, Teller};
-use sl_live_locks::GivenLine;
+use sl_live_lines::GivenLine;
 use sl_locks::{LockInput, LvmLocks};
 use sl_outside::Spawner;
 use sl_text::{Bytes, Seq};

@@ -1,4 +1,5 @@
-//! A machine's run: its cell is made, its threads run beside each other, and the cell is closed with their seats.
+//! A machine's run: its cell is made, its threads run beside each other, and the cell is closed with their seats. It ends where no line, no call
+//! and no child is left (`board`).
 
 ghost use Rattle.sl_cell.specs.DifferenceCases.{Stops};
 ghost use Rattle.sl_world_state.specs.Daemons.{Stood, begun_with};

@@ -4,8 +4,8 @@
 ghost use Rattle.sl_live.specs.Turns.{IsTicker};
 ghost use Rattle.std.specs.Prelude.{IfOk, OnOk};
 
-use crate::post::Post;
 use crate::room::Room;
+use crate::script_waits::Post;
 use crate::turn::give;
 use sl_cell::{Seat, Station, Teller};
 use sl_outside::Spawner;

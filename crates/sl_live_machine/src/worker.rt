@@ -6,8 +6,8 @@ ghost use Rattle.sl_trace.specs.declared.input.Answer.{Answer};
 ghost use Rattle.sl_trace.specs.declared.input.Input.TheVariants.{Answer as Told};
 ghost use Rattle.std.specs.Prelude.{IfOk, OnOk};
 
-use crate::post::Post;
 use crate::room::Room;
+use crate::script_waits::Post;
 use crate::turn::give;
 use sl_area::Area;
 use sl_cell::{Part, Seat, Station, Teller};

@@ -1,10 +1,10 @@
 -- What is owed of a play, from what came of its parts.
 use Rattle.sl_reader.specs.declared.live_lines.LiveLine.{LiveLine}
-use Rattle.sl_live_locks.specs.LocksAlong.{begun_along}
+use Rattle.sl_live_lines.specs.LocksAlong.{begun_along}
 use Rattle.sl_live_play.specs.LiveOwed.{All, Beginnings, Breaks, Breaks_early, Due, Ends, Faults, Lacks, Lives, Nothing, Of, Owes, Part, Parts, Puts, PutsEnded, PutsNoGround, PutsStop, Stops, Stops_early, area_fault_text}
 use Rattle.sl_live_play.specs.declared.play.Lived.TheVariants.{AreaFault, Differs, Done, NoMemory, ReadFault, Refused, WriteFault}
 use Rattle.sl_live_play.specs.declared.play.Lived.{Lived}
-use Rattle.sl_reader.specs.Scripts.{ReadsScript}
+use Rattle.sl_reader.specs.ScriptReading.{ReadsScript}
 use Rattle.sl_reader.specs.declared.script_reading.ScriptEnd.TheVariants as script
 use Rattle.sl_reader.specs.declared.script_reading.ScriptEnd.{ScriptEnd}
 use Rattle.sl_live_run.specs.Causes.{Explains}
@@ -13,9 +13,9 @@ use Rattle.sl_live_run.specs.declared.ground.NoGround.{NoGround}
 use Rattle.sl_live_run.specs.Runs.{AreLiveHistories, IsLiveStop}
 use Rattle.sl_live_run.specs.declared.compare.LiveStop.TheVariants as stop
 use Rattle.sl_live_run.specs.declared.compare.LiveStop.{LiveStop}
-use Rattle.sl_report.specs.Headline.{HeadersAreGood, IsFrontOf}
+use Rattle.sl_report.specs.OwedReports.{HeadersAreGood, IsFrontOf}
 use Rattle.sl_report.specs.Languages.{whole_language}
-use Rattle.sl_report.specs.ScheduleLines.{refusal_line}
+use Rattle.sl_report.specs.RefusalLines.{refusal_line}
 use Rattle.sl_run.specs.Headers.{IsHeader}
 use Rattle.sl_run.specs.Worlds.{first_numbers}
 use Rattle.sl_run.specs.declared.event.Refusal.{Refusal}
@@ -26,7 +26,7 @@ use Rattle.sl_text.specs.Forms.{Form, as_bytes}
 use Rattle.sl_trace.specs.Traces.{Setting, Trace}
 use Rattle.sl_trace.specs.declared.command.Command.{Command}
 use Rattle.sl_trace.specs.declared.effects.Entry.{Entry}
-use Rattle.sl_words.specs.Causes.{Rose}
+use Rattle.sl_io.specs.FaultCauses.{Rose}
 use Rattle.std.proofs.Common.{ap, Err, List, None, Ok, Option, Result, Some, [], append-nil, arith, drop, length, refl, subst, sym, take, ℕ, ◌++◌, ◌≡◌, ◌≤◌, ◌∙◌, ◌∷◌}
 use Rattle.std.proofs.lemmas.List.{take-append-drop}
 use Rattle.std.specs.Io.KnownBytes.{Appends}

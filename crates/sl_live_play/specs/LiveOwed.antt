@@ -5,21 +5,21 @@ use Rattle.sl_live_run.specs.Grounds.{IsSiteOf}
 use Rattle.sl_live_run.specs.declared.ground.NoGround.TheVariants as no_ground
 use Rattle.sl_live_run.specs.declared.ground.NoGround.{NoGround}
 use Rattle.sl_reader.specs.declared.live_lines.LiveLine.{LiveLine}
-use Rattle.sl_live_locks.specs.LocksAlong.{AlongState, begun_along}
+use Rattle.sl_live_lines.specs.LocksAlong.{AlongState, begun_along}
 use Rattle.sl_live_play.specs.DifferenceLines.{differ_text}
 use Rattle.sl_live_play.specs.declared.play.Lived.TheVariants.{AreaFault, Differs, Done, NoMemory, ReadFault, Refused, WriteFault}
 use Rattle.sl_live_play.specs.declared.play.Lived.{Lived}
-use Rattle.sl_reader.specs.Scripts.{ReadsScript}
+use Rattle.sl_reader.specs.ScriptReading.{ReadsScript}
 use Rattle.sl_reader.specs.declared.script_reading.ScriptEnd.TheVariants as script
 use Rattle.sl_reader.specs.declared.script_reading.ScriptEnd.{ScriptEnd}
-use Rattle.sl_live_locks.specs.LiveTexts.{live_text}
-use Rattle.sl_live_locks.specs.declared.live_texts.Ending.TheVariants as ending
+use Rattle.sl_live_lines.specs.LiveTexts.{live_text}
+use Rattle.sl_live_lines.specs.declared.live_texts.Ending.TheVariants as ending
 use Rattle.sl_live_run.specs.Runs.{AreLiveHistories, LiveCaseOf}
 use Rattle.sl_live_run.specs.declared.compare.LiveDiffer.{LiveDiffer}
 use Rattle.sl_live_run.specs.declared.compare.LiveStop.TheVariants as stop
 use Rattle.sl_live_run.specs.declared.compare.LiveStop.{LiveStop}
-use Rattle.sl_report.specs.Headline.{IsFrontOf}
-use Rattle.sl_report.specs.ScheduleLines.{refusal_line}
+use Rattle.sl_report.specs.OwedReports.{IsFrontOf}
+use Rattle.sl_report.specs.RefusalLines.{refusal_line}
 use Rattle.sl_run.specs.Headers.{IsHeader}
 use Rattle.sl_run.specs.Worlds.{first_numbers}
 use Rattle.sl_run.specs.declared.event.Refusal.{Refusal}
@@ -30,7 +30,7 @@ use Rattle.sl_text.specs.Forms.{Form, as_bytes}
 use Rattle.sl_trace.specs.Traces.{Setting, Trace}
 use Rattle.sl_trace.specs.declared.command.Command.{Command}
 use Rattle.sl_trace.specs.declared.effects.Entry.{Entry}
-use Rattle.sl_words.specs.Causes.{Rose}
+use Rattle.sl_io.specs.FaultCauses.{Rose}
 use Rattle.std.specs.Io.KnownBytes.{Appends}
 use Rattle.std.specs.Prelude.{List, None, Option, Some, codes, length, slice_get, [], ℕ, ◌++◌, ◌+◌, ◌∷◌, ◌≡◌}
 

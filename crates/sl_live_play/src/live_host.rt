@@ -2,7 +2,7 @@
 
 ghost use Rattle.sl_world_state.specs.Daemons.{IsNumbered, IsStep, MayCome, entry_of, read_of};
 ghost use Rattle.sl_host_step.specs.SpareRoom.{spare_of, takes_more};
-ghost use Rattle.sl_host_step.specs.Rooms.{most_of};
+ghost use Rattle.sl_host_step.specs.StepMemory.{most_of};
 ghost use Rattle.sl_host_step.specs.HostServes.{Serves, whole_commands};
 ghost use Rattle.sl_host_step.specs.AwaitedCalls.{joins_at};
 ghost use Rattle.sl_trace.specs.Traces.{Setting, Trace};

@@ -1,11 +1,11 @@
 -- A machine's outcome beside what the script gave it, and all of them, one machine more at a time.
 use Rattle.sl_cell.specs.declared.audit.CloseError.TheVariants.{Differ as Differs, NoMemory as NoMemoryClose}
 use Rattle.sl_cell.specs.declared.audit.CloseError.{CloseError}
-use Rattle.sl_live_locks.specs.AuditedHistory.{AreLines, IsAnswered, IsUnanswered, LineDiffers}
-use Rattle.sl_live_locks.specs.declared.unanswered.Unanswered.TheVariants.{Call as CallLeft, Start as StartLeft}
-use Rattle.sl_live_locks.specs.declared.unanswered.Unanswered.{Unanswered}
-use Rattle.sl_live_locks.specs.LocksAlong.{AlongState, begun_along}
-use Rattle.sl_live_locks.specs.declared.given_lines.GivenLine.{GivenLine}
+use Rattle.sl_live_lines.specs.AuditedHistory.{AreLines, IsAnswered, IsUnanswered, LineDiffers}
+use Rattle.sl_live_lines.specs.declared.unanswered.Unanswered.TheVariants.{Call as CallLeft, Start as StartLeft}
+use Rattle.sl_live_lines.specs.declared.unanswered.Unanswered.{Unanswered}
+use Rattle.sl_live_lines.specs.LocksAlong.{AlongState, begun_along}
+use Rattle.sl_live_lines.specs.declared.given_lines.GivenLine.{GivenLine}
 use Rattle.sl_live_run.specs.Runs.{AreSettled, HistoryDiffers, IsStopOf, StopsSome, begun_at, first_at, left_case, lines_at, stop_of}
 use Rattle.sl_live_run.specs.declared.compare.LiveDiffer.TheVariants.{Line}
 use Rattle.sl_live_run.specs.declared.compare.LiveDiffer.{LiveDiffer}

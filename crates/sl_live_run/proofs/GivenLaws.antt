@@ -1,6 +1,6 @@
 -- What is kept of the script's lines, one line more at a time.
 use Rattle.sl_reader.specs.declared.live_lines.LiveLine.{LiveLine}
-use Rattle.sl_live_locks.specs.declared.given_lines.GivenLine.{GivenLine}
+use Rattle.sl_live_lines.specs.declared.given_lines.GivenLine.{GivenLine}
 use Rattle.sl_live_run.specs.Runs.{AreGiven, HasTold, given_by, line_for, lines_for, with_line, with_line_at}
 use Rattle.sl_words.proofs.Lists.{got_index, set_length, there_is}
 use Rattle.sl_words.proofs.Places.{Came, PlacedAt, PlacedBehind, Replaced, Stayed, Stood, placed, placed_behind}

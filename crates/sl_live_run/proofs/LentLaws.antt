@@ -6,7 +6,7 @@ use Rattle.sl_live_run.specs.Areas.{AreLent, IsLent, faults_in}
 use Rattle.sl_outside.specs.Disks.{CountsBack}
 use Rattle.sl_words.proofs.Numbers.{refl_le, trans_le}
 use Rattle.sl_run.specs.declared.header.Disk.{Disk as DiskLine}
-use Rattle.sl_words.specs.Causes.{Rose}
+use Rattle.sl_io.specs.FaultCauses.{Rose}
 use Rattle.std.proofs.Common.{ap, arith, refl, subst, sym, ◌∙◌}
 use Rattle.std.proofs.lemmas.List.{take_all, take_more}
 use Rattle.std.specs.Prelude.{List, Option, get_or, length, suc, take, zero, [], ℕ, ◌++◌, ◌+◌, ◌<◌, ◌∷◌, ◌≡◌, ◌≤◌}

@@ -4,9 +4,9 @@ use Rattle.sl_cell.specs.declared.audit.CloseError.{CloseError}
 use Rattle.sl_world_state.specs.Daemons.{begun_with}
 use Rattle.sl_world_state.specs.declared.daemon.Site.{Site}
 use Rattle.sl_reader.specs.declared.live_lines.LiveLine.{LiveLine}
-use Rattle.sl_live_locks.specs.AuditedHistory.{AreLines}
-use Rattle.sl_live_locks.specs.LocksAlong.{AlongState, begun_along}
-use Rattle.sl_live_locks.specs.declared.given_lines.GivenLine.{GivenLine}
+use Rattle.sl_live_lines.specs.AuditedHistory.{AreLines}
+use Rattle.sl_live_lines.specs.LocksAlong.{AlongState, begun_along}
+use Rattle.sl_live_lines.specs.declared.given_lines.GivenLine.{GivenLine}
 use Rattle.sl_live_machine.specs.ThreadSeats.{IsCaseOfRun}
 use Rattle.sl_live_run.specs.Runs.{AreLiveHistories, AreSettled, AreGiven, CameTo, CanRun, HasRun, HasTold, IsCaseIn, IsLiveCase, IsLiveStop, Runs, StopsSome, outcome_of, begun_at, begun_on, first_at, lines_at, lines_for, site_of}
 use Rattle.sl_live_run.specs.declared.compare.LiveDiffer.TheVariants.{Cell, Left, Line, Untold}

@@ -1,10 +1,10 @@
 -- What is written at moment 0: each area of a header begins where one may, what is written to it is records, and writes stand one behind another.
 use Rattle.sl_area.proofs.SizeLaws.{has_room}
-use Rattle.sl_area.specs.Layouts.{layout_of}
-use Rattle.sl_area.specs.Places.{is_base}
+use Rattle.sl_area.specs.AreaSizes.{layout_of}
+use Rattle.sl_area.specs.AreaLayout.{is_base}
 use Rattle.sl_direct.proofs.DiskLaws.{Wrote-append}
 use Rattle.sl_direct.specs.FreshAreas.{Write}
-use Rattle.sl_direct.specs.Steps.{Wrote}
+use Rattle.sl_direct.specs.HalfDone.{Wrote}
 use Rattle.sl_disks.proofs.InitialLaws.{initial_delta_is}
 use Rattle.sl_run.specs.Headers.{IsArea, IsHeader}
 use Rattle.sl_run.specs.Worlds.{initial_delta, mebibyte}

@@ -1,10 +1,10 @@
 -- Areas that are handed out to workers, and what is written through them before the run.
-use Rattle.sl_area.specs.Layouts.{layout_of}
-use Rattle.sl_area.specs.Places.{delta_offset}
+use Rattle.sl_area.specs.AreaSizes.{layout_of}
+use Rattle.sl_area.specs.AreaLayout.{delta_offset}
 use Rattle.sl_cell.specs.declared.seat.Part.TheVariants.{Delta, Resource}
 use Rattle.sl_cell.specs.declared.seat.Part.{Part}
 use Rattle.sl_direct.specs.FreshAreas.{Write, resource_writes, write_of}
-use Rattle.sl_direct.specs.Steps.{Wrote}
+use Rattle.sl_direct.specs.HalfDone.{Wrote}
 use Rattle.sl_live.specs.declared.disks.Disk.{Disk}
 use Rattle.sl_run.specs.Worlds.{initial_delta}
 use Rattle.sl_run.specs.declared.header.Disk.{Disk as DiskLine}

@@ -4,14 +4,14 @@ use Rattle.sl_cell.specs.declared.audit.CloseError.TheVariants.{Differ as Differ
 use Rattle.sl_cell.specs.declared.audit.CloseError.{CloseError}
 use Rattle.sl_world_state.specs.Daemons.{Stood, begun_with}
 use Rattle.sl_world_state.specs.declared.daemon.Site.{Site}
-use Rattle.sl_live_locks.specs.AuditedHistory.{AreLines, IsAnswered, IsUnanswered, LineDiffers}
-use Rattle.sl_live_locks.specs.declared.unanswered.Unanswered.TheVariants.{Call as CallLeft, Start as StartLeft}
-use Rattle.sl_live_locks.specs.declared.unanswered.Unanswered.{Unanswered}
+use Rattle.sl_live_lines.specs.AuditedHistory.{AreLines, IsAnswered, IsUnanswered, LineDiffers}
+use Rattle.sl_live_lines.specs.declared.unanswered.Unanswered.TheVariants.{Call as CallLeft, Start as StartLeft}
+use Rattle.sl_live_lines.specs.declared.unanswered.Unanswered.{Unanswered}
 use Rattle.sl_reader.specs.declared.live_lines.LiveLine.TheVariants.{Command as CommandLine, Exits, Locks as LocksLine, Post}
 use Rattle.sl_reader.specs.declared.live_lines.LiveLine.{LiveLine}
-use Rattle.sl_live_locks.specs.LocksAlong.{AlongState, begun_along}
-use Rattle.sl_live_locks.specs.declared.given_lines.GivenLine.TheVariants.{ForHost, ForLocks}
-use Rattle.sl_live_locks.specs.declared.given_lines.GivenLine.{GivenLine}
+use Rattle.sl_live_lines.specs.LocksAlong.{AlongState, begun_along}
+use Rattle.sl_live_lines.specs.declared.given_lines.GivenLine.TheVariants.{ForHost, ForLocks}
+use Rattle.sl_live_lines.specs.declared.given_lines.GivenLine.{GivenLine}
 use Rattle.sl_live_machine.specs.ThreadSeats.{IsCaseOfRun, IsRun}
 use Rattle.sl_live_run.specs.declared.compare.LiveDiffer.TheVariants.{Cell, Left, Line, Untold}
 use Rattle.sl_live_run.specs.declared.compare.LiveDiffer.{LiveDiffer}

@@ -1,14 +1,14 @@
 //! A machine's outcome, compared with what the script gave it.
 
-ghost use Rattle.sl_live_locks.specs.AuditedHistory.{AreLines, IsAnswered};
-ghost use Rattle.sl_live_locks.specs.LocksAlong.{begun_along};
+ghost use Rattle.sl_live_lines.specs.AuditedHistory.{AreLines, IsAnswered};
+ghost use Rattle.sl_live_lines.specs.LocksAlong.{begun_along};
 ghost use Rattle.sl_live_run.specs.Runs.{AreSettled, HistoryDiffers, IsStopOf, StopsSome, begun_at, first_at, left_case, lines_at, stop_of};
 ghost use Rattle.sl_live_run.specs.declared.compare.LiveDiffer.{LiveDiffer as LiveDifferOf};
 ghost use Rattle.std.specs.Prelude.{IfErr, IfNone, IfOk, IfSome, Ok, ◌≡◌};
 
 use crate::script_lines::Given;
 use sl_cell::{CloseError, Differ};
-use sl_live_locks::{GivenLine, LineDiffer, Unanswered, differing_line, first_unanswered};
+use sl_live_lines::{GivenLine, LineDiffer, Unanswered, differing_line, first_unanswered};
 use sl_run::Header;
 use sl_text::Seq;
 use sl_trace::Entry;

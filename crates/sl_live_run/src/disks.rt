@@ -1,12 +1,12 @@
 //! The disks of a run: made, handed out to workers, and taken back.
 
-ghost use Rattle.sl_direct.specs.Steps.{Wrote};
+ghost use Rattle.sl_direct.specs.HalfDone.{Wrote};
 ghost use Rattle.sl_live_run.specs.Areas.{AreLent, faults_in, first_writes};
 ghost use Rattle.sl_live_run.specs.Causes.{Explains};
 ghost use Rattle.sl_live_run.specs.declared.ground.NoGround.TheVariants.{AreaFault};
 ghost use Rattle.sl_outside.specs.Disks.{CountsBack};
 ghost use Rattle.sl_run.specs.Headers.{IsHeader};
-ghost use Rattle.sl_words.specs.Causes.{HasCause};
+ghost use Rattle.sl_io.specs.FaultCauses.{HasCause};
 ghost use Rattle.std.specs.Prelude.{Err, IfErr, IfOk, OnOk, [], ◌<◌, ◌+◌, ◌≡◌, ◌≤◌};
 
 use crate::ground::NoGround;

@@ -5,7 +5,7 @@ ghost use Rattle.sl_live_run.specs.Runs.{AreGiven, HasTold};
 ghost use Rattle.std.specs.Prelude.{List, OnOk, [], ◌++◌, ◌≡◌, ℕ};
 
 use crate::script_lines::Given;
-use sl_live_locks::GivenLine;
+use sl_live_lines::GivenLine;
 use sl_live_machine::{Post, Roll, fail_all};
 use sl_reader::{LiveLine, LiveLines, NoLine};
 use std::alloc::{AllocError, Global};

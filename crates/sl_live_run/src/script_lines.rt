@@ -4,7 +4,7 @@ ghost use Rattle.sl_reader.specs.declared.live_lines.LiveLine.{LiveLine as LineO
 ghost use Rattle.sl_live_run.specs.Runs.{AreGiven, given_by, lines_at, with_line, with_line_at};
 ghost use Rattle.std.specs.Prelude.{IfOk, List, OnOk, [], length, ◌++◌, ◌∷◌, ◌≡◌, ℕ};
 
-use sl_live_locks::GivenLine;
+use sl_live_lines::GivenLine;
 use sl_reader::LiveLine;
 use sl_text::Bytes;
 use std::alloc::{AllocError, Global};
@@ -17,7 +17,7 @@ struct Lines {
 }
 
 impl Model for Lines {
-    ghost use Rattle.sl_live_locks.specs.declared.given_lines.GivenLine.{GivenLine};
+    ghost use Rattle.sl_live_lines.specs.declared.given_lines.GivenLine.{GivenLine};
     ghost use Rattle.std.specs.Prelude.{List};
 
     ghost Value = { List GivenLine };
@@ -84,7 +84,7 @@ pub(crate) struct Given {
 }
 
 impl Model for Given {
-    ghost use Rattle.sl_live_locks.specs.declared.given_lines.GivenLine.{GivenLine};
+    ghost use Rattle.sl_live_lines.specs.declared.given_lines.GivenLine.{GivenLine};
     ghost use Rattle.std.specs.Prelude.{List};
 
     ghost Value = { List (List GivenLine) };

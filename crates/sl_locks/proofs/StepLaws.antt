@@ -2,8 +2,8 @@
 use Rattle.sl_locks.specs.Steps.{ask_numbered, given_number, heard_by, is_asked, lock_input, turned_by}
 use Rattle.sl_locks.specs.Tables.{has_room, locks_of}
 use Rattle.sl_locks.specs.declared.ask.Ask.{Ask}
-use Rattle.sl_locks.specs.declared.step.LockInput.TheVariants.{Exit as LockExit, Line as LockLine, Nothing, Number as LockNumber}
-use Rattle.sl_locks.specs.declared.step.LockInput.{LockInput}
+use Rattle.sl_locks.specs.declared.line_steps.LockInput.TheVariants.{Exit as LockExit, Line as LockLine, Nothing, Number as LockNumber}
+use Rattle.sl_locks.specs.declared.line_steps.LockInput.{LockInput}
 use Rattle.sl_locks.specs.declared.table.LvmLocks.{LvmLocks}
 use Rattle.sl_run.specs.Locks.{Locks, Told, ended_locks, locks_after, numbered_locks, replied_locks, told_effects, turned_locks}
 use Rattle.sl_trace.specs.declared.effects.Effects.{Effects}

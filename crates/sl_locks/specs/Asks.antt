@@ -4,7 +4,7 @@ use Rattle.sl_locks.specs.declared.ask.Ask.{Ask}
 use Rattle.sl_run.specs.LockNames.{Lock, lockspace_of, resource_of}
 use Rattle.sl_run.specs.Lvm.{lock_process}
 use Rattle.sl_text.specs.Forms.{spaced}
-use Rattle.sl_trace.specs.Commands.{command_words, lockspace_word, moded_word}
+use Rattle.sl_trace.specs.CommandForms.{command_words, lockspace_word, moded_word}
 use Rattle.sl_trace.specs.Traces.{is_shared}
 use Rattle.sl_trace.specs.declared.command.Command.TheVariants.{Acquire, AddLockspace, GetLvb, Release, RemLockspace, SetLvb}
 use Rattle.sl_trace.specs.declared.command.Command.{Command}

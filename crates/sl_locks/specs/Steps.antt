@@ -1,6 +1,6 @@
 -- The place of the locks in a daemon's steps.
-use Rattle.sl_locks.specs.declared.step.LockInput.TheVariants.{Exit as LockExit, Line as LockLine, Nothing, Number as LockNumber}
-use Rattle.sl_locks.specs.declared.step.LockInput.{LockInput}
+use Rattle.sl_locks.specs.declared.line_steps.LockInput.TheVariants.{Exit as LockExit, Line as LockLine, Nothing, Number as LockNumber}
+use Rattle.sl_locks.specs.declared.line_steps.LockInput.{LockInput}
 use Rattle.sl_locks.specs.declared.table.LvmLocks.{LvmLocks}
 use Rattle.sl_run.specs.Lvm.{lvm_turn}
 use Rattle.sl_run.specs.declared.turn.LvmIn.TheVariants.{Line as TextLine, Reply as HostReply}

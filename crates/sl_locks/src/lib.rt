@@ -10,15 +10,15 @@
 
 mod ask;
 mod line;
+mod line_steps;
+mod line_turns;
 mod lock;
 mod reply;
-mod step;
 mod table;
-mod turn;
 
 pub use ask::{Ask, push_ask_text};
 pub use line::{Kind, LockLine, read_line};
+pub use line_steps::{LockInput, StepTold};
 pub use lock::{HeldLock, Lock, SeenValue};
 pub use reply::{LineReply, push_line_reply};
-pub use step::{LockInput, StepTold};
 pub use table::{Answer, LvmLocks};

@@ -2,7 +2,7 @@
 use Rattle.sl_world_state.specs.KeptWorld.{KeptState}
 use Rattle.sl_world_state.specs.Refusals.{is_shaped_in, on_kept, tests_in}
 use Rattle.sl_machine.specs.EventTests.{RefusalsAreThose, bars_locks, machine_tests, refusal_with, tests_with}
-use Rattle.sl_run.specs.Events.{machine_of}
+use Rattle.sl_run.specs.Inputs.{machine_of}
 use Rattle.sl_run.specs.Worlds.{first_that}
 use Rattle.sl_run.specs.declared.event.Event.TheVariants.{AnswerCall, Crash, Do, DropWrite, ExitOf, GiveAsk, GiveCommand, GiveLvm, Land, Pass, Reset, Restart, Sample, SpawnedOf, StartDaemon, Tear, Test, WakeUp}
 use Rattle.sl_run.specs.declared.event.Event.{Event}

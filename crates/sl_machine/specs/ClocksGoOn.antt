@@ -1,6 +1,6 @@
 -- Clocks that go on.
 use Rattle.sl_machine.specs.declared.machine.Machine.{Machine}
-use Rattle.sl_run.specs.Events.{growth_of}
+use Rattle.sl_run.specs.Premises.{growth_of}
 use Rattle.std.specs.Prelude.{List, Option, ℕ, ◌+◌}
 
 -- The machine at a place later.

@@ -2,7 +2,7 @@
 use Rattle.sl_world_state.specs.Daemons.{text_for_locks}
 use Rattle.sl_world_state.specs.KeptWorld.{FlightState, KeptState, MachineState}
 use Rattle.sl_world_state.specs.Refusals.{left_in, needs_running, on_flight_in, is_shaped_in, on_kept, pass_tests_in, reads_in, refusal_in, spells_in, torn_in, writes_in}
-use Rattle.sl_run.specs.Events.{machine_of}
+use Rattle.sl_run.specs.Inputs.{machine_of}
 use Rattle.sl_run.specs.Worlds.{first_that}
 use Rattle.sl_run.specs.declared.header.Header.{Header}
 use Rattle.sl_text.specs.Forms.{Form}

@@ -1,6 +1,6 @@
 -- What a machine itself takes of the input that its daemon is given.
 use Rattle.sl_locks.specs.Steps.{lock_input}
-use Rattle.sl_locks.specs.declared.step.LockInput.{LockInput}
+use Rattle.sl_locks.specs.declared.line_steps.LockInput.{LockInput}
 use Rattle.sl_machine.specs.declared.heard_inputs.Heard.{Heard}
 use Rattle.sl_run.specs.Locks.{Locks, locks_after}
 use Rattle.sl_trace.specs.declared.effects.Effects.{Effects}

@@ -4,7 +4,7 @@ use Rattle.sl_world_state.specs.Daemons.{IsSoundOp}
 use Rattle.sl_world_state.specs.Steps.{new_flight}
 use Rattle.sl_machine.specs.declared.heard_inputs.Heard.{Heard}
 use Rattle.sl_run.specs.declared.header.Header.{Header}
-use Rattle.sl_trace.specs.Connections.{after_move}
+use Rattle.sl_trace.specs.WatchdogConnections.{after_move}
 use Rattle.sl_trace.specs.Traces.{held_after}
 use Rattle.sl_trace.specs.declared.effects.Call.{Call}
 use Rattle.sl_trace.specs.declared.effects.Effects.{Effects}
@@ -14,7 +14,7 @@ use Rattle.std.specs.List.{range_with_len}
 use Rattle.sl_world_state.specs.declared.daemon.Most.{Most}
 use Rattle.sl_machine.specs.declared.machine.Machine.{Machine}
 use Rattle.sl_locks.specs.Replies.{told_as}
-use Rattle.sl_locks.specs.declared.step.StepTold.{StepTold}
+use Rattle.sl_locks.specs.declared.line_steps.StepTold.{StepTold}
 use Rattle.sl_run.specs.Locks.{Locks, Told, locks_after, told_effects}
 use Rattle.std.specs.Prelude.{Bool, Contains, filter, fold, if◌then◌else◌, length, map, not, true, ◌++◌, ◌+◌, ◌<◌, ◌==◌, ◌^◌, ◌∷◌, ◌≡◌, ◌≤◌}
 use Rattle.std.specs.Vec.{vec_capacity, vec_len}

@@ -1,6 +1,6 @@
 -- What is known of a call in flight.
 use Rattle.sl_sector.specs.Records.{IsRecord}
-use Rattle.sl_sector.specs.Spelling.{IsSectorSize}
+use Rattle.sl_sector.specs.SectorLayouts.{IsSectorSize}
 use Rattle.sl_sector.specs.declared.sector.Rec.{Rec}
 use Rattle.std.specs.Prelude.{Bool, IfSome, Option, true, ℕ, ◌≡◌}
 

@@ -7,7 +7,7 @@ ghost use Rattle.sl_machine.specs.CallWrites.{LeavesTorn};
 ghost use Rattle.sl_machine.specs.KeptParts.{kept_state};
 ghost use Rattle.sl_machine.specs.Machines.{machine_state};
 ghost use Rattle.sl_machine.specs.EventTests.{is_tear, land_tests, machine_tests, refusal_with, start_tests, tear_tests, tests_with};
-ghost use Rattle.sl_run.specs.Events as events;
+ghost use Rattle.sl_run.specs.Inputs as inputs;
 ghost use Rattle.sl_run.specs.Worlds.{first_that};
 ghost use Rattle.sl_run.specs.declared.event.Refusal.TheVariants.{MissingReset, MissingUp, PremiseName};
 ghost use Rattle.std.specs.Arc.{arc_value};
@@ -25,7 +25,7 @@ use std::alloc::AllocError;
 
 /// The machine of an event; a time that passes has none.
 pub fn machine_of(event: &Event) -> u32
-    ensures { result ≡ events.machine_of event.now }
+    ensures { result ≡ inputs.machine_of event.now }
 {
     match event {
         Event::Pass { .. } => 0,
@@ -117,7 +117,7 @@ fn start_reason(up: bool, used: bool, named: bool) -> Option<Refusal>
 impl<L: LockTable> Kept<L> {
     /// Why an event may not happen, as far as its machine tells. For a command `locks` tells whether it is for lvmlockd's process.
     pub fn machine_refusal(&self, event: &Event, locks: bool) -> Option<Refusal>
-        ensures { result ≡ first_that (on_kept (kept_state L.locks self.now) (events.machine_of event.now) (machine_tests locks event.now)) }
+        ensures { result ≡ first_that (on_kept (kept_state L.locks self.now) (inputs.machine_of event.now) (machine_tests locks event.now)) }
     {
         match self.machine(machine_of(event)) {
             None => Some(Refusal::MissingMachine),

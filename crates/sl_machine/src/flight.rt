@@ -1,7 +1,7 @@
 //! A call in flight.
 
 ghost use Rattle.sha2.specs.Sha256.{sha256};
-ghost use Rattle.sl_area.specs.Layouts.{layout_of, sector_with};
+ghost use Rattle.sl_area.specs.AreaSizes.{layout_of, sector_with};
 ghost use Rattle.sl_world_state.specs.Daemons.{IsSoundOp};
 ghost use Rattle.sl_world_state.specs.Changes.{cut_flight, disowned, stays_open};
 ghost use Rattle.sl_world_state.specs.KeptWorld.{FlightState};
@@ -56,7 +56,7 @@ impl Model for Flight {
     ghost use Rattle.sha2.specs.Sha256.{sha256};
     ghost use Rattle.sl_world_state.specs.KeptWorld.{FlightState};
     ghost use Rattle.sl_machine.specs.OneFlight.{IsFlight};
-    ghost use Rattle.sl_sector.specs.Spelling.{spelling};
+    ghost use Rattle.sl_sector.specs.SectorLayouts.{spelling};
     ghost use Rattle.std.specs.Arc.{arc_value};
     ghost use Rattle.std.specs.Prelude.{flat_map, length, option_map, ◌==◌};
     ghost use Rattle.std.specs.List.{list_all};

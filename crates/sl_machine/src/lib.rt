@@ -19,7 +19,6 @@
 
 mod calls;
 mod children;
-mod connections;
 mod event_refusals;
 mod first_world;
 mod flight;
@@ -31,16 +30,17 @@ mod locks;
 mod machine;
 mod machine_effects;
 mod machine_holdings;
-mod machine_tests;
+mod machine_refusals;
 mod names;
 mod reads;
 mod report_questions;
 mod room;
-mod tears;
 mod time_passes;
+mod time_refusals;
+mod torn_bytes;
+mod watchdog_connections;
 
 pub use calls::Landing;
-pub use connections::Connection;
 pub use event_refusals::machine_of;
 pub use flight::{Flight, Outcome};
 pub use flights::Flights;
@@ -49,3 +49,4 @@ pub use kept_world::Kept;
 pub use locks::{LockTable, lock_input_of};
 pub use machine::Machine;
 pub use machine_effects::no_effects;
+pub use watchdog_connections::Connection;

@@ -18,12 +18,12 @@ ghost use Rattle.sl_time.specs.Times.{reading_of};
 ghost use Rattle.std.specs.Prelude.{OnErr, OnOk, Some, flat_map, length, true, ◌+◌, ◌≡◌, ◌≤◌};
 
 use crate::children::{add_starts, hear_start};
-use crate::connections::{Connection, make_moves, test_holds};
 use crate::flight::Outcome;
 use crate::flights::Flights;
 use crate::heard_inputs::Heard;
 use crate::locks::LockTable;
 use crate::machine_holdings::take_effects;
+use crate::watchdog_connections::{Connection, make_moves, test_holds};
 use sl_locks::{LockInput, StepTold};
 use sl_run::Header;
 use sl_sector::Image;

@@ -3,7 +3,6 @@
 ghost use Rattle.sl_world_state.specs.Inputs.{own_in};
 ghost use Rattle.sl_machine.specs.KeptParts.{kept_state};
 ghost use Rattle.sl_machine.specs.Machines.{machine_state};
-ghost use Rattle.sl_run.specs.Events as events;
 ghost use Rattle.sl_run.specs.declared.event.Event.TheVariants.{ExitOf, Reset};
 ghost use Rattle.sl_trace.specs.Traces as traces;
 ghost use Rattle.std.specs.List.{list_any};

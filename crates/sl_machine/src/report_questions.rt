@@ -4,15 +4,15 @@ ghost use Rattle.sl_world_state.specs.KeptWorld.{machine_in};
 ghost use Rattle.sl_machine.specs.KeptParts.{kept_state};
 ghost use Rattle.sl_machine.specs.Machines.{machine_state};
 ghost use Rattle.sl_time.specs.Times.{reading_of};
-ghost use Rattle.sl_trace.specs.Connections as watchdog;
+ghost use Rattle.sl_trace.specs.WatchdogConnections as watchdog;
 ghost use Rattle.sl_words.specs.Words.{least, some_is};
 ghost use Rattle.std.specs.Option.{option_map_or};
 ghost use Rattle.std.specs.Prelude.{false, filter, map, nat_le, nat_lt, not, option_and_then, ◌&&◌, ◌+◌, ◌≡◌};
 
-use crate::connections::test_holds;
 use crate::kept_world::Kept;
 use crate::locks::LockTable;
 use crate::machine::Machine;
+use crate::watchdog_connections::test_holds;
 
 /// So long after its last keepalive, in milliseconds, a machine counts as starving.
 const STARVING: u128 = 550;

@@ -1,5 +1,5 @@
 -- A call of one of the members: what is kept then.
-use Rattle.sl_area.specs.Layouts.{layout_of}
+use Rattle.sl_area.specs.AreaSizes.{layout_of}
 use Rattle.sl_host_state.specs.KeptState.{MemberState}
 use Rattle.sl_member.proofs.MembersByNumber.{at_changed, at_found, has_number, is_at, member_at, members_as, none_at, none_changed, none_found, run_kept, set_members, state_kept, states}
 use Rattle.sl_member.specs.Leases.{begins_lease}

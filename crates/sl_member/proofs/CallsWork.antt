@@ -1,7 +1,7 @@
 -- What a call makes of the leases of its session, as code comes to it.
-use Rattle.sl_area.specs.Layouts.{Layout}
+use Rattle.sl_area.specs.AreaSizes.{Layout}
 use Rattle.sl_host_state.specs.KeptState.{LeaseState}
-use Rattle.sl_area.specs.Places.{in_area}
+use Rattle.sl_area.specs.AreaLayout.{in_area}
 use Rattle.sl_host_state.specs.MadeEffects.{is_lease_on, lease_calling, leases_working, new_lease, value_calling}
 use Rattle.sl_host_state.specs.HostStands.{pair_of}
 use Rattle.sl_host_state.specs.declared.kept_parts.ValuePair.{ValuePair}

@@ -1,5 +1,5 @@
 -- What code makes of a member is what a host's state functions make of it.
-use Rattle.sl_area.specs.Layouts.{Layout, layout_of}
+use Rattle.sl_area.specs.AreaSizes.{Layout, layout_of}
 use Rattle.sl_host_state.specs.HeardInputs.{asked_hearing, counted, is_heeded_by, joining_hearing, kept_heard, lease_hearing, lease_told, member_begun, member_hearing, member_leaving, renewing_hearing, turn_heard, watch_hearing}
 use Rattle.sl_host_state.specs.KeptState.{HostState, LeaseState, MemberState}
 use Rattle.sl_host_state.specs.MadeEffects.{is_lease_on}

@@ -1,8 +1,8 @@
 -- The parts of a member stay those of its run and session.
-use Rattle.sl_area.specs.Layouts.{Sizes, layout_of}
+use Rattle.sl_area.specs.AreaSizes.{Sizes, layout_of}
 use Rattle.sl_delta.specs.OwnSector.{OwnState, after_answer, lease_of}
 use Rattle.sl_member.specs.Members.{IsMember}
-use Rattle.sl_trace.specs.Deltas.{DeltaLease}
+use Rattle.sl_trace.specs.DeltaDecisions.{DeltaLease}
 use Rattle.sl_trace.specs.declared.session.Session.{Session}
 use Rattle.sl_time.specs.Times.{TimingNumbers}
 use Rattle.sl_trace.specs.declared.effects.Purpose.{Purpose}

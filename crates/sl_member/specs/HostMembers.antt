@@ -1,5 +1,5 @@
 -- The members of a host together, and what a change of one of them makes of the list.
-use Rattle.sl_area.specs.Layouts.{layout_of}
+use Rattle.sl_area.specs.AreaSizes.{layout_of}
 use Rattle.sl_host_state.specs.KeptState.{MemberState}
 use Rattle.sl_host_state.specs.HostStands.{is_joining}
 use Rattle.sl_lease.specs.declared.side.Side.{Side}

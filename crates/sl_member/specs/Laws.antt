@@ -1,5 +1,5 @@
 -- What code makes of a member is what a host's state functions make of it.
-use Rattle.sl_area.specs.Layouts.{Layout, layout_of}
+use Rattle.sl_area.specs.AreaSizes.{Layout, layout_of}
 use Rattle.sl_host_state.specs.HeardInputs.{kept_heard, asked_hearing, counted, is_heeded_by, lease_told, member_begun, member_hearing, member_leaving, renewed_of, renewing_hearing, still_busy, watch_hearing, turn_heard}
 use Rattle.sl_host_state.specs.KeptState.{HostState, LeaseState, MemberState}
 use Rattle.sl_host_state.specs.MadeEffects.{is_lease_on, member_calling}

@@ -1,7 +1,7 @@
 -- The leases of a session, by place, and what a change of one of them makes of the list.
 use Rattle.sl_host_state.specs.KeptState.{LeaseState}
-use Rattle.sl_area.specs.Layouts.{Layout}
-use Rattle.sl_area.specs.Places.{in_area}
+use Rattle.sl_area.specs.AreaSizes.{Layout}
+use Rattle.sl_area.specs.AreaLayout.{in_area}
 use Rattle.sl_host_state.specs.MadeEffects.{is_lease_on, leases_calling, new_lease}
 use Rattle.sl_host_state.specs.declared.kept_parts.ValuePair.{ValuePair}
 use Rattle.sl_lease.specs.Bounds.{IsBegun}

@@ -1,6 +1,6 @@
 -- A member as code keeps it, and what each call and answer makes of it.
-use Rattle.sl_area.specs.Layouts.{Sizes, layout_of}
-use Rattle.sl_delta.specs.OwnSector.{OwnState, joining_told}
+use Rattle.sl_area.specs.AreaSizes.{Sizes, layout_of, Layout}
+use Rattle.sl_delta.specs.OwnSector.{OwnState, joining_told, IsOwnRecord}
 use Rattle.sl_host_state.specs.HeardInputs.{with_renewing}
 use Rattle.sl_host_state.specs.KeptState.{LeaseState, MemberState}
 use Rattle.sl_host_state.specs.MadeEffects.{joining_calling, known_calling, leases_calling}
@@ -8,10 +8,8 @@ use Rattle.sl_host_state.specs.NewHost.{new_member}
 use Rattle.sl_lease.specs.declared.side.Side.{Side}
 use Rattle.sl_member.specs.Leases.{IsKeepable, begins_lease, changed_at}
 use Rattle.sl_member.specs.SeenSessions.{SeenBy}
-use Rattle.sl_area.specs.Layouts.{Layout}
-use Rattle.sl_delta.specs.OwnSector.{IsOwnRecord}
 use Rattle.sl_sector.specs.declared.sector.Owner.{Owner}
-use Rattle.sl_trace.specs.Deltas.{DeltaLease}
+use Rattle.sl_trace.specs.DeltaDecisions.{DeltaLease}
 use Rattle.sl_trace.specs.Sessions.{delta_written, is_delta_purpose}
 use Rattle.sl_trace.specs.declared.delta.DeltaKnown.{DeltaKnown}
 use Rattle.sl_trace.specs.declared.session.Begun.{Begun}

@@ -1,6 +1,6 @@
 -- Whom a session counts as over, by what it has seen and who it is.
-use Rattle.sl_area.specs.Layouts.{Layout}
-use Rattle.sl_area.specs.Places.{delta_of}
+use Rattle.sl_area.specs.AreaSizes.{Layout}
+use Rattle.sl_area.specs.AreaLayout.{delta_of}
 use Rattle.sl_sector.specs.Bitmaps.{is_bit_set}
 use Rattle.sl_trace.specs.declared.reply.Evidence.{Evidence}
 use Rattle.sl_watch.specs.Summaries.{bare, evidence_by}

@@ -1,7 +1,7 @@
 //! What a call says of the parts of its session.
 
-ghost use Rattle.sl_area.specs.Layouts.{layout_of};
-ghost use Rattle.sl_area.specs.Places.{in_area};
+ghost use Rattle.sl_area.specs.AreaSizes.{layout_of};
+ghost use Rattle.sl_area.specs.AreaLayout.{in_area};
 ghost use Rattle.sl_host_state.specs.HostStands.{pair_of};
 ghost use Rattle.sl_trace.specs.Leases.{lease_step, spot_of_call, value_of_record};
 ghost use Rattle.sl_trace.specs.Sessions.{delta_of_record};

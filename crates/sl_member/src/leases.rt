@@ -9,7 +9,7 @@ ghost use Rattle.sl_host_state.specs.MadeEffects.{is_lease_on};
 ghost use Rattle.sl_lease.specs.Changes.{after_failure, after_write};
 ghost use Rattle.sl_sector.specs.Records.{Fits};
 ghost use Rattle.sl_trace.specs.Leases.{is_spot_before};
-ghost use Rattle.sl_area.specs.Layouts.{layout_of};
+ghost use Rattle.sl_area.specs.AreaSizes.{layout_of};
 ghost use Rattle.sl_trace.specs.Traces.{new_call};
 ghost use Rattle.sl_member.specs.Leases.{AreByPlace, IsFound, IsGap, IsKeepable, IsPlaceOf, begins_lease, changed_at, first_among, kept_shown, lease_called, leases_after, read_shown, value_set, with_lease};
 ghost use Rattle.std.specs.List.{list_any};

@@ -10,7 +10,7 @@
 //! It makes no call and decides nothing on jobs: it is told of calls (`calling`) and of their answers, by purpose, and is asked what is
 //! known and what its own sector does next. What is known of a lease is asked of the lease (`lease`), with `side` and `seen`.
 
-ghost use Rattle.sl_area.specs.Layouts.{layout_of};
+ghost use Rattle.sl_area.specs.AreaSizes.{layout_of};
 ghost use Rattle.sl_delta.specs.DeltaDecisions.{IsFitNext, after_join, on_wake};
 ghost use Rattle.sl_delta.specs.OwnSector.{answer_in, without_calls};
 ghost use Rattle.sl_host_state.specs.HeardInputs.{asked_at};
@@ -23,7 +23,7 @@ ghost use Rattle.sl_member.specs.Members.{IsKnown, IsOwnCall, RunOf, blank_membe
 ghost use Rattle.sl_member.specs.SeenSessions.{is_asked_by, shows_other_by};
 ghost use Rattle.sl_member.specs.HostMembers.{late_by};
 ghost use Rattle.sl_sector.specs.Records.{Fits};
-ghost use Rattle.sl_trace.specs.Deltas.{next_free, next_renewal};
+ghost use Rattle.sl_trace.specs.DeltaDecisions.{next_free, next_renewal};
 ghost use Rattle.sl_trace.specs.Sessions.{given_number, is_join_call};
 ghost use Rattle.sl_text.specs.Names.{is_name};
 ghost use Rattle.sl_trace.specs.Traces.{new_call};

@@ -3,7 +3,7 @@
 //! Each is of the host's run, no two have one number, and each has memory for so many more leases (`room`); there is memory for so many
 //! members in all (`most`). Only `reserve` asks for memory.
 
-ghost use Rattle.sl_area.specs.Layouts.{layout_of};
+ghost use Rattle.sl_area.specs.AreaSizes.{layout_of};
 ghost use Rattle.sl_delta.specs.OwnSector.{answer_in};
 ghost use Rattle.sl_host_state.specs.HeardInputs.{asked_at};
 ghost use Rattle.sl_host_state.specs.KeptState.{MemberState};

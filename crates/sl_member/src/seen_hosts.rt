@@ -1,8 +1,8 @@
 //! What a session has seen of other hosts, and whom it counts as over.
 
 ghost use Rattle.sl_member.specs.SeenSessions.{evidence_of, over_by};
-ghost use Rattle.sl_area.specs.Layouts.{layout_of};
-ghost use Rattle.sl_area.specs.Places.{read_at};
+ghost use Rattle.sl_area.specs.AreaSizes.{layout_of};
+ghost use Rattle.sl_area.specs.AreaLayout.{read_at};
 ghost use Rattle.sl_watch.specs.ToldLooks.{told_all, told_at};
 ghost use Rattle.std.specs.Prelude.{IsTrue, Some, length, ◌&&◌, ◌*◌, ◌+◌, ◌-◌, ◌<◌, ◌≡◌, ◌≤◌};
 

@@ -1,7 +1,7 @@
 //! What a read of all ids' sectors shows of a session's own id, and whether another asks for what it holds.
 
-ghost use Rattle.sl_area.specs.Layouts.{layout_of};
-ghost use Rattle.sl_area.specs.Places.{delta_of};
+ghost use Rattle.sl_area.specs.AreaSizes.{layout_of};
+ghost use Rattle.sl_area.specs.AreaLayout.{delta_of};
 ghost use Rattle.sl_member.specs.SeenSessions.{asks_by, is_asked_by, shows_other_by};
 ghost use Rattle.sl_words.specs.Words.{some_is};
 ghost use Rattle.std.specs.Prelude.{IsTrue, bytes_eq, length, ◌*◌, ◌≡◌, ◌≤◌};

@@ -1,5 +1,5 @@
 -- Disks that are handed out and taken back, by their paths.
-use Rattle.sl_words.specs.Causes.{Rose}
+use Rattle.sl_io.specs.FaultCauses.{Rose}
 use Rattle.std.specs.Io.KnownBytes.{Keeps}
 use Rattle.std.specs.Prelude.{List, None, Option, Some, option_map, ℕ, ◌<◌, ◌≡◌, ◌≢◌, ◌≤◌}
 

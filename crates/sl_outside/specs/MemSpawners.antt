@@ -1,10 +1,10 @@
 -- A spawner in memory: its children exit and its faults come as planned.
-use Rattle.sl_io.specs.Faults.{one_more}
+use Rattle.sl_io.specs.FaultCounts.{one_more}
 use Rattle.sl_io.specs.Planned.{Planned, after_call, fails_next, next_call, with_fault}
 use Rattle.sl_outside.specs.declared.act.Act.TheVariants.{Signalled, Started}
 use Rattle.sl_outside.specs.declared.act.Act.{Act}
 use Rattle.sl_outside.specs.declared.mem_children.MemChild.{MemChild}
-use Rattle.sl_words.specs.Rooms.{Roomy}
+use Rattle.sl_words.specs.RoomyLists.{Roomy}
 use Rattle.sl_text.specs.Names.{is_path}
 use Rattle.sl_trace.specs.declared.effects.Signal.TheVariants.{Kill, Term}
 use Rattle.sl_trace.specs.declared.effects.Signal.{Signal}

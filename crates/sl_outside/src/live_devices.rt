@@ -1,5 +1,5 @@
 //! What a live run takes beside disks.
-ghost use Rattle.sl_words.specs.Causes.{HasCause};
+ghost use Rattle.sl_io.specs.FaultCauses.{HasCause};
 ghost use Rattle.std.specs.Prelude.{[], ◌≡◌};
 
 use crate::device::Device;

@@ -27,7 +27,7 @@ pub struct MemChildren {
 }
 
 impl Model for MemChildren {
-    ghost use Rattle.sl_words.specs.Rooms.{Roomy};
+    ghost use Rattle.sl_words.specs.RoomyLists.{Roomy};
     ghost use Rattle.sl_outside.specs.declared.mem_children.MemChild.{MemChild};
     ghost use Rattle.std.specs.Prelude.{vec_capacity, vec_len, ◌+◌, ◌≤◌};
 

@@ -4,7 +4,7 @@
 //! out at a time. A path at which no disk stands gives an area each of whose calls fails, as a missing file does.
 //!
 //! Their other parts are the forms in memory: clocks at 0, spawners with no room, a gate that is open.
-ghost use Rattle.sl_io.specs.Faults.{one_more};
+ghost use Rattle.sl_io.specs.FaultCounts.{one_more};
 ghost use Rattle.sl_outside.specs.Disks.{CountsBack, HandsOut, TakesBack, told_at};
 ghost use Rattle.sl_outside.specs.MemDisks.{content_at, is_at, lent_in};
 ghost use Rattle.std.specs.List.{position};

@@ -6,7 +6,7 @@ ghost use Rattle.sl_outside.specs.Acts.{Grows, IsTold};
 ghost use Rattle.sl_outside.specs.MemPlans.{begun_by};
 ghost use Rattle.sl_outside.specs.MemSpawners.{after_poll, after_signal, after_spawn, after_start, exited, life_of, no_room, noted, numbers, spawn_fails, told};
 ghost use Rattle.sl_outside.specs.declared.act.Act.TheVariants.{Signalled, Started};
-ghost use Rattle.sl_words.specs.Causes.{HasCause};
+ghost use Rattle.sl_io.specs.FaultCauses.{HasCause};
 ghost use Rattle.std.specs.Prelude.{IfOk, IsErr, IsTrue, None, OnErr, OnOk, Some, is_ok, option_map, [], ◌+◌, ◌++◌, ◌<◌, ◌^◌, ◌∷◌, ◌≡◌, ◌≤◌, ◌↔◌};
 
 use crate::act::Act;

@@ -2,7 +2,7 @@
 ghost use Rattle.sl_outside.specs.Acts.{Grows, IsTold};
 ghost use Rattle.sl_outside.specs.declared.act.Act.TheVariants.{Signalled, Started};
 ghost use Rattle.sl_outside.specs.declared.act.Act.{Act};
-ghost use Rattle.sl_words.specs.Causes.{HasCause};
+ghost use Rattle.sl_io.specs.FaultCauses.{HasCause};
 ghost use Rattle.std.specs.Prelude.{List, None, OnErr, OnOk, Option, is_ok, [], ℕ, ◌++◌, ◌∷◌, ◌≡◌, ◌≤◌};
 
 use sl_io::Failed;

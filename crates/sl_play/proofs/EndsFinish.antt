@@ -2,11 +2,13 @@
 use mathlib.Core.List.{append_assoc}
 use Rattle.sl_play.specs.RunEndings.{AsksLeadBack, BreaksOff, EndsFinish, EventsLeadBack, Finishes, LeadingIsChained, LeadsBack, MayCome}
 use Rattle.sl_words.proofs.Lists.{head_is, tail_is}
-use Rattle.sl_report.specs.Headline.{IsFrontOf}
+use Rattle.sl_report.specs.OwedReports.{IsFrontOf}
 use Rattle.sl_report.specs.Languages.{Language}
 use Rattle.sl_report.specs.Reports.{Counts, count_event, event_lines, run_counts, run_lines}
 use Rattle.sl_report.specs.Schedules.{Ending, EventLine, Follows, FollowsSoFar, IsAskOf, NoAsk, last_lines}
-use Rattle.sl_run.specs.Events.{asking, happens, may_happen}
+use Rattle.sl_run.specs.Inputs.{asking}
+use Rattle.sl_run.specs.EventChanges.{happens}
+use Rattle.sl_run.specs.Refusals.{may_happen}
 use Rattle.sl_run.specs.Runs.{AfterEachFront, Happening, world_after}
 use Rattle.sl_run.specs.Worlds.{World}
 use Rattle.sl_run.specs.declared.event.Event.TheVariants.{GiveAsk}

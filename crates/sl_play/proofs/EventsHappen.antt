@@ -2,7 +2,7 @@
 use Rattle.sl_world_state.specs.Inputs.{input_in}
 use Rattle.sl_world_state.specs.KeptWorld.{KeptState, MachineState, machine_in}
 use Rattle.sl_world_state.specs.SaneWorlds.{WorldStands}
-use Rattle.sl_locks.specs.declared.step.StepTold.{StepTold}
+use Rattle.sl_locks.specs.declared.line_steps.StepTold.{StepTold}
 use Rattle.sl_machine.specs.KeptParts.{kept_state}
 use Rattle.sl_play.specs.Plays.{Answers, HasHappened, PassesCounts, PlayState, StandsFor, after_error, test_told}
 use Rattle.sl_play.specs.ToldSteps.{AreCounted, counts_with, told_view, tests_told}
@@ -10,7 +10,9 @@ use Rattle.sl_play.specs.declared.step_counts.PlayError.TheVariants.{NoMemory, T
 use Rattle.sl_play.specs.declared.step_counts.PlayError.{PlayError}
 use Rattle.sl_report.specs.Reports.{Counts, StepTold as ToldStep, conflicts_of, count_event, event_lines, event_told, held_by_others, refusals_told, step_lines, test_lines}
 use Rattle.sl_run.specs.Conflicts.{has_conflict}
-use Rattle.sl_run.specs.Events.{happens, is_ask, machine_of, may_happen, refusal_of}
+use Rattle.sl_run.specs.EventChanges.{happens}
+use Rattle.sl_run.specs.Inputs.{is_ask, machine_of}
+use Rattle.sl_run.specs.Refusals.{may_happen, refusal_of}
 use Rattle.sl_run.specs.Locks.{Locks, told_effects}
 use Rattle.sl_run.specs.Worlds.{World, machine_at}
 use Rattle.sl_run.specs.declared.event.Event.TheVariants.{Test}

@@ -11,7 +11,9 @@ use Rattle.sl_report.specs.Languages.{Language, is_skipped, whole_language}
 use Rattle.sl_report.specs.ReadLines.{event_in}
 use Rattle.sl_report.specs.Reports.{Counts, count_event, event_lines, no_counts}
 use Rattle.sl_report.specs.Schedules.{At_line, EventLine, NoAsk, NumberedLine, event_line, event_or_syntax, last_lines, line_refusal}
-use Rattle.sl_run.specs.Events.{asking, happens, may_happen, refusal_of}
+use Rattle.sl_run.specs.Inputs.{asking}
+use Rattle.sl_run.specs.EventChanges.{happens}
+use Rattle.sl_run.specs.Refusals.{may_happen, refusal_of}
 use Rattle.sl_run.specs.Headers.{IsHeader}
 use Rattle.sl_run.specs.Worlds.{World, world_with}
 use Rattle.sl_run.specs.declared.event.Event.TheVariants.{GiveAsk}

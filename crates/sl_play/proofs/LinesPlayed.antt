@@ -9,11 +9,12 @@ use Rattle.sl_play.proofs.ReportsShift.{shift, shift_finish}
 use Rattle.sl_play.specs.Replays.{All, Breaks, Chokes, Ends, Lacks, LeadsFrom, MayPlay, Moved, Nothing, Of_events, Of_header, Part, Puts, Replays, ReportsAll, ReportsComplete, ReportsFront, ReportsLines, Running, Stops, played_language}
 use Rattle.sl_play.specs.declared.replay.Played.TheVariants.{Done, NoMemory, ReadFault, Refused, WriteFault}
 use Rattle.sl_play.specs.declared.replay.Played.{Played}
-use Rattle.sl_report.specs.Headline.{FrontOf, In_header, IsFrontOf, MayHaveBeen, Of_nothing, Of_report, ReplayOf}
+use Rattle.sl_report.specs.OwedReports.{FrontOf, In_header, IsFrontOf, MayHaveBeen, Of_nothing, Of_report, ReplayOf}
 use Rattle.sl_report.specs.Languages.{Language, is_skipped, language_of, whole_language}
 use Rattle.sl_report.specs.ReadLines.{header_line_in}
 use Rattle.sl_report.specs.Reports.{Counts, end_line, no_counts}
-use Rattle.sl_report.specs.ScheduleLines.{HeaderLine, header_of, refusal_line}
+use Rattle.sl_report.specs.HeaderLines.{HeaderLine, header_of}
+use Rattle.sl_report.specs.RefusalLines.{refusal_line}
 use Rattle.sl_report.specs.Schedules.{At_end, At_line, Ending, EventLine, HeaderReading, Header_read, Header_refused, NumberedLine, default_area, default_sector, event_line, event_lines_of, header_line_refusal, is_begin, last_lines, line_refusal, numbered_from, numbered_lines, read_header, status_of, with_line}
 use Rattle.sl_run.specs.Headers.{IsHeader}
 use Rattle.sl_run.specs.Worlds.{Program, World, world_with}
@@ -26,7 +27,7 @@ use Rattle.sl_sound.specs.MadeRuns.{MadeRun}
 use Rattle.sl_text.specs.Forms.{Form, as_bytes, lines_of}
 use Rattle.sl_trace.specs.Traces.{Setting, Trace}
 use Rattle.sl_trace.specs.declared.command.Command.{Command}
-use Rattle.sl_words.specs.Causes.{Rose}
+use Rattle.sl_io.specs.FaultCauses.{Rose}
 use Rattle.sl_words.specs.Words.{some_is}
 use Rattle.sl_world_law.proofs.FirstStanding.{each_stood}
 use Rattle.std.proofs.Common.{Bool, List, None, Option, Some, [], ap, arith, drop, false, length, length-append, refl, subst, sym, take, take-append-drop, true, ℕ, ◌++◌, ◌+◌, ◌∙◌, ◌∷◌, ◌≡◌, ◌≤◌}

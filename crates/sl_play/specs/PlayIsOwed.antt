@@ -1,7 +1,7 @@
 -- What is owed of a source whose lines were followed from the header's world on.
 use Rattle.sl_world_state.specs.Daemons.{Stood}
 use Rattle.sl_play.specs.RunEndings.{BreaksOff, Finishes}
-use Rattle.sl_report.specs.Headline.{FrontOf, ReplayOf}
+use Rattle.sl_report.specs.OwedReports.{FrontOf, ReplayOf}
 use Rattle.sl_report.specs.Languages.{Language}
 use Rattle.sl_report.specs.Reports.{no_counts}
 use Rattle.sl_report.specs.Schedules.{Ending, Header_read, NumberedLine, event_lines_of, numbered_lines, read_header, status_of}

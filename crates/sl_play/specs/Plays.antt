@@ -12,7 +12,7 @@ use Rattle.sl_play.specs.declared.play.Play.{Play}
 use Rattle.sl_report.specs.Languages.{Language}
 use Rattle.sl_report.specs.Reports.{Counts, count_event, event_lines, no_counts}
 use Rattle.sl_report.specs.Schedules.{At_line, EventLine, NoAsk, last_lines}
-use Rattle.sl_run.specs.Events.{may_happen, refusal_of}
+use Rattle.sl_run.specs.Refusals.{may_happen, refusal_of}
 use Rattle.sl_run.specs.Locks.{Locks}
 use Rattle.sl_run.specs.Runs.{HasSteps}
 use Rattle.sl_run.specs.Worlds.{World, world_with}

@@ -6,10 +6,10 @@ use Rattle.sl_play.specs.PlayIsOwed.{EachStood}
 use Rattle.sl_play.specs.Plays.{PlayState, PlaysOn}
 use Rattle.sl_play.specs.declared.replay.Played.TheVariants.{Done, NoMemory, ReadFault, Refused, WriteFault}
 use Rattle.sl_play.specs.declared.replay.Played.{Played}
-use Rattle.sl_report.specs.Headline.{FrontOf, HeadersAreGood, IsFrontOf, MayHaveBeen, Promise, ReplayOf, ReplayOwed}
+use Rattle.sl_report.specs.OwedReports.{FrontOf, HeadersAreGood, IsFrontOf, MayHaveBeen, Promise, ReplayOf, ReplayOwed}
 use Rattle.sl_report.specs.Languages.{Language, language_of}
 use Rattle.sl_report.specs.Reports.{Counts, end_line, no_counts}
-use Rattle.sl_report.specs.ScheduleLines.{HeaderLine}
+use Rattle.sl_report.specs.HeaderLines.{HeaderLine}
 use Rattle.sl_report.specs.Schedules.{Header_read, NumberedLine, event_lines_of, numbered_lines, read_header}
 use Rattle.sl_run.specs.Headers.{IsHeader}
 use Rattle.sl_run.specs.Worlds.{World, world_with}
@@ -20,7 +20,7 @@ use Rattle.sl_sound.specs.MadeRuns.{MadeRun}
 use Rattle.sl_text.specs.Forms.{Form, as_bytes, is_free_of}
 use Rattle.sl_trace.specs.Traces.{Setting, Trace}
 use Rattle.sl_trace.specs.declared.command.Command.{Command}
-use Rattle.sl_words.specs.Causes.{Rose}
+use Rattle.sl_io.specs.FaultCauses.{Rose}
 use Rattle.std.specs.Io.KnownBytes.{Appends, Consumes, IsAtEnd}
 use Rattle.std.specs.Prelude.{Bool, IsTrue, List, Option, true, [], ℕ, ◌++◌, ◌∷◌, ◌≡◌, ◌⊎◌}
 

@@ -2,11 +2,13 @@
 --
 -- A report is proved from its end. Whatever finishes behind an event finishes before it, with the event's lines in front, so a program that
 -- goes from line to line never has to know the run that it makes.
-use Rattle.sl_report.specs.Headline.{IsFrontOf}
+use Rattle.sl_report.specs.OwedReports.{IsFrontOf}
 use Rattle.sl_report.specs.Languages.{Language}
 use Rattle.sl_report.specs.Reports.{Counts, count_event, event_lines, run_counts, run_lines}
 use Rattle.sl_report.specs.Schedules.{At_end, At_line, Ending, EventLine, Follows, FollowsSoFar, NoAsk, last_lines}
-use Rattle.sl_run.specs.Events.{asking, happens, may_happen, refusal_of}
+use Rattle.sl_run.specs.Inputs.{asking}
+use Rattle.sl_run.specs.EventChanges.{happens}
+use Rattle.sl_run.specs.Refusals.{may_happen, refusal_of}
 use Rattle.sl_run.specs.Runs.{AfterEachFront, Happening, HasSteps, IsRun, world_after}
 use Rattle.sl_run.specs.Worlds.{World}
 use Rattle.sl_run.specs.declared.event.Event.TheVariants.{GiveAsk}

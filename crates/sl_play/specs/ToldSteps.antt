@@ -1,6 +1,6 @@
 -- What is written of a step, and what is counted of it.
 use Rattle.sl_locks.specs.Replies.{told_as}
-use Rattle.sl_locks.specs.declared.step.StepTold.{StepTold}
+use Rattle.sl_locks.specs.declared.line_steps.StepTold.{StepTold}
 use Rattle.sl_report.specs.Reports.{Counts, StepTold as ToldStep, refusals_told, test_words}
 use Rattle.sl_trace.specs.EffectTexts.{machine_line}
 use Rattle.std.specs.Prelude.{Bool, List, None, Option, Some, if◌then◌else◌, length, [], ℕ, ◌+◌, ◌<◌, ◌^◌, ◌∷◌}

@@ -1,7 +1,7 @@
 //! What an event is to a play: whether it is an ask, and what is answered where the world doesn't apply it.
 
 ghost use Rattle.sl_play.specs.Plays.{after_error};
-ghost use Rattle.sl_run.specs.Events as events;
+ghost use Rattle.sl_run.specs.Inputs as inputs;
 ghost use Rattle.std.specs.Prelude.{◌≡◌};
 
 use crate::step_counts::PlayError;
@@ -10,7 +10,7 @@ use sl_world::ApplyError;
 
 /// Whether the event gives an ask, which is not counted as an event.
 pub(crate) fn is_ask(event: &Event) -> bool
-    ensures { result ≡ events.is_ask event.now }
+    ensures { result ≡ inputs.is_ask event.now }
 {
     match event {
         Event::GiveAsk { .. } => true,

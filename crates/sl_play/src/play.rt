@@ -36,7 +36,7 @@ impl<D: Daemon, L: LockTable> Play<D, L> {
     ghost use Rattle.sl_play.specs.ToldSteps.{AreCounted, counts_with, tests_told, told_view};
     ghost use Rattle.sl_play.specs.declared.step_counts.PlayError.TheVariants.{NoMemory, TooMany};
     ghost use Rattle.sl_report.specs.Reports as reports;
-    ghost use Rattle.sl_run.specs.Events as events;
+    ghost use Rattle.sl_run.specs.Refusals as refusals;
     ghost use Rattle.sl_run.specs.Headers.{IsHeader};
     ghost use Rattle.sl_run.specs.Worlds as worlds;
     ghost use Rattle.sl_run.specs.declared.event.Refusal.{Refusal as RefusalOf};
@@ -117,7 +117,7 @@ impl<D: Daemon, L: LockTable> Play<D, L> {
         requires { StandsFor D.commands D.stands (state_of L.locks self.old) }
         ensures ok { IfOk result (Answers D.commands D.stands (state_of L.locks self.old) event out.old.items (state_of L.locks self.new) out.new.items) }
         ensures refused { (w : worlds.World) → WorldStands D.commands D.stands (state_of L.locks self.old).kept (state_of L.locks self.old).hosts w → (why : RefusalOf)
-            → events.refusal_of w event ≡ Some why → (result ≡ Ok (Some why)) ⊎ ((is_tear event ≡ true) × (result ≡ Err NoMemory)) }
+            → refusals.refusal_of w event ≡ Some why → (result ≡ Ok (Some why)) ⊎ ((is_tear event ≡ true) × (result ≡ Err NoMemory)) }
         ensures many { result ≡ Err TooMany → PassesCounts D.commands D.stands (state_of L.locks self.old) event }
         ensures stands { StandsFor D.commands D.stands (state_of L.locks self.new) }
         ensures err { OnErr result (out.new.items ≡ out.old.items) }

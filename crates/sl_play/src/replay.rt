@@ -5,7 +5,7 @@ ghost use Rattle.sl_play.specs.Plays.{IsPlaying, state_of};
 ghost use Rattle.sl_play.specs.Replays.{MayPlay, Puts, Replays, Running};
 ghost use Rattle.sl_play.specs.declared.replay.Played.TheVariants as played;
 ghost use Rattle.sl_report.specs.Reports.{end_line};
-ghost use Rattle.sl_report.specs.ScheduleLines.{refusal_line};
+ghost use Rattle.sl_report.specs.RefusalLines.{refusal_line};
 ghost use Rattle.sl_run.specs.declared.header.Header.{Header as HeaderOf};
 ghost use Rattle.sl_run.specs.Headers.{IsHeader};
 ghost use Rattle.sl_reader.specs.HeaderBegins.{HeaderBegins};

@@ -1,9 +1,9 @@
 -- A script that is read line by line.
-use Rattle.sl_reader.specs.LiveReads.{checked, live_line, live_line_in}
+use Rattle.sl_reader.specs.LiveLines.{checked, live_line, live_line_in}
 use Rattle.sl_reader.specs.Scopes.{scope_of}
 use Rattle.sl_reader.specs.declared.live_lines.LiveLine.{LiveLine}
 use Rattle.sl_reader.specs.declared.scope.Scope.{Scope}
-use Rattle.sl_reader.specs.Scripts.{Comes, Ends, IsScript, Leaves, Passes, ReadsScript, Says, ScriptLine, Stands, Tells, TellsComplete, came_of, following, script_lines, spoken}
+use Rattle.sl_reader.specs.ScriptReading.{Comes, Ends, IsScript, Leaves, Passes, ReadsScript, Says, ScriptLine, Stands, Tells, TellsComplete, came_of, following, script_lines, spoken}
 use Rattle.sl_reader.specs.declared.script_reading.Came.{Came}
 use Rattle.sl_reader.specs.declared.script_reading.ScriptEnd.TheVariants.{End, NoMemory, ReadFault, Refused}
 use Rattle.sl_reader.specs.declared.script_reading.ScriptEnd.{ScriptEnd}
@@ -17,7 +17,7 @@ use Rattle.sl_reader.specs.LineReads.{EndStands, Fails, Gives, IsCutOff, MayFoll
 use Rattle.sl_reader.specs.declared.reader.ReadError.TheVariants.{Failed, NoMemory as NoRoom}
 use Rattle.sl_reader.specs.declared.reader.ReadError.{ReadError}
 use Rattle.sl_text.specs.Forms.{lines_of}
-use Rattle.sl_words.specs.Causes.{Rose}
+use Rattle.sl_io.specs.FaultCauses.{Rose}
 use Rattle.std.proofs.Common.{Bool, List, None, Option, Some, [], ap, arith, false, inl, inr, length, length-append, map, refl, subst, sym, true, ℕ, ◌++◌, ◌+◌, ◌≡◌, ◌≤◌, ◌∙◌, ◌∷◌}
 use Rattle.std.proofs.KnownBytes.{Consumes-nil}
 use Rattle.std.proofs.lemmas.List.{append-nil, append_assoc}

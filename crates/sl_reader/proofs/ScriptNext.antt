@@ -5,7 +5,7 @@ use Rattle.sl_reader.specs.declared.live_lines.NoLine.TheVariants as no_line_for
 use Rattle.sl_reader.specs.declared.live_lines.NoLine.{NoLine}
 use Rattle.sl_reader.specs.declared.scope.Scope.{Scope}
 use Rattle.sl_reader.proofs.ScriptLaws.{ends_since, lacks_behind}
-use Rattle.sl_reader.specs.Scripts.{Comes, Ends, IsScript, Keeps, Passes, ScriptLine, Stands, spoken}
+use Rattle.sl_reader.specs.ScriptReading.{Comes, Ends, IsScript, Keeps, Passes, ScriptLine, Stands, spoken}
 use Rattle.sl_reader.specs.declared.script_reading.Came.TheVariants as came
 use Rattle.sl_reader.specs.declared.script_reading.Came.{Came}
 use Rattle.sl_reader.specs.declared.script_reading.ScriptEnd.TheVariants.{End, NoMemory, ReadFault, Refused}

@@ -1,6 +1,6 @@
 -- What reading a header from a source gives.
 use Rattle.sl_report.specs.Languages.{whole_language}
-use Rattle.sl_report.specs.ScheduleLines.{HeaderLine}
+use Rattle.sl_report.specs.HeaderLines.{HeaderLine}
 use Rattle.sl_report.specs.Schedules.{Header_read, Header_refused, NumberedLine, numbered_from, numbered_lines, read_header}
 use Rattle.sl_run.specs.declared.event.Refusal.{Refusal}
 use Rattle.sl_run.specs.declared.header.Header.{Header}

@@ -1,7 +1,7 @@
 pub mod HeaderBegins
 pub mod LineReads
 pub mod GivenAnswers
-pub mod LiveReads
+pub mod LiveLines
 pub mod Scopes
 pub mod Origins
-pub mod Scripts
+pub mod ScriptReading

@@ -19,8 +19,8 @@
 #![tactic(auto)]
 
 mod header;
+mod live_line_words;
 mod live_lines;
-mod live_reading;
 mod origin;
 mod piece;
 mod reader;
@@ -29,8 +29,8 @@ mod script;
 mod script_reading;
 
 pub use header::read_header;
+pub use live_line_words::{LiveRead, live_line};
 pub use live_lines::{LiveLine, LiveLines, NoLine};
-pub use live_reading::{LiveRead, live_line};
 pub use origin::Origin;
 pub use reader::{LineReader, Next, ReadError};
 pub use scope::Scope;

@@ -2,7 +2,7 @@
 
 ghost use Rattle.sl_reader.specs.LineReads.{feed_of, with_feed};
 ghost use Rattle.sl_text.specs.Forms.{is_free_of};
-ghost use Rattle.sl_words.specs.Causes.{HasCause};
+ghost use Rattle.sl_io.specs.FaultCauses.{HasCause};
 ghost use Rattle.std.specs.Io.KnownBytes.{Consumes, IsAtEnd, Keeps};
 ghost use Rattle.std.specs.Prelude.{IfOk, IsTrue, OnErr, drop, false, length, true, [], ◌++◌, ◌<◌, ◌≡◌, ◌≤◌};
 

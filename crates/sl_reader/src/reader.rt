@@ -4,7 +4,7 @@ ghost use Rattle.sl_report.specs.Schedules.{greatest_source, longest_line};
 ghost use Rattle.sl_schedule.specs.Lines.{line_seen};
 ghost use Rattle.sl_reader.specs.LineReads.{EndStands, EndsWith, Fails, IsCutOff, IsFront, Judges, Reads, Takes, line_of, no_line, with_feed};
 ghost use Rattle.sl_reader.specs.declared.reader.ReadError.TheVariants.{Failed as HasFailed};
-ghost use Rattle.sl_words.specs.Causes.{HasCause, Rose};
+ghost use Rattle.sl_io.specs.FaultCauses.{HasCause, Rose};
 ghost use Rattle.std.specs.Io.KnownBytes.{Consumes, IsAtEnd, Keeps};
 ghost use Rattle.std.specs.Prelude.{Err, IfOk, IfSome, IsTrue, List, OnErr, OnOk, false, length, true, [], ℕ, ◌++◌, ◌+◌, ◌<◌, ◌≡◌, ◌≤◌};
 

@@ -2,7 +2,7 @@
 
 ghost use Rattle.sl_reader.specs.GivenAnswers.{lines_in};
 ghost use Rattle.sl_reader.specs.Scopes.{scope_of};
-ghost use Rattle.sl_reader.specs.Scripts.{ReadsScript};
+ghost use Rattle.sl_reader.specs.ScriptReading.{ReadsScript};
 ghost use Rattle.sl_run.specs.declared.header.Header.{Header as HeaderOf};
 ghost use Rattle.sl_reader.specs.HeaderBegins.{HeaderBegins};
 ghost use Rattle.sl_reader.specs.LineReads.{EndStands};
@@ -29,7 +29,7 @@ pub struct ScriptLines<S: Source, J: Origin> {
 }
 
 impl<S: Source, J: Origin> Model for ScriptLines<S, J> {
-    ghost use Rattle.sl_reader.specs.Scripts.{IsScript, ScriptState};
+    ghost use Rattle.sl_reader.specs.ScriptReading.{IsScript, ScriptState};
 
     ghost Value = { ScriptState };
 

@@ -1,6 +1,6 @@
 //! The next line of a script that says something.
 
-ghost use Rattle.sl_reader.specs.Scripts.{Comes, Keeps, Passes, ScriptLine, came_of};
+ghost use Rattle.sl_reader.specs.ScriptReading.{Comes, Keeps, Passes, ScriptLine, came_of};
 ghost use Rattle.sl_reader.specs.GivenAnswers.{lines_in};
 ghost use Rattle.sl_reader.specs.LineReads.{EndStands, ReaderState};
 ghost use Rattle.std.specs.Prelude.{List, OnErr, OnOk, Option, [], ℕ, ◌++◌, ◌∷◌, ◌≡◌, ◌≤◌};

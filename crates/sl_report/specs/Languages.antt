@@ -1,7 +1,7 @@
 -- What of the schedules' language a program reads. The language of all schedules is the promise; a program that reads less of it says so
 -- by a value of this type, and all that is said of schedules and reports is said of whatever language it reads. What a line says is always
 -- read by the forms of all schedules; a narrower language then leaves out some of it.
-use Rattle.sl_report.specs.ScheduleLines.{HeaderLine}
+use Rattle.sl_report.specs.HeaderLines.{HeaderLine}
 use Rattle.sl_run.specs.Worlds.{Program, whole_program}
 use Rattle.sl_run.specs.declared.event.Event.{Event}
 use Rattle.sl_run.specs.declared.event.Refusal.{Refusal}

@@ -1,6 +1,8 @@
 -- How a line of a schedule is read, in a language.
 use Rattle.sl_report.specs.Languages.{Language}
-use Rattle.sl_report.specs.ScheduleLines.{HeaderLine, checked_event, count_of_rank, event_forms, header_forms, header_of, header_tests, is_positive_word, rank}
+use Rattle.sl_report.specs.HeaderLines.{HeaderLine, count_of_rank, header_forms, header_of, is_positive_word, rank}
+use Rattle.sl_report.specs.HeaderRefusals.{header_tests}
+use Rattle.sl_report.specs.EventLines.{checked_event, event_forms}
 use Rattle.sl_run.specs.Worlds.{first_that}
 use Rattle.sl_run.specs.declared.event.Event.TheVariants.{GiveCommand, GiveLvm}
 use Rattle.sl_run.specs.declared.event.Event.{Event}

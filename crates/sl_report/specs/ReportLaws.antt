@@ -1,6 +1,6 @@
 -- Schedules without lines.
 use Rattle.sl_report.specs.Languages.{Language}
-use Rattle.sl_report.specs.ScheduleLines.{refusal_line}
+use Rattle.sl_report.specs.RefusalLines.{refusal_line}
 use Rattle.sl_report.specs.Schedules.{replay_lines}
 use Rattle.sl_run.specs.declared.event.Refusal.TheVariants.{Syntax}
 use Rattle.std.specs.Prelude.{[], ◌∷◌, ◌≡◌}

@@ -1,13 +1,14 @@
 -- What is written for an event, and the counts of the last line.
 use Rattle.sl_run.specs.Conflicts.{Holding, conflicts, has_conflict, world_holdings}
-use Rattle.sl_run.specs.Events.{happens, input_of, is_ask, machine_of, number_of_step}
+use Rattle.sl_run.specs.EventChanges.{happens, number_of_step}
+use Rattle.sl_run.specs.Inputs.{input_of, is_ask, machine_of}
 use Rattle.sl_run.specs.Locks.{Told, locks_after, told_effects}
 use Rattle.sl_run.specs.Runs.{Happening}
 use Rattle.sl_run.specs.Worlds.{Machine, World, machine_at, reading_now}
 use Rattle.sl_run.specs.declared.event.Event.TheVariants.{Test}
 use Rattle.sl_run.specs.declared.event.Event.{Event}
 use Rattle.sl_text.specs.Forms.{spaced}
-use Rattle.sl_trace.specs.Connections.{test_holds}
+use Rattle.sl_trace.specs.WatchdogConnections.{test_holds}
 use Rattle.sl_trace.specs.EffectTexts.{effect_lines, is_ok_reply, machine_line}
 use Rattle.sl_trace.specs.Traces.{held_after, is_ended_by}
 use Rattle.sl_trace.specs.declared.effects.Effects.{Effects}

@@ -1,10 +1,13 @@
 -- A source as a schedule: its header, its events up to the first line that is refused, and that refusal.
 use Rattle.sl_report.specs.Languages.{Language}
 use Rattle.sl_report.specs.ReadLines.{event_in, header_line_in, header_refusal}
-use Rattle.sl_report.specs.Replay.{effects_of}
+use Rattle.sl_report.specs.DueRuns.{effects_of}
 use Rattle.sl_report.specs.Reports.{Counts, count_event, end_line, event_lines, no_counts, run_counts, run_lines}
-use Rattle.sl_report.specs.ScheduleLines.{BeginLine, HeaderLine, header_of, refusal_line}
-use Rattle.sl_run.specs.Events.{asking, happens, may_happen, refusal_of}
+use Rattle.sl_report.specs.HeaderLines.{BeginLine, HeaderLine, header_of}
+use Rattle.sl_report.specs.RefusalLines.{refusal_line}
+use Rattle.sl_run.specs.Inputs.{asking}
+use Rattle.sl_run.specs.EventChanges.{happens}
+use Rattle.sl_run.specs.Refusals.{may_happen, refusal_of}
 use Rattle.sl_run.specs.Runs.{Happening}
 use Rattle.sl_run.specs.Worlds.{World, first_that, mebibyte, world_with}
 use Rattle.sl_run.specs.declared.event.Event.TheVariants.{GiveAsk}

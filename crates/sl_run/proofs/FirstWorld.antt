@@ -1,5 +1,5 @@
 -- The world at moment 0.
-use Rattle.sl_area.specs.Layouts.{Layout, layout_with}
+use Rattle.sl_area.specs.AreaSizes.{Layout, layout_with}
 use Rattle.sl_run.specs.Conflicts.{has_conflict, no_holdings}
 use Rattle.sl_run.specs.RunLaws.{NothingIsHeldAtFirst}
 use Rattle.sl_run.specs.Worlds.{Program, machine_of_header}

@@ -13,7 +13,7 @@ use Rattle.sl_run.specs.LawfulModes.{LawfulModes}
 use Rattle.sl_run.specs.LawfulParting.{LawfulParting}
 use Rattle.sl_run.specs.LawfulRecovery.{LawfulRecovery}
 use Rattle.sl_run.specs.LawfulValue.{LawfulValue}
-use Rattle.sl_run.specs.LawfulWatchdog.{LawfulWatchdog}
+use Rattle.sl_run.specs.LawfulConnections.{LawfulWatchdog}
 use Rattle.sl_trace.proofs.TraceFacts.{each_entry-front}
 use Rattle.sl_trace.specs.Traces.{FollowsTrace, Setting, Trace}
 use Rattle.std.specs.Prelude.{◌++◌}

@@ -1,9 +1,10 @@
 -- Areas where each host's block has one sector.
-use Rattle.sl_area.specs.Layouts.{Layout}
-use Rattle.sl_area.specs.Places.{fresh_block, fresh_leader, fresh_pair, leader_spelled, no_request, no_value}
+use Rattle.sl_area.specs.AreaSizes.{Layout}
+use Rattle.sl_area.specs.AreaRecords.{fresh_block, fresh_leader, fresh_pair, no_request, no_value}
+use Rattle.sl_area.specs.AreaLayout.{leader_spelled}
 use Rattle.sl_run.specs.Worlds.{initial_of_resource}
 use Rattle.sl_run.specs.declared.header.ResourceLine.{ResourceLine}
-use Rattle.sl_sector.specs.Spelling.{leader_in, pair_leader_in}
+use Rattle.sl_sector.specs.SectorLayouts.{leader_in, pair_leader_in}
 use Rattle.sl_sector.specs.declared.sector.Bad.{Bad}
 use Rattle.sl_sector.specs.declared.sector.Leader.{Leader}
 use Rattle.sl_sector.specs.declared.sector.Rec.TheVariants.{BlockIs, LeaderIs, PairIs, PairLeaderIs, RequestIs, ValueIs}

@@ -1,9 +1,10 @@
 -- The cause of each reply: what stands in the trace where it is given.
-use Rattle.sl_area.specs.Layouts.{Layout, record_in, sector_with}
-use Rattle.sl_area.specs.Places.{area_blocks, leader_of, read_at}
+use Rattle.sl_area.specs.AreaSizes.{Layout, record_in, sector_with}
+use Rattle.sl_area.specs.AreaLayout.{area_blocks, leader_of, read_at}
 use Rattle.sl_run.specs.LawForms.{IsAnsweredAt}
 use Rattle.sl_trace.specs.Ballots.{in_instance, next_mbal, stop_of, value_of}
-use Rattle.sl_trace.specs.Counts.{busy_process, holds_already, is_killpath_limit, limit_met, may_act, next_value_seq, other_holder, pending_call}
+use Rattle.sl_trace.specs.Counts.{busy_process, holds_already, limit_met, may_act, next_value_seq, other_holder, pending_call}
+use Rattle.sl_trace.specs.KillPrograms.{is_killpath_limit}
 use Rattle.sl_trace.specs.Jobs.{is_asking_lease, is_job_of_process, is_program, job_of_start, lockspace_named, process_named, resource_named, wants_shared}
 use Rattle.sl_trace.specs.Leases.{Area_read, Leader_freed, Leader_taken, LeaseKnown, Mode_cleared, Mode_set, Phase1_read, Phase2_read, StepKind, base_turn, blocks_given, exclusive_on, holdings_on, instance_for, is_at, is_leader_of, is_phase_read, known, leader_given, lease_calls, lver_written, orphan_on, own_block, shared_elsewhere, spot_of, spot_of_call, value_written}
 use Rattle.sl_trace.specs.declared.lease.Instance.TheVariants.{Begins, HeldAlready}
@@ -11,7 +12,7 @@ use Rattle.sl_trace.specs.declared.lease.Instance.{Instance}
 use Rattle.sl_trace.specs.declared.lease.Stop.TheVariants.{BlockAhead, BlockRival, BlockTorn}
 use Rattle.sl_trace.specs.declared.lease.Stop.{Stop}
 use Rattle.sl_request.specs.Requests.{check_request}
-use Rattle.sl_sector.specs.Spelling.{delta_in, request_in, value_in}
+use Rattle.sl_sector.specs.SectorLayouts.{delta_in, request_in, value_in}
 use Rattle.sl_sector.specs.declared.sector.Block.{Block}
 use Rattle.sl_sector.specs.declared.sector.DeltaRec.{DeltaRec}
 use Rattle.sl_sector.specs.declared.sector.Leader.{Leader}
@@ -19,12 +20,12 @@ use Rattle.sl_sector.specs.declared.sector.Owner.{Owner}
 use Rattle.sl_sector.specs.declared.sector.Rec.TheVariants.{DeltaIs, RequestIs}
 use Rattle.sl_sector.specs.declared.sector.Request.{Request as RequestRec}
 use Rattle.sl_sector.specs.declared.sector.ValueRec.{ValueRec}
-use Rattle.sl_trace.specs.Deltas.{claim_of, delta_of_session, first_bytes, id_lost, version_in}
+use Rattle.sl_trace.specs.DeltaDecisions.{claim_of, delta_of_session, first_bytes, id_lost, version_in}
 use Rattle.sl_trace.specs.Sessions.{calls_of, generation_of, holdings_of, is_active, is_join_call, is_joined, is_session_arg, join_call, last_renewal, last_seq, present_sessions, session_named, session_of_job}
 use Rattle.sl_trace.specs.Sightings.{counts_over, sessions_seen, states_seen}
 use Rattle.sl_trace.specs.declared.session.Session.{Session}
 use Rattle.sl_time.specs.Times.{join_max}
-use Rattle.sl_trace.specs.Limits.{most_lockspaces}
+use Rattle.sl_trace.specs.CountLimits.{most_lockspaces}
 use Rattle.sl_trace.specs.Traces.{EachEntry, Job, Setting, Submitted, Trace, entry_at, gave, is_of_job, is_orphan, is_shared, is_before_input, job_numbered, no_effects, no_process, record_of, reply_to, same_place, submitted, waiting_call}
 use Rattle.sl_trace.specs.declared.command.Command.TheVariants.{Acquire, AddLockspace, Convert, GetLvb, HostStatus, InqLockspace, Release, ReleaseOrphan, RemLockspace, Request, RunProgram, SetKillpath, SetLvb, Status, TakeOver}
 use Rattle.sl_trace.specs.declared.command.Command.{Command}

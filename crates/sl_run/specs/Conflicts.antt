@@ -1,4 +1,5 @@
--- Who holds what in the world, and when two holdings conflict.
+-- Who holds what in the world, and when two holdings conflict. (That a process uses a resource only while it holds it is a premise about the
+-- world outside: no definition says it, and no guard can.)
 use Rattle.sl_run.specs.Worlds.{World}
 use Rattle.sl_trace.specs.Traces.{is_shared, same_place}
 use Rattle.sl_trace.specs.declared.effects.Grant.{Grant}

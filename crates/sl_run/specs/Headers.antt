@@ -1,5 +1,5 @@
 -- What a header is, whatever its lines look like.
-use Rattle.sl_area.specs.Layouts.{IsGeometry}
+use Rattle.sl_area.specs.AreaSizes.{IsGeometry}
 use Rattle.sl_run.specs.Worlds.{mebibyte}
 use Rattle.sl_run.specs.declared.header.Disk.{Disk}
 use Rattle.sl_run.specs.declared.header.FirstReading.{FirstReading}

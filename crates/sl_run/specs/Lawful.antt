@@ -1,6 +1,6 @@
 -- All that is asked of a daemon's trace.
-use Rattle.sl_area.specs.Layouts.{IsGeometry, Sizes, layout_with}
-use Rattle.sl_area.specs.Places.{is_base}
+use Rattle.sl_area.specs.AreaSizes.{IsGeometry, Sizes, layout_with}
+use Rattle.sl_area.specs.AreaLayout.{is_base}
 use Rattle.sl_run.specs.LawfulArea.{LawfulArea}
 use Rattle.sl_run.specs.LawfulBlock.{LawfulBlock}
 use Rattle.sl_run.specs.LawfulCalls.{LawfulCalls}
@@ -13,11 +13,11 @@ use Rattle.sl_run.specs.LawfulModes.{LawfulModes}
 use Rattle.sl_run.specs.LawfulParting.{LawfulParting}
 use Rattle.sl_run.specs.LawfulRecovery.{LawfulRecovery}
 use Rattle.sl_run.specs.LawfulValue.{LawfulValue}
-use Rattle.sl_run.specs.LawfulWatchdog.{LawfulWatchdog}
-use Rattle.sl_sector.specs.Spelling.{IsDigest}
+use Rattle.sl_run.specs.LawfulConnections.{LawfulWatchdog}
+use Rattle.sl_sector.specs.SectorLayouts.{IsDigest}
 use Rattle.sl_text.specs.Names.{is_name}
 use Rattle.sl_time.specs.Times.{IsTiming}
-use Rattle.sl_trace.specs.Commands.{IsCommand}
+use Rattle.sl_trace.specs.CommandForms.{IsCommand}
 use Rattle.sl_trace.specs.Traces.{EachEntry, IsTrace, Setting, Trace}
 use Rattle.sl_trace.specs.declared.command.Command.{Command}
 use Rattle.sl_trace.specs.declared.input.Given.{Given}

@@ -1,10 +1,11 @@
 -- When and where a session may write on a resource's area, and read its blocks.
-use Rattle.sl_area.specs.Layouts.{Layout}
-use Rattle.sl_area.specs.Places.{area_sectors, block_offset, block_sectors, leader_of, leader_offset, needs_again, pair_offset, request_offset, value_offset}
+use Rattle.sl_area.specs.AreaSizes.{Layout}
+use Rattle.sl_area.specs.AreaLayout.{area_sectors, block_offset, block_sectors, leader_of, leader_offset, pair_offset, request_offset, value_offset}
+use Rattle.sl_area.specs.Pairs.{needs_again}
 use Rattle.sl_run.specs.LawForms.{EachCall}
 use Rattle.sl_trace.specs.Leases.{blocks_bytes, is_again, is_block_read, is_leader_of, is_on, kind_of_step, leaders_given, lease_calls, lease_step, same_kind, spot_of_call}
 use Rattle.sl_sector.specs.declared.sector.Leader.{Leader}
-use Rattle.sl_sector.specs.Spelling.{is_first_turn}
+use Rattle.sl_sector.specs.SectorLayouts.{is_first_turn}
 use Rattle.sl_sector.specs.declared.sector.PairBlock.{PairBlock}
 use Rattle.sl_sector.specs.declared.sector.Rec.TheVariants.{BlockIs, DeltaIs, LeaderIs, PairIs, PairLeaderIs, RequestIs, ValueIs}
 use Rattle.sl_sector.specs.declared.sector.Rec.{Rec}

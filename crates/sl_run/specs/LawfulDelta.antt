@@ -1,18 +1,18 @@
 -- How a session may read and write its id's sector: watch, decide, claim, wait, verify, renew, free.
-use Rattle.sl_area.specs.Layouts.{record_in, sector_with}
-use Rattle.sl_area.specs.Places.{is_base}
+use Rattle.sl_area.specs.AreaSizes.{record_in, sector_with}
+use Rattle.sl_area.specs.AreaLayout.{is_base}
 use Rattle.sl_run.specs.LawForms.{EachCall, EachSession, newest_moves, older}
 use Rattle.sl_sector.specs.Bitmaps.{no_bits}
-use Rattle.sl_sector.specs.Spelling.{delta_in}
+use Rattle.sl_sector.specs.SectorLayouts.{delta_in}
 use Rattle.sl_sector.specs.declared.sector.DeltaRec.{DeltaRec}
 use Rattle.sl_sector.specs.declared.sector.DeltaState.TheVariants.{Claimed, Free, Live}
 use Rattle.sl_sector.specs.declared.sector.Rec.TheVariants.{DeltaIs}
-use Rattle.sl_trace.specs.Deltas.{claim_of, delta_of_session, delta_record, own_offset}
+use Rattle.sl_trace.specs.DeltaDecisions.{claim_of, delta_of_session, delta_record, own_offset}
 use Rattle.sl_trace.specs.Sessions.{calls_of, delta_written, generation_of, has_open_delta, holdings_of, is_delta_purpose, is_join_call, is_leaving, is_survey_purpose, join_call, joined_after, last_seq, open_calls_of, recovery_of, session_named, stage_of}
 use Rattle.sl_trace.specs.declared.session.Session.{Session}
 use Rattle.sl_trace.specs.declared.stage.Stage.TheVariants.{Deciding, Looking, Standing, Verifying, Waiting}
 use Rattle.sl_time.specs.Times.{dead, fail, join_max, take_over}
-use Rattle.sl_trace.specs.Connections.{is_registered, registers_with}
+use Rattle.sl_trace.specs.WatchdogConnections.{is_registered, registers_with}
 use Rattle.sl_trace.specs.Traces.{Answered, Setting, Submitted, Trace, gave, is_ok_answer, same_place}
 use Rattle.sl_trace.specs.declared.effects.Entry.{Entry}
 use Rattle.sl_trace.specs.declared.effects.JoinStep.TheVariants.{ClaimWrite, DecidingRead, FirstRead, FirstRenewal, VerifyRead, WatchRead}

@@ -1,5 +1,5 @@
 -- When a process may be granted a resource.
-use Rattle.sl_area.specs.Places.{is_base}
+use Rattle.sl_area.specs.AreaLayout.{is_base}
 use Rattle.sl_trace.specs.Leases.{freed, leader_written, lease_calls}
 use Rattle.sl_sector.specs.declared.sector.Leader.{Leader}
 use Rattle.sl_trace.specs.Sessions.{is_active, session_numbered}

@@ -6,7 +6,8 @@ use Rattle.sl_trace.specs.Sessions.{holders_of, is_joined, leaving_job, leaving_
 use Rattle.sl_trace.specs.declared.session.Begun.{Begun}
 use Rattle.sl_trace.specs.declared.session.Session.{Session}
 use Rattle.sl_trace.specs.EffectTexts.{is_ok_reply}
-use Rattle.sl_trace.specs.Traces.{Job, Setting, Trace, kill_program_of, last_reading, stands_for}
+use Rattle.sl_trace.specs.Traces.{Job, Setting, Trace, last_reading, stands_for}
+use Rattle.sl_trace.specs.KillPrograms.{kill_program_of}
 use Rattle.sl_trace.specs.declared.effects.Entry.{Entry}
 use Rattle.sl_trace.specs.declared.effects.Signal.TheVariants.{Kill, Term}
 use Rattle.sl_trace.specs.declared.effects.Signal.{Signal}

@@ -1,12 +1,12 @@
 -- When a session may write and read a resource's value, and what it may answer.
-use Rattle.sl_area.specs.Layouts.{record_in}
-use Rattle.sl_area.specs.Places.{value_offset}
+use Rattle.sl_area.specs.AreaSizes.{record_in}
+use Rattle.sl_area.specs.AreaLayout.{value_offset}
 use Rattle.sl_run.specs.LawfulArea.{is_area_work}
 use Rattle.sl_run.specs.LawfulLeader.{open_writes_on}
 use Rattle.sl_run.specs.LawForms.{EachCall, IsAnsweredAt}
 use Rattle.sl_trace.specs.Counts.{next_value_seq}
 use Rattle.sl_trace.specs.Leases.{exclusive_on, holdings_on, is_on, spot_of_call, value_written}
-use Rattle.sl_sector.specs.Spelling.{value_in}
+use Rattle.sl_sector.specs.SectorLayouts.{value_in}
 use Rattle.sl_sector.specs.declared.sector.ValueRec.{ValueRec}
 use Rattle.sl_trace.specs.Sessions.{calls_of, is_active, session_numbered}
 use Rattle.sl_trace.specs.declared.session.Session.{Session}

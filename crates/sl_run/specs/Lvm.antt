@@ -7,9 +7,9 @@ use Rattle.sl_run.specs.declared.turn.LvmIn.{LvmIn}
 use Rattle.sl_run.specs.declared.turn.LvmOut.TheVariants.{Ask, Quiet, Reply as LineReply}
 use Rattle.sl_run.specs.declared.turn.LvmOut.{LvmOut}
 use Rattle.sl_text.specs.Forms.{coloned, spaced}
-use Rattle.sl_trace.specs.Commands.{command_words}
+use Rattle.sl_trace.specs.CommandForms.{command_words}
 use Rattle.sl_trace.specs.EffectTexts.{is_ok_reply, mode_word, reply_text}
-use Rattle.sl_trace.specs.Limits.{most_processes}
+use Rattle.sl_trace.specs.CountLimits.{most_processes}
 use Rattle.sl_trace.specs.Traces.{is_shared}
 use Rattle.sl_trace.specs.declared.command.Command.TheVariants.{Acquire, AddLockspace, GetLvb, Release, RemLockspace, SetLvb}
 use Rattle.sl_trace.specs.declared.command.Command.{Command}

@@ -1,15 +1,16 @@
 -- An acquire that nothing stands in the way of: it is granted.
-use Rattle.sl_area.specs.Layouts.{record_in}
-use Rattle.sl_area.specs.Places.{leader_offset, leader_spelled, request_offset}
+use Rattle.sl_area.specs.AreaSizes.{record_in}
+use Rattle.sl_area.specs.AreaLayout.{leader_offset, leader_spelled, request_offset}
 use Rattle.sl_trace.specs.Ballots.{in_instance, next_mbal}
 use Rattle.sl_trace.specs.Counts.{held_here, limit_met, may_act}
 use Rattle.sl_trace.specs.Leases.{is_leader_of, is_on, known, open_on, owed, spot_of}
-use Rattle.sl_run.specs.Events.{happens, input_of, machine_of}
+use Rattle.sl_run.specs.EventChanges.{happens}
+use Rattle.sl_run.specs.Inputs.{input_of, machine_of}
 use Rattle.sl_run.specs.Runs.{Happening, world_after}
 use Rattle.sl_run.specs.Safety.{block_there, pair_there}
 use Rattle.sl_run.specs.Worlds.{Course, Daemon, Machine, World, content, is_open, is_write_course, machine_at, reading_now}
 use Rattle.sl_run.specs.declared.event.Event.TheVariants.{Crash, ExitOf, Reset}
-use Rattle.sl_sector.specs.Spelling.{request_in}
+use Rattle.sl_sector.specs.SectorLayouts.{request_in}
 use Rattle.sl_sector.specs.declared.sector.Block.{Block}
 use Rattle.sl_sector.specs.declared.sector.Leader.{Leader}
 use Rattle.sl_sector.specs.declared.sector.PairBlock.{PairBlock}

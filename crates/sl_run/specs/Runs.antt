@@ -1,5 +1,7 @@
 -- Runs: events, each with its effects, from the header's world on.
-use Rattle.sl_run.specs.Events.{happens, input_of, machine_of, may_happen, next_input, own_effects}
+use Rattle.sl_run.specs.EventChanges.{happens, next_input, own_effects}
+use Rattle.sl_run.specs.Inputs.{input_of, machine_of}
+use Rattle.sl_run.specs.Refusals.{may_happen}
 use Rattle.sl_run.specs.Worlds.{Daemon, World, daemons_on, machine_at}
 use Rattle.sl_run.specs.declared.event.Event.{Event}
 use Rattle.sl_trace.specs.Traces.{Setting, Trace, no_effects}

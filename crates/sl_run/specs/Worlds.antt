@@ -1,7 +1,8 @@
 -- The world: the moment, the machines, and for each place what landed there, in order. Beside what an executed world needs it keeps
 -- the history that a proof asks for: when each thing happened, and all calls, landings and resets of the past.
-use Rattle.sl_area.specs.Layouts.{Layout, layout_of, layout_with, program_digest, sector_with}
-use Rattle.sl_area.specs.Places.{area_sectors, fresh_block_at, fresh_delta, fresh_leader, in_area, leader_record, no_request, no_value}
+use Rattle.sl_area.specs.AreaSizes.{Layout, layout_of, layout_with, program_digest, sector_with}
+use Rattle.sl_area.specs.AreaLayout.{area_sectors, in_area}
+use Rattle.sl_area.specs.AreaRecords.{fresh_block_at, fresh_delta, fresh_leader, leader_record, no_request, no_value}
 use Rattle.sl_run.specs.Locks.{Locks, fresh_locks}
 use Rattle.sl_run.specs.declared.event.Refusal.{Refusal}
 use Rattle.sl_run.specs.declared.header.Header.{Header}
@@ -14,8 +15,8 @@ use Rattle.sl_sector.specs.declared.sector.Rec.TheVariants.{DeltaIs, RequestIs, 
 use Rattle.sl_sector.specs.declared.sector.Rec.{Rec}
 use Rattle.sl_text.specs.Forms.{Form}
 use Rattle.sl_time.specs.Times.{reading_of}
-use Rattle.sl_trace.specs.Commands.{command_in, forms}
-use Rattle.sl_trace.specs.Connections.{Connection, given_connection}
+use Rattle.sl_trace.specs.CommandForms.{command_in, forms}
+use Rattle.sl_trace.specs.WatchdogConnections.{Connection, given_connection}
 use Rattle.sl_trace.specs.Traces.{Setting, Trace, is_write, next_call, next_job, same_place}
 use Rattle.sl_trace.specs.declared.command.Command.{Command}
 use Rattle.sl_trace.specs.declared.effects.Call.{Call}

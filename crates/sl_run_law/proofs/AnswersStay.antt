@@ -1,6 +1,8 @@
 -- An answer once given stays.
 use Rattle.sl_words.proofs.Options.{none_is}
-use Rattle.sl_run.specs.Events.{change_call, fated, first_change, happens, if_running, input_at, input_of, machine_of, next_step, ok_input, sampled_more, sectors_left, take_step, take_steps, done_input, rest_sampled}
+use Rattle.sl_run.specs.EventChanges.{change_call, fated, first_change, happens, next_step, sampled_more, take_step, take_steps}
+use Rattle.sl_run.specs.Inputs.{if_running, input_at, input_of, machine_of, ok_input, done_input, rest_sampled}
+use Rattle.sl_run.specs.Refusals.{sectors_left}
 use Rattle.sl_run.specs.Runs.{Happening, world_after}
 use Rattle.sl_run.specs.Worlds.{Course, Dropped, Landed, Machine, Stamp, Torn, World, flight_of, is_open, is_of_running, machine_at, may_land, stamp_now}
 use Rattle.sl_run.specs.declared.event.Event.TheVariants.{AnswerCall, Crash, Do, DropWrite, ExitOf, GiveAsk, GiveCommand, GiveLvm, Land, Pass, Reset, Restart, Sample, SpawnedOf, StartDaemon, Tear, Test, WakeUp}

@@ -1,5 +1,5 @@
 -- The machines at moment 0.
-use Rattle.sl_area.specs.Layouts.{Layout, layout_with}
+use Rattle.sl_area.specs.AreaSizes.{Layout, layout_with}
 use Rattle.sl_words.proofs.Options.{not_some}
 use Rattle.sl_run.specs.Worlds.{Machine, Program, machine_at, machine_of_header, world_with}
 use Rattle.sl_run.specs.declared.header.Header.{Header}

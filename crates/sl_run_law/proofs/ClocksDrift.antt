@@ -1,5 +1,8 @@
 -- Clocks grow within the drift.
-use Rattle.sl_run.specs.Events.{after_step, drifts, event_tests, first_change, growth_of, happens, machine_of, may_happen, next_input, next_step, pass_tests, passed, take_step, take_steps}
+use Rattle.sl_run.specs.EventChanges.{after_step, first_change, happens, next_input, next_step, passed, take_step, take_steps}
+use Rattle.sl_run.specs.Premises.{drifts, growth_of, pass_tests}
+use Rattle.sl_run.specs.Refusals.{event_tests, may_happen}
+use Rattle.sl_run.specs.Inputs.{machine_of}
 use Rattle.sl_run.specs.Runs.{Happening, IsRun, world_after}
 use Rattle.sl_run.specs.Worlds.{Machine, Stamp, World, machine_at, stamp_now}
 use Rattle.sl_run.specs.declared.event.Event.TheVariants.{Pass}

@@ -1,5 +1,5 @@
 -- Lists of courses that go on.
-use Rattle.sl_run.specs.Events.{new_course}
+use Rattle.sl_run.specs.EventChanges.{new_course}
 use Rattle.sl_run.specs.Worlds.{Course, Stamp}
 use Rattle.sl_run_law.proofs.WorldsGoOn.{grown_again}
 use Rattle.sl_run_law.specs.CoursesGoOn.{Appended, ListGoes, Continues, Follow}

@@ -1,5 +1,7 @@
 -- Whatever happens, no call, no reset and no ended daemon of a machine is lost.
-use Rattle.sl_run.specs.Events.{after_crash, after_effects, after_step, change_call, close_answered, daemon_number, fated, first_change, happens, machine_of, next_input, next_step, sampled_more, sectors_left, take_step, take_steps}
+use Rattle.sl_run.specs.EventChanges.{after_crash, after_effects, after_step, change_call, close_answered, daemon_number, fated, first_change, happens, next_input, next_step, sampled_more, take_step, take_steps}
+use Rattle.sl_run.specs.Inputs.{machine_of}
+use Rattle.sl_run.specs.Refusals.{sectors_left}
 use Rattle.sl_run.specs.Runs.{Happening, world_after}
 use Rattle.sl_run.specs.Worlds.{Course, Daemon, Dropped, Fate, Landed, Machine, Stamp, Torn, World, stamp_now}
 use Rattle.sl_run.specs.declared.event.Event.{Event}

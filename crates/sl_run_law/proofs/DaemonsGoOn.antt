@@ -1,5 +1,7 @@
 -- Whatever happens, no daemon of a machine is lost.
-use Rattle.sl_run.specs.Events.{after_crash, after_effects, after_reset, after_restart, after_start, after_step, first_change, happens, machine_of, may_happen, next_input, next_step, take_step, take_steps, with_entry}
+use Rattle.sl_run.specs.EventChanges.{after_crash, after_effects, after_reset, after_restart, after_start, after_step, first_change, happens, next_input, next_step, take_step, take_steps, with_entry}
+use Rattle.sl_run.specs.Inputs.{machine_of}
+use Rattle.sl_run.specs.Refusals.{may_happen}
 use Rattle.sl_run.specs.Runs.{Happening, IsRun, world_after}
 use Rattle.sl_run.specs.Worlds.{Daemon, Machine, Stamp, World, daemons_on, reading_now, stamp_now}
 use Rattle.sl_run.specs.declared.event.Event.{Event}

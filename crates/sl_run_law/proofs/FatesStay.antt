@@ -1,5 +1,7 @@
 -- A fate changes only from in flight.
-use Rattle.sl_run.specs.Events.{change_call, fated, first_change, happens, machine_of, may_happen, next_input, next_step, sampled_more, sectors_left, take_step, take_steps}
+use Rattle.sl_run.specs.EventChanges.{change_call, fated, first_change, happens, next_input, next_step, sampled_more, take_step, take_steps}
+use Rattle.sl_run.specs.Inputs.{machine_of}
+use Rattle.sl_run.specs.Refusals.{may_happen, sectors_left}
 use Rattle.sl_run.specs.Runs.{Happening, IsRun, world_after}
 use Rattle.sl_run.specs.Worlds.{Course, Dropped, Fate, Landed, Machine, Torn, World, flight_of, is_in_flight, is_open, is_write_course, stamp_now}
 use Rattle.sl_run.specs.declared.event.Event.{Event}

@@ -1,5 +1,6 @@
 -- What it means that an event may happen.
-use Rattle.sl_run.specs.Events.{event_tests, is_placed, is_shaped, may_happen, on_flight, on_machine, spells_something, torn_bytes}
+use Rattle.sl_run.specs.Refusals.{event_tests, is_placed, is_shaped, may_happen, on_flight, on_machine}
+use Rattle.sl_run.specs.Premises.{spells_something, torn_bytes}
 use Rattle.sl_run.specs.Worlds.{Course, Machine, World, first_that, flight_of, is_in_flight, is_of_running, is_write_course, machine_at}
 use Rattle.sl_run.specs.declared.event.Event.TheVariants.{DropWrite, Land, Restart, StartDaemon, Tear}
 use Rattle.sl_run.specs.declared.event.Event.{Event}

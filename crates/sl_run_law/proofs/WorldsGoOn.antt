@@ -1,7 +1,10 @@
 -- What an event leaves of a world: a walk over all of them.
 use Rattle.sl_words.proofs.Lists.{set_length}
 use Rattle.sl_words.proofs.Numbers.{plus_zero}
-use Rattle.sl_run.specs.Events.{add_landing, after_crash, after_effects, after_pass, after_reset, after_restart, after_start, after_step, after_test, change_call, complete, fated, first_change, flight_at, happens, land_whole, next_input, next_step, passed, sampled_more, sectors_left, take_step, take_steps, torn_bytes, write_bytes, machine_of}
+use Rattle.sl_run.specs.EventChanges.{add_landing, after_crash, after_effects, after_pass, after_reset, after_restart, after_start, after_step, after_test, change_call, complete, fated, first_change, flight_at, happens, land_whole, next_input, next_step, passed, sampled_more, take_step, take_steps, write_bytes}
+use Rattle.sl_run.specs.Refusals.{sectors_left}
+use Rattle.sl_run.specs.Premises.{torn_bytes}
+use Rattle.sl_run.specs.Inputs.{machine_of}
 use Rattle.sl_run.specs.Runs.{Happening, world_after}
 use Rattle.sl_run.specs.Worlds.{Course, Dropped, Landed, Machine, Torn, World, change_machine, is_in_flight, is_write_course, machine_at, stamp_now}
 use Rattle.sl_run.specs.declared.event.Event.TheVariants.{AnswerCall, Crash, Do, DropWrite, ExitOf, GiveAsk, GiveCommand, GiveLvm, Land, Pass, Reset, Restart, Sample, SpawnedOf, StartDaemon, Tear, Test, WakeUp}

@@ -1,5 +1,5 @@
 -- How the answers of calls go on.
-use Rattle.sl_run.specs.Events.{happens}
+use Rattle.sl_run.specs.EventChanges.{happens}
 use Rattle.sl_run.specs.Runs.{Happening, world_after}
 use Rattle.sl_run.specs.Worlds.{Course, Stamp, World}
 use Rattle.sl_run.specs.declared.event.Event.{Event}

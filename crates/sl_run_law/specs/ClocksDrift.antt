@@ -1,5 +1,6 @@
 -- How the clocks go.
-use Rattle.sl_run.specs.Events.{happens, may_happen}
+use Rattle.sl_run.specs.EventChanges.{happens}
+use Rattle.sl_run.specs.Refusals.{may_happen}
 use Rattle.sl_run.specs.Runs.{Happening, IsRun, world_after}
 use Rattle.sl_run.specs.Worlds.{Machine, World}
 use Rattle.sl_run.specs.declared.event.Event.{Event}

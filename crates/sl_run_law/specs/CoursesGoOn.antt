@@ -1,5 +1,5 @@
 -- How the calls, the resets and the ended daemons of a machine go on.
-use Rattle.sl_run.specs.Events.{happens}
+use Rattle.sl_run.specs.EventChanges.{happens}
 use Rattle.sl_run.specs.Runs.{Happening, world_after}
 use Rattle.sl_run.specs.Worlds.{Course, Machine, World}
 use Rattle.sl_run.specs.declared.event.Event.{Event}

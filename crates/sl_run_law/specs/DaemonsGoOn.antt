@@ -1,5 +1,6 @@
 -- How the daemons of a machine go on.
-use Rattle.sl_run.specs.Events.{happens, may_happen}
+use Rattle.sl_run.specs.EventChanges.{happens}
+use Rattle.sl_run.specs.Refusals.{may_happen}
 use Rattle.sl_run.specs.Runs.{Happening, IsRun, world_after}
 use Rattle.sl_run.specs.Worlds.{Daemon, Machine, World, daemons_on}
 use Rattle.sl_run.specs.declared.event.Event.{Event}

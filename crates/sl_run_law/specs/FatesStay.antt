@@ -1,5 +1,6 @@
 -- How the fates of calls go on.
-use Rattle.sl_run.specs.Events.{happens, may_happen}
+use Rattle.sl_run.specs.EventChanges.{happens}
+use Rattle.sl_run.specs.Refusals.{may_happen}
 use Rattle.sl_run.specs.Runs.{Happening, IsRun, world_after}
 use Rattle.sl_run.specs.Worlds.{Course, Machine, World, is_in_flight, machine_at}
 use Rattle.sl_run.specs.declared.event.Event.{Event}

@@ -8,13 +8,13 @@ pub mod landing;
 pub mod leases;
 pub mod moment;
 pub mod place;
+pub mod premises;
 pub mod sample;
 pub mod sessions;
 pub mod watchdog;
 
 ghost use Rattle.sl_run_law.specs.AnswersStay.{AnswersStay, AnswersStayInRuns};
 ghost use Rattle.sl_run_law.specs.Beginnings.{BeginsCounted, BeginsNew};
-ghost use Rattle.sl_run_law.specs.ClocksDrift.{ClocksDrift, ClocksDriftInRuns};
 ghost use Rattle.sl_run_law.specs.CoursesGoOn.{MachinesGoOn, MachinesGoOnInRuns};
 ghost use Rattle.sl_run_law.specs.DaemonsGoOn.{DaemonsGoOn, DaemonsGoOnInRuns};
 ghost use Rattle.sl_run_law.specs.FatesStay.{FatesStay, FatesStayInRuns};
@@ -48,16 +48,6 @@ pub fn daemons_go_on()
 /// So it is along a run.
 pub fn daemons_go_on_in_runs()
     ensures { DaemonsGoOnInRuns }
-{}
-
-/// A clock grows within the drift of the time that passes.
-pub fn clocks_drift()
-    ensures { ClocksDrift }
-{}
-
-/// So it is along a run.
-pub fn clocks_drift_in_runs()
-    ensures { ClocksDriftInRuns }
 {}
 
 /// A fate changes only from in flight, where no two calls of a machine have one number.

@@ -2,13 +2,13 @@
 --
 -- Who ended a ballot on an area has written a block there, so it has joined for the resource there; and what ended in its trace has ended in
 -- the resource's history, where the ballots of an instance agree.
-use Rattle.sl_area.specs.Places.{is_base}
+use Rattle.sl_area.specs.AreaLayout.{is_base}
 use Rattle.sl_safety.proofs.Ballot.EndedAll.{ended_ballots_end}
 use Rattle.sl_safety.proofs.Ballot.EndedJoined.{enders_are_joined}
 use Rattle.sl_safety.specs.Ballot.Endings.{holder_as}
-use Rattle.sl_ballots.proofs.AgreementLaws.{agreement, one_winner}
-use Rattle.sl_ballots.specs.Ballots.{BallotEnded}
-use Rattle.sl_ballots.specs.History.{Owner as Holder}
+use Rattle.sl_ballot_law.proofs.AgreementLaws.{agreement, one_winner}
+use Rattle.sl_ballot_law.specs.Ballots.{BallotEnded}
+use Rattle.sl_ballot_law.specs.History.{Owner as Holder}
 use Rattle.sl_safety.proofs.Grant.ExclusivesAreKept.{came_at}
 use Rattle.sl_safety.specs.Grant.HistoryGrants.{ResourceAt}
 use Rattle.sl_trace.specs.Leases.{ended_ballots, lease_calls}

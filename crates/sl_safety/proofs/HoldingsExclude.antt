@@ -5,7 +5,7 @@
 use Rattle.sl_run_law.proofs.Front.RunsFromFronts.{fronts_are_lawful}
 use Rattle.sl_safety.proofs.Holding.Holders.{holdings_are_held, one_machine_agrees}
 use Rattle.sl_safety.specs.Holding.Holders.{HeldBy, RestsOn, orphaned}
-use Rattle.sl_ballots.proofs.Grantings.GrantsMeet.{none_shares_beside, one_is_kept}
+use Rattle.sl_ballot_law.proofs.Grantings.GrantsMeet.{none_shares_beside, one_is_kept}
 use Rattle.sl_run_law.proofs.Place.FoundInLists.{place_is}
 use Rattle.sl_words.proofs.Lists.{any_found}
 use Rattle.sl_safety.specs.Resources.HistoryLaws.{history_of_line}

@@ -4,7 +4,7 @@
 -- a grant of its session.
 use Rattle.sl_safety.proofs.Grant.GrantLaws.{exclusives_are_kept, shared_are_shared}
 use Rattle.sl_safety.specs.Holding.Holders.{HeldBy}
-use Rattle.sl_ballots.specs.Grantings.Holdings.{ExclusiveGrant, IsGrantedExclusive, IsKept, IsSharedTo, SharedGrant}
+use Rattle.sl_ballot_law.specs.Grantings.Holdings.{ExclusiveGrant, IsGrantedExclusive, IsKept, IsSharedTo, SharedGrant}
 use Rattle.sl_id_safety.proofs.State.CallLaws.{is_place}
 use Rattle.sl_id_safety.proofs.Steps.RenewalCalls.{contains_filtered}
 use Rattle.sl_trace.specs.Leases.{has_shared_on, holdings_on}

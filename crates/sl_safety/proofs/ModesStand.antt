@@ -2,14 +2,14 @@
 --
 -- Who begins an instance above that of a shared holding does so after the holder's mark was answered: so wherever a front has the one, the
 -- mark stands there too, or a block that was sent later and tells the same.
-use Rattle.sl_ballots.specs.History.{History}
+use Rattle.sl_ballot_law.specs.History.{History}
 use Rattle.sl_run_law.proofs.Course.MachinesMirror.{machines_mirror}
 use Rattle.sl_run_law.specs.Course.CallStamps.{stamp_in}
 use Rattle.sl_run_law.proofs.Front.RunsFromFronts.{fronts_are_lawful}
 use Rattle.sl_safety.proofs.Grant.CallsOfWorlds.{IsFront, IsTold, OfLease, entry_past, of_lease, told, told_made, told_on, told_wrote}
 use Rattle.sl_safety.proofs.Grant.GrantLaws.{shared_are_under}
 use Rattle.sl_safety.specs.Grant.HistoryGrants.{SharedThere}
-use Rattle.sl_ballots.proofs.Grantings.GrantsMeet.{marks_come}
+use Rattle.sl_ballot_law.proofs.Grantings.GrantsMeet.{marks_come}
 use Rattle.sl_id_safety.proofs.OverIsQuiet.{GoesOn, goes_on}
 use Rattle.sl_id_safety.proofs.State.LaterFrames.{found_later}
 use Rattle.sl_trace.specs.Leases.{Phase1_write, block_written, is_at, is_on, lease_calls}
@@ -17,11 +17,10 @@ use Rattle.sl_run_law.proofs.Moment.MomentsFollowSteps.{kept_past}
 use Rattle.sl_run_law.proofs.Moment.Stamps.{answer_is_stamp}
 use Rattle.sl_run_law.specs.Moment.MomentsFollowSteps.{Of_stamp}
 use Rattle.sl_words.proofs.Lists.{any_found}
-use Rattle.sl_safety.proofs.Resources.Calls.{sent_there}
+use Rattle.sl_safety.proofs.Resources.Calls.{sent_there, holder_is}
 use Rattle.sl_safety.proofs.Resources.StepsNameCalls.{block_at_step}
 use Rattle.sl_safety.proofs.Resources.WritesHaveBases.{writes_at}
 use Rattle.sl_safety.proofs.Resources.BlockOrigins.{block_of_step}
-use Rattle.sl_safety.proofs.Resources.Calls.{holder_is}
 use Rattle.sl_safety.specs.Resources.Histories.{is_host}
 use Rattle.sl_safety.specs.Resources.HistoryLaws.{history_of_line, spot_of_line}
 use Rattle.sl_safety.specs.Resources.SentCalls.{Sent, all_sent, block_of_course, step_of}

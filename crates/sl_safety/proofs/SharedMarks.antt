@@ -2,10 +2,10 @@
 --
 -- The holder's mark was answered ok: so what its host's block spells was submitted no earlier, and from the mark on all blocks of the host
 -- are marks of the holder.
-use Rattle.sl_ballots.specs.History.{History}
-use Rattle.sl_ballots.specs.Theorems.{IsMark}
-use Rattle.sl_ballots.proofs.Grantings.GrantsMeet.{marks_last}
-use Rattle.sl_ballots.specs.Grantings.Holdings.{IsSharedTo, SharedGrant}
+use Rattle.sl_ballot_law.specs.History.{History}
+use Rattle.sl_ballot_law.specs.Theorems.{IsMark}
+use Rattle.sl_ballot_law.proofs.Grantings.GrantsMeet.{marks_last}
+use Rattle.sl_ballot_law.specs.Grantings.Holdings.{IsSharedTo, SharedGrant}
 use Rattle.sl_run_law.proofs.Landing.CallsMadeBefore.{run_made_before}
 use Rattle.sl_safety.proofs.Resources.Calls.{sent_there}
 use Rattle.sl_safety.proofs.Resources.WritesHaveBases.{writer_is}

@@ -4,7 +4,7 @@ use Rattle.sl_safety.proofs.Holding.Places.{is_place, place_is}
 use Rattle.sl_run.specs.LockNames.{group_path}
 use Rattle.sl_words.proofs.Lists.{any_of, contains_first, contains_map, contains_more}
 use Rattle.sl_run.specs.Conflicts.{Holding, IsExclusive, conflicts, world_holdings}
-use Rattle.sl_run.specs.HeldOverTime.{VolumesAreExclusive}
+use Rattle.sl_run.specs.Volumes.{VolumesAreExclusive}
 use Rattle.sl_run.specs.Safety.{Safety, world_at}
 use Rattle.sl_run.specs.Worlds.{Machine, World, machine_at}
 use Rattle.sl_safety.specs.Volumes.{VolumesExclude}

@@ -1,6 +1,6 @@
 -- The history of each resource of a lawful run keeps all rules of the argument over ballots.
-use Rattle.sl_ballots.specs.Ballots.{IsLawful}
-use Rattle.sl_ballots.specs.Instances.{KeepsInstances}
+use Rattle.sl_ballot_law.specs.Ballots.{IsLawful}
+use Rattle.sl_ballot_law.specs.Instances.{KeepsInstances}
 use Rattle.sl_safety.specs.Sessions.SessionLaws.{OfHistories}
 
 abbrev pub HistoriesAreLawful : Type 0

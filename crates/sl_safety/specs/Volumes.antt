@@ -1,5 +1,5 @@
 -- What safety says of logical volumes: the lock of a volume is a resource, and it is active where its lock is held.
-use Rattle.sl_run.specs.HeldOverTime.{VolumesAreExclusive}
+use Rattle.sl_run.specs.Volumes.{VolumesAreExclusive}
 use Rattle.sl_run.specs.Runs.{AfterEachFront, Happening}
 use Rattle.sl_run.specs.Safety.{LawfulRun, world_at}
 use Rattle.sl_run.specs.Worlds.{Program}

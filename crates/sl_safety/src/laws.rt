@@ -7,9 +7,9 @@ pub mod ballot;
 pub mod grant;
 pub mod holding;
 pub mod host_pairs;
+pub mod pairs_have_blocks;
 pub mod resources;
 pub mod sessions;
-pub mod torn_pairs;
 pub mod value;
 
 ghost use Rattle.sl_run.specs.Safety.{Invariants, Safety};

@@ -1,7 +1,8 @@
 -- The events whose lines may have more words or fewer, read as their two forms say; and all forms by halves.
 use Rattle.sl_report.specs.Languages.{whole_language}
 use Rattle.sl_report.specs.ReadLines.{command_event, event_in, given_text}
-use Rattle.sl_report.specs.ScheduleLines.{checked_event, event_forms, is_positive_word}
+use Rattle.sl_report.specs.EventLines.{checked_event, event_forms}
+use Rattle.sl_report.specs.HeaderLines.{is_positive_word}
 use Rattle.sl_run.specs.declared.event.Event.TheVariants.{Pass, Tear}
 use Rattle.sl_run.specs.declared.event.Event.{Event}
 use Rattle.sl_schedule.proofs.ReadLaws.{made_as_read}

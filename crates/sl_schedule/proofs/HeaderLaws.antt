@@ -1,8 +1,9 @@
 -- What is kept of a header's lines stands for them: their counts, their header, and one more line.
-use Rattle.sl_area.specs.Layouts.{Sizes, most_ids, roomy}
+use Rattle.sl_area.specs.AreaSizes.{Sizes, most_ids, roomy}
 use Rattle.sl_report.specs.Languages.{is_skipped, least_lines, most_lines, whole_language}
 use Rattle.sl_report.specs.ReadLines.{header_line_in, header_refusal, is_in_order}
-use Rattle.sl_report.specs.ScheduleLines.{AreaLine, BeginLine, ClockLine, DiskLine, GeometryLine, HeaderLine, HostsLine, IdsLine, LeaseLine, LvmLine, MemberLine, TimeLine, VersionLine, area_line, clock_line, count_of_rank, disk_line, geometry_line, header_of, header_tests, hosts_line, ids_line, lease_line, member_line, no_timing, rank, retries_line, timing_line, version_line}
+use Rattle.sl_report.specs.HeaderLines.{AreaLine, BeginLine, ClockLine, DiskLine, GeometryLine, HeaderLine, HostsLine, IdsLine, LeaseLine, LvmLine, MemberLine, TimeLine, VersionLine, area_line, clock_line, count_of_rank, disk_line, geometry_line, header_of, hosts_line, ids_line, lease_line, member_line, no_timing, rank, retries_line, timing_line, version_line}
+use Rattle.sl_report.specs.HeaderRefusals.{header_tests}
 use Rattle.sl_report.specs.Schedules.{default_area, default_sector, header_line_refusal, is_begin, with_line}
 use Rattle.sl_run.specs.Worlds.{first_that, mebibyte}
 use Rattle.sl_run.specs.declared.event.Refusal.TheVariants.{LimitGeometry, LimitIds, Syntax}
@@ -10,7 +11,7 @@ use Rattle.sl_run.specs.declared.event.Refusal.{Refusal}
 use Rattle.sl_run.specs.declared.header.Header.{Header}
 use Rattle.sl_schedule.proofs.SizeLaws.{none_yet, sizes_taken, some_hosts, some_told}
 use Rattle.sl_schedule.specs.declared.header.Added.TheVariants.{Begun, More, Refused}
-use Rattle.sl_schedule.specs.Headers.{ArePossible, HeaderSoFar, HostsAreFew, IsPossible, IsWithin, Stands, answer_after, answer_now, answer_to, bytes_of, count_at, default_sizes, has_least, has_room, header_now, is_in_place, kept_after, lines_after, no_lines, refusal_now, sizes_now, sizes_of, so_far_after, so_far_with}
+use Rattle.sl_schedule.specs.HeadersSoFar.{ArePossible, HeaderSoFar, HostsAreFew, IsPossible, IsWithin, Stands, answer_after, answer_now, answer_to, bytes_of, count_at, default_sizes, has_least, has_room, header_now, is_in_place, kept_after, lines_after, no_lines, refusal_now, sizes_now, sizes_of, so_far_after, so_far_with}
 use Rattle.sl_words.proofs.CaseLaws.{true_or_false}
 use Rattle.sl_words.proofs.WordLaws.{and_true}
 use Rattle.sl_words.specs.Words.{first_of_list, some_is}

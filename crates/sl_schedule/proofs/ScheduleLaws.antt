@@ -1,11 +1,11 @@
 -- Reading a header, one line at a time.
 use Rattle.sl_report.specs.Languages.{is_skipped, whole_language}
 use Rattle.sl_report.specs.ReadLines.{header_line_in}
-use Rattle.sl_report.specs.ScheduleLines.{HeaderLine, header_of}
+use Rattle.sl_report.specs.HeaderLines.{HeaderLine, header_of}
 use Rattle.sl_report.specs.Schedules.{HeaderReading, Header_read, Header_refused, NumberedLine, default_area, default_sector, header_line_refusal, is_begin, line_refusal, read_header, with_line}
 use Rattle.sl_run.specs.declared.event.Refusal.{Refusal}
 use Rattle.sl_run.specs.declared.header.Header.{Header}
-use Rattle.sl_schedule.specs.Headers.{answer_after, lines_after}
+use Rattle.sl_schedule.specs.HeadersSoFar.{answer_after, lines_after}
 use Rattle.sl_schedule.specs.declared.header.Added.TheVariants.{Begun, More, Refused}
 use Rattle.sl_schedule.specs.declared.header.Added.{Added}
 use Rattle.sl_words.proofs.ListLaws.{first_and_others}

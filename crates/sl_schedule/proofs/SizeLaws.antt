@@ -1,10 +1,10 @@
 -- Sizes of areas in a header: the rows of their table, as a line names them, and the sizes that a line makes which no test refuses.
-use Rattle.sl_area.specs.Layouts.{IsGeometry, Sizes, geometries, is_geometry, most_ids, roomy}
+use Rattle.sl_area.specs.AreaSizes.{IsGeometry, Sizes, geometries, is_geometry, most_ids, roomy}
 use Rattle.sl_area.specs.declared.geometry.BadGeometry.{BadGeometry}
 use Rattle.sl_run.specs.Worlds.{first_that, mebibyte}
 use Rattle.sl_run.specs.declared.event.Refusal.TheVariants.{LimitGeometry, LimitIds}
 use Rattle.sl_run.specs.declared.event.Refusal.{Refusal}
-use Rattle.sl_schedule.specs.Headers.{HostsAreFew, row_for, sizes_of}
+use Rattle.sl_schedule.specs.HeadersSoFar.{HostsAreFew, row_for, sizes_of}
 use Rattle.sl_words.specs.Words.{choose, some_is}
 use Rattle.std.proofs.Common.{Bool, Err, List, None, Ok, Option, Result, Some, [], ap, arith, cond, eqb, false, length, refl, sym, true, ℕ, ◌*◌, ◌&&◌, ◌∙◌, ◌∷◌, ◌≡◌, ◌≤◌, ◌||◌}
 use Rattle.std.proofs.lemmas.Bool.Decides.{Decides-eqb, nat_tests}

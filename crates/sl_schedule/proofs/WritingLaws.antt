@@ -1,6 +1,6 @@
 -- The last line of a report is what is written count by count.
 use Rattle.sl_report.specs.Reports.{Counts, end_line}
-use Rattle.sl_schedule.specs.ReportCounts.{count_text}
+use Rattle.sl_schedule.specs.CountTexts.{count_text}
 use Rattle.sl_text.specs.Forms.{as_bytes, spaced}
 use Rattle.std.proofs.Common.{List, [], ap, codes, sym, ℕ, ◌++◌, ◌∙◌, ◌∷◌, ◌≡◌}
 use Rattle.std.proofs.lemmas.List.{append-nil, append_assoc}

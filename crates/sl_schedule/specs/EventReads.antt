@@ -1,6 +1,6 @@
 -- Events, read part by part: those whose line may have more words or fewer, and the two halves of the forms.
 use Rattle.sl_report.specs.ReadLines.{given_text}
-use Rattle.sl_report.specs.ScheduleLines.{event_forms}
+use Rattle.sl_report.specs.EventLines.{event_forms}
 use Rattle.sl_run.specs.declared.event.Event.TheVariants.{GiveCommand, Pass, Tear}
 use Rattle.sl_run.specs.declared.event.Event.{Event}
 use Rattle.sl_schedule.specs.Reads.{kept_part, machine_part, number_part}

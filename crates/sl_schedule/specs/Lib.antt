@@ -1,6 +1,6 @@
-pub mod ReportCounts
+pub mod CountTexts
 pub mod Lines
 pub mod Reads
 pub mod EventReads
 pub mod HeaderReads
-pub mod Headers
+pub mod HeadersSoFar

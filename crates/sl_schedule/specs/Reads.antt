@@ -1,10 +1,11 @@
 -- Lines that are read word by word: the parts of events and of header lines, and readers of one, two or three of them.
-use Rattle.sl_report.specs.ScheduleLines.{is_ok_word, is_positive_word, is_version_word}
+use Rattle.sl_report.specs.EventLines.{is_ok_word}
+use Rattle.sl_report.specs.HeaderLines.{is_positive_word, is_version_word}
 use Rattle.sl_text.specs.Forms.{exactly}
 use Rattle.sl_text.specs.Names.{is_name, is_path}
 use Rattle.sl_text.specs.Numbers.{capped_long, capped_short, is_number_text, is_number_that, number_of}
 use Rattle.sl_text.specs.Walks.{Part, Unread, at_end, next_part, past_word}
-use Rattle.sl_trace.specs.Commands.{is_process_word}
+use Rattle.sl_trace.specs.CommandForms.{is_process_word}
 use Rattle.sl_words.specs.Results.{◌>>=◌}
 use Rattle.std.specs.Int.{is_in_range}
 use Rattle.std.specs.Prelude.{Bool, List, Ok, Result, bytes_eq, codes, nat_le, nat_lt, ℕ, ◌%◌, ◌==◌, ◌^◌}

@@ -6,7 +6,7 @@
 
 ghost use Rattle.sl_report.specs.Languages.{whole_language};
 ghost use Rattle.sl_report.specs.ReadLines.{command_event, event_in};
-ghost use Rattle.sl_report.specs.ScheduleLines as lines;
+ghost use Rattle.sl_report.specs.EventLines as event_lines;
 ghost use Rattle.sl_schedule.specs.EventReads as forms;
 ghost use Rattle.sl_schedule.specs.Reads as reads;
 ghost use Rattle.sl_text.specs.Forms.{made_by, words_of};
@@ -317,7 +317,7 @@ fn read_form(
     sector: u32,
     line: &[u8],
 ) -> Result<Option<Event>, AllocError>
-    ensures { IfOk result (λ event. event ≡ made_by (lines.event_forms machines sector) (words_of line.now)) }
+    ensures { IfOk result (λ event. event ≡ made_by (event_lines.event_forms machines sector) (words_of line.now)) }
 {
     match read_early(alloc, machines, sector, line)? {
         Some(event) => Ok(Some(event)),
@@ -353,7 +353,7 @@ fn read_command(alloc: Global, words: &mut Words) -> Result<Option<Event>, Alloc
 
 /// Whether a torn write leaves no more bytes than a sector has.
 fn is_event(sector: u32, event: &Event) -> bool
-    ensures { result ≡ lines.is_event sector event.now }
+    ensures { result ≡ event_lines.is_event sector event.now }
 {
     match event {
         Event::Tear { kept, bytes, .. } => {
@@ -365,7 +365,7 @@ fn is_event(sector: u32, event: &Event) -> bool
 
 /// The event, if its numbers go together.
 fn checked_event(sector: u32, event: Option<Event>) -> Option<Event>
-    ensures { result ≡ lines.checked_event sector event }
+    ensures { result ≡ event_lines.checked_event sector event }
 {
     let event = event?;
     if is_event(sector, &event) {

@@ -7,22 +7,23 @@
 //! a header could begin that no run has.
 
 ghost use Rattle.sl_report.specs.Languages.{is_skipped, least_lines, most_lines};
-ghost use Rattle.sl_report.specs.ScheduleLines.{HeaderLine as Spelled, header_tests, is_taken_place, rank, ClockLine, DiskLine, AreaLine, GeometryLine, IdsLine, LeaseLine, MemberLine};
+ghost use Rattle.sl_report.specs.HeaderLines.{HeaderLine as Spelled, rank, ClockLine, DiskLine, AreaLine, GeometryLine, IdsLine, LeaseLine, MemberLine};
+ghost use Rattle.sl_report.specs.HeaderRefusals.{header_tests, is_taken_place};
 ghost use Rattle.sl_report.specs.Schedules.{is_begin};
 ghost use Rattle.sl_run.specs.Worlds.{first_that};
 ghost use Rattle.sl_schedule.specs.HeaderReads.{header_seen, HasHosts};
-ghost use Rattle.sl_schedule.specs.Headers as headers;
+ghost use Rattle.sl_schedule.specs.HeadersSoFar as headers;
 ghost use Rattle.sl_time.specs.Times.{IsTiming};
 ghost use Rattle.std.specs.List.{list_all, list_any, range_with_len};
 ghost use Rattle.std.specs.Option.{option_to_list};
 ghost use Rattle.std.specs.Prelude.{bytes_eq, length, unwrap_or, IfNone, IfOk, IfSome, IsSome, List, OnErr, OnOk, Some, [], ◌<◌, ◌==◌, ◌&&◌, ◌||◌, ◌≡◌, ◌≤◌};
 
+use crate::area_sizes::{AREA, area_of, roomy, row_of, sizes_of, sizes_or};
 use crate::header_line::{AreaSizes, HeaderLine, Times, header_line};
 use crate::header_refusals::{
     has_clock, has_disk, has_resource, is_excluded, is_known, is_name_taken, is_on_disk, is_taken,
     times_refusal,
 };
-use crate::sizes::{AREA, area_of, roomy, row_of, sizes_of, sizes_or};
 use sl_area::Geometry;
 use sl_run::{Disk, FirstReading, Header, LockspaceLine, Refusal, ResourceLine, SessionLine};
 use sl_text::{FilePath, Seq};
@@ -64,7 +65,7 @@ pub struct HeaderReader {
 }
 
 impl Model for HeaderReader {
-    ghost use Rattle.sl_schedule.specs.Headers.{ArePossible, HeaderSoFar, times_seen};
+    ghost use Rattle.sl_schedule.specs.HeadersSoFar.{ArePossible, HeaderSoFar, times_seen};
     ghost use Rattle.std.specs.Option.{option_map};
 
     ghost Value = { HeaderSoFar };
@@ -278,7 +279,7 @@ impl HeaderReader {
     }
 
     /// Why a number of hosts may not be.
-    #[tactic(auto, unfolding(sl_report::specs::ScheduleLines::header_tests))]
+    #[tactic(auto, unfolding(sl_report::specs::HeaderRefusals::header_tests))]
     fn hosts_refusal(&self, hosts: u64) -> Option<Refusal>
         ensures exact { result ≡ first_that (header_tests (headers.header_now self.now) (IdsLine hosts)) }
         ensures few { IfNone result (1 ≤ hosts → IsSome self.now.version → headers.HostsAreFew self.now.version hosts) }
@@ -290,7 +291,7 @@ impl HeaderReader {
     }
 
     /// Why sizes of areas may not be.
-    #[tactic(auto, unfolding(sl_report::specs::ScheduleLines::header_tests))]
+    #[tactic(auto, unfolding(sl_report::specs::HeaderRefusals::header_tests))]
     fn areas_refusal(&self, areas: &AreaSizes) -> Option<Refusal>
         ensures { result ≡ first_that (header_tests (headers.header_now self.now) (GeometryLine areas.now.sector areas.now.mebibytes)) }
     {
@@ -311,7 +312,7 @@ impl HeaderReader {
     }
 
     /// Why a clock line may not stand here.
-    #[tactic(auto, unfolding(sl_report::specs::ScheduleLines::header_tests))]
+    #[tactic(auto, unfolding(sl_report::specs::HeaderRefusals::header_tests))]
     fn clock_refusal(&self, clock: &FirstReading) -> Option<Refusal>
         ensures { result ≡ first_that (header_tests (headers.header_now self.now) (ClockLine clock.now)) }
     {
@@ -325,7 +326,7 @@ impl HeaderReader {
     }
 
     /// Why a disk line may not stand here.
-    #[tactic(auto, unfolding(sl_report::specs::ScheduleLines::header_tests))]
+    #[tactic(auto, unfolding(sl_report::specs::HeaderRefusals::header_tests))]
     fn disk_refusal(&self, disk: &Disk) -> Option<Refusal>
         ensures { result ≡ first_that (header_tests (headers.header_now self.now) (DiskLine disk.now)) }
     {
@@ -336,7 +337,7 @@ impl HeaderReader {
     }
 
     /// Why a lockspace line may not stand here.
-    #[tactic(auto, unfolding(sl_report::specs::ScheduleLines::header_tests))]
+    #[tactic(auto, unfolding(sl_report::specs::HeaderRefusals::header_tests))]
     fn lockspace_refusal(&self, line: &LockspaceLine) -> Option<Refusal>
         ensures { result ≡ first_that (header_tests (headers.header_now self.now) (AreaLine line.now)) }
     {
@@ -358,7 +359,7 @@ impl HeaderReader {
     }
 
     /// Why a resource line may not stand here.
-    #[tactic(auto, unfolding(sl_report::specs::ScheduleLines::header_tests))]
+    #[tactic(auto, unfolding(sl_report::specs::HeaderRefusals::header_tests))]
     fn resource_refusal(&self, line: &ResourceLine) -> Option<Refusal>
         ensures { result ≡ first_that (header_tests (headers.header_now self.now) (LeaseLine line.now)) }
     {
@@ -375,7 +376,7 @@ impl HeaderReader {
     }
 
     /// Why a session line may not stand here.
-    #[tactic(auto, unfolding(sl_report::specs::ScheduleLines::header_tests))]
+    #[tactic(auto, unfolding(sl_report::specs::HeaderRefusals::header_tests))]
     fn session_refusal(&self, line: &SessionLine) -> Option<Refusal>
         ensures { result ≡ first_that (header_tests (headers.header_now self.now) (MemberLine line.now)) }
     {
@@ -398,7 +399,7 @@ impl HeaderReader {
     }
 
     /// Why what a line says is refused, wherever it stands.
-    #[tactic(auto, unfolding(sl_report::specs::ScheduleLines::header_tests))]
+    #[tactic(auto, unfolding(sl_report::specs::HeaderRefusals::header_tests))]
     fn value_refusal(&self, line: &HeaderLine) -> Option<Refusal>
         requires { HasHosts (header_seen line.now) }
         ensures exact { result ≡ first_that (header_tests (headers.header_now self.now) (header_seen line.now)) }

@@ -2,7 +2,7 @@
 
 ghost use Rattle.sl_report.specs.Languages.{whole_language};
 ghost use Rattle.sl_report.specs.ReadLines.{header_line_in};
-ghost use Rattle.sl_report.specs.ScheduleLines as lines;
+ghost use Rattle.sl_report.specs.HeaderLines as header_lines;
 ghost use Rattle.sl_schedule.specs.HeaderReads.{header_seen, result_seen, HasHosts};
 ghost use Rattle.sl_schedule.specs.Reads as reads;
 ghost use Rattle.sl_text.specs.Walks.{five_read, four_read, read_each};
@@ -53,7 +53,7 @@ pub enum HeaderLine {
 /// `sanlock 1`, or `sanlock 2` where areas have pairs.
 fn read_version(words: &mut Words) -> Result<HeaderLine, usize>
     ensures hosts { IfOk result (λ l. HasHosts (header_seen l)) }
-    ensures exact { result_seen result ≡ reads.one_read reads.version_part lines.VersionLine words.old }
+    ensures exact { result_seen result ≡ reads.one_read reads.version_part header_lines.VersionLine words.old }
 {
     let paired = next_version(words)?;
     words.finish()?;
@@ -64,7 +64,7 @@ fn read_version(words: &mut Words) -> Result<HeaderLine, usize>
 fn read_times(words: &mut Words) -> Result<HeaderLine, usize>
     ensures hosts { IfOk result (λ l. HasHosts (header_seen l)) }
     ensures exact { result_seen result
-        ≡ five_read reads.number_part reads.number_part reads.number_part reads.number_part reads.number_part lines.TimeLine words.old }
+        ≡ five_read reads.number_part reads.number_part reads.number_part reads.number_part reads.number_part header_lines.TimeLine words.old }
 {
     let io = words.number()?;
     let fire = words.number()?;
@@ -84,7 +84,7 @@ fn read_times(words: &mut Words) -> Result<HeaderLine, usize>
 /// `hosts M`: the number of machines.
 fn read_machines(words: &mut Words) -> Result<HeaderLine, usize>
     ensures hosts { IfOk result (λ l. HasHosts (header_seen l)) }
-    ensures exact { result_seen result ≡ reads.one_read (reads.within_part 1 16) lines.HostsLine words.old }
+    ensures exact { result_seen result ≡ reads.one_read (reads.within_part 1 16) header_lines.HostsLine words.old }
 {
     let machines = next_within(words, 1, 16)?;
     words.finish()?;
@@ -94,7 +94,7 @@ fn read_machines(words: &mut Words) -> Result<HeaderLine, usize>
 /// `ids N`: the number of host ids.
 fn read_hosts(words: &mut Words) -> Result<HeaderLine, usize>
     ensures hosts { IfOk result (λ l. HasHosts (header_seen l)) }
-    ensures exact { result_seen result ≡ reads.one_read reads.positive_part lines.IdsLine words.old }
+    ensures exact { result_seen result ≡ reads.one_read reads.positive_part header_lines.IdsLine words.old }
 {
     let hosts = next_positive(words)?;
     words.finish()?;
@@ -104,7 +104,7 @@ fn read_hosts(words: &mut Words) -> Result<HeaderLine, usize>
 /// `geometry SECTOR MEBIBYTES`: the bytes of a sector and the mebibytes of an area.
 fn read_areas(words: &mut Words) -> Result<HeaderLine, usize>
     ensures hosts { IfOk result (λ l. HasHosts (header_seen l)) }
-    ensures exact { result_seen result ≡ reads.two_read reads.number_part reads.number_part lines.GeometryLine words.old }
+    ensures exact { result_seen result ≡ reads.two_read reads.number_part reads.number_part header_lines.GeometryLine words.old }
 {
     let sector = words.number()?;
     let mebibytes = words.number()?;
@@ -115,7 +115,7 @@ fn read_areas(words: &mut Words) -> Result<HeaderLine, usize>
 /// `lvm N`: how often lvmlockd asks again.
 fn read_retries(words: &mut Words) -> Result<HeaderLine, usize>
     ensures hosts { IfOk result (λ l. HasHosts (header_seen l)) }
-    ensures exact { result_seen result ≡ reads.one_read (reads.kept_part 8) lines.LvmLine words.old }
+    ensures exact { result_seen result ≡ reads.one_read (reads.kept_part 8) header_lines.LvmLine words.old }
 {
     let retries = next_kept(words, 8)?;
     words.finish()?;
@@ -126,7 +126,7 @@ fn read_retries(words: &mut Words) -> Result<HeaderLine, usize>
 fn read_clock(words: &mut Words) -> Result<HeaderLine, usize>
     ensures hosts { IfOk result (λ l. HasHosts (header_seen l)) }
     ensures exact { result_seen result
-        ≡ reads.two_read reads.machine_part reads.reading_part (λ m r. lines.ClockLine (record { machine = m; reading = r })) words.old }
+        ≡ reads.two_read reads.machine_part reads.reading_part (λ m r. header_lines.ClockLine (record { machine = m; reading = r })) words.old }
 {
     let machine = words.positive_short_number()?;
     let reading = next_reading(words)?;
@@ -138,7 +138,7 @@ fn read_clock(words: &mut Words) -> Result<HeaderLine, usize>
 fn read_disk(words: &mut Words) -> Result<HeaderLine, usize>
     ensures hosts { IfOk result (λ l. HasHosts (header_seen l)) }
     ensures exact { result_seen result
-        ≡ reads.two_read reads.path_part (reads.within_part 1 64) (λ p m. lines.DiskLine (record { path = p; mebibytes = m })) words.old }
+        ≡ reads.two_read reads.path_part (reads.within_part 1 64) (λ p m. header_lines.DiskLine (record { path = p; mebibytes = m })) words.old }
 {
     let path = words.path()?;
     let mebibytes = words.number_within(1, 64)?;
@@ -152,7 +152,7 @@ fn read_lockspace(words: &mut Words, area: u64) -> Result<HeaderLine, usize>
     ensures hosts { IfOk result (λ l. HasHosts (header_seen l)) }
     ensures exact { result_seen result
         ≡ reads.three_read reads.name_part reads.path_part (reads.multiple_part area)
-        (λ n p o. lines.AreaLine (record { name = n; path = p; offset = o })) words.old }
+        (λ n p o. header_lines.AreaLine (record { name = n; path = p; offset = o })) words.old }
 {
     let name = words.name()?;
     let path = words.path()?;
@@ -167,7 +167,7 @@ fn read_resource(words: &mut Words, area: u64) -> Result<HeaderLine, usize>
     ensures hosts { IfOk result (λ l. HasHosts (header_seen l)) }
     ensures exact { result_seen result
         ≡ four_read reads.name_part reads.name_part reads.path_part (reads.multiple_part area)
-        (λ l n p o. lines.LeaseLine (record { lockspace = l; name = n; path = p; offset = o })) words.old }
+        (λ l n p o. header_lines.LeaseLine (record { lockspace = l; name = n; path = p; offset = o })) words.old }
 {
     let lockspace = words.name()?;
     let name = words.name()?;
@@ -187,7 +187,7 @@ fn read_session(words: &mut Words) -> Result<HeaderLine, usize>
     ensures hosts { IfOk result (λ l. HasHosts (header_seen l)) }
     ensures exact { result_seen result
         ≡ four_read reads.machine_part reads.name_part (reads.within_part 1 2000) reads.name_part
-        (λ m l i n. lines.MemberLine (record { machine = m; lockspace = l; id = i; name = n })) words.old }
+        (λ m l i n. header_lines.MemberLine (record { machine = m; lockspace = l; id = i; name = n })) words.old }
 {
     let machine = words.positive_short_number()?;
     let lockspace = words.name()?;
@@ -205,7 +205,7 @@ fn read_session(words: &mut Words) -> Result<HeaderLine, usize>
 /// `begin`.
 fn read_begin(words: &mut Words) -> Result<HeaderLine, usize>
     ensures hosts { IfOk result (λ l. HasHosts (header_seen l)) }
-    ensures exact { result_seen result ≡ read_each [] (λ _. lines.BeginLine) words.old }
+    ensures exact { result_seen result ≡ read_each [] (λ _. header_lines.BeginLine) words.old }
 {
     words.finish()?;
     Ok(HeaderLine::Begin)

@@ -1,9 +1,10 @@
 //! Why a line of a header may not stand after the lines before it: what it says is past its limit, or what it names is missing or taken.
 
-ghost use Rattle.sl_report.specs.ScheduleLines.{header_tests, is_on_disk, TimeLine};
+ghost use Rattle.sl_report.specs.HeaderRefusals.{header_tests, is_on_disk};
+ghost use Rattle.sl_report.specs.HeaderLines.{TimeLine};
 ghost use Rattle.sl_run.specs.Worlds.{first_that, mebibyte};
 ghost use Rattle.sl_run.specs.declared.header.Header.{Header as HeaderOf};
-ghost use Rattle.sl_schedule.specs.Headers.{times_seen};
+ghost use Rattle.sl_schedule.specs.HeadersSoFar.{times_seen};
 ghost use Rattle.sl_time.specs.Times.{IsTiming};
 ghost use Rattle.std.specs.List.{list_any};
 ghost use Rattle.std.specs.Prelude.{bytes_eq, nat_le, not, IfNone, ◌*◌, ◌+◌, ◌==◌, ◌&&◌, ◌||◌, ◌≡◌};
@@ -22,7 +23,7 @@ const MOST_DRIFT: u64 = 100;
 const MEBIBYTE: u64 = 1_048_576;
 
 /// Whether times are past their limits.
-#[tactic(auto, unfolding(sl_report::specs::ScheduleLines::header_tests))]
+#[tactic(auto, unfolding(sl_report::specs::HeaderRefusals::header_tests))]
 pub fn times_refusal(times: &Times) -> Option<Refusal>
     ensures exact { (h : HeaderOf) → result ≡ first_that (header_tests h (TimeLine times.now.io times.now.fire times.now.land times.now.rho times.now.grace)) }
     ensures possible { IfNone result (IsTiming (times_seen times.now).0) }

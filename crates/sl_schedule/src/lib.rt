@@ -10,6 +10,7 @@
 //! Nothing is kept between two calls but what the types here hold, and after want of memory each is as it was.
 #![tactic(auto)]
 
+mod area_sizes;
 mod events;
 mod header;
 pub mod header_line;
@@ -18,7 +19,6 @@ mod lines;
 mod parts;
 mod report_lines;
 mod schedule;
-mod sizes;
 
 pub use events::next_event;
 pub use header::{Added, HeaderReader, rank};

@@ -1,7 +1,8 @@
 //! The parts of events and of header lines: what a word must be, and what it stands for. Each reader passes the word where it fits; where
 //! it doesn't, the reader gives the word's column, and the line stays where it was.
 
-ghost use Rattle.sl_report.specs.ScheduleLines.{is_ok_word, is_version_word};
+ghost use Rattle.sl_report.specs.EventLines.{is_ok_word};
+ghost use Rattle.sl_report.specs.HeaderLines.{is_version_word};
 ghost use Rattle.sl_schedule.specs.Reads as reads;
 ghost use Rattle.sl_text.specs.Forms.{exactly};
 ghost use Rattle.sl_text.specs.Numbers.{capped_long, is_number_that};

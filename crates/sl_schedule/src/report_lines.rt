@@ -4,8 +4,8 @@
 //! end in half a line, since a reader would take it for another one.
 
 ghost use Rattle.sl_report.specs.Reports.{end_line, test_words};
-ghost use Rattle.sl_report.specs.ScheduleLines.{refusal_line, refusal_words};
-ghost use Rattle.sl_schedule.specs.ReportCounts.{count_text};
+ghost use Rattle.sl_report.specs.RefusalLines.{refusal_line, refusal_words};
+ghost use Rattle.sl_schedule.specs.CountTexts.{count_text};
 ghost use Rattle.sl_text.specs.Forms.{as_bytes, spaced};
 ghost use Rattle.sl_trace.specs.EffectTexts.{machine_line};
 ghost use Rattle.std.specs.Prelude.{codes, decimal, length, take, [], OnErr, OnOk, ◌++◌, ◌∷◌, ◌≡◌};

@@ -1,7 +1,7 @@
 //! Calls that a step makes, numbered on as they come.
 
 ghost use Rattle.sl_world_state.specs.Daemons.{IsSoundCall, IsSoundOp};
-ghost use Rattle.sl_run.specs.Events.{sectors_of};
+ghost use Rattle.sl_run.specs.Refusals.{sectors_of};
 ghost use Rattle.sl_script.specs.MadeSteps.{AreCalls};
 ghost use Rattle.std.specs.Prelude.{IfSome, [], ◌<◌, ◌^◌, ◌≡◌};
 

@@ -2,9 +2,9 @@
 use Rattle.sl_sector.proofs.ByteLaws.{IsBytes}
 use Rattle.sl_sector.proofs.FieldLaws.{Begins, length-magic, length-u32_bytes, length-u64_bytes, take-u32, take-u64, u32_before, u64_before}
 use Rattle.sl_sector.proofs.RuleLaws.{Hold, both_zero, both_zero_test, code_of_flag, false_with_zero, false_with_zero_test, fits_32, fits_64, flag_below, flag_fits, flag_is_zero, flag_of_code, flag_zero, in_range, in_range_test, number, under_held_rules, unless_zero, unless_zero_test}
-use Rattle.sl_sector.specs.Fields.{flag, u32_at, u64_at}
+use Rattle.sl_sector.specs.FieldBytes.{flag, u32_at, u64_at}
 use Rattle.sl_sector.specs.Records.{IsBlock}
-use Rattle.sl_sector.specs.Spelling.{as_record, block_fields, block_of, block_rules, field_bytes, fields_of, magic, under_rules}
+use Rattle.sl_sector.specs.SectorLayouts.{as_record, block_fields, block_of, block_rules, field_bytes, fields_of, magic, under_rules}
 use Rattle.sl_sector.specs.declared.sector.Block.{Block}
 use Rattle.sl_sector.specs.declared.sector.Rec.TheVariants.{BlockIs}
 use Rattle.sl_words.proofs.WordLaws.{and_true}

@@ -2,9 +2,9 @@
 use Rattle.sl_sector.proofs.ByteLaws.{IsBytes, IsBytes-drop, IsBytes-take, test_from_bytes, zeros_from_test}
 use Rattle.sl_sector.proofs.FieldLaws.{Begins, Begins-before, length-magic, length-name_bytes, length-no_name, length-u32_bytes, length-u64_bytes, length_part, name_before, no_name_before, take-name, take-no_name, take-u32, take-u64, u32_before, u64_before}
 use Rattle.sl_sector.proofs.RuleLaws.{Hold, fits_32, fits_64, in_range, in_range_test, number, positive, under_held_rules, unless_zero, unless_zero_test}
-use Rattle.sl_sector.specs.Fields.{delta_code, delta_state, is_host_field, name_at, name_bytes, u32_at, u64_at}
+use Rattle.sl_sector.specs.FieldBytes.{delta_code, delta_state, is_host_field, name_at, name_bytes, u32_at, u64_at}
 use Rattle.sl_sector.specs.Records.{IsDelta}
-use Rattle.sl_sector.specs.Spelling.{as_record, delta_of, delta_rules, field_bytes, fields_of, magic, under_rules}
+use Rattle.sl_sector.specs.SectorLayouts.{as_record, delta_of, delta_rules, field_bytes, fields_of, magic, under_rules}
 use Rattle.sl_sector.specs.declared.sector.DeltaRec.{DeltaRec}
 use Rattle.sl_sector.specs.declared.sector.DeltaState.TheVariants.{Claimed, Free, Live}
 use Rattle.sl_sector.specs.declared.sector.DeltaState.{DeltaState}

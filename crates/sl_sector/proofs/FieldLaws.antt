@@ -1,7 +1,7 @@
 -- Laws of fields: what stands at an offset is spelled by the bytes there, and what was spelled there is read again.
 use Rattle.sl_sector.proofs.ByteLaws.{IsBytes, IsBytes-drop, IsBytes-take, all_zero-replicate, length-padded_text, zeros_from_test}
-use Rattle.sl_sector.specs.Fields.{is_absent_name, is_name_field, name_at, name_bytes, name_field, name_len, u32_at, u32_bytes, u64_at, u64_bytes}
-use Rattle.sl_sector.specs.Spelling.{magic}
+use Rattle.sl_sector.specs.FieldBytes.{is_absent_name, is_name_field, name_at, name_bytes, name_field, name_len, u32_at, u32_bytes, u64_at, u64_bytes}
+use Rattle.sl_sector.specs.SectorLayouts.{magic}
 use Rattle.sl_text.specs.Names.{is_name, is_name_byte, padded_text}
 use Rattle.sl_words.proofs.WordLaws.{and_true}
 use Rattle.sl_words.specs.Words.{all_zero}

@@ -3,7 +3,7 @@ use Rattle.sha2.specs.Sha256.{sha256}
 use Rattle.sl_sector.proofs.PublicLaws.{spelled_is_read}
 use Rattle.sl_sector.proofs.SpellingLaws.{length-spelling}
 use Rattle.sl_sector.proofs.WrittenBytes.{sha256_is_digest, spelling_is_bytes}
-use Rattle.sl_sector.specs.Spelling.{Spells, decoded, spelling}
+use Rattle.sl_sector.specs.SectorLayouts.{Spells, decoded, spelling}
 use Rattle.sl_sector.specs.declared.sector.Bad.{Bad}
 use Rattle.sl_sector.specs.declared.sector.Rec.{Rec}
 use Rattle.sl_sector.specs.Images.{IsImage, IsSameFound, bytes_of, found_of, raw_of}

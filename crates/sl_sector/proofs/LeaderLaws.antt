@@ -2,9 +2,9 @@
 use Rattle.sl_sector.proofs.ByteLaws.{IsBytes}
 use Rattle.sl_sector.proofs.FieldLaws.{Begins, length-magic, length-name_bytes, length-u32_bytes, length-u64_bytes, name_before, take-name, take-u32, take-u64, u32_before, u64_before}
 use Rattle.sl_sector.proofs.RuleLaws.{Hold, fits_32, fits_64, flag_below, flag_fits, flag_is_zero, flag_zero, under_held_rules, both_zero, both_zero_test, in_range, in_range_test, number, unless_zero, unless_zero_test, flag_of_code, code_of_flag}
-use Rattle.sl_sector.specs.Fields.{flag, u32_at, u64_at}
+use Rattle.sl_sector.specs.FieldBytes.{flag, u32_at, u64_at}
 use Rattle.sl_sector.specs.Records.{IsLeader}
-use Rattle.sl_sector.specs.Spelling.{as_record, field_bytes, fields_of, leader_fields, leader_of, leader_rules, magic, under_rules}
+use Rattle.sl_sector.specs.SectorLayouts.{as_record, field_bytes, fields_of, leader_fields, leader_of, leader_rules, magic, under_rules}
 use Rattle.sl_sector.specs.declared.sector.Leader.{Leader}
 use Rattle.sl_sector.specs.declared.sector.Rec.TheVariants.{LeaderIs, PairLeaderIs}
 use Rattle.sl_words.proofs.WordLaws.{and_true}

@@ -3,9 +3,9 @@ use Rattle.sl_sector.proofs.BlockLaws.{block_fields_again, block_fields_text, bl
 use Rattle.sl_sector.proofs.ByteLaws.{IsBytes}
 use Rattle.sl_sector.proofs.FieldLaws.{Begins, length-magic, length-name_bytes, length-u32_bytes, length-u64_bytes, name_before, take-name, take-u64, u64_before}
 use Rattle.sl_sector.proofs.RuleLaws.{Hold, fits_64, hold_behind, hold_parts, number, rules_hold, under_held_rules, under_rules_behind}
-use Rattle.sl_sector.specs.Fields.{u32_at, u64_at}
+use Rattle.sl_sector.specs.FieldBytes.{u32_at, u64_at}
 use Rattle.sl_sector.specs.Records.{IsPair}
-use Rattle.sl_sector.specs.Spelling.{as_record, block_of, block_rules, field_bytes, fields_of, magic, own_rules, pair_of, pair_rules, pair_with, under_rules}
+use Rattle.sl_sector.specs.SectorLayouts.{as_record, block_of, block_rules, field_bytes, fields_of, magic, own_rules, pair_of, pair_rules, pair_with, under_rules}
 use Rattle.sl_sector.specs.declared.sector.Bad.{Bad}
 use Rattle.sl_sector.specs.declared.sector.Block.{Block}
 use Rattle.sl_sector.specs.declared.sector.PairBlock.{PairBlock}

@@ -3,7 +3,7 @@ use Rattle.sl_sector.proofs.ByteLaws.{IsBytes, bytes_from_test}
 use Rattle.sl_sector.proofs.SpellingLaws.{length-spelling, read_again, spelled}
 use Rattle.sl_sector.proofs.WrittenBytes.{spelling_is_bytes}
 use Rattle.sl_sector.specs.Laws.{EachIsSpelled, OneRecord, ReadingIsExact, SpelledIsRead}
-use Rattle.sl_sector.specs.Spelling.{IsDigest, IsSectorSize, IsTorn, Spells, decoded, spelling}
+use Rattle.sl_sector.specs.SectorLayouts.{IsDigest, IsSectorSize, IsTorn, Spells, decoded, spelling}
 use Rattle.sl_sector.specs.declared.sector.Bad.{Bad}
 use Rattle.sl_sector.specs.declared.sector.Rec.{Rec}
 use Rattle.std.proofs.Common.{Err, List, Ok, Result, ap, length, sym, ℕ, ◌≡◌, ◌∙◌}

@@ -2,9 +2,9 @@
 use Rattle.sl_sector.proofs.ByteLaws.{IsBytes}
 use Rattle.sl_sector.proofs.FieldLaws.{Begins, length-magic, length-u32_bytes, length-u64_bytes, take-u32, take-u64, u32_before, u64_before}
 use Rattle.sl_sector.proofs.RuleLaws.{Hold, both_zero, both_zero_test, fits_32, fits_64, number, under_held_rules}
-use Rattle.sl_sector.specs.Fields.{u32_at, u64_at}
+use Rattle.sl_sector.specs.FieldBytes.{u32_at, u64_at}
 use Rattle.sl_sector.specs.Records.{IsRequest}
-use Rattle.sl_sector.specs.Spelling.{as_record, field_bytes, fields_of, magic, request_of, request_rules, under_rules}
+use Rattle.sl_sector.specs.SectorLayouts.{as_record, field_bytes, fields_of, magic, request_of, request_rules, under_rules}
 use Rattle.sl_sector.specs.declared.sector.Rec.TheVariants.{RequestIs}
 use Rattle.sl_sector.specs.declared.sector.Request.{Request}
 use Rattle.sl_words.proofs.WordLaws.{and_true}

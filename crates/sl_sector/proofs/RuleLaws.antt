@@ -1,6 +1,6 @@
 -- Laws of the rules: what it means that all hold, and each test as a fact.
-use Rattle.sl_sector.specs.Fields.{flag}
-use Rattle.sl_sector.specs.Spelling.{under_rules}
+use Rattle.sl_sector.specs.FieldBytes.{flag}
+use Rattle.sl_sector.specs.SectorLayouts.{under_rules}
 use Rattle.sl_sector.specs.declared.sector.Bad.TheVariants.{BadField}
 use Rattle.sl_sector.specs.declared.sector.Bad.{Bad}
 use Rattle.sl_words.specs.Bounds.{is_number, record_numbers}

@@ -8,9 +8,9 @@ use Rattle.sl_sector.proofs.PairLaws.{length-pair, pair_again, pair_fits, pair_t
 use Rattle.sl_sector.proofs.RequestLaws.{length-request, request_again, request_fits, request_text}
 use Rattle.sl_sector.proofs.RuleLaws.{Hold, ensured, rules_hold}
 use Rattle.sl_sector.proofs.ValueLaws.{length-value, length-value_bytes, value_again, value_fits, value_text}
-use Rattle.sl_sector.specs.Fields.{u32_at}
+use Rattle.sl_sector.specs.FieldBytes.{u32_at}
 use Rattle.sl_sector.specs.Records.{IsRecord}
-use Rattle.sl_sector.specs.Spelling.{IsDigest, IsSectorSize, Spells, as_record, block_of, block_rules, body_of, check_of, checked_part, decoded, delta_of, delta_rules, field_bytes, fields_end, fields_of, leader_of, leader_rules, magic, padding_from, pair_of, pair_rules, request_of, request_rules, spelling, under_rules, value_of, value_rules}
+use Rattle.sl_sector.specs.SectorLayouts.{IsDigest, IsSectorSize, Spells, as_record, block_of, block_rules, body_of, check_of, checked_part, decoded, delta_of, delta_rules, field_bytes, fields_end, fields_of, leader_of, leader_rules, magic, padding_from, pair_of, pair_rules, request_of, request_rules, spelling, under_rules, value_of, value_rules}
 use Rattle.sl_sector.specs.declared.sector.Bad.TheVariants.{BadCheck, BadMagic, BadPad}
 use Rattle.sl_sector.specs.declared.sector.Bad.{Bad}
 use Rattle.sl_sector.specs.declared.sector.Rec.TheVariants.{BlockIs, DeltaIs, LeaderIs, PairIs, PairLeaderIs, RequestIs, ValueIs}

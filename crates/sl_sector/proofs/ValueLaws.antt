@@ -2,9 +2,9 @@
 use Rattle.sl_sector.proofs.ByteLaws.{IsBytes, IsBytes-drop, IsBytes-take, test_from_bytes}
 use Rattle.sl_sector.proofs.FieldLaws.{Begins, Begins-before, length-magic, length-u32_bytes, length-u64_bytes, length_part, take-u32, take-u64, u32_before, u64_before}
 use Rattle.sl_sector.proofs.RuleLaws.{Hold, fits_32, fits_64, number, under_held_rules}
-use Rattle.sl_sector.specs.Fields.{u32_at, u64_at}
+use Rattle.sl_sector.specs.FieldBytes.{u32_at, u64_at}
 use Rattle.sl_sector.specs.Records.{IsValue}
-use Rattle.sl_sector.specs.Spelling.{as_record, field_bytes, fields_of, magic, under_rules, value_of, value_rules}
+use Rattle.sl_sector.specs.SectorLayouts.{as_record, field_bytes, fields_of, magic, under_rules, value_of, value_rules}
 use Rattle.sl_sector.specs.declared.sector.Rec.TheVariants.{ValueIs}
 use Rattle.sl_sector.specs.declared.sector.ValueRec.{ValueRec}
 use Rattle.sl_words.specs.Bounds.{record_numbers}

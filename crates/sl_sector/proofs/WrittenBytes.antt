@@ -4,9 +4,9 @@ use Rattle.sha2.specs.Sha256.{digest_bytes, sha256}
 use Rattle.sl_sector.proofs.DeltaLaws.{HostFits, host_fits}
 use Rattle.sl_sector.proofs.FieldLaws.{named}
 use Rattle.sl_sector.proofs.SpellingLaws.{length-spelling}
-use Rattle.sl_sector.specs.Fields.{name_bytes, u32_bytes, u64_bytes}
+use Rattle.sl_sector.specs.FieldBytes.{name_bytes, u32_bytes, u64_bytes}
 use Rattle.sl_sector.specs.Records.{AreBytes, IsRecord}
-use Rattle.sl_sector.specs.Spelling.{IsDigest, IsSectorSize, checked_part, field_bytes, magic, spelling}
+use Rattle.sl_sector.specs.SectorLayouts.{IsDigest, IsSectorSize, checked_part, field_bytes, magic, spelling}
 use Rattle.sl_sector.specs.declared.sector.Rec.TheVariants.{BlockIs, DeltaIs, LeaderIs, PairIs, PairLeaderIs, RequestIs, ValueIs}
 use Rattle.sl_sector.specs.declared.sector.Rec.{Rec}
 use Rattle.sl_text.specs.Names.{is_name, is_name_byte, padded_text}

@@ -1,7 +1,7 @@
 -- Sectors that are kept with what they spell.
 use Rattle.sha2.specs.Sha256.{sha256}
 use Rattle.sl_sector.specs.Records.{IsRecord}
-use Rattle.sl_sector.specs.Spelling.{IsSectorSize, Spells, decoded, spelling}
+use Rattle.sl_sector.specs.SectorLayouts.{IsSectorSize, Spells, decoded, spelling}
 use Rattle.sl_sector.specs.declared.sector.Bad.{Bad}
 use Rattle.sl_sector.specs.declared.sector.Rec.{Rec}
 use Rattle.sl_sector.specs.declared.image.Content.TheVariants.{Raw, Spelled}

@@ -1,6 +1,6 @@
 -- What holds of every spelling, whatever digest of 32 bytes ends it.
 use Rattle.sl_sector.specs.Records.{AreBytes, IsRecord}
-use Rattle.sl_sector.specs.Spelling.{IsDigest, IsSectorSize, ReadsExactly, Spells, decoded, spelling}
+use Rattle.sl_sector.specs.SectorLayouts.{IsDigest, IsSectorSize, ReadsExactly, Spells, decoded, spelling}
 use Rattle.sl_sector.specs.declared.sector.Rec.{Rec}
 use Rattle.std.specs.Prelude.{List, Ok, length, ℕ, ◌≡◌}
 

@@ -1,7 +1,7 @@
 pub mod Bitmaps
-pub mod Fields
+pub mod FieldBytes
 pub mod Records
-pub mod Spelling
+pub mod SectorLayouts
 pub mod Laws
 pub mod RecordTexts
 pub mod Images

@@ -1,6 +1,6 @@
 -- What is printed of a record.
 use Rattle.sl_sector.specs.Bitmaps.{bits_of}
-use Rattle.sl_sector.specs.Spelling.{flag}
+use Rattle.sl_sector.specs.SectorLayouts.{flag}
 use Rattle.sl_sector.specs.declared.sector.Bad.TheVariants.{BadCheck, BadField, BadKind, BadMagic, BadPad}
 use Rattle.sl_sector.specs.declared.sector.Bad.{Bad}
 use Rattle.sl_sector.specs.declared.sector.Block.{Block}

@@ -3,7 +3,7 @@
 ghost use Rattle.sha2.specs.Sha256.{sha256};
 ghost use Rattle.std.specs.Prelude.{length, take, ◌≡◌, ◌≤◌};
 ghost use Rattle.sl_sector.specs.Records.{IsBlock};
-ghost use Rattle.sl_sector.specs.Spelling.{IsSectorSize, block_fields, block_of, block_rules, spelling, under_rules};
+ghost use Rattle.sl_sector.specs.SectorLayouts.{IsSectorSize, block_fields, block_of, block_rules, spelling, under_rules};
 ghost use Rattle.sl_sector.specs.declared.sector.Rec.TheVariants.{BlockIs};
 
 use crate::fields::{
@@ -20,7 +20,7 @@ pub(crate) const BLOCK_END: usize = 60;
 
 impl Block {
     /// Writes the sector that spells this block over the whole buffer, of 512 to 4096 bytes.
-    #[tactic(auto, unfolding(crate::specs::Spelling::spelling, crate::specs::Spelling::checked_part, crate::specs::Spelling::field_bytes))]
+    #[tactic(auto, unfolding(crate::specs::SectorLayouts::spelling, crate::specs::SectorLayouts::checked_part, crate::specs::SectorLayouts::field_bytes))]
     pub fn encode_into(&self, buffer: &mut [u8])
         requires size { IsSectorSize (length buffer.old) }
         requires rules { IsBlock self.now }
@@ -48,7 +48,7 @@ impl Block {
 }
 
 /// The block that the fields give, or the first field that breaks a rule.
-#[tactic(auto, unfolding(crate::specs::Spelling::block_rules))]
+#[tactic(auto, unfolding(crate::specs::SectorLayouts::block_rules))]
 pub(crate) fn block_at(sector: &[u8]) -> Result<Block, Bad>
     requires { 512 ≤ length sector.now }
     ensures { result ≡ under_rules (block_rules sector.now) (block_of sector.now) }

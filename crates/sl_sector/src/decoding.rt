@@ -5,9 +5,9 @@
 
 ghost use Rattle.sha2.specs.Sha256.{sha256};
 ghost use Rattle.std.specs.Prelude.{IfOk, IfSome, Ok, OnErr, bytes_eq, length, not, position, take, ◌==◌, ◌+◌, ◌-◌, ◌<◌, ◌^◌, ◌≡◌, ◌≤◌};
-ghost use Rattle.sl_sector.specs.Fields as spec;
-ghost use Rattle.sl_sector.specs.Spelling as spelling;
-ghost use Rattle.sl_sector.specs.Spelling.{IsSectorSize, IsTorn, Spells, decoded, magic};
+ghost use Rattle.sl_sector.specs.FieldBytes as spec;
+ghost use Rattle.sl_sector.specs.SectorLayouts as spelling;
+ghost use Rattle.sl_sector.specs.SectorLayouts.{IsSectorSize, IsTorn, Spells, decoded, magic};
 ghost use Rattle.sl_sector.specs.declared.sector.Rec.{Rec};
 
 use crate::block::{BLOCK_END, BLOCK_KIND, block_at};
@@ -15,14 +15,14 @@ use crate::delta::{DELTA_END, DELTA_KIND, delta_at};
 use crate::fields::u32_at;
 use crate::frame::{CHECK_SIZE, MAGIC};
 use crate::leader::{LEADER_END, LEADER_KIND, PAIR_LEADER_KIND, leader_at};
-use crate::pair::{PAIR_END, PAIR_KIND, pair_at};
+use crate::pair_bytes::{PAIR_END, PAIR_KIND, pair_at};
 use crate::request::{REQUEST_END, REQUEST_KIND, request_at};
 use crate::sector::{Bad, Rec};
 use crate::value::{VALUE_KIND, VALUE_START, value_at};
 use sha2::{Digest, Sha256};
 
 /// Whether the sector begins with the magic.
-#[tactic(auto, unfolding(crate::specs::Spelling::magic))]
+#[tactic(auto, unfolding(crate::specs::SectorLayouts::magic))]
 fn has_magic(sector: &[u8]) -> bool
     requires { 4 ≤ length sector.now }
     ensures { result ≡ bytes_eq (take 4 sector.now) magic }
@@ -32,7 +32,7 @@ fn has_magic(sector: &[u8]) -> bool
 }
 
 /// The record of the kind that the bytes name, or the refusal of the kind or of its first field that breaks a rule.
-#[tactic(auto, unfolding(crate::specs::Spelling::fields_of))]
+#[tactic(auto, unfolding(crate::specs::SectorLayouts::fields_of))]
 fn fields_at(sector: &[u8]) -> Result<Rec, Bad>
     requires { 512 ≤ length sector.now }
     ensures exact { result ≡ spelling.fields_of (spec.u32_at sector.now 4) sector.now }
@@ -94,7 +94,7 @@ fn has_check(body: &[u8], check: &[u8]) -> bool
 }
 
 /// The five tests, in their order.
-#[tactic(auto, unfolding(crate::specs::Spelling::decoded))]
+#[tactic(auto, unfolding(crate::specs::SectorLayouts::decoded))]
 fn tested(sector: &[u8]) -> Result<Rec, Bad>
     requires { IsSectorSize (length sector.now) }
     ensures { result ≡ decoded sha256 sector.now }

@@ -3,10 +3,10 @@
 ghost use Rattle.sha2.specs.Sha256.{sha256};
 ghost use Rattle.std.specs.Prelude.{IfSome, [], drop, length, not, take, unwrap_or, ◌++◌, ◌+◌, ◌∷◌, ◌||◌, ◌≡◌, ◌≤◌};
 ghost use Rattle.sl_words.specs.Words.{all_zero, choose};
-ghost use Rattle.sl_sector.specs.Fields as spec;
-ghost use Rattle.sl_sector.specs.Fields.{ReadsField};
+ghost use Rattle.sl_sector.specs.FieldBytes as spec;
+ghost use Rattle.sl_sector.specs.FieldBytes.{ReadsField};
 ghost use Rattle.sl_sector.specs.Records.{IsDelta};
-ghost use Rattle.sl_sector.specs.Spelling.{IsSectorSize, delta_of, delta_rules, field_bytes, spelling, under_rules};
+ghost use Rattle.sl_sector.specs.SectorLayouts.{IsSectorSize, delta_of, delta_rules, field_bytes, spelling, under_rules};
 ghost use Rattle.sl_sector.specs.declared.sector.Rec.TheVariants.{DeltaIs};
 
 use crate::fields::{
@@ -67,7 +67,7 @@ fn put_host(buffer: &mut [u8], at: usize, host: &Option<Name>)
 
 impl DeltaRec {
     /// Writes the sector that spells this record over the whole buffer, of 512 to 4096 bytes.
-    #[tactic(auto, unfolding(crate::specs::Spelling::spelling, crate::specs::Spelling::checked_part))]
+    #[tactic(auto, unfolding(crate::specs::SectorLayouts::spelling, crate::specs::SectorLayouts::checked_part))]
     pub fn encode_into(&self, buffer: &mut [u8])
         requires size { IsSectorSize (length buffer.old) }
         requires rules { IsDelta self.now }
@@ -78,7 +78,7 @@ impl DeltaRec {
     }
 
     /// Writes the magic, the number and the fields.
-    #[tactic(auto, unfolding(crate::specs::Spelling::field_bytes))]
+    #[tactic(auto, unfolding(crate::specs::SectorLayouts::field_bytes))]
     fn put_fields(&self, buffer: &mut [u8])
         requires size { 512 ≤ length buffer.old }
         requires rules { IsDelta self.now }
@@ -133,7 +133,7 @@ fn bitmap_under(sector: &[u8], at: u32, unused: bool) -> Result<[u8; 250], Bad>
 }
 
 /// The delta record that the fields give, or the first field that breaks a rule.
-#[tactic(auto, unfolding(crate::specs::Spelling::delta_rules))]
+#[tactic(auto, unfolding(crate::specs::SectorLayouts::delta_rules))]
 pub(crate) fn delta_at(sector: &[u8]) -> Result<DeltaRec, Bad>
     requires { 512 ≤ length sector.now }
     ensures { result ≡ under_rules (delta_rules sector.now) (delta_of sector.now) }

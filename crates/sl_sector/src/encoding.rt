@@ -3,7 +3,7 @@
 ghost use Rattle.sha2.specs.Sha256.{sha256};
 ghost use Rattle.std.specs.Prelude.{length, ◌≡◌};
 ghost use Rattle.sl_sector.specs.Records.{IsRecord};
-ghost use Rattle.sl_sector.specs.Spelling.{IsSectorSize, spelling};
+ghost use Rattle.sl_sector.specs.SectorLayouts.{IsSectorSize, spelling};
 
 use crate::sector::Rec;
 

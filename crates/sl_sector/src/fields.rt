@@ -8,8 +8,8 @@ ghost use Rattle.std.specs.List.{prefix_len};
 ghost use Rattle.std.specs.Prelude.{length, replicate, take, ◌&&◌, ◌||◌, ◌++◌, ◌+◌, ◌≡◌, ◌≤◌, ◌∷◌, ◌==◌, not, []};
 ghost use Rattle.sl_words.specs.Bounds as bounds;
 ghost use Rattle.sl_words.specs.Words.{all_zero, choose, same_truth};
-ghost use Rattle.sl_sector.specs.Fields as spec;
-ghost use Rattle.sl_sector.specs.Fields.{ReadsField};
+ghost use Rattle.sl_sector.specs.FieldBytes as spec;
+ghost use Rattle.sl_sector.specs.FieldBytes.{ReadsField};
 
 use crate::sector::Bad;
 use byteorder::{BigEndian, ByteOrder};
@@ -25,7 +25,7 @@ const RECORD_NUMBERS: u64 = 1 << 63;
 pub(crate) const NAME_SIZE: usize = 48;
 
 /// The number in the four bytes at this offset.
-#[tactic(auto, unfolding(crate::specs::Fields::u32_at))]
+#[tactic(auto, unfolding(crate::specs::FieldBytes::u32_at))]
 pub(crate) fn u32_at(bytes: &[u8], at: usize) -> u32
     requires { at + 4 ≤ length bytes.now }
     ensures { result ≡ spec.u32_at bytes.now at }
@@ -36,7 +36,7 @@ pub(crate) fn u32_at(bytes: &[u8], at: usize) -> u32
 }
 
 /// The number in the eight bytes at this offset.
-#[tactic(auto, unfolding(crate::specs::Fields::u64_at))]
+#[tactic(auto, unfolding(crate::specs::FieldBytes::u64_at))]
 pub(crate) fn u64_at(bytes: &[u8], at: usize) -> u64
     requires { at + 8 ≤ length bytes.now }
     ensures { result ≡ spec.u64_at bytes.now at }
@@ -150,7 +150,7 @@ pub(crate) fn put(buffer: &mut [u8], at: usize, field: &[u8])
 }
 
 /// Writes a number behind the first `at` bytes.
-#[tactic(auto, unfolding(crate::specs::Fields::u32_bytes))]
+#[tactic(auto, unfolding(crate::specs::FieldBytes::u32_bytes))]
 pub(crate) fn put_u32(buffer: &mut [u8], at: usize, number: u32)
     requires { at + 4 ≤ length buffer.old }
     ensures { take (at + 4) buffer.new ≡ take at buffer.old ++ spec.u32_bytes number }
@@ -161,7 +161,7 @@ pub(crate) fn put_u32(buffer: &mut [u8], at: usize, number: u32)
 }
 
 /// Writes a number behind the first `at` bytes.
-#[tactic(auto, unfolding(crate::specs::Fields::u64_bytes))]
+#[tactic(auto, unfolding(crate::specs::FieldBytes::u64_bytes))]
 pub(crate) fn put_u64(buffer: &mut [u8], at: usize, number: u64)
     requires { at + 8 ≤ length buffer.old }
     ensures { take (at + 8) buffer.new ≡ take at buffer.old ++ spec.u64_bytes number }

@@ -2,8 +2,8 @@
 
 ghost use Rattle.sha2.specs.Sha256.{sha256};
 ghost use Rattle.std.specs.Prelude.{length, take, ◌++◌, ◌+◌, ◌-◌, ◌≡◌, ◌≤◌};
-ghost use Rattle.sl_sector.specs.Fields.{u32_bytes};
-ghost use Rattle.sl_sector.specs.Spelling.{magic};
+ghost use Rattle.sl_sector.specs.FieldBytes.{u32_bytes};
+ghost use Rattle.sl_sector.specs.SectorLayouts.{magic};
 ghost use Rattle.sl_text.specs.Names.{padded_text};
 
 use crate::fields::{put, put_u32, put_zeros};
@@ -16,7 +16,7 @@ pub(crate) const MAGIC: [u8; 4] = *b"SLK1";
 pub(crate) const CHECK_SIZE: usize = 32;
 
 /// Writes the magic and the record's number.
-#[tactic(auto, unfolding(crate::specs::Spelling::magic))]
+#[tactic(auto, unfolding(crate::specs::SectorLayouts::magic))]
 pub(crate) fn begin(buffer: &mut [u8], kind: u32)
     requires { 8 ≤ length buffer.old }
     ensures { take 8 buffer.new ≡ magic ++ u32_bytes kind }

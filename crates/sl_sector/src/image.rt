@@ -2,7 +2,7 @@
 
 ghost use Rattle.sha2.specs.Sha256.{sha256};
 ghost use Rattle.sl_sector.specs.Records.{IsRecord};
-ghost use Rattle.sl_sector.specs.Spelling.{IsSectorSize, Spells, decoded, spelling};
+ghost use Rattle.sl_sector.specs.SectorLayouts.{IsSectorSize, Spells, decoded, spelling};
 ghost use Rattle.sl_sector.specs.Images.{IsSameFound, found_of, raw_of};
 ghost use Rattle.std.specs.List.{list_all};
 ghost use Rattle.std.specs.Prelude.{bytes_eq, length, nat_lt, IfOk, IsTrue, OnErr, OnOk, ◌++◌, ◌↔◌, ◌≡◌};

@@ -1,7 +1,7 @@
 //! Sectors one after another, as a read gives them.
 
 ghost use Rattle.sha2.specs.Sha256.{sha256};
-ghost use Rattle.sl_sector.specs.Spelling.{IsSectorSize, Spells};
+ghost use Rattle.sl_sector.specs.SectorLayouts.{IsSectorSize, Spells};
 ghost use Rattle.sl_sector.specs.Images.{record_at, sector_at, sector_in};
 ghost use Rattle.std.specs.Arc.{arc_value};
 ghost use Rattle.std.specs.Option.{option_copied, option_map};
@@ -21,7 +21,7 @@ pub struct Images {
 }
 
 impl Model for Images {
-    ghost use Rattle.sl_sector.specs.Spelling.{IsSectorSize};
+    ghost use Rattle.sl_sector.specs.SectorLayouts.{IsSectorSize};
     ghost use Rattle.sl_sector.specs.Images.{Run};
     ghost use Rattle.std.specs.Arc.{arc_value};
     ghost use Rattle.std.specs.List.{list_all};

@@ -5,7 +5,7 @@
 
 ghost use Rattle.sha2.specs.Sha256.{sha256};
 ghost use Rattle.sl_sector.specs.Laws as laws;
-ghost use Rattle.sl_sector.specs.Spelling.{IsDigest};
+ghost use Rattle.sl_sector.specs.SectorLayouts.{IsDigest};
 
 /// Bytes spell at most one record.
 #[tactic(auto, using(crate::proofs::PublicLaws::one_record))]

@@ -4,7 +4,7 @@
 ghost use Rattle.sha2.specs.Sha256.{sha256};
 ghost use Rattle.std.specs.Prelude.{length, take, ◌+◌, ◌≡◌, ◌≤◌};
 ghost use Rattle.sl_sector.specs.Records.{IsLeader};
-ghost use Rattle.sl_sector.specs.Spelling.{IsSectorSize, leader_fields, leader_of, leader_rules, spelling, under_rules};
+ghost use Rattle.sl_sector.specs.SectorLayouts.{IsSectorSize, leader_fields, leader_of, leader_rules, spelling, under_rules};
 ghost use Rattle.sl_sector.specs.declared.sector.Rec.TheVariants.{LeaderIs, PairLeaderIs};
 
 use crate::fields::{
@@ -25,7 +25,7 @@ pub(crate) const LEADER_END: usize = 132;
 
 impl Leader {
     /// Writes the sector that spells this leader over the whole buffer, of 512 to 4096 bytes.
-    #[tactic(auto, unfolding(crate::specs::Spelling::spelling, crate::specs::Spelling::checked_part, crate::specs::Spelling::field_bytes))]
+    #[tactic(auto, unfolding(crate::specs::SectorLayouts::spelling, crate::specs::SectorLayouts::checked_part, crate::specs::SectorLayouts::field_bytes))]
     pub fn encode_into(&self, buffer: &mut [u8])
         requires size { IsSectorSize (length buffer.old) }
         requires rules { IsLeader self.now }
@@ -36,7 +36,7 @@ impl Leader {
     }
 
     /// Writes the sector that spells this leader as that of an area with pairs over the whole buffer, of 512 to 4096 bytes.
-    #[tactic(auto, unfolding(crate::specs::Spelling::spelling, crate::specs::Spelling::checked_part, crate::specs::Spelling::field_bytes))]
+    #[tactic(auto, unfolding(crate::specs::SectorLayouts::spelling, crate::specs::SectorLayouts::checked_part, crate::specs::SectorLayouts::field_bytes))]
     pub fn encode_paired_into(&self, buffer: &mut [u8])
         requires size { IsSectorSize (length buffer.old) }
         requires rules { IsLeader self.now }
@@ -64,7 +64,7 @@ impl Leader {
 }
 
 /// The leader that the fields give, or the first field that breaks a rule.
-#[tactic(auto, unfolding(crate::specs::Spelling::leader_rules))]
+#[tactic(auto, unfolding(crate::specs::SectorLayouts::leader_rules))]
 pub(crate) fn leader_at(sector: &[u8]) -> Result<Leader, Bad>
     requires { 512 ≤ length sector.now }
     ensures { result ≡ under_rules (leader_rules sector.now) (leader_of sector.now) }

@@ -21,7 +21,7 @@ mod image;
 mod images;
 pub mod laws;
 mod leader;
-mod pair;
+mod pair_bytes;
 pub mod places;
 mod request;
 pub mod same;

@@ -3,7 +3,7 @@
 
 ghost use Rattle.std.specs.Prelude.{◌&&◌, ◌==◌, ◌≡◌};
 ghost use Rattle.sl_words.specs.Words.{same_truth};
-ghost use Rattle.sl_sector.specs.Spelling as spelling;
+ghost use Rattle.sl_sector.specs.SectorLayouts as spelling;
 
 use crate::sector::{Bad, Block, DeltaRec, HostId, Leader, PairBlock, Rec, Request, ValueRec};
 

@@ -3,7 +3,7 @@
 ghost use Rattle.sha2.specs.Sha256.{sha256};
 ghost use Rattle.std.specs.Prelude.{length, take, ◌≡◌, ◌≤◌};
 ghost use Rattle.sl_sector.specs.Records.{IsRequest};
-ghost use Rattle.sl_sector.specs.Spelling.{IsSectorSize, field_bytes, request_of, request_rules, spelling, under_rules};
+ghost use Rattle.sl_sector.specs.SectorLayouts.{IsSectorSize, field_bytes, request_of, request_rules, spelling, under_rules};
 ghost use Rattle.sl_sector.specs.declared.sector.Rec.TheVariants.{RequestIs};
 
 use crate::fields::{MOST_HOSTS, agree, is_number, put_u32, put_u64, rule, rules, u32_at, u64_at};
@@ -18,7 +18,7 @@ pub(crate) const REQUEST_END: usize = 24;
 
 impl Request {
     /// Writes the sector that spells this request over the whole buffer, of 512 to 4096 bytes.
-    #[tactic(auto, unfolding(crate::specs::Spelling::spelling, crate::specs::Spelling::checked_part))]
+    #[tactic(auto, unfolding(crate::specs::SectorLayouts::spelling, crate::specs::SectorLayouts::checked_part))]
     pub fn encode_into(&self, buffer: &mut [u8])
         requires size { IsSectorSize (length buffer.old) }
         requires rules { IsRequest self.now }
@@ -29,7 +29,7 @@ impl Request {
     }
 
     /// Writes the magic, the number and the fields.
-    #[tactic(auto, unfolding(crate::specs::Spelling::field_bytes))]
+    #[tactic(auto, unfolding(crate::specs::SectorLayouts::field_bytes))]
     fn put_fields(&self, buffer: &mut [u8])
         requires { 512 ≤ length buffer.old }
         ensures { take 24 buffer.new ≡ field_bytes (RequestIs self.now) }
@@ -42,7 +42,7 @@ impl Request {
 }
 
 /// The request that the fields give, or the first field that breaks a rule.
-#[tactic(auto, unfolding(crate::specs::Spelling::request_rules))]
+#[tactic(auto, unfolding(crate::specs::SectorLayouts::request_rules))]
 pub(crate) fn request_at(sector: &[u8]) -> Result<Request, Bad>
     requires { 512 ≤ length sector.now }
     ensures { result ≡ under_rules (request_rules sector.now) (request_of sector.now) }

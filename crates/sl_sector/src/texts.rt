@@ -1,7 +1,7 @@
 //! What is printed of a record, and of a refusal.
 
 ghost use Rattle.std.specs.Prelude.{IfOk, OnErr, OnOk, [], decimal, flat_map, length, map, string_bytes, unwrap_or, ◌++◌, ◌∷◌, ◌≡◌};
-ghost use Rattle.sl_sector.specs.Fields as spec;
+ghost use Rattle.sl_sector.specs.FieldBytes as spec;
 ghost use Rattle.sl_sector.specs.RecordTexts as texts;
 ghost use Rattle.sl_text.specs.Forms.{spaced};
 ghost use Rattle.sl_sector.specs.declared.sector.Rec.TheVariants.{BlockIs, DeltaIs, PairIs, RequestIs, ValueIs};

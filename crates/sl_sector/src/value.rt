@@ -3,7 +3,7 @@
 ghost use Rattle.sha2.specs.Sha256.{sha256};
 ghost use Rattle.std.specs.Prelude.{IfOk, drop, length, take, ◌+◌, ◌≡◌, ◌≤◌};
 ghost use Rattle.sl_sector.specs.Records.{IsValue};
-ghost use Rattle.sl_sector.specs.Spelling.{IsSectorSize, field_bytes, spelling, under_rules, value_of, value_rules};
+ghost use Rattle.sl_sector.specs.SectorLayouts.{IsSectorSize, field_bytes, spelling, under_rules, value_of, value_rules};
 ghost use Rattle.sl_sector.specs.declared.sector.Rec.TheVariants.{ValueIs};
 
 use crate::fields::{MOST_HOSTS, is_number, put, put_u32, put_u64, rule, u32_at, u64_at};
@@ -22,7 +22,7 @@ const MOST_BYTES: u32 = 256;
 
 impl ValueRec {
     /// Writes the sector that spells this value over the whole buffer, of 512 to 4096 bytes.
-    #[tactic(auto, unfolding(crate::specs::Spelling::spelling, crate::specs::Spelling::checked_part))]
+    #[tactic(auto, unfolding(crate::specs::SectorLayouts::spelling, crate::specs::SectorLayouts::checked_part))]
     pub fn encode_into(&self, buffer: &mut [u8])
         requires size { IsSectorSize (length buffer.old) }
         requires rules { IsValue self.now }
@@ -33,7 +33,7 @@ impl ValueRec {
     }
 
     /// Writes the magic, the number and the fields.
-    #[tactic(auto, unfolding(crate::specs::Spelling::field_bytes))]
+    #[tactic(auto, unfolding(crate::specs::SectorLayouts::field_bytes))]
     fn put_fields(&self, buffer: &mut [u8])
         requires size { 512 ≤ length buffer.old }
         requires rules { IsValue self.now }
@@ -65,7 +65,7 @@ fn data_at(sector: &[u8], len: u32) -> Data
 }
 
 /// The value that the fields give, or the first field that breaks a rule.
-#[tactic(auto, unfolding(crate::specs::Spelling::value_rules))]
+#[tactic(auto, unfolding(crate::specs::SectorLayouts::value_rules))]
 pub(crate) fn value_at(sector: &[u8]) -> Result<ValueRec, Bad>
     requires { 512 ≤ length sector.now }
     ensures exact { result ≡ under_rules (value_rules sector.now) (value_of sector.now) }

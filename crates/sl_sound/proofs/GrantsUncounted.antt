@@ -2,7 +2,9 @@
 use Rattle.sl_words.proofs.Lists.{in_map, kept_inside, next_before}
 use Rattle.sl_report.specs.Reports.{Counts, conflicts_after, conflicts_of, count_event, held_by_others, no_counts, run_counts}
 use Rattle.sl_run.specs.Conflicts.{Holding, IsExclusive, has_conflict, world_holdings}
-use Rattle.sl_run.specs.Events.{first_change, happens, input_at, input_of, machine_of, may_happen, next_step, own_effects}
+use Rattle.sl_run.specs.EventChanges.{first_change, happens, next_step, own_effects}
+use Rattle.sl_run.specs.Inputs.{input_at, input_of, machine_of}
+use Rattle.sl_run.specs.Refusals.{may_happen}
 use Rattle.sl_run.specs.Runs.{Happening, IsRun, own_effects_of, world_after}
 use Rattle.sl_run.specs.Worlds.{Machine, World, machine_at, world_with}
 use Rattle.sl_run.specs.declared.event.Event.TheVariants.{Reset}

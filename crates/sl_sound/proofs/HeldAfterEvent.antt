@@ -2,7 +2,9 @@
 use Rattle.sl_safety.proofs.Resources.Calls.{numbered_at, numbered_in}
 use Rattle.sl_words.proofs.Lists.{any_found, any_of, contains_map, in_map}
 use Rattle.sl_run.specs.Conflicts.{Holding, conflicts, has_conflict, world_holdings}
-use Rattle.sl_run.specs.Events.{after_effects, after_step, happens, machine_of, may_happen, take_step}
+use Rattle.sl_run.specs.EventChanges.{after_effects, after_step, happens, take_step}
+use Rattle.sl_run.specs.Inputs.{machine_of}
+use Rattle.sl_run.specs.Refusals.{may_happen}
 use Rattle.sl_run.specs.Worlds.{Machine, Stamp, World, machine_at, stamp_now}
 use Rattle.sl_run.specs.declared.event.Event.TheVariants.{Reset}
 use Rattle.sl_run.specs.declared.event.Event.{Event}

@@ -1,5 +1,5 @@
 -- What is owed grows with what is promised: so what is owed of made runs is owed of sound ones.
-use Rattle.sl_report.specs.Headline.{FrontOf, HeadersAreGood, Promise, ReplayOf, SoundRun, In_events, In_header, MayHaveBeen, Of_events, Of_nothing, Of_report, is_whole_status}
+use Rattle.sl_report.specs.OwedReports.{FrontOf, HeadersAreGood, Promise, ReplayOf, SoundRun, In_events, In_header, MayHaveBeen, Of_events, Of_nothing, Of_report, is_whole_status}
 use Rattle.sl_report.specs.Languages.{Language}
 use Rattle.sl_run.specs.Headers.{IsHeader}
 use Rattle.sl_run.specs.Runs.{Happening}

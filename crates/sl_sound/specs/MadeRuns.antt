@@ -1,7 +1,7 @@
 -- Runs made of daemons of one kind, and what is told of them.
 use Rattle.sl_world_state.specs.Daemons.{Stood}
-use Rattle.sl_report.specs.Headline.{SoundRun}
-use Rattle.sl_run.specs.HeldOverTime.{VolumesAreExclusive}
+use Rattle.sl_report.specs.OwedReports.{SoundRun}
+use Rattle.sl_run.specs.Volumes.{VolumesAreExclusive}
 use Rattle.sl_run.specs.Runs.{AfterEachFront, EachDaemon, Happening, IsRun}
 use Rattle.sl_run.specs.Safety.{DeltaInvariant, LeaseInvariant, world_at}
 use Rattle.sl_run.specs.Values.{ValuesAreLast}

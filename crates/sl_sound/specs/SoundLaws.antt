@@ -1,6 +1,6 @@
 -- What is promised of made runs, once daemons do what is due, and what is due is lawful.
 use Rattle.sl_due.specs.Due.{IsHostTrace}
-use Rattle.sl_report.specs.Headline.{HeadersAreGood, ReplayOwed, SoundRun}
+use Rattle.sl_report.specs.OwedReports.{HeadersAreGood, ReplayOwed, SoundRun}
 use Rattle.sl_report.specs.Host.{DueIsLawful}
 use Rattle.sl_report.specs.Languages.{Language}
 use Rattle.sl_report.specs.Reports.{no_counts, run_counts}
@@ -9,7 +9,7 @@ use Rattle.sl_run.specs.Runs.{Happening, IsRun}
 use Rattle.sl_run.specs.Safety.{SafeRun}
 use Rattle.sl_run.specs.Worlds.{Program, world_with}
 use Rattle.sl_run.specs.declared.header.Header.{Header}
-use Rattle.sl_sector.specs.Spelling.{IsDigest}
+use Rattle.sl_sector.specs.SectorLayouts.{IsDigest}
 use Rattle.sl_sound.specs.MadeRuns.{MadeRun, ServedRun}
 use Rattle.sl_trace.specs.Traces.{Setting, Trace}
 use Rattle.std.specs.Prelude.{Bool, List, ℕ, ◌≡◌}

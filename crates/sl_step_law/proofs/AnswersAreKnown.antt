@@ -1,6 +1,6 @@
 -- What may come at an input is the answer of an open call; and a read of all ids gives their sectors.
-use Rattle.sl_area.specs.Layouts.{IsGeometry, Layout, Sizes}
-use Rattle.sl_area.specs.Places.{read_at}
+use Rattle.sl_area.specs.AreaSizes.{IsGeometry, Layout, Sizes}
+use Rattle.sl_area.specs.AreaLayout.{read_at}
 use Rattle.sl_delta.proofs.StepLaws.{survey_is}
 use Rattle.sl_due.specs.Steps.{Step, seen}
 use Rattle.sl_host_law.proofs.Answers.AnswersSetFree.{of_trace}
@@ -17,7 +17,7 @@ use Rattle.sl_words.proofs.Lists.{kept_inside}
 use Rattle.sl_words.proofs.Options.{some_of}
 use Rattle.sl_sector.proofs.ByteLaws.{bytes_from_test}
 use Rattle.sl_sector.proofs.SpellingLaws.{spelled}
-use Rattle.sl_sector.specs.Spelling.{IsSectorSize, decoded, magic}
+use Rattle.sl_sector.specs.SectorLayouts.{IsSectorSize, decoded, magic}
 use Rattle.sl_sector.specs.declared.sector.Bad.TheVariants.{BadMagic}
 use Rattle.sl_sector.specs.declared.sector.Bad.{Bad}
 use Rattle.sl_sector.specs.declared.sector.DeltaRec.{DeltaRec}

@@ -2,12 +2,12 @@
 use Rattle.sl_due_facts.proofs.Acts.AddedAtEnd.{contains_last}
 use Rattle.sl_due_facts.proofs.Acts.LoopsKeep.{for_each_keeps, when_keeps}
 use Rattle.sl_due_facts.specs.Acts.Acts.{Acts, next_of_conversion, next_of_release, next_of_settling}
-use Rattle.sl_area.specs.Places.{delta_offset, request_offset}
+use Rattle.sl_area.specs.AreaLayout.{delta_offset, request_offset}
 use Rattle.sl_due.specs.DueAnswers.{set_reply}
 use Rattle.sl_due.specs.DueCommands.{answer_line, carry_decision}
-use Rattle.sl_due.specs.DueFirst.{send}
+use Rattle.sl_due.specs.DueRecovery.{send}
 use Rattle.sl_due.specs.DueInputs.{end_holdings, leave_holdings, started_reply}
-use Rattle.sl_due.specs.DueLease.{next_of_lease}
+use Rattle.sl_due.specs.CarriedLease.{next_of_lease}
 use Rattle.sl_due.specs.DueRequests.{after_value_read, bits_due, value_reply}
 use Rattle.sl_due.specs.Steps.{Step, add_call_of, add_end, add_move, add_signal, seen, with_input}
 use Rattle.sl_due.specs.declared.decision.Decision.{Decision}
@@ -22,13 +22,13 @@ use Rattle.sl_trace.specs.declared.lease.LeaseNext.TheVariants.{AnswerJob, Becom
 use Rattle.sl_words.proofs.Lists.{contains_none}
 use Rattle.sl_sector.specs.Bitmaps.{no_bits}
 use Rattle.sl_sector.specs.declared.sector.DeltaState.TheVariants.{Free, Live}
-use Rattle.sl_trace.specs.Deltas.{DeltaLease, delta_known, delta_of_session, delta_record, is_renewal_due, next_after_free, next_after_renewal, next_free, next_in_joining, next_on_wake, next_renewal}
+use Rattle.sl_trace.specs.DeltaDecisions.{DeltaLease, delta_known, delta_of_session, delta_record, is_renewal_due, next_after_free, next_after_renewal, next_free, next_in_joining, next_on_wake, next_renewal}
 use Rattle.sl_trace.specs.Sessions.{calls_of, generation_of, holders_of, recovery_of}
 use Rattle.sl_trace.specs.declared.delta.DeltaKnown.{DeltaKnown}
 use Rattle.sl_trace.specs.declared.delta.DeltaNext.{DeltaNext}
 use Rattle.sl_trace.specs.declared.delta.DeltaNext.TheVariants.{Disconnect, EndLeaving, Join, MoveConnection, Nothing, ReadOwn, RefuseJoin, RegisterAndRead, WriteClaim, WriteFirst, WriteFree, WriteRenewal}
 use Rattle.sl_trace.specs.declared.session.Session.{Session}
-use Rattle.sl_trace.specs.Connections.{is_registered}
+use Rattle.sl_trace.specs.WatchdogConnections.{is_registered}
 use Rattle.sl_trace.specs.Traces.{end_of, next_call, next_job, spot_of_grant}
 use Rattle.sl_trace.specs.declared.command.Command.{Command}
 use Rattle.sl_trace.specs.declared.command.Command.TheVariants.{Acquire, AddLockspace, Convert, GetLvb, HostStatus, InqLockspace, Release, ReleaseOrphan, RemLockspace, Request, RunProgram, SetKillpath, SetLvb, Status, TakeOver}

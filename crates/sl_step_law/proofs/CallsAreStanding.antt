@@ -4,7 +4,7 @@ use Rattle.sl_due_facts.proofs.Acts.StepsKeep.{Fixed, begun_bare, due_is_of, fix
 use Rattle.sl_due_facts.proofs.Acts.TracesKeep.{due_is_seen}
 use Rattle.sl_due_facts.specs.Acts.Acts.{Acts}
 use Rattle.sl_due.specs.Due.{IsHostTrace, due_step}
-use Rattle.sl_due.specs.DueFirst.{begin_recoveries}
+use Rattle.sl_due.specs.DueRecovery.{begin_recoveries}
 use Rattle.sl_due.specs.Steps.{Step, begin_step, seen}
 use Rattle.sl_due_law.proofs.LawfulTraces.AllIsKept.{all_begins, all_is_kept}
 use Rattle.sl_due_law.proofs.LawfulTraces.TracesHold.{traces_hold}

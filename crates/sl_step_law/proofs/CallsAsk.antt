@@ -1,7 +1,7 @@
 -- Each open call asks as many sectors as its purpose says: by the laws, and of those that no law speaks of by what each act keeps.
 use Rattle.sl_due_facts.proofs.Acts.StepsKeep.{begun_bare, step_keeps}
 use Rattle.sl_due.specs.Due.{IsHostTrace, due}
-use Rattle.sl_due.specs.DueFirst.{begin_recoveries}
+use Rattle.sl_due.specs.DueRecovery.{begin_recoveries}
 use Rattle.sl_due.specs.Steps.{begin_step, seen}
 use Rattle.sl_host_law.proofs.Answers.AnswersSetFree.{of_trace}
 use Rattle.sl_host_law.proofs.SharedFacts.SessionNumbers.{placed_by_number}

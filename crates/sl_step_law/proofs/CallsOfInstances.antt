@@ -1,7 +1,7 @@
 -- Each write of a lease is of an instance above 0, and each of its calls but the first read has a block behind it: by the way that led to it.
 use Rattle.sl_due_facts.proofs.Sessions.JoinedNumbers.{spelled_of}
 use Rattle.sl_due_facts.proofs.Acts.Pairs.Records.{block_lver}
-use Rattle.sl_area.specs.Places.{leader_record}
+use Rattle.sl_area.specs.AreaRecords.{leader_record}
 use Rattle.sl_due_leases.proofs.Ways.NewestCall.{block_is, ended_here, lver_is, read_writes_no_block, submitted_passed}
 use Rattle.sl_due_leases.proofs.Ways.WayNumbers.{EndsBy, ends_by}
 use Rattle.sl_due_leases.proofs.Ways.WayStages.{ReadBehind, again_behind, first_is_first, prior_inside, step_way, way_behind, whole_kept}
@@ -11,7 +11,7 @@ use Rattle.sl_host_state.specs.HostStands.{sectors_of}
 use Rattle.sl_run.specs.Lawful.{Orderly}
 use Rattle.sl_lease.specs.Bounds.{IsInstance}
 use Rattle.sl_lease.specs.Steps.{is_first_step}
-use Rattle.sl_trace.specs.LeaseWork.{first_step, step_of_read}
+use Rattle.sl_trace.specs.LeaseDecisions.{first_step, step_of_read}
 use Rattle.sl_trace.specs.Leases.{base_turn, block_submitted, ended_ballot, ended_ballots, is_lease_call, is_on, is_second, lease_calls, lver_written, verified_name}
 use Rattle.sl_words.proofs.Lists.{contains_cases, contains_more, contains_none, kept_inside}
 use Rattle.sl_sector.specs.declared.sector.Block.{Block}

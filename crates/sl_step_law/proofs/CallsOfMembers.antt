@@ -15,12 +15,12 @@ use Rattle.sl_trace.specs.Jobs.{command_numbered}
 use Rattle.sl_trace.specs.Leases.{is_lease_call, lease_step, spot_of_call, spots_in, with_spot}
 use Rattle.sl_words.proofs.Lists.{contains_first, contains_more, kept as kept_in, kept_inside}
 use Rattle.sl_words.proofs.Options.{some_of}
-use Rattle.sl_area.specs.Layouts.{Layout}
-use Rattle.sl_trace.specs.Sessions.{calls_of, free_write, is_call_of, is_free_purpose, is_joined, is_present, joined_after, leaving_job, refused_after, removed_after, sessions}
+use Rattle.sl_area.specs.AreaSizes.{Layout}
+use Rattle.sl_trace.specs.Sessions.{calls_of, free_write, is_call_of, is_free_purpose, is_joined, is_present, joined_after, leaving_job, refused_after, removed_after, sessions, has_open_write, session_numbered}
 use Rattle.sl_trace.specs.declared.session.Begun.{Begun}
 use Rattle.sl_trace.specs.declared.session.Session.{Session}
 use Rattle.sl_step_law.specs.ReadyHosts.{IsReady}
-use Rattle.sl_trace.specs.Traces.{Job, Submitted, Trace, job_of, submitted}
+use Rattle.sl_trace.specs.Traces.{Job, Submitted, Trace, job_of, submitted, is_write}
 use Rattle.sl_trace.specs.declared.effects.JoinStep.{JoinStep}
 use Rattle.sl_trace.specs.declared.effects.Purpose.TheVariants.{Joining, Lease, Leaving, Renewal, RequestRead, RequestWrite, SeeRequest, Survey, ValueRead, ValueWrite}
 use Rattle.sl_trace.specs.declared.effects.Purpose.{Purpose}
@@ -31,8 +31,6 @@ use Rattle.sl_words.proofs.CaseLaws.{none_some, not_both, true_is_false}
 use Rattle.sl_words.specs.Words.{is_empty}
 use Rattle.std.proofs.Common.{ap, refl, subst, sym, ◌∙◌}
 use Rattle.std.specs.Prelude.{Bool, Contains, List, None, Option, Some, false, is_none, is_some, map, option_map, slice_get, true, [], ℕ, ◌+◌, ◌==◌, ◌&&◌, ◌∷◌, ◌≡◌, ◌||◌}
-use Rattle.sl_trace.specs.Sessions.{has_open_write, session_numbered}
-use Rattle.sl_trace.specs.Traces.{is_write}
 
 -- ---- a call
 

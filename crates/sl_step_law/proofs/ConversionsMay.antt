@@ -1,5 +1,6 @@
 -- A conversion that is done may be: its job runs and waits no more, and the lease makes the call that is owed next.
-use Rattle.sl_area.specs.Places.{block_place, leader_offset, leader_record}
+use Rattle.sl_area.specs.AreaLayout.{block_place, leader_offset}
+use Rattle.sl_area.specs.AreaRecords.{leader_record}
 use Rattle.sl_due.specs.Steps.{Step, with_input}
 use Rattle.sl_host_law.proofs.Answers.AnswersSetFree.{answers_set_free}
 use Rattle.sl_host_law.proofs.Answers.LeasesSetFree.{leases_set_free}

@@ -1,5 +1,5 @@
 -- What the decision on a line rests on, by the command and by who holds.
-use Rattle.sl_area.specs.Places.{is_base}
+use Rattle.sl_area.specs.AreaLayout.{is_base}
 use Rattle.sl_due_facts.proofs.Acts.DecisionsAreTheirs.{decisions_are_theirs}
 use Rattle.sl_due_facts.specs.Acts.DueDaemons.{IsDecidedFor, IsPresent}
 use Rattle.sl_due.specs.DueCommands.{decided}

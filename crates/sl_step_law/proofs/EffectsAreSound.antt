@@ -1,7 +1,7 @@
 -- A step's effects as a world asks them: by the laws of the trace that the step leaves.
 use Rattle.sl_world_state.specs.Daemons.{IsSoundCall, IsSoundOp}
 use Rattle.sl_due.specs.Due.{IsHostTrace, due}
-use Rattle.sl_run.specs.Events.{sectors_of as sectors_had}
+use Rattle.sl_run.specs.Refusals.{sectors_of as sectors_had}
 use Rattle.sl_step_law.proofs.CallsAreStanding.{traces_stand}
 use Rattle.sl_due_law.proofs.LawfulTraces.CallsAreLawful.{new_inside}
 use Rattle.sl_due_law.proofs.LawfulTraces.TracesHold.{traces_hold, traces_are_lawful}
@@ -19,10 +19,10 @@ use Rattle.sl_step_law.proofs.StepsAreTaken.{steps_are_taken}
 use Rattle.sl_step_law.specs.SectorsAsked.{sectors_asked}
 use Rattle.sl_step_law.specs.SoundEffects.{EffectsAreSound}
 use Rattle.sl_step_law.specs.StepsAreTaken.{MayCome}
-use Rattle.sl_area.specs.Layouts.{Layout}
-use Rattle.sl_area.specs.Places.{block_sectors}
+use Rattle.sl_area.specs.AreaSizes.{Layout}
+use Rattle.sl_area.specs.AreaLayout.{block_sectors}
 use Rattle.sl_due_facts.specs.Facts.WayFacts.{sectors_of_read}
-use Rattle.sl_trace.specs.LeaseWork.{first_step, read_of_step}
+use Rattle.sl_trace.specs.LeaseDecisions.{first_step, read_of_step}
 use Rattle.sl_trace.specs.Traces.{Child, Setting, Trace, child_after, children, first_child, mark, new_call, new_child, next_call, next_child, record_of, submitted}
 use Rattle.sl_trace.specs.declared.effects.Call.{Call}
 use Rattle.sl_trace.specs.declared.effects.Effects.{Effects}

@@ -1,5 +1,5 @@
 -- What is known of a host as a whole, by the trace that it stands for.
-use Rattle.sl_area.specs.Layouts.{Layout}
+use Rattle.sl_area.specs.AreaSizes.{Layout}
 use Rattle.sl_due.specs.Steps.{Step, seen}
 use Rattle.sl_due_facts.proofs.Jobs.JobsAreNumbered.{below, command_read, job_reads}
 use Rattle.sl_due_law.proofs.LawfulTraces.OwnRecords.{fits_it}
@@ -21,7 +21,7 @@ use Rattle.sl_trace.specs.declared.session.Renewing.{Renewing}
 use Rattle.sl_step_law.specs.KnownHosts.{HostsAreKnown}
 use Rattle.sl_step_law.specs.Moments.{IsMoment}
 use Rattle.sl_step_law.specs.ReadyHosts.{IsReady}
-use Rattle.sl_trace.specs.Commands.{IsCommand}
+use Rattle.sl_trace.specs.CommandForms.{IsCommand}
 use Rattle.sl_trace.specs.Traces.{Job, Setting, Submitted, Trace, is_running, jobs, line_in, next_job, running_jobs}
 use Rattle.sl_trace.specs.declared.command.Command.{Command}
 use Rattle.sl_trace.specs.declared.input.Input.{Input}

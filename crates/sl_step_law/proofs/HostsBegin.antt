@@ -1,5 +1,5 @@
 -- A new host of each setting that a daemon may be made of is sound.
-use Rattle.sl_area.specs.Layouts.{IsGeometry, Layout}
+use Rattle.sl_area.specs.AreaSizes.{IsGeometry, Layout}
 use Rattle.sl_host_law.proofs.SharedFacts.PlainLists.{at_some, each_of, got_below}
 use Rattle.sl_host_law.proofs.SharedFacts.PlainOrders.{ordered_inside}
 use Rattle.sl_host_law.proofs.Steps.NewHostsAreSound.{new_hosts_are_sound}

@@ -1,8 +1,9 @@
 -- An answer to a lease's call: the lease that hears it, and what stands behind the call.
-use Rattle.sl_area.specs.Layouts.{Layout}
+use Rattle.sl_area.specs.AreaSizes.{Layout}
 use Rattle.sl_due_facts.proofs.Acts.Pairs.DecodedRecords.{ArePairs, leader_is}
 use Rattle.sl_due_facts.proofs.Acts.Pairs.GivenByReads.{first_are_pairs}
-use Rattle.sl_area.specs.Places.{is_base, leader_read}
+use Rattle.sl_area.specs.AreaLayout.{is_base}
+use Rattle.sl_area.specs.TornLeader.{leader_read}
 use Rattle.sl_due_law.proofs.LawfulTraces.LeaderWrites.{hosts_fit}
 use Rattle.sl_due_leases.proofs.Grants.WorksByAnswers.{new_spot}
 use Rattle.sl_due_leases.proofs.Ways.WayStages.{prior_inside, step_way}
@@ -14,7 +15,7 @@ use Rattle.sl_host_law.proofs.Calls.MemberCalls.SpotsMore.{one_spot}
 use Rattle.sl_host_law.proofs.SharedFacts.PlainLists.{at_some, found_some}
 use Rattle.sl_host_law.proofs.SharedFacts.SessionNumbers.{placed_by_number}
 use Rattle.sl_host_law.proofs.Replies.PlainNumbers.{same_number}
-use Rattle.sl_trace.specs.Sessions.{session_numbered, sessions}
+use Rattle.sl_trace.specs.Sessions.{session_numbered, sessions, calls_of, is_call_of}
 use Rattle.sl_host_law.proofs.Steps.InputsFollow.{joined_stays}
 use Rattle.sl_host_law.specs.Answers.AnswersFollow.{IsAnswerTo}
 use Rattle.sl_host_law.specs.Questions.Answers.{spot_in}
@@ -34,7 +35,7 @@ use Rattle.sl_lease.specs.LeaseQuestions.{TopStands, heard_with, leader_given, r
 use Rattle.sl_lease.specs.Bounds.{IsInstance}
 use Rattle.sl_lease.specs.Side.{is_named}
 use Rattle.sl_lease.specs.Steps.{is_first_step, is_read_step}
-use Rattle.sl_trace.specs.LeaseWork.{asked_again, first_step, step_of_read}
+use Rattle.sl_trace.specs.LeaseDecisions.{asked_again, first_step, step_of_read}
 use Rattle.sl_trace.specs.Leases.{block_submitted, block_written, is_leader_of, is_lease_call, is_on, is_second, lease_calls, lease_step, name_sought, spot_of_call}
 use Rattle.sl_text.specs.Names.{is_name}
 use Rattle.sl_words.specs.Bounds.{moments, most_hosts}
@@ -44,7 +45,6 @@ use Rattle.sl_member.specs.Laws.{area_of_call}
 use Rattle.sl_words.proofs.Lists.{find_inside, got_inside, in_map, kept as kept_in, kept_inside}
 use Rattle.sl_words.proofs.Options.{none_is, some_of}
 use Rattle.sl_sector.specs.declared.sector.Block.{Block}
-use Rattle.sl_trace.specs.Sessions.{calls_of, is_call_of}
 use Rattle.sl_step_law.proofs.AnswersAreAwaited.{answers_are_awaited}
 use Rattle.sl_step_law.proofs.BlocksAreInstances.{named_some, written_above}
 use Rattle.sl_step_law.proofs.CallsAsk.{calls_ask, made_by}

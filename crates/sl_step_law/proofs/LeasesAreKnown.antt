@@ -1,6 +1,6 @@
 -- Each lease stands on an area at a base, and who has written its block has verified the resource's name; who holds has done so.
-use Rattle.sl_area.specs.Layouts.{Layout}
-use Rattle.sl_area.specs.Places.{is_base}
+use Rattle.sl_area.specs.AreaSizes.{Layout}
+use Rattle.sl_area.specs.AreaLayout.{is_base}
 use Rattle.sl_due.specs.Steps.{Step, seen}
 use Rattle.sl_due_leases.proofs.Grants.WorksByAnswers.{new_spot}
 use Rattle.sl_due_leases.proofs.Holdings.LeaseCallers.{spot_aligned}
@@ -21,7 +21,7 @@ use Rattle.sl_host_state.specs.HostStands.{LeaseStands, MemberStands, top_mbal}
 use Rattle.sl_host_state.specs.declared.kept_parts.TopNumber.{TopNumber}
 use Rattle.sl_words.proofs.Numbers.{number_itself}
 use Rattle.sl_sector.specs.declared.sector.Block.{Block}
-use Rattle.sl_words.specs.Words.{greatest}
+use Rattle.sl_words.specs.Words.{greatest, is_empty}
 use Rattle.sl_lease.specs.LeaseQuestions.{TopStands}
 use Rattle.sl_lease.specs.Bounds.{IsInstance}
 use Rattle.sl_lease.specs.Side.{is_named}
@@ -42,7 +42,6 @@ use Rattle.sl_trace.specs.declared.effects.Spot.{Spot}
 use Rattle.sl_trace.specs.declared.input.Input.{Input}
 use Rattle.sl_words.proofs.CaseLaws.{false_is_true, none_some}
 use Rattle.sl_words.proofs.WordLaws.{and_true}
-use Rattle.sl_words.specs.Words.{is_empty}
 use Rattle.std.proofs.Common.{ap, arith, inl, inr, refl, subst, sym, ◌∙◌}
 use Rattle.std.proofs.lemmas.Bool.Decides.{Decides-eqb}
 use Rattle.std.specs.List.{list_any}

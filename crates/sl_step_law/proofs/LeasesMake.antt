@@ -1,5 +1,6 @@
 -- A lease that waits for nothing may make a call on its area, for work whose job may make one: a read, or a write of the own block or of the leader.
-use Rattle.sl_area.specs.Places.{block_place, leader_offset, leader_record}
+use Rattle.sl_area.specs.AreaLayout.{block_place, leader_offset}
+use Rattle.sl_area.specs.AreaRecords.{leader_record}
 use Rattle.sl_host_law.proofs.SharedFacts.RecordsOfKinds.{block_cases, leader_cases}
 use Rattle.sl_host_law.specs.Answers.LeaseDecisions.{MayWork, block_at, record_at, turn_next}
 use Rattle.sl_host_law.specs.Calls.MemberCalls.{fits_lease, is_idle_job, is_leaving_alone}

@@ -1,8 +1,8 @@
 -- What a lease does next stands on its area, where that stands at a base.
 use Rattle.sl_due_facts.proofs.Acts.Pairs.Decisions.{conversion_is, release_is}
 use Rattle.sl_due_facts.specs.Acts.Acts.{next_of_conversion, next_of_release}
-use Rattle.sl_area.specs.Places.{block_offset, block_place, is_base}
-use Rattle.sl_due.specs.DueLease.{carry_lease}
+use Rattle.sl_area.specs.AreaLayout.{block_offset, block_place, is_base}
+use Rattle.sl_due.specs.CarriedLease.{carry_lease}
 use Rattle.sl_due.specs.Steps.{Step, seen}
 use Rattle.sl_due_facts.proofs.Jobs.EffectsAreAllowed.{LeaseAllowed, ReadAllowed, lease}
 use Rattle.sl_due_facts.proofs.Jobs.CallsStandInAreas.{at_base, base_whole, roomy, stands_in}
@@ -11,7 +11,9 @@ use Rattle.sl_due_facts.proofs.Jobs.RepliesComeAfter.{mapped_or}
 use Rattle.sl_due_law.specs.LawfulTraces.CarriedFacts.{Kept}
 use Rattle.sl_due_leases.proofs.Holdings.LeasePlaces.{area_is}
 use Rattle.sl_trace.specs.Ballots.{moded_block}
-use Rattle.sl_trace.specs.LeaseWork.{LeasePlace, convert_next, lease_place, release_next}
+use Rattle.sl_trace.specs.LeaseDecisions.{LeasePlace, lease_place}
+use Rattle.sl_trace.specs.Conversions.{convert_next}
+use Rattle.sl_trace.specs.Releases.{release_next}
 use Rattle.sl_trace.specs.Leases.{LeaseKnown, known, spot_of_call}
 use Rattle.sl_trace.specs.declared.lease.LeaseNext.{LeaseNext}
 use Rattle.sl_trace.specs.declared.lease.LeaseNext.TheVariants.{AnswerJob, BecomeExclusive, BecomeShared, GrantJob, Nothing as No_lease, ReadFor, WriteBlock, WriteLeader}
@@ -19,7 +21,7 @@ use Rattle.sl_trace.specs.Sessions.{sessions}
 use Rattle.sl_trace.specs.declared.session.Session.{Session}
 use Rattle.sl_step_law.proofs.OffsetsAreWhole.{base_at_sector, base_in, block_in, block_whole, first_in, first_whole}
 use Rattle.sl_step_law.proofs.PlacesAreKnown.{IsAt, session_at}
-use Rattle.sl_step_law.specs.CallsStand.{WroteBlock, looks_before_owed}
+use Rattle.sl_step_law.specs.CallsStand.{WroteBlock, looks_before_owed, is_look}
 use Rattle.sl_trace.specs.Traces.{Setting, new_call}
 use Rattle.sl_trace.specs.declared.effects.Call.{Call}
 use Rattle.sl_trace.specs.declared.effects.LeaseRead.TheVariants.{OfArea, OfBlock, OfFree, OfPhase1, OfPhase2}
@@ -37,7 +39,6 @@ use Rattle.sl_words.proofs.CaseLaws.{true_is_false}
 use Rattle.std.proofs.Common.{refl, subst, sym, ◌∙◌}
 use Rattle.std.specs.Prelude.{Contains, IsTrue, List, false, true, ℕ, ◌%◌, ◌*◌, ◌+◌, ◌<◌, ◌≡◌}
 use Rattle.sl_step_law.proofs.CallsOnPast.{Calls, OnPast, allows, made_as, of_lease}
-use Rattle.sl_step_law.specs.CallsStand.{is_look}
 
 -- ---- a lease's area
 

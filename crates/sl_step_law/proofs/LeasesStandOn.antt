@@ -2,15 +2,15 @@
 use Rattle.sl_due_facts.proofs.Acts.Pairs.Decisions.{begin_cases, within_cases}
 use Rattle.sl_due_facts.specs.Acts.Acts.{Has, Hears, next_of_settling}
 use Rattle.sl_due_facts.specs.Acts.TraceSoFar.{entry_of}
-use Rattle.sl_area.specs.Places.{is_base}
-use Rattle.sl_due.specs.DueLease.{carry_lease, next_of_lease}
+use Rattle.sl_area.specs.AreaLayout.{is_base}
+use Rattle.sl_due.specs.CarriedLease.{carry_lease, next_of_lease}
 use Rattle.sl_due.specs.Steps.{Step, seen}
 use Rattle.sl_due_leases.proofs.Grants.WorksByAnswers.{new_spot}
 use Rattle.sl_due_leases.proofs.Holdings.LeaseCallers.{heard_call, spot_aligned}
 use Rattle.sl_due_leases.proofs.Ways.WayFactsHeld.LinesReady.{none_open}
 use Rattle.sl_due_law.specs.LawfulTraces.CarriedFacts.{Kept}
 use Rattle.sl_run.specs.Lawful.{IsSetting}
-use Rattle.sl_trace.specs.LeaseWork.{LeasePlace, lease_place, owes_block, settle_begin, settle_next, settle_owed, within_turn}
+use Rattle.sl_trace.specs.LeaseDecisions.{LeasePlace, lease_place, owes_block, settle_begin, settle_next, settle_owed, within_turn}
 use Rattle.sl_trace.specs.Leases.{LeaseKnown, block_written, exclusive_on, has_shared_on, is_lease_call, is_on, known, known_of, lease_calls, lease_step, lver_written, open_on, owed, spot_of_call}
 use Rattle.sl_trace.specs.declared.lease.Aim.TheVariants.{Settles}
 use Rattle.sl_trace.specs.declared.lease.Aim.{Aim}

@@ -1,7 +1,8 @@
 -- What a line comes to may be done: a lease on a calm area waits for nothing, and who gives up, converts or sets has a lease there.
-use Rattle.sl_area.specs.Layouts.{IsGeometry, Layout, Sizes}
+use Rattle.sl_area.specs.AreaSizes.{IsGeometry, Layout, Sizes}
 use Rattle.sl_due_facts.proofs.Acts.Pairs.Decisions.{within_cases}
-use Rattle.sl_area.specs.Places.{area_sectors, leader_offset, leader_record, value_offset}
+use Rattle.sl_area.specs.AreaLayout.{area_sectors, leader_offset, value_offset}
+use Rattle.sl_area.specs.AreaRecords.{leader_record}
 use Rattle.sl_due.specs.Steps.{Step, seen, with_input}
 use Rattle.sl_due.specs.declared.decision.Decision.TheVariants.{ConvertsTo, GetsValue, GivesUp, Joins, Leaves, ReadsArea, Replies, Requests, SetsValue, Shares, TakesOver}
 use Rattle.sl_due.specs.declared.decision.Decision.{Decision}
@@ -34,13 +35,14 @@ use Rattle.sl_host_state.specs.HostStands.{IsWaiting, LeaseStands}
 use Rattle.sl_host_state.specs.declared.kept_parts.JobState.{JobState}
 use Rattle.sl_host_state.specs.declared.kept_parts.LeaseCall.{LeaseCall}
 use Rattle.sl_trace.specs.Jobs.{resource_named}
-use Rattle.sl_trace.specs.LeaseWork.{convert_next, release_next, within_turn}
+use Rattle.sl_trace.specs.Conversions.{convert_next}
+use Rattle.sl_trace.specs.Releases.{release_next}
+use Rattle.sl_trace.specs.LeaseDecisions.{within_turn, LeasePlace}
 use Rattle.sl_trace.specs.Leases.{LeaseKnown, holdings_on, is_lease_call, is_on, lease_calls, open_on, spot_of}
 use Rattle.sl_trace.specs.Ballots.{moded_block}
 use Rattle.sl_trace.specs.declared.lease.LeaseNext.TheVariants.{AnswerJob, Nothing, WriteBlock}
 use Rattle.sl_trace.specs.declared.lease.Aim.TheVariants.{Converts, Releases as Releasing}
 use Rattle.sl_trace.specs.declared.reply.Reply.{Reply}
-use Rattle.sl_trace.specs.LeaseWork.{LeasePlace}
 use Rattle.sl_words.proofs.Lists.{any_of, contains_first, contains_map, contains_none, find_inside, got_inside, in_map, kept as kept_in, kept_inside}
 use Rattle.sl_sector.specs.declared.sector.Block.{Block}
 use Rattle.sl_sector.specs.declared.sector.Leader.{Leader}

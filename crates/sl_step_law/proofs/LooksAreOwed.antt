@@ -1,12 +1,13 @@
 -- A lease looks, at its area before a free or at the blocks before a block, only where it owes what it looks for; and what is owed follows a block.
 use Rattle.sl_due_facts.proofs.Acts.Pairs.Decisions.{begin_cases, within_cases}
-use Rattle.sl_area.specs.Layouts.{Layout}
-use Rattle.sl_area.specs.Places.{blocks_of, leader_read}
+use Rattle.sl_area.specs.AreaSizes.{Layout}
+use Rattle.sl_area.specs.Pairs.{blocks_of}
+use Rattle.sl_area.specs.TornLeader.{leader_read}
 use Rattle.sl_due_leases.proofs.Ways.NextsFit.WritesFit.{left_is_won}
 use Rattle.sl_due_leases.proofs.Leases.NamesVerified.{ended_wrote as ended_block}
 use Rattle.sl_due_law.proofs.Causes.Leases.ReadNexts.{bytes_by}
 use Rattle.sl_trace.specs.Ballots.{is_ahead, moded_block, phase1_block, same_owner, stop_of, value_of}
-use Rattle.sl_trace.specs.LeaseWork.{LeasePlace, after_clearing, after_freeing, after_moding, after_phase1, after_phase2, after_read, after_take, after_write, area_next, begin_next, begin_or_refuse, first_step, heard, leader_for, lease_next, looks_for_shared, lost_next, named_area_next, owes_block, phase1_next, phase2_next, refuses, settle_begin, settle_next, settle_owed, stopped_next, unstopped_next, whole_area_next, within_turn, won_next}
+use Rattle.sl_trace.specs.LeaseDecisions.{LeasePlace, after_clearing, after_freeing, after_moding, after_phase1, after_phase2, after_read, after_take, after_write, area_next, begin_next, begin_or_refuse, first_step, heard, leader_for, lease_next, looks_for_shared, lost_next, named_area_next, owes_block, phase1_next, phase2_next, refuses, settle_begin, settle_next, settle_owed, stopped_next, unstopped_next, whole_area_next, within_turn, won_next}
 use Rattle.sl_trace.specs.Leases.{LeaseKnown, Phase2_write, block_submitted, block_written, concludes, ended_ballots, free_left, instance_for, is_at, is_leader_of, known_of, may_show_shared, mode_gen_of, open_ballot, owed, owed_free, own_known, shared_elsewhere}
 use Rattle.sl_trace.specs.declared.lease.Aim.TheVariants.{Acquires, Converts, Releases, Settles}
 use Rattle.sl_trace.specs.declared.lease.Aim.{Aim}

@@ -4,7 +4,7 @@ use Rattle.sl_due_facts.proofs.Acts.StepsKeep.{arrives_as_expected, at_input, ba
 use Rattle.sl_due_facts.proofs.Acts.WakesKeep.{wake_keeps}
 use Rattle.sl_due_facts.specs.Acts.Acts.{Expects}
 use Rattle.sl_due.specs.Due.{after_input, before_input, due_step}
-use Rattle.sl_due.specs.DueFirst.{begin_recoveries}
+use Rattle.sl_due.specs.DueRecovery.{begin_recoveries}
 use Rattle.sl_due.specs.DueInputs.{take_input}
 use Rattle.sl_due.specs.DueWake.{is_wake, on_wake}
 use Rattle.sl_due.specs.Steps.{Step, begin_step, when, with_input}

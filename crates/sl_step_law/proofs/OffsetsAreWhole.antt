@@ -1,11 +1,11 @@
 -- Where records stand: at whole sectors of areas that begin at bases.
-use Rattle.sl_area.specs.Layouts.{Layout}
-use Rattle.sl_area.specs.Places.{block_offset, block_place, delta_offset, is_base, pair_offset, request_offset, value_offset}
+use Rattle.sl_area.specs.AreaSizes.{Layout}
+use Rattle.sl_area.specs.AreaLayout.{block_offset, block_place, delta_offset, is_base, pair_offset, request_offset, value_offset}
 use Rattle.sl_due_facts.proofs.Jobs.CallsStandInAreas.{IsWithin, base_whole, floor_is, roomy}
 use Rattle.sl_run.specs.Lawful.{IsSetting}
 use Rattle.sl_words.proofs.Numbers.{none_off}
 use Rattle.sl_run_law.proofs.Place.Sizes.{IsSized, begins_at_sector, sector_has_bytes, sector_in_area, sized}
-use Rattle.sl_sector.specs.Spelling.{is_first_turn}
+use Rattle.sl_sector.specs.SectorLayouts.{is_first_turn}
 use Rattle.sl_trace.specs.Traces.{Setting}
 use Rattle.std.proofs.Common.{ap, arith, suc, subst, sym, zero, ◌∙◌}
 use Rattle.std.proofs.lemmas.Nat.{div-add-mod'}

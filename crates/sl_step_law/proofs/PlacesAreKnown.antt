@@ -1,6 +1,6 @@
 -- Where sessions and holdings stand: as the lines named them, or the setting.
-use Rattle.sl_area.specs.Layouts.{Layout}
-use Rattle.sl_area.specs.Places.{is_base}
+use Rattle.sl_area.specs.AreaSizes.{Layout}
+use Rattle.sl_area.specs.AreaLayout.{is_base}
 use Rattle.sl_due.specs.Steps.{Step, seen}
 use Rattle.sl_due_law.specs.LawfulTraces.CarriedFacts.{Kept}
 use Rattle.sl_due_facts.proofs.Jobs.JobsAreNumbered.{command_is_read}
@@ -23,7 +23,7 @@ use Rattle.sl_sector.specs.declared.sector.Rec.TheVariants.{BlockIs, DeltaIs, Le
 use Rattle.sl_trace.specs.Sessions.{calls_of, is_call_of, sessions}
 use Rattle.sl_trace.specs.declared.session.Session.{Session}
 use Rattle.sl_step_law.specs.KnownPlaces.{PlacesAreKnown}
-use Rattle.sl_trace.specs.Commands.{IsLockspaceArg}
+use Rattle.sl_trace.specs.CommandForms.{IsLockspaceArg}
 use Rattle.sl_trace.specs.Traces.{Setting, Submitted, Trace, holdings, is_shared, record_of, spot_of_grant, submitted}
 use Rattle.sl_trace.specs.declared.command.Command.TheVariants.{AddLockspace}
 use Rattle.sl_trace.specs.declared.effects.Grant.{Grant}

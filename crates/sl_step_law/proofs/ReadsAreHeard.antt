@@ -1,8 +1,9 @@
 -- A lease that has heard a read which isn't made once more: it keeps the greatest number of the blocks that the read gave, and the name of the resource
 -- that was sought, where the leader verified it. A second read is heard with what is kept of the first one.
 use Rattle.sl_due_facts.proofs.Acts.Pairs.Decisions.{not_asked}
-use Rattle.sl_area.specs.Layouts.{Layout}
-use Rattle.sl_area.specs.Places.{BlocksRead, blocks_of, leader_read, needs_again, pairs_kept, read_once}
+use Rattle.sl_area.specs.AreaSizes.{Layout}
+use Rattle.sl_area.specs.Pairs.{BlocksRead, blocks_of, needs_again, pairs_kept, read_once}
+use Rattle.sl_area.specs.TornLeader.{leader_read}
 use Rattle.sl_host_state.specs.HeardInputs.{blocks_heard, is_area_step, kept_heard, lease_hearing, read_heard, top_hearing, verified_at}
 use Rattle.sl_host_state.specs.KeptState.{LeaseState, PairState}
 use Rattle.sl_host_state.specs.HostStands.{first_read}
@@ -13,7 +14,7 @@ use Rattle.sl_lease.specs.Steps.{is_first_step, is_read_step}
 use Rattle.sl_sector.specs.declared.sector.Leader.{Leader}
 use Rattle.sl_sector.specs.declared.sector.Owner.{Owner}
 use Rattle.sl_sector.specs.declared.sector.PairBlock.{PairBlock}
-use Rattle.sl_trace.specs.LeaseWork.{asked_again, first_step, part_read}
+use Rattle.sl_trace.specs.LeaseDecisions.{asked_again, first_step, part_read}
 use Rattle.sl_trace.specs.Leases.{given_with, is_leader_of, is_second, name_sought}
 use Rattle.sl_trace.specs.declared.effects.LeaseRead.TheVariants.{OfArea, OfBlock, OfFree, OfPhase1, OfPhase2}
 use Rattle.sl_trace.specs.declared.effects.LeaseStep.TheVariants.{Phase1Read, Phase2Read, ReadAgain, ReadArea, ReadBeforeBlock, ReadBeforeFree}

@@ -1,8 +1,8 @@
 -- Each act keeps where calls stand: of a session on its own sectors, of a command on the area that it names, of a lease on that of its calls before.
 use Rattle.sl_due_facts.proofs.Acts.DecisionsAreTheirs.{decisions_are_theirs}
 use Rattle.sl_due_facts.specs.Acts.Acts.{Acts, Has}
-use Rattle.sl_due_facts.specs.Acts.DueDaemons.{IsDecidedFor}
-use Rattle.sl_area.specs.Places.{delta_offset, is_base, request_offset, value_offset}
+use Rattle.sl_due_facts.specs.Acts.DueDaemons.{IsDecidedFor, IsPresent}
+use Rattle.sl_area.specs.AreaLayout.{delta_offset, is_base, request_offset, value_offset}
 use Rattle.sl_due.specs.DueAnswers.{set_reply}
 use Rattle.sl_due.specs.DueCommands.{carry_decision}
 use Rattle.sl_due.specs.DueInputs.{end_holdings, leave_holdings, started_reply}
@@ -11,7 +11,7 @@ use Rattle.sl_due.specs.Steps.{Step, add_end, add_reply, seen, with_input}
 use Rattle.sl_due.specs.declared.decision.Decision.{Decision}
 use Rattle.sl_due.specs.declared.decision.Decision.TheVariants.{ConvertsTo, GetsValue, GivesUp, Joins, Leaves, ReadsArea, Replies, Requests, SetsValue, Shares, TakesOver}
 use Rattle.sl_due_facts.proofs.Jobs.DecisionsFit.{DecisionFits, decisions_fit}
-use Rattle.sl_due_facts.proofs.Jobs.EffectsAreAllowed.{DecisionAllowed, RequestAllowed, decision, delta, ended, exited, left, refusal, removal_of_refused, requested, said, sent, signalled, stopped}
+use Rattle.sl_due_facts.proofs.Jobs.EffectsAreAllowed.{DecisionAllowed, RequestAllowed, decision, delta, ended, exited, left, refusal, removal_of_refused, requested, said, sent, signalled, stopped, removal}
 use Rattle.sl_due_facts.proofs.Jobs.JobsAreNumbered.{command_is_read}
 use Rattle.sl_due_facts.proofs.Jobs.NearlyPlainActs.{AnyMove, AnyStart, Anything, grant_plain}
 use Rattle.sl_due_leases.proofs.Ways.WayFactsHeld.LinesReady.{named_base}
@@ -25,8 +25,8 @@ use Rattle.sl_trace.specs.declared.delta.DeltaNext.{DeltaNext}
 use Rattle.sl_trace.specs.declared.session.Session.{Session}
 use Rattle.sl_step_law.proofs.OffsetsAreWhole.{base_at_sector, delta_whole, request_whole, value_whole}
 use Rattle.sl_step_law.specs.CallsStand.{CallsStand}
-use Rattle.sl_trace.specs.Commands.{IsCommand, IsLockspaceArg}
-use Rattle.sl_trace.specs.Traces.{Setting, Trace, end_of, holdings, next_job, same_place, spot_of_grant}
+use Rattle.sl_trace.specs.CommandForms.{IsCommand, IsLockspaceArg}
+use Rattle.sl_trace.specs.Traces.{Setting, Trace, end_of, holdings, next_job, same_place, spot_of_grant, is_shared}
 use Rattle.sl_trace.specs.declared.command.Command.{Command}
 use Rattle.sl_trace.specs.declared.command.Command.TheVariants.{Acquire, AddLockspace, Convert, GetLvb, HostStatus, InqLockspace, Release, ReleaseOrphan, RemLockspace, Request, RunProgram, SetKillpath, SetLvb, Status, TakeOver}
 use Rattle.sl_trace.specs.declared.command.LockspaceArg.{LockspaceArg}
@@ -37,7 +37,7 @@ use Rattle.sl_trace.specs.declared.effects.LeaseStep.TheVariants.{ReadArea}
 use Rattle.sl_trace.specs.declared.effects.Op.{Op}
 use Rattle.sl_trace.specs.declared.effects.Op.TheVariants.{ReadSectors}
 use Rattle.sl_trace.specs.declared.effects.Purpose.{Purpose}
-use Rattle.sl_trace.specs.declared.effects.Purpose.TheVariants.{Joining, RequestRead, SeeRequest}
+use Rattle.sl_trace.specs.declared.effects.Purpose.TheVariants.{Joining, RequestRead, SeeRequest, RequestWrite, ValueRead, ValueWrite}
 use Rattle.sl_trace.specs.declared.effects.Signal.TheVariants.{Kill, Term}
 use Rattle.sl_trace.specs.declared.effects.Spot.{Spot}
 use Rattle.sl_trace.specs.declared.effects.Work.TheVariants.{ForJob}
@@ -45,19 +45,14 @@ use Rattle.sl_trace.specs.declared.input.Input.{Input}
 use Rattle.sl_trace.specs.declared.input.Input.TheVariants.{Exit, Line}
 use Rattle.sl_trace.specs.declared.reply.Reply.TheVariants.{Done, IoFault, IoTimeout, SpawnFault}
 use Rattle.std.proofs.Common.{refl, subst, sym}
-use Rattle.std.specs.Prelude.{Contains, IsTrue, List, None, Some, not, ℕ, ◌==◌, ◌≡◌}
+use Rattle.std.specs.Prelude.{Contains, IsTrue, List, None, Some, not, ℕ, ◌==◌, ◌≡◌, filter}
 use Rattle.sl_step_law.proofs.CallsOnPast.{Calls, OnPast, StandsAs, allows, one_more, plain, delta_stands}
 use Rattle.sl_step_law.proofs.LeasesOnPast.{head, released, turned}
 use Rattle.sl_step_law.proofs.LeasesStandOn.{Known, ends_so, heard_there, leads, settled, starts_so}
-use Rattle.sl_due_facts.specs.Acts.DueDaemons.{IsPresent}
-use Rattle.sl_due_facts.proofs.Jobs.EffectsAreAllowed.{removal}
-use Rattle.sl_due.specs.DueDelta.{carry_delta}
+use Rattle.sl_due.specs.CarriedDelta.{carry_delta}
 use Rattle.sl_host_law.proofs.SharedFacts.PlainOrders.{ordered_inside}
 use Rattle.sl_words.specs.Orders.{is_text_before}
-use Rattle.sl_trace.specs.Traces.{is_shared}
-use Rattle.sl_trace.specs.declared.effects.Purpose.TheVariants.{RequestWrite, ValueRead, ValueWrite}
 use Rattle.sl_trace.specs.declared.reply.Reply.{Reply}
-use Rattle.std.specs.Prelude.{filter}
 
 -- The input is seen, and no call is made.
 inputs_so : (x : Step) (i : Input) → Known x → OnPast x.setting x.past (with_input i x)

@@ -1,6 +1,6 @@
 -- Where calls stand: at whole sectors, and those of a lease in an area at a base. And what stands before a settling's look: its session wrote a block there.
 -- No law says it; each act keeps it, beside all that is known.
-use Rattle.sl_area.specs.Places.{is_base}
+use Rattle.sl_area.specs.AreaLayout.{is_base}
 use Rattle.sl_due.specs.Due.{IsHostTrace}
 use Rattle.sl_due.specs.Steps.{Step, seen}
 use Rattle.sl_run.specs.Lawful.{IsSetting}

@@ -1,5 +1,5 @@
 -- What is known of a host as a whole: its clock, its jobs, what a command was; and what the decision on a line rests on.
-use Rattle.sl_area.specs.Places.{is_base}
+use Rattle.sl_area.specs.AreaLayout.{is_base}
 use Rattle.sl_due.specs.Steps.{Step}
 use Rattle.sl_due.specs.declared.decision.Decision.TheVariants.{ConvertsTo, GetsValue, GivesUp, Joins, Leaves, SetsValue}
 use Rattle.sl_due.specs.declared.decision.Decision.{Decision}
@@ -18,7 +18,7 @@ use Rattle.sl_sector.specs.Records.{Fits}
 use Rattle.sl_trace.specs.declared.session.Begun.{Begun}
 use Rattle.sl_step_law.specs.Moments.{IsMoment}
 use Rattle.sl_step_law.specs.ReadyHosts.{IsReady}
-use Rattle.sl_trace.specs.Commands.{IsCommand}
+use Rattle.sl_trace.specs.CommandForms.{IsCommand}
 use Rattle.sl_trace.specs.Traces.{Setting, Trace, spot_of_grant}
 use Rattle.sl_trace.specs.declared.command.Command.TheVariants.{AddLockspace, RemLockspace}
 use Rattle.sl_trace.specs.declared.command.Command.{Command}

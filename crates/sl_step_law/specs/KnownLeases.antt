@@ -1,5 +1,5 @@
 -- What is known of leases and of who holds, at each moment of a step.
-use Rattle.sl_area.specs.Places.{is_base}
+use Rattle.sl_area.specs.AreaLayout.{is_base}
 use Rattle.sl_due.specs.Steps.{Step}
 use Rattle.sl_host_law.specs.Decisions.CommandDecisions.{held_of}
 use Rattle.sl_host_law.specs.Questions.Members.{exclusive_at}

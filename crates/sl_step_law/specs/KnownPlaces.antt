@@ -1,5 +1,5 @@
 -- Where sessions and holdings stand, at each moment of a step; and that what a lease keeps of the blocks that it read last is so.
-use Rattle.sl_area.specs.Places.{is_base}
+use Rattle.sl_area.specs.AreaLayout.{is_base}
 use Rattle.sl_due.specs.Steps.{Step}
 use Rattle.sl_due_law.specs.LawfulTraces.CarriedFacts.{Kept}
 use Rattle.sl_host_law.specs.Steps.Leases.{kept_blocks}

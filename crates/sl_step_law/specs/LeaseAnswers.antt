@@ -13,11 +13,11 @@ use Rattle.sl_lease.specs.LeaseQuestions.{TopStands, leader_given, read_given}
 use Rattle.sl_lease.specs.Bounds.{IsInstance}
 use Rattle.sl_lease.specs.Side.{is_named}
 use Rattle.sl_lease.specs.Steps.{is_first_step, is_read_step}
-use Rattle.sl_area.specs.Places.{is_base}
+use Rattle.sl_area.specs.AreaLayout.{is_base}
 use Rattle.sl_sector.specs.declared.sector.Leader.{Leader}
 use Rattle.sl_step_law.specs.AnswersAwaited.{IsMembersCall}
 use Rattle.sl_step_law.specs.ReadyHosts.{IsReady}
-use Rattle.sl_trace.specs.LeaseWork.{asked_again, first_step}
+use Rattle.sl_trace.specs.LeaseDecisions.{asked_again, first_step}
 use Rattle.sl_trace.specs.Leases.{is_leader_of, is_second}
 use Rattle.sl_trace.specs.Traces.{is_expected}
 use Rattle.sl_trace.specs.declared.effects.LeaseStep.TheVariants.{ReadArea}

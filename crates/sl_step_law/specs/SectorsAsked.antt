@@ -1,5 +1,5 @@
 -- How many sectors a call reads, by what it is for.
-use Rattle.sl_area.specs.Layouts.{Layout}
+use Rattle.sl_area.specs.AreaSizes.{Layout}
 use Rattle.sl_due.specs.Steps.{Step}
 use Rattle.sl_due_facts.specs.Facts.WayFacts.{sectors_of_read}
 use Rattle.sl_host_state.specs.KeptState.{HostState}
@@ -7,7 +7,7 @@ use Rattle.sl_host_state.specs.HostStands.{sectors_of}
 use Rattle.sl_host_state.specs.declared.kept_parts.OpenCall.{OpenCall}
 use Rattle.sl_step_law.specs.ReadyHosts.{IsReady}
 use Rattle.sl_trace.specs.declared.effects.JoinStep.TheVariants.{ClaimWrite, DecidingRead, FirstRead, FirstRenewal, VerifyRead, WatchRead}
-use Rattle.sl_trace.specs.LeaseWork.{first_step, read_of_step}
+use Rattle.sl_trace.specs.LeaseDecisions.{first_step, read_of_step}
 use Rattle.sl_trace.specs.declared.effects.Op.{Op}
 use Rattle.sl_trace.specs.declared.effects.Purpose.TheVariants.{Joining, Lease, Leaving, Renewal, RequestRead, RequestWrite, SeeRequest, Survey, ValueRead, ValueWrite}
 use Rattle.sl_trace.specs.declared.effects.Purpose.{Purpose}

@@ -1,7 +1,7 @@
 -- What a table of kill programs shows.
 use Rattle.indexmap.specs.IndexMap.{insert_entry}
-use Rattle.sl_tables.specs.Programs.{AreApart, ProgramsState, program_at, programs_of}
-use Rattle.sl_trace.specs.Traces.{KillProgram, with_program, without_program}
+use Rattle.sl_tables.specs.KillPrograms.{AreApart, ProgramsState, program_at, programs_of}
+use Rattle.sl_trace.specs.KillPrograms.{KillProgram, with_program, without_program}
 use Rattle.std.proofs.Common.{ap, refl, sym, ◌∙◌}
 use Rattle.std.proofs.lemmas.List.Folds.{find-append}
 use Rattle.std.proofs.lemmas.List.{append-nil, reverse-append}

@@ -12,14 +12,14 @@ mod connections;
 mod firsts;
 mod holdings;
 mod jobs;
+mod kill_programs;
 mod opens;
-mod programs;
 mod rising;
 
 pub use children::{ChildState, Children};
 pub use connections::Connections;
 pub use holdings::{Holder, Holdings, Sought};
 pub use jobs::Jobs;
+pub use kill_programs::Programs;
 pub use opens::OpenCalls;
-pub use programs::Programs;
 pub use rising::Rising;

@@ -1,8 +1,7 @@
 //! Elements by numbers that rise.
 
-ghost use Rattle.sl_tables.specs.Rising.{AreBelow, AreRising, RisingState};
+ghost use Rattle.sl_tables.specs.Rising.{AreBelow, AreRising, RisingState, is_full};
 ghost use Rattle.indexmap.specs.IndexMap.{index_map_len, spare, with_value_at};
-ghost use Rattle.sl_tables.specs.Rising.{is_full};
 ghost use Rattle.std.specs.Map.{lookup};
 ghost use Rattle.std.specs.Prelude.{IfOk, None, OnErr, OnOk, max, cond, length, map, nat_eq, not, Option, Some, filter, is_some, option_map, slice_get, [], ◌+◌, ◌++◌, ◌-◌, ◌<◌, ◌^◌, ◌∷◌, ◌≡◌, ◌≤◌, ℕ};
 

@@ -1,6 +1,6 @@
 -- What an action owes: a disk is handed out, the action is done to the area, and the area goes back. Where the devices don't tell what the
 -- disk has, nothing of it is owed, so what the area tells is forgotten; where they do, the area has what the disk had.
-use Rattle.sl_area.specs.Layouts.{Sizes, layout_of}
+use Rattle.sl_area.specs.AreaSizes.{Sizes, layout_of}
 use Rattle.sl_direct.specs.Actions.{Acts, AreReadAt, Directs, Look, Reads, Writes, dump_look, leader_look, path_of}
 use Rattle.sl_direct.specs.FreshAreas.{Write, lockspace_writes, resource_writes}
 use Rattle.sl_direct.specs.Lines.{lockspace_line, resource_line}

@@ -10,8 +10,8 @@ use Rattle.sl_play.proofs.Headers.CommandsAreRead.{whole_language_may_play}
 use Rattle.sl_headline.proofs.RunsArePromised.{made_runs_are_promised}
 use Rattle.sl_headline.specs.PromisedRuns.{PromisedRun}
 use Rattle.sl_host_step.specs.HostServes.{Serves, whole_commands}
-use Rattle.sl_report.specs.Generator.{gen_header, gen_lines}
-use Rattle.sl_report.specs.Headline.{GenOf, IsFrontOf, SoundRun}
+use Rattle.sl_report.specs.GeneratedSchedules.{gen_header, gen_lines}
+use Rattle.sl_report.specs.OwedReports.{GenOf, IsFrontOf, SoundRun}
 use Rattle.sl_run.specs.Headers.{IsHeader}
 use Rattle.sl_run.specs.Worlds.{whole_program}
 use Rattle.sl_sector.proofs.WrittenBytes.{sha256_is_digest}
@@ -23,7 +23,7 @@ use Rattle.sl_top.specs.Statuses.{status_of_generated}
 use Rattle.sl_top.specs.declared.status.Status.TheVariants.{Done, NoMemory, WriteFault}
 use Rattle.sl_top.specs.declared.status.Status.{Status}
 use Rattle.sl_headline.proofs.Volumes.WholeProgramReads.{whole_program_reads}
-use Rattle.sl_words.specs.Causes.{Rose}
+use Rattle.sl_io.specs.FaultCauses.{Rose}
 use Rattle.std.proofs.Common.{Bool, List, Option, [], inl, inr, refl, subst, sym, ℕ, ◌∙◌, ◌≡◌, ◌≤◌}
 use Rattle.std.specs.Io.KnownBytes.{Appends}
 

@@ -1,7 +1,7 @@
 -- What a run owes where there was no memory for its words: nothing was read, and nothing written.
 use Rattle.sl_cli.specs.declared.command_words.Words.TheVariants.{Direct, Generate, Help, Live, Replay, Version}
 use Rattle.sl_cli.specs.declared.command_words.Words.{Words}
-use Rattle.sl_report.specs.Generator.{gen_lines}
+use Rattle.sl_report.specs.GeneratedSchedules.{gen_lines}
 use Rattle.sl_run.specs.Worlds.{whole_program}
 use Rattle.sl_text.specs.Forms.{as_bytes}
 use Rattle.sl_top.proofs.DirectLaws.{not_begun}

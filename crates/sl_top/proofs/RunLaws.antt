@@ -9,13 +9,13 @@ use Rattle.sl_play.specs.Replays.{IsOwed, Of_events, Of_header, ReportsComplete,
 use Rattle.sl_play.specs.Replays as play
 use Rattle.sl_play.specs.declared.replay.Played.TheVariants as played
 use Rattle.sl_play.specs.declared.replay.Played.{Played}
-use Rattle.sl_report.specs.Headline.{FrontOf, HeadersAreGood, MayHaveBeen, Of_nothing, ReplayOf, ReplayOwed, SoundRun, is_whole_status}
+use Rattle.sl_report.specs.OwedReports.{FrontOf, HeadersAreGood, MayHaveBeen, Of_nothing, ReplayOf, ReplayOwed, SoundRun, is_whole_status}
 use Rattle.sl_report.specs.Languages.{Language, whole_language}
 use Rattle.sl_report.specs.Reports.{end_line}
 use Rattle.sl_sound.proofs.Reports.OneReport.{runs_have_one_report}
 use Rattle.sl_sound.specs.Reports.ReportLaws.{replay_status}
 use Rattle.sl_sector.proofs.WrittenBytes.{sha256_is_digest}
-use Rattle.sl_sector.specs.Spelling.{IsDigest}
+use Rattle.sl_sector.specs.SectorLayouts.{IsDigest}
 use Rattle.sl_sound.proofs.OwedGrows.{made_replays_are_sound}
 use Rattle.sl_sound.specs.MadeRuns.{MadeRun}
 use Rattle.sl_sound.specs.SoundLaws.{DaemonsDoWhatIsDue}

@@ -1,5 +1,5 @@
 -- Which statuses a run may end with, by what its words say, and why.
-use Rattle.sl_area.specs.Layouts.{Sizes}
+use Rattle.sl_area.specs.AreaSizes.{Sizes}
 use Rattle.sl_cli.specs.declared.command_words.Words.TheVariants.{Direct, Generate, Help, Live, Replay, Version}
 use Rattle.sl_cli.specs.declared.command_words.Words.{Words}
 use Rattle.sl_cli.specs.declared.texts.TheConstants.{HELP, VERSION}
@@ -12,19 +12,19 @@ use Rattle.sl_direct.specs.declared.action.Action.{Action}
 use Rattle.sl_direct.specs.declared.action.Directed.TheVariants as directed
 use Rattle.sl_direct.specs.declared.action.Directed.{Directed}
 use Rattle.sl_headline.specs.PromisedRuns.{PromisedRun}
-use Rattle.sl_report.specs.Headline.{MayHaveBeen, ReplayHeadline, is_whole_status}
+use Rattle.sl_report.specs.OwedReports.{MayHaveBeen, ReplayHeadline, is_whole_status}
 use Rattle.sl_report.specs.Languages.{whole_language}
 use Rattle.sl_sound.proofs.Reports.OneReport.{accepted_schedules_end_well as accepted_runs}
 use Rattle.sl_sound.specs.Reports.ReportLaws.{replay_status}
 use Rattle.sl_top.proofs.LiveLaws.{live_caused, not_a_look, not_bad as not_bad_live}
 use Rattle.sl_top.proofs.RunLaws.{whole_headers}
-use Rattle.sl_top.specs.Laws.{AcceptedSchedulesEndWell, CantBeUpgraded, CausesHaveStatuses, HasItsCause, IsNotTheLeader, NothingFailed, OtherSchedulesAreRefused, StatusesHaveCauses, has_leader}
+use Rattle.sl_top.specs.StatusLaws.{AcceptedSchedulesEndWell, CantBeUpgraded, CausesHaveStatuses, HasItsCause, IsNotTheLeader, NothingFailed, OtherSchedulesAreRefused, StatusesHaveCauses, has_leader}
 use Rattle.sl_top.specs.Runs.{ActsOn, IsCutShort, IsWritten, Outside, PutsOut, Replays, RunsLive, bad_words_text}
 use Rattle.sl_top.specs.Statuses.{code, status_after}
 use Rattle.sl_top.specs.declared.status.Status.TheVariants.{AreaFault, BadWords, Differs, Done, NoMemory, NotTheLeader, ReadFault, Refused, WriteFault}
 use Rattle.sl_top.specs.declared.status.Status.{Status}
 use Rattle.sl_trace.specs.declared.command.ResourceArg.{ResourceArg}
-use Rattle.sl_words.specs.Causes.{Rose}
+use Rattle.sl_io.specs.FaultCauses.{Rose}
 use Rattle.std.proofs.Common.{Bool, IsTrue, List, None, Option, Some, ap, append-nil, arith, false, inl, inr, refl, subst, sym, true, ℕ, ◌++◌, ◌<◌, ◌∙◌, ◌≡◌}
 use Rattle.std.specs.Io.KnownBytes.{Consumes, IsAtEnd}
 use Rattle.std.specs.Prelude.{◌⊎◌}

@@ -1,9 +1,9 @@
 -- Fronts of a text, and what is put out of one.
-use Rattle.sl_report.specs.Headline.{IsFrontOf}
+use Rattle.sl_report.specs.OwedReports.{IsFrontOf}
 use Rattle.sl_top.specs.Runs.{PutsOut}
 use Rattle.sl_top.specs.declared.status.Status.TheVariants.{WriteFault}
 use Rattle.sl_top.specs.declared.status.Status.{Status}
-use Rattle.sl_words.specs.Causes.{Rose}
+use Rattle.sl_io.specs.FaultCauses.{Rose}
 use Rattle.std.proofs.Common.{List, Option, [], ap, append-nil, append_assoc, drop, inl, inr, refl, sym, take, ℕ, ◌++◌, ◌∙◌, ◌≡◌}
 use Rattle.std.proofs.lemmas.List.{take-append-drop}
 use Rattle.std.specs.Io.KnownBytes.{Appends}

@@ -1,3 +1,3 @@
 pub mod Statuses
 pub mod Runs
-pub mod Laws
+pub mod StatusLaws

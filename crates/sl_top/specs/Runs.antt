@@ -8,8 +8,8 @@ use Rattle.sl_direct.specs.declared.action.Action.{Action}
 use Rattle.sl_direct.specs.declared.action.Directed.{Directed}
 use Rattle.sl_play.specs.Replays.{ReportsComplete}
 use Rattle.sl_generate.specs.GeneratorPlay.{GeneratedOf}
-use Rattle.sl_report.specs.Generator.{gen_lines}
-use Rattle.sl_report.specs.Headline.{GenHeadline, IsFrontOf, MayHaveBeen, ReplayHeadline, ReplayOwed, is_whole_status}
+use Rattle.sl_report.specs.GeneratedSchedules.{gen_lines}
+use Rattle.sl_report.specs.OwedReports.{GenHeadline, IsFrontOf, MayHaveBeen, ReplayHeadline, ReplayOwed, is_whole_status}
 use Rattle.sl_report.specs.Languages.{whole_language}
 use Rattle.sl_sound.specs.Reports.ReportLaws.{replay_status}
 use Rattle.sl_headline.specs.PromisedRuns.{PromisedRun}
@@ -22,7 +22,7 @@ use Rattle.sl_text.specs.Forms.{as_bytes}
 use Rattle.sl_top.specs.Statuses.{code, status_after, status_of_live}
 use Rattle.sl_top.specs.declared.status.Status.TheVariants.{BadWords, Done, NoMemory, ReadFault, WriteFault}
 use Rattle.sl_top.specs.declared.status.Status.{Status}
-use Rattle.sl_words.specs.Causes.{Rose}
+use Rattle.sl_io.specs.FaultCauses.{Rose}
 use Rattle.std.specs.Global.{Global}
 use Rattle.std.specs.Io.KnownBytes.{Appends, Consumes, IsAtEnd}
 use Rattle.std.specs.Prelude.{Bool, IsTrue, List, None, Option, Some, String, codes, map, string_bytes, true, [], ℕ, ◌++◌, ◌∷◌, ◌≡◌, ◌⊎◌}

@@ -1,6 +1,6 @@
 //! What each status tells of a run: laws of the definitions that `run` and `run_offline` cite.
 
-ghost use Rattle.sl_top.specs.Laws.{AcceptedSchedulesEndWell, CausesHaveStatuses, LiveHistoriesAreGood, OtherSchedulesAreRefused, StatusesHaveCauses};
+ghost use Rattle.sl_top.specs.StatusLaws.{AcceptedSchedulesEndWell, CausesHaveStatuses, LiveHistoriesAreGood, OtherSchedulesAreRefused, StatusesHaveCauses};
 
 /// Each status but `Done` and want of memory comes only with its cause.
 pub fn statuses_have_causes()

@@ -1,6 +1,8 @@
 -- What reads of a lease give where each host's block has one sector: what their bytes spell, whatever was read before.
-use Rattle.sl_area.specs.Layouts.{Layout}
-use Rattle.sl_area.specs.Places.{BlocksRead, blocks_in, blocks_of, leader_made, leader_of, leader_read, needs_again, pairs_of, read_once}
+use Rattle.sl_area.specs.AreaSizes.{Layout}
+use Rattle.sl_area.specs.Pairs.{BlocksRead, blocks_of, needs_again, pairs_of, read_once}
+use Rattle.sl_area.specs.TornLeader.{leader_made, leader_read}
+use Rattle.sl_area.specs.AreaLayout.{blocks_in, leader_of}
 use Rattle.sl_sector.specs.declared.sector.Block.{Block}
 use Rattle.sl_sector.specs.declared.sector.Leader.{Leader}
 use Rattle.sl_sector.specs.declared.sector.PairBlock.{PairBlock}

@@ -1,11 +1,13 @@
 -- What a lease does next where each host's block has one sector: no read is made once more, no settling reads before its block, and no block
 -- has a turn.
-use Rattle.sl_area.specs.Layouts.{Layout}
-use Rattle.sl_area.specs.Places.{BlocksRead, blocks_in, blocks_of, leader_of, leader_read}
+use Rattle.sl_area.specs.AreaSizes.{Layout}
+use Rattle.sl_area.specs.Pairs.{BlocksRead, blocks_of}
+use Rattle.sl_area.specs.TornLeader.{leader_read}
+use Rattle.sl_area.specs.AreaLayout.{blocks_in, leader_of}
 use Rattle.sl_sector.specs.declared.sector.Block.{Block}
 use Rattle.sl_sector.specs.declared.sector.Leader.{Leader}
 use Rattle.sl_trace.proofs.PlainReads.{blocks_plain, leader_plain, once_plain}
-use Rattle.sl_trace.specs.LeaseWork.{LeasePlace, after_bytes, after_read, asked_again, first_step, heard, owes_block, part_read, read_of_step, refuses_block, settle_begin, settle_next, within_turn}
+use Rattle.sl_trace.specs.LeaseDecisions.{LeasePlace, after_bytes, after_read, asked_again, first_step, heard, owes_block, part_read, read_of_step, refuses_block, settle_begin, settle_next, within_turn}
 use Rattle.sl_trace.specs.Leases.{LeaseKnown, owed}
 use Rattle.sl_trace.specs.declared.effects.LeaseRead.{LeaseRead}
 use Rattle.sl_trace.specs.declared.effects.LeaseStep.TheVariants.{ReadAgain, ReadBeforeBlock}

@@ -1,12 +1,12 @@
 -- Who holds what in a daemon, and what is counted against limits.
-use Rattle.sl_area.specs.Layouts.{Layout}
+use Rattle.sl_area.specs.AreaSizes.{Layout}
 use Rattle.sl_trace.specs.Jobs.{is_asking_lease, is_command_that, is_granted_job, is_program}
 use Rattle.sl_trace.specs.Leases.{is_on, lease_spots, open_on, value_written}
 use Rattle.sl_sector.specs.declared.sector.ValueRec.{ValueRec}
 use Rattle.sl_trace.specs.Sessions.{calls_of, is_joined, sessions}
 use Rattle.sl_trace.specs.declared.session.Session.{Session}
-use Rattle.sl_trace.specs.Limits.{most_children, most_holders, most_killpaths, most_processes, most_resources}
-use Rattle.sl_trace.specs.Traces.{Setting, Submitted, Trace, children, holdings, is_child, is_shared, kill_program_of, kill_programs, running_jobs, same_place, same_spot}
+use Rattle.sl_trace.specs.CountLimits.{most_children, most_holders, most_processes, most_resources}
+use Rattle.sl_trace.specs.Traces.{Setting, Submitted, Trace, children, holdings, is_child, is_shared, running_jobs, same_place, same_spot}
 use Rattle.sl_trace.specs.declared.command.Command.{Command}
 use Rattle.sl_trace.specs.declared.effects.Grant.{Grant}
 use Rattle.sl_trace.specs.declared.effects.Spot.{Spot}
@@ -15,7 +15,7 @@ use Rattle.sl_trace.specs.declared.reply.Limited.{Limited}
 use Rattle.sl_words.specs.Words.{choose, least}
 use Rattle.std.specs.List.{list_any}
 use Rattle.std.specs.Option.{option_map_or, option_or}
-use Rattle.std.specs.Prelude.{Bool, List, Option, count_by, filter, filter_map, find, is_none, length, map, nat_le, not, option_and_then, sum_by, ℕ, ◌&&◌, ◌+◌, ◌==◌, ◌||◌}
+use Rattle.std.specs.Prelude.{Bool, List, Option, count_by, filter, filter_map, find, length, map, nat_le, not, option_and_then, sum_by, ℕ, ◌&&◌, ◌+◌, ◌==◌, ◌||◌}
 
 -- The daemon's holdings on the area, of whatever session.
 abbrev pub held_here : Trace → Spot → List Grant
@@ -65,14 +65,6 @@ limit_met st es s at program =
     option_or (choose (not (list_any (same_spot at) (lease_spots st es s)) && nat_le most_resources (resource_count st es)) Resources)
     (option_or (choose (nat_le most_holders (holder_count st es)) Holders)
     (choose (program && nat_le most_children (child_count st es)) Children))
-
--- The kill program that is to be started in place of a term to the process, while a child number is left.
-abbrev pub stopper_of : Setting → Trace → ℕ → Option (List ℕ)
-stopper_of st es p = option_and_then (λ program. choose (not (nat_le most_children (child_count st es))) program) (kill_program_of st es p)
-
--- Whether one more process with a kill program would pass the limit.
-abbrev pub is_killpath_limit : Setting → Trace → ℕ → Bool
-is_killpath_limit st es p = is_none (kill_program_of st es p) && nat_le most_killpaths (length (kill_programs st es))
 
 -- The values that were submitted on the area among a session's calls, the newest first.
 abbrev pub values_on : Layout → Spot → List Submitted → List ValueRec

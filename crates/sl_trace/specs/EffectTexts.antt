@@ -2,7 +2,7 @@
 use Rattle.sl_sector.specs.RecordTexts.{dash_for_none, record_words}
 use Rattle.sl_text.specs.Forms.{coloned, spaced}
 use Rattle.sl_text.specs.Numbers.{hex_text}
-use Rattle.sl_trace.specs.Limits.{most_children, most_holders, most_killpaths, most_lockspaces, most_resources}
+use Rattle.sl_trace.specs.CountLimits.{most_children, most_holders, most_killpaths, most_lockspaces, most_resources}
 use Rattle.sl_trace.specs.declared.effects.Call.{Call}
 use Rattle.sl_trace.specs.declared.effects.Effects.{Effects}
 use Rattle.sl_trace.specs.declared.effects.End.{End}

@@ -1,7 +1,9 @@
 -- A session's work on one resource: its ballots, its block, what it owes. What is asked of a lease is a function of the lease's own
 -- list of calls, the newest first, so an entry that brings it no call and no answer changes nothing of it.
-use Rattle.sl_area.specs.Layouts.{Layout}
-use Rattle.sl_area.specs.Places.{BlocksRead, blocks_of, blocks_part, in_area, leader_read, needs_again, pair_read, pairs_kept, read_once}
+use Rattle.sl_area.specs.AreaSizes.{Layout}
+use Rattle.sl_area.specs.Pairs.{BlocksRead, blocks_of, needs_again, pair_read, pairs_kept, read_once}
+use Rattle.sl_area.specs.TornLeader.{leader_read}
+use Rattle.sl_area.specs.AreaLayout.{blocks_part, in_area}
 use Rattle.sl_trace.specs.Ballots.{instance_of, is_ahead, owner_of, same_owner, stop_of, value_of}
 use Rattle.sl_trace.specs.declared.lease.Instance.{Instance}
 use Rattle.sl_trace.specs.declared.lease.Owed.TheVariants.{BallotOwed, FreeOwed, ModeOwed}

@@ -1,6 +1,6 @@
 -- The sessions of a trace: when each begins, joins, recovers, leaves and ends. A session is named by its place among the daemon's
 -- sessions, those of the setting first; a session of a run also by its machine and daemon. Generations and names are never identity.
-use Rattle.sl_area.specs.Places.{delta_of}
+use Rattle.sl_area.specs.AreaLayout.{delta_of}
 use Rattle.sl_sector.specs.declared.sector.DeltaRec.{DeltaRec}
 use Rattle.sl_sector.specs.declared.sector.Owner.{Owner}
 use Rattle.sl_sector.specs.declared.sector.Rec.TheVariants.{DeltaIs}
@@ -11,7 +11,7 @@ use Rattle.sl_trace.specs.declared.session.Session.{Session}
 use Rattle.sl_trace.specs.declared.stage.Stage.TheVariants.{Claiming, Deciding, Ended, FirstRenewing, Freeing, Looking, Refused, Standing, Verifying, Waiting}
 use Rattle.sl_trace.specs.declared.stage.Stage.{Stage}
 use Rattle.sl_time.specs.Times.{fail}
-use Rattle.sl_trace.specs.Connections.{unregisters}
+use Rattle.sl_trace.specs.WatchdogConnections.{unregisters}
 use Rattle.sl_trace.specs.Traces.{Job, Setting, Submitted, Trace, call_numbered, holdings, is_answered_ok, is_orphan, is_write, line_in, next_job, record_of, reply_to, same_place, submitted, unanswered}
 use Rattle.sl_trace.specs.declared.command.Command.TheVariants.{AddLockspace, RemLockspace}
 use Rattle.sl_trace.specs.declared.command.Command.{Command}

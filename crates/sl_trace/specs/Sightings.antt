@@ -1,8 +1,8 @@
 -- What a session has seen of other ids, and what that shows. Sightings stand newest first. A claim's silence is no evidence, because
 -- its writer may still join: only a live record that stood still counts.
-use Rattle.sl_area.specs.Layouts.{Layout, record_in}
-use Rattle.sl_area.specs.Places.{sector_of}
-use Rattle.sl_sector.specs.Spelling.{delta_in}
+use Rattle.sl_area.specs.AreaSizes.{Layout, record_in}
+use Rattle.sl_area.specs.AreaLayout.{sector_of}
+use Rattle.sl_sector.specs.SectorLayouts.{delta_in}
 use Rattle.sl_sector.specs.declared.sector.DeltaRec.{DeltaRec}
 use Rattle.sl_sector.specs.declared.sector.DeltaState.TheVariants.{Free, Live}
 use Rattle.sl_sector.specs.declared.sector.DeltaState.{DeltaState}

@@ -1,10 +1,9 @@
 -- A trace is the list of a daemon's entries, the newest first. What is outstanding, running or held after it is a function of
 -- the whole list, by recursion on the newest entry.
-use Rattle.sl_area.specs.Layouts.{Layout}
+use Rattle.sl_area.specs.AreaSizes.{Layout}
 use Rattle.sl_sector.specs.declared.sector.Rec.{Rec}
 use Rattle.sl_time.specs.Times.{TimingNumbers}
-use Rattle.sl_trace.specs.Limits.{most_processes}
-use Rattle.sl_trace.specs.declared.command.Command.TheVariants.{SetKillpath}
+use Rattle.sl_trace.specs.CountLimits.{most_processes}
 use Rattle.sl_trace.specs.declared.command.Command.{Command}
 use Rattle.sl_trace.specs.declared.effects.Call.{Call}
 use Rattle.sl_trace.specs.declared.effects.Effects.{Effects}
@@ -27,13 +26,13 @@ use Rattle.sl_trace.specs.declared.input.Given.{Given}
 use Rattle.sl_trace.specs.declared.input.Input.TheVariants.{Answer as Told, Exit, Line, Number, Spawned}
 use Rattle.sl_trace.specs.declared.input.Input.{Input}
 use Rattle.sl_trace.specs.declared.input.Numbers.{Numbers}
-use Rattle.sl_trace.specs.declared.reply.Reply.TheVariants.{Done, IoTimeout, Recovering}
+use Rattle.sl_trace.specs.declared.reply.Reply.TheVariants.{IoTimeout, Recovering}
 use Rattle.sl_trace.specs.declared.reply.Reply.{Reply}
 use Rattle.sl_words.specs.Bounds.{moments}
-use Rattle.sl_words.specs.Words.{choose, greatest, some_is}
+use Rattle.sl_words.specs.Words.{greatest, some_is}
 use Rattle.std.specs.List.{list_any, range_with_len}
 use Rattle.std.specs.Option.{option_or}
-use Rattle.std.specs.Prelude.{Bool, IsTrue, List, None, Ok, Option, Result, Some, bytes_eq, drop, false, filter, find, fold, is_none, length, map, nat_lt, not, option_and_then, option_map, slice_get, true, [], ℕ, ◌&&◌, ◌*◌, ◌++◌, ◌+◌, ◌-◌, ◌<◌, ◌==◌, ◌∷◌, ◌≡◌, ◌≤◌}
+use Rattle.std.specs.Prelude.{Bool, IsTrue, List, None, Option, Result, Some, bytes_eq, drop, false, filter, find, fold, is_none, length, map, nat_lt, not, option_and_then, option_map, slice_get, true, [], ℕ, ◌&&◌, ◌*◌, ◌++◌, ◌+◌, ◌-◌, ◌<◌, ◌==◌, ◌∷◌, ◌≡◌, ◌≤◌}
 
 -- What a daemon is made of.
 pub record Setting : Type 0 where
@@ -382,51 +381,10 @@ next_child es = first_child + length (children es)
 abbrev pub stands_for : Trace → ℕ → Option ℕ
 stands_for es process = option_and_then (λ k. k.stands_for) (child_numbered es process)
 
--- ---- kill programs
-
--- A process with its kill program.
-pub record KillProgram : Type 0 where
-  pub process : ℕ
-  pub program : List ℕ
-
--- The kill program that a command sets.
-abbrev pub kill_program_in : Result Command ℕ → Option KillProgram
-kill_program_in (Ok (SetKillpath p path)) = Some (record { process = p; program = path })
-kill_program_in c = None
-
--- Whether the reply says that it is done.
-abbrev pub is_done : Reply → Bool
-is_done Done = true
-is_done r = false
-
--- The kill program that the entry after these sets: its line says so, and is answered ok in it.
-abbrev pub program_set_in : Setting → Trace → Entry → Option KillProgram
-program_set_in st es e =
-    option_and_then (λ text.
-    option_and_then (λ k. choose (some_is (λ r. is_done r.reply) (reply_in (next_job st es) es e)) k) (kill_program_in (st.read text))) (line_in e.input)
-
 -- The process that exits by an input.
 abbrev pub exited_by : Input → Option ℕ
 exited_by (Exit p) = Some p
 exited_by i = None
-
--- These without that of a process.
-abbrev pub without_program : Option ℕ → List KillProgram → List KillProgram
-without_program process ks = filter (λ k. not (some_is (λ p. p == k.process) process)) ks
-
--- These with one more, in place of its process's.
-abbrev pub with_program : Option KillProgram → List KillProgram → List KillProgram
-with_program None ks = ks
-with_program (Some k) ks = k ∷ without_program (Some k.process) ks
-
--- The kill programs that are set: of each process the last, until it exits.
-abbrev pub kill_programs : Setting → Trace → List KillProgram
-kill_programs st [] = []
-kill_programs st (e ∷ es) = with_program (program_set_in st es e) (without_program (exited_by e.input) (kill_programs st es))
-
--- A process's kill program.
-abbrev pub kill_program_of : Setting → Trace → ℕ → Option (List ℕ)
-kill_program_of st es p = option_map (λ k. k.program) (find (λ k. k.process == p) (kill_programs st es))
 
 -- ---- what a trace is
 

@@ -1,8 +1,8 @@
 -- What sightings show, and what they don't.
-use Rattle.sl_area.specs.Layouts.{Layout, program_digest}
+use Rattle.sl_area.specs.AreaSizes.{Layout, program_digest}
 use Rattle.sl_sector.proofs.PublicLaws.{reading_is_exact}
 use Rattle.sl_sector.proofs.WrittenBytes.{sha256_is_digest}
-use Rattle.sl_sector.specs.Spelling.{Spells, decoded, delta_in}
+use Rattle.sl_sector.specs.SectorLayouts.{Spells, decoded, delta_in}
 use Rattle.sl_sector.specs.declared.sector.Bad.{Bad}
 use Rattle.sl_sector.specs.declared.sector.DeltaRec.{DeltaRec}
 use Rattle.sl_sector.specs.declared.sector.DeltaState.TheVariants.{Claimed, Free, Live}

@@ -1,5 +1,5 @@
 -- The summary of a list with one more sighting is the summary's step, and evidence is read off it.
-use Rattle.sl_area.specs.Layouts.{Layout, layout_of}
+use Rattle.sl_area.specs.AreaSizes.{Layout, layout_of}
 use Rattle.sl_sector.specs.declared.sector.DeltaRec.{DeltaRec}
 use Rattle.sl_trace.specs.Sightings.{current_run, evidence, evidence_of, has_seen, is_free_among, is_free_state, newest_of, run_with, seen_records, sighted, silence, span, state_of_run, unchanged, host_state}
 use Rattle.sl_trace.specs.declared.sighting.Run.{Run}

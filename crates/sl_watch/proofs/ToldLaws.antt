@@ -1,8 +1,8 @@
 -- A watch that is told of looks stands for the longer sightings.
-use Rattle.sl_area.specs.Layouts.{Sizes, layout_of, program_digest}
-use Rattle.sl_area.specs.Places.{read_at}
-use Rattle.sl_sector.specs.Fields.{delta_code}
-use Rattle.sl_sector.specs.Spelling.{decoded}
+use Rattle.sl_area.specs.AreaSizes.{Sizes, layout_of, program_digest}
+use Rattle.sl_area.specs.AreaLayout.{read_at}
+use Rattle.sl_sector.specs.FieldBytes.{delta_code}
+use Rattle.sl_sector.specs.SectorLayouts.{decoded}
 use Rattle.sl_sector.specs.declared.sector.Bad.{Bad}
 use Rattle.sl_sector.specs.declared.sector.DeltaRec.{DeltaRec}
 use Rattle.sl_sector.specs.declared.sector.DeltaState.TheVariants.{Claimed, Free, Live}

@@ -1,11 +1,10 @@
 -- A watch stands for what it saw.
-use Rattle.sl_area.specs.Layouts.{layout_of, program_digest}
-use Rattle.sl_sector.specs.Spelling.{decoded, spelling}
+use Rattle.sl_area.specs.AreaSizes.{layout_of, program_digest}
+use Rattle.sl_sector.specs.SectorLayouts.{decoded, spelling, delta_in}
 use Rattle.sl_sector.specs.declared.sector.Bad.{Bad}
 use Rattle.sl_sector.specs.declared.sector.DeltaRec.{DeltaRec}
 use Rattle.sl_sector.specs.declared.sector.Rec.TheVariants.{BlockIs, DeltaIs, LeaderIs, PairIs, PairLeaderIs, RequestIs, ValueIs}
 use Rattle.sl_sector.specs.declared.sector.Rec.{Rec}
-use Rattle.sl_sector.specs.Spelling.{delta_in}
 use Rattle.sl_trace.specs.declared.sighting.Sighting.{Sighting}
 use Rattle.sl_watch.proofs.SummaryLaws.{summary_more}
 use Rattle.sl_watch.specs.SeenLooks.{Seen, seen_at, seen_with, sightings_of, spelled_for}

@@ -1,7 +1,7 @@
 -- What sightings show, and what they don't.
-use Rattle.sl_area.specs.Layouts.{Layout, Sizes, layout_of, program_digest}
+use Rattle.sl_area.specs.AreaSizes.{Layout, Sizes, layout_of, program_digest}
 use Rattle.sl_sector.specs.Records.{AreBytes}
-use Rattle.sl_sector.specs.Spelling.{IsSectorSize, Spells}
+use Rattle.sl_sector.specs.SectorLayouts.{IsSectorSize, Spells}
 use Rattle.sl_sector.specs.declared.sector.DeltaRec.{DeltaRec}
 use Rattle.sl_sector.specs.declared.sector.DeltaState.TheVariants.{Claimed}
 use Rattle.sl_sector.specs.declared.sector.Rec.TheVariants.{DeltaIs}

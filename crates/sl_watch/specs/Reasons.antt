@@ -1,5 +1,5 @@
 -- The reasons for which a generation of an id counts as over, in words: what a watch has seen.
-use Rattle.sl_area.specs.Layouts.{Sizes, layout_of}
+use Rattle.sl_area.specs.AreaSizes.{Sizes, layout_of}
 use Rattle.sl_sector.specs.declared.sector.DeltaRec.{DeltaRec}
 use Rattle.sl_sector.specs.declared.sector.DeltaState.TheVariants.{Free, Live}
 use Rattle.sl_trace.specs.Sightings.{current_run, seen_records, span}

@@ -1,6 +1,6 @@
 -- What a watch has seen: looks at ids' sectors, the newest first.
-use Rattle.sl_area.specs.Layouts.{program_digest}
-use Rattle.sl_sector.specs.Spelling.{decoded, delta_in}
+use Rattle.sl_area.specs.AreaSizes.{program_digest}
+use Rattle.sl_sector.specs.SectorLayouts.{decoded, delta_in}
 use Rattle.sl_sector.specs.declared.sector.DeltaRec.{DeltaRec}
 use Rattle.sl_trace.specs.declared.sighting.Sighting.{Sighting}
 use Rattle.sl_words.specs.Words.{choose}

@@ -1,7 +1,7 @@
 -- What the sightings of an id come to, and what is kept of that. Each question to a watch is one to this summary, and a sighting
 -- changes it by one step.
-use Rattle.sl_area.specs.Layouts.{Layout, program_digest}
-use Rattle.sl_sector.specs.Spelling.{decoded, spelling}
+use Rattle.sl_area.specs.AreaSizes.{Layout, program_digest}
+use Rattle.sl_sector.specs.SectorLayouts.{decoded, spelling}
 use Rattle.sl_sector.specs.declared.sector.DeltaRec.{DeltaRec}
 use Rattle.sl_sector.specs.declared.sector.Rec.TheVariants.{DeltaIs}
 use Rattle.sl_trace.specs.Sightings.{current_run, has_seen, is_free_among, is_free_state, newest_of, run_with, seen_records, silence, state_of_run}

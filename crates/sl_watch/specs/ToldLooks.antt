@@ -1,15 +1,14 @@
 -- What a look makes of what a watch keeps: its state functions. A law says that they follow the sightings; a method says that it makes
 -- this change.
-use Rattle.sl_area.specs.Layouts.{Layout, layout_of}
-use Rattle.sl_area.specs.Places.{read_at, sector_of}
-use Rattle.sl_sector.specs.Fields.{delta_code}
-use Rattle.sl_sector.specs.Spelling.{delta_in}
+use Rattle.sl_area.specs.AreaSizes.{Layout, layout_of, Sizes}
+use Rattle.sl_area.specs.AreaLayout.{read_at, sector_of}
+use Rattle.sl_sector.specs.FieldBytes.{delta_code}
+use Rattle.sl_sector.specs.SectorLayouts.{delta_in}
 use Rattle.sl_sector.specs.declared.sector.Bad.{Bad}
 use Rattle.sl_sector.specs.declared.sector.DeltaRec.{DeltaRec}
 use Rattle.sl_sector.specs.declared.sector.Rec.{Rec}
 use Rattle.sl_trace.specs.declared.sighting.Sighting.{Sighting}
 use Rattle.sl_time.specs.Times.{TimingNumbers}
-use Rattle.sl_area.specs.Layouts.{Sizes}
 use Rattle.sl_watch.specs.Summaries.{freed_with, nothing_seen}
 use Rattle.sl_watch.specs.Watches.{IsReadTrue, WatchStands, Watched, kept_at}
 use Rattle.sl_watch.specs.declared.run.KeptRun.{KeptRun}

@@ -1,6 +1,6 @@
 -- What a watch keeps, and for what it stands.
-use Rattle.sl_area.specs.Layouts.{Sizes, layout_of, program_digest}
-use Rattle.sl_sector.specs.Spelling.{decoded, spelling}
+use Rattle.sl_area.specs.AreaSizes.{Sizes, layout_of, program_digest}
+use Rattle.sl_sector.specs.SectorLayouts.{decoded, spelling}
 use Rattle.sl_sector.specs.declared.sector.Rec.{Rec}
 use Rattle.sl_trace.specs.declared.sighting.Sighting.{Sighting}
 use Rattle.sl_time.specs.Times.{TimingNumbers}

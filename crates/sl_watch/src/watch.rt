@@ -15,8 +15,8 @@
 //! - Time is counted from the answer of a run's first sighting to the submission of its last (`run` says why).
 ghost use Rattle.std.specs.Prelude.{IfOk, IfSome, IsSome, List, length, [], ◌∷◌, ◌≡◌, ◌≤◌, ◌⊎◌, ◌↔◌, ℕ, replicate, slice_set, ◌-◌};
 ghost use Rattle.std.specs.Option.{option_map_or};
-ghost use Rattle.sl_area.specs.Layouts.{layout_of, program_digest};
-ghost use Rattle.sl_sector.specs.Spelling.{decoded};
+ghost use Rattle.sl_area.specs.AreaSizes.{layout_of, program_digest};
+ghost use Rattle.sl_sector.specs.SectorLayouts.{decoded};
 ghost use Rattle.sl_trace.specs.Sightings.{evidence, host_state, span, unchanged};
 ghost use Rattle.sl_trace.specs.declared.sighting.Sighting.{Sighting};
 ghost use Rattle.sl_watch.specs.Reasons.{IsFirstReason, SawFree, SawNewer, StoodStill};

@@ -1,5 +1,5 @@
 -- What is done to a map of names is what is done to the list of connections.
-use Rattle.sl_trace.specs.Connections.{connection_named, renewed_connection}
+use Rattle.sl_trace.specs.WatchdogConnections.{connection_named, renewed_connection}
 use Rattle.sl_wdmd.specs.KeptConnections.{connection_of, connections_of}
 use Rattle.sl_wdmd.specs.Moves.{AreApart, others}
 use Rattle.indexmap.proofs.CallerLemmas.{insert_entry-new}

@@ -1,5 +1,5 @@
 -- Laws of moves.
-use Rattle.sl_trace.specs.Connections.{Connection, connection_named, renewed_connection}
+use Rattle.sl_trace.specs.WatchdogConnections.{Connection, connection_named, renewed_connection}
 use Rattle.sl_trace.specs.declared.effects.Move.TheVariants.{Register, Renew, Unregister}
 use Rattle.sl_wdmd.specs.Moves.{AreApart, NamesStay, OthersStay, OwnMoves, StayApart, names, lasting_until, other_names, others}
 use Rattle.sl_words.proofs.CaseLaws.{none_some}

@@ -1,5 +1,5 @@
 -- When the daemon's test holds.
-use Rattle.sl_trace.specs.Connections.{Connection, test_holds}
+use Rattle.sl_trace.specs.WatchdogConnections.{Connection, test_holds}
 use Rattle.sl_words.proofs.CaseLaws.{false_is_true}
 use Rattle.sl_wdmd.specs.Moves.{NoneExpired}
 use Rattle.std.proofs.Common.{Bool, List, false, nat_le, not, refl, true, [], ℕ, ◌<◌, ◌||◌, ◌∷◌, ◌≡◌, ◌↔◌}

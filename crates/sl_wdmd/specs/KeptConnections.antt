@@ -1,5 +1,5 @@
 -- How connections are kept: names with their expiry, in the order of a map.
-use Rattle.sl_trace.specs.Connections.{Connection}
+use Rattle.sl_trace.specs.WatchdogConnections.{Connection}
 use Rattle.std.specs.Prelude.{List, map, ℕ}
 
 -- The connection that an entry of the map stands for.

@@ -1,5 +1,5 @@
 -- What a move does to the connections, said without how it is done.
-use Rattle.sl_trace.specs.Connections.{Connection, after_move, connection_named}
+use Rattle.sl_trace.specs.WatchdogConnections.{Connection, after_move, connection_named}
 use Rattle.sl_trace.specs.declared.effects.Move.TheVariants.{Register, Renew, Unregister}
 use Rattle.sl_trace.specs.declared.effects.Move.{Move}
 use Rattle.std.specs.Prelude.{All, List, None, Option, Some, bytes_eq, filter, map, not, [], ℕ, ◌<◌, ◌++◌, ◌∷◌, ◌≡◌}

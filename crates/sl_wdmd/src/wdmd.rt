@@ -5,7 +5,7 @@
 //! removal closes the gap and leaves the order of the others.
 
 ghost use Rattle.indexmap.specs.IndexMap.{IsUnique, values};
-ghost use Rattle.sl_trace.specs.Connections.{after_move, connection_named, test_holds};
+ghost use Rattle.sl_trace.specs.WatchdogConnections.{after_move, connection_named, test_holds};
 ghost use Rattle.sl_wdmd.specs.Moves.{AreApart, MayMove, NoneExpired};
 ghost use Rattle.std.specs.List.{list_any};
 ghost use Rattle.std.specs.Map.{set_value};
@@ -28,7 +28,7 @@ pub struct Wdmd {
 
 impl Model for Wdmd {
     ghost use Rattle.indexmap.specs.IndexMap.{IsUnique};
-    ghost use Rattle.sl_trace.specs.Connections.{Connection};
+    ghost use Rattle.sl_trace.specs.WatchdogConnections.{Connection};
     ghost use Rattle.sl_wdmd.specs.KeptConnections.{connections_of};
     ghost use Rattle.std.specs.Prelude.{List, bytes_eq};
 

@@ -1,8 +1,7 @@
 pub mod Words
 pub mod Orders
 pub mod Results
-pub mod Causes
 pub mod Bounds
 pub mod Laws
 pub mod Tables
-pub mod Rooms
+pub mod RoomyLists

@@ -13,7 +13,7 @@ pub struct Room<T> {
 }
 
 impl<T> Model for Room<T> {
-    ghost use Rattle.sl_words.specs.Rooms.{Roomy};
+    ghost use Rattle.sl_words.specs.RoomyLists.{Roomy};
     ghost use Rattle.std.specs.Prelude.{vec_capacity, vec_len, ◌+◌, ◌<◌, ◌^◌, ◌≤◌};
 
     ghost Value = { Roomy T };

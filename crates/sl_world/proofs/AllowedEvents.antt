@@ -12,7 +12,7 @@ use Rattle.sl_world_law.proofs.AllowedEvents.{open_test}
 use Rattle.sl_world_law.proofs.TestLists.{Tests}
 use Rattle.sl_words.proofs.Lists.{find_inside}
 use Rattle.sl_words.proofs.Options.{some_there}
-use Rattle.sl_run.specs.Events.{machine_of}
+use Rattle.sl_run.specs.Inputs.{machine_of}
 use Rattle.sl_run.specs.Worlds.{World, first_that}
 use Rattle.sl_run.specs.declared.event.Event.TheVariants.{AnswerCall, Crash, Do, DropWrite, GiveAsk, GiveCommand, GiveLvm, Land, Pass, Restart, Sample, SpawnedOf, Test, WakeUp}
 use Rattle.sl_run.specs.declared.event.Event.{Event}

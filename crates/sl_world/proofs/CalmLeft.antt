@@ -12,7 +12,7 @@ use Rattle.sl_machine.specs.declared.kept_world.Kept.{Kept}
 use Rattle.sl_machine.specs.declared.machine.Machine.{Machine as KeptMachine}
 use Rattle.sl_words.proofs.Lists.{set_here}
 use Rattle.sl_run.specs.Conflicts.{Holding, has_conflict}
-use Rattle.sl_run.specs.Events.{machine_of}
+use Rattle.sl_run.specs.Inputs.{machine_of}
 use Rattle.sl_run.specs.Locks.{Locks}
 use Rattle.sl_run.specs.Runs.{HasSteps}
 use Rattle.sl_run.specs.Worlds.{Machine, World, machine_at}

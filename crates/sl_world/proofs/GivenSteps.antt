@@ -9,7 +9,7 @@ use Rattle.sl_machine.specs.KeptParts.{AtMachine, kept_state, place_in}
 use Rattle.sl_machine.specs.Machines.{HasRoom, TakesStep, machine_state, stepped_by}
 use Rattle.sl_machine.specs.declared.heard_inputs.Heard.{Heard}
 use Rattle.sl_machine.specs.declared.kept_world.Kept.{Kept}
-use Rattle.sl_locks.specs.declared.step.LockInput.{LockInput}
+use Rattle.sl_locks.specs.declared.line_steps.LockInput.{LockInput}
 use Rattle.sl_machine.specs.declared.machine.Machine.{Machine}
 use Rattle.sl_run.specs.Locks.{Locks}
 use Rattle.sl_run.specs.declared.header.Header.{Header}

@@ -12,7 +12,8 @@ use Rattle.sl_words.proofs.Lists.{set_here}
 use Rattle.sl_words.proofs.Numbers.{number_itself}
 use Rattle.sl_report.specs.Reports.{conflicts_after}
 use Rattle.sl_run.specs.Conflicts.{Holding}
-use Rattle.sl_run.specs.Events.{input_at, input_of, machine_of, next_input, own_effects}
+use Rattle.sl_run.specs.Inputs.{input_at, input_of, machine_of}
+use Rattle.sl_run.specs.EventChanges.{next_input, own_effects}
 use Rattle.sl_run.specs.Runs.{HasSteps, own_effects_of}
 use Rattle.sl_run.specs.Worlds.{Machine, World, machine_at}
 use Rattle.sl_run.specs.declared.event.Event.TheVariants.{AnswerCall, Crash, Do, DropWrite, ExitOf, GiveAsk, GiveCommand, GiveLvm, Land, Pass, Reset, Restart, Sample, SpawnedOf, StartDaemon, Tear, Test, WakeUp}

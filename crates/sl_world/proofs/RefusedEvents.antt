@@ -1,6 +1,6 @@
 -- An event that is refused: the answer says why.
 use Rattle.sl_run.specs.declared.event.Refusal.{Refusal}
-use Rattle.sl_locks.specs.declared.step.StepTold.{StepTold}
+use Rattle.sl_locks.specs.declared.line_steps.StepTold.{StepTold}
 use Rattle.sl_world.specs.declared.apply.ApplyError.TheVariants.{OutOfMemory, Refused}
 use Rattle.sl_world.specs.declared.apply.ApplyError.{ApplyError}
 use Rattle.sl_words.proofs.CaseLaws.{none_some, some_value}

@@ -5,13 +5,13 @@ use Rattle.sl_world_state.specs.Inputs.{input_for, input_in}
 use Rattle.sl_world_state.specs.KeptWorld.{KeptState, MachineState, machine_in}
 use Rattle.sl_world_state.specs.Refusals.{refusal_in}
 use Rattle.sl_locks.specs.Steps.{lock_input}
-use Rattle.sl_locks.specs.declared.step.LockInput.{LockInput}
-use Rattle.sl_locks.specs.declared.step.StepTold.{StepTold}
+use Rattle.sl_locks.specs.declared.line_steps.LockInput.{LockInput}
+use Rattle.sl_locks.specs.declared.line_steps.StepTold.{StepTold}
 use Rattle.sl_machine.proofs.PartsHeard.{locks_hear_their_part}
 use Rattle.sl_machine.specs.HeardInputs.{IsLockInput, heard_by_locks}
 use Rattle.sl_machine.specs.Machines.{HasTold, told_by}
 use Rattle.sl_report.specs.Reports.{StepTold as ToldStep}
-use Rattle.sl_run.specs.Events.{machine_of}
+use Rattle.sl_run.specs.Inputs.{machine_of}
 use Rattle.sl_run.specs.Locks.{Locks, Told as LineTold, locks_after, told_effects}
 use Rattle.sl_run.specs.declared.event.Event.TheVariants.{ExitOf}
 use Rattle.sl_run.specs.declared.event.Event.{Event}

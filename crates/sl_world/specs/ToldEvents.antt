@@ -2,7 +2,7 @@
 use Rattle.sl_world_state.specs.declared.daemon.Most.{Most}
 use Rattle.sl_world_state.specs.KeptWorld.{KeptState, MachineState, machine_in}
 use Rattle.sl_locks.specs.Replies.{told_as}
-use Rattle.sl_locks.specs.declared.step.StepTold.{StepTold}
+use Rattle.sl_locks.specs.declared.line_steps.StepTold.{StepTold}
 use Rattle.sl_machine.specs.Machines.{HasTold}
 use Rattle.sl_report.specs.Reports.{StepTold as ToldStep}
 use Rattle.sl_run.specs.declared.event.Event.{Event}

@@ -10,7 +10,7 @@ ghost use Rattle.sl_machine.specs.EventTests.{bars_locks, is_tear};
 ghost use Rattle.sl_world.specs.AllowedEvents.{IsAllowed, StandsForSome};
 ghost use Rattle.sl_world.specs.GivenSteps.{IsSame};
 ghost use Rattle.sl_world.specs.ToldEvents.{ComesTold};
-ghost use Rattle.sl_run.specs.Events as events;
+ghost use Rattle.sl_run.specs.Refusals as refusals;
 ghost use Rattle.sl_run.specs.Worlds as worlds;
 ghost use Rattle.sl_run.specs.declared.event.Event.TheVariants.{Tear};
 ghost use Rattle.sl_run.specs.declared.event.Refusal.{Refusal as RefusalOf};
@@ -121,9 +121,9 @@ impl<D: Daemon, L: LockTable> World<D, L> {
     pub fn apply(&mut self, event: Event) -> Result<StepTold, ApplyError>
         requires { StandsForSome D.commands D.stands (kept_state L.locks self.old.kept) self.old.hosts }
         ensures refused { (w : worlds.World) → WorldStands D.commands D.stands (kept_state L.locks self.old.kept) self.old.hosts w → (r : RefusalOf)
-            → events.refusal_of w event ≡ Some r → (result ≡ Err (ApplyError.Refused r)) ⊎ ((is_tear event ≡ true) × (result ≡ Err ApplyError.OutOfMemory)) }
+            → refusals.refusal_of w event ≡ Some r → (result ≡ Err (ApplyError.Refused r)) ⊎ ((is_tear event ≡ true) × (result ≡ Err ApplyError.OutOfMemory)) }
         ensures only { (w : worlds.World) → WorldStands D.commands D.stands (kept_state L.locks self.old.kept) self.old.hosts w → (r : RefusalOf)
-            → result ≡ Err (ApplyError.Refused r) → events.refusal_of w event ≡ Some r }
+            → result ≡ Err (ApplyError.Refused r) → refusals.refusal_of w event ≡ Some r }
         ensures ok { IfOk result (ComesTold D.commands D.stands (kept_state L.locks self.old.kept) self.old.hosts event (kept_state L.locks self.new.kept) self.new.hosts) }
         ensures err { OnErr result (IsSame (kept_state L.locks self.old.kept) self.old.hosts (kept_state L.locks self.new.kept) self.new.hosts) }
     {

@@ -23,9 +23,9 @@
 //! here.
 #![tactic(auto)]
 
-mod answers;
 mod apply;
 mod conflicts;
+mod done_calls;
 mod ends;
 mod first_world;
 mod given_inputs;

@@ -1,7 +1,7 @@
 -- What is known where an event may happen.
 use Rattle.sl_world_law.proofs.TestLists.{Tests}
 use Rattle.sl_words.proofs.Options.{none_is}
-use Rattle.sl_run.specs.Events.{event_tests, is_shaped, may_happen, on_flight, on_machine, refusal_of}
+use Rattle.sl_run.specs.Refusals.{event_tests, is_shaped, may_happen, on_flight, on_machine, refusal_of}
 use Rattle.sl_run.specs.Worlds.{Course, Machine, World, first_that, flight_of, machine_at}
 use Rattle.sl_run.specs.declared.event.Event.{Event}
 use Rattle.sl_run.specs.declared.event.Refusal.TheVariants.{MissingCall, MissingMachine}

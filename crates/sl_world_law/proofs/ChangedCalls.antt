@@ -4,7 +4,7 @@ use Rattle.sl_world_state.specs.KeptWorld.{FlightState}
 use Rattle.sl_world_state.specs.ShownWorlds.{flight_of_course, shown, write_in}
 use Rattle.sl_world_law.proofs.ShownCalls.{dropped_first, kept_first, shows}
 use Rattle.sl_words.proofs.Lists.{contains_first, contains_more}
-use Rattle.sl_run.specs.Events.{change_call, fated}
+use Rattle.sl_run.specs.EventChanges.{change_call, fated}
 use Rattle.sl_run.specs.Worlds.{Course, Dropped, Landed, Machine, Torn, is_in_flight, is_of_running, is_open, is_write_course}
 use Rattle.sl_run.specs.declared.header.Header.{Header}
 use Rattle.sl_trace.specs.Traces.{is_write}

@@ -1,5 +1,5 @@
 -- What an event gives a daemon answers what it has asked.
-use Rattle.sl_area.specs.Layouts.{Layout}
+use Rattle.sl_area.specs.AreaSizes.{Layout}
 use Rattle.sl_world_state.specs.SaneWorlds.{IsSane, IsSaneMachine}
 use Rattle.sl_world_law.proofs.AllowedEvents.{allowed, flight_allowed, machine_allowed, open_test}
 use Rattle.sl_world_law.proofs.Lookups.{flight_inside, machine_place}
@@ -7,7 +7,9 @@ use Rattle.sl_world_law.proofs.TestLists.{Tests}
 use Rattle.sl_words.proofs.Lists.{any_of, contains_map, find_inside, in_map, kept}
 use Rattle.sl_words.proofs.Numbers.{number_itself, refl_le}
 use Rattle.sl_words.proofs.Options.{mapped_value, then_value}
-use Rattle.sl_run.specs.Events.{done_input, event_tests, has_start, if_running, input_at, is_placed, is_read_course, machine_of, may_happen, ok_input, on_flight, rest_sampled, sample_at, sampled_more, sectors_left, sectors_of}
+use Rattle.sl_run.specs.Inputs.{done_input, if_running, input_at, machine_of, ok_input, rest_sampled}
+use Rattle.sl_run.specs.Refusals.{event_tests, has_start, is_placed, is_read_course, may_happen, on_flight, sectors_left, sectors_of}
+use Rattle.sl_run.specs.EventChanges.{sample_at, sampled_more}
 use Rattle.sl_run.specs.Worlds.{Course, Daemon, Machine, World, flight_of, flights, is_landed, is_of_running, is_open, is_torn_fate, is_write_course, machine_at, next_numbers, sector_size}
 use Rattle.sl_run.specs.declared.event.Event.TheVariants.{AnswerCall, Do, ExitOf, GiveAsk, GiveCommand, GiveLvm, SpawnedOf, WakeUp}
 use Rattle.sl_run.specs.declared.event.Event.{Event}

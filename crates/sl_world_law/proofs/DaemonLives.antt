@@ -11,7 +11,8 @@ use Rattle.sl_world_law.proofs.Lookups.{machine_place, machine_shown}
 use Rattle.sl_world_law.proofs.TestLists.{Tests}
 use Rattle.sl_world_law.specs.Changes.{LivesAreKept}
 use Rattle.sl_words.proofs.Lists.{contains_first, contains_more, in_map, kept_inside}
-use Rattle.sl_run.specs.Events.{after_crash, after_reset, after_start, event_tests, first_change, may_happen}
+use Rattle.sl_run.specs.EventChanges.{after_crash, after_reset, after_start, first_change}
+use Rattle.sl_run.specs.Refusals.{event_tests, may_happen}
 use Rattle.sl_run.specs.Locks.{fresh_locks}
 use Rattle.sl_run.specs.Worlds.{Course, Daemon, Machine, Stamp, World, change_machine, daemons_on, is_in_flight, is_of_running, is_open, is_write_course, may_land, names_of, new_daemon, next_numbers, resets_after, setting_of, stamp_now}
 use Rattle.sl_run.specs.declared.event.Event.TheVariants.{StartDaemon}

@@ -6,7 +6,7 @@ use Rattle.sl_world_state.specs.ShownWorlds.{Tells}
 use Rattle.sl_world_law.proofs.Lookups.{machine_place}
 use Rattle.sl_words.proofs.Lists.{set_length}
 use Rattle.sl_words.proofs.Places.{PlacedAt, Replaced, Stayed, placed, set_two}
-use Rattle.sl_run.specs.Events.{after_pass, next_step, passed}
+use Rattle.sl_run.specs.EventChanges.{after_pass, next_step, passed}
 use Rattle.sl_run.specs.Worlds.{Daemon, Machine, World, change_machine, daemons_on, machine_at}
 use Rattle.sl_run.specs.declared.header.Header.{Header}
 use Rattle.sl_world_law.proofs.PlainLists.{enumerated, numbered_at}

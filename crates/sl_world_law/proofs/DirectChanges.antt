@@ -9,7 +9,8 @@ use Rattle.sl_world_law.proofs.ChangedCalls.{open_is}
 use Rattle.sl_world_law.proofs.Lookups.{machine_shown}
 use Rattle.sl_words.proofs.Lists.{contains_first, contains_more, find_inside, in_map, kept_inside, set_here}
 use Rattle.sl_words.proofs.Options.{mapped_value, then_value}
-use Rattle.sl_run.specs.Events.{ends_of, machine_of}
+use Rattle.sl_run.specs.EventChanges.{ends_of}
+use Rattle.sl_run.specs.Inputs.{machine_of}
 use Rattle.sl_run.specs.Worlds.{Machine, World, flights, is_open, machine_at}
 use Rattle.sl_run.specs.declared.event.Event.TheVariants.{Reset}
 use Rattle.sl_run.specs.declared.header.Header.{Header}

@@ -4,15 +4,15 @@ use Rattle.sl_world_state.specs.Refusals.{refusal_in}
 use Rattle.sl_world_state.specs.ShownWorlds.{Tells, flight_of_course, shown}
 use Rattle.sl_world_law.proofs.Lookups.{machine_shown}
 use Rattle.sl_world_law.proofs.RefusalCases.{refusals_are_kept}
-use Rattle.sl_report.specs.Generator.{candidates, ended_calls, is_starving, is_useful_test, least_call, least_ended}
-use Rattle.sl_run.specs.Events.{may_happen}
+use Rattle.sl_report.specs.GeneratedSchedules.{candidates, ended_calls, is_starving, is_useful_test, least_call, least_ended}
+use Rattle.sl_run.specs.Refusals.{may_happen}
 use Rattle.sl_run.specs.Worlds.{Course, Machine, World, flights, is_of_running, machine_at, reading_now}
 use Rattle.sl_run.specs.declared.event.Event.TheVariants.{Pass}
 use Rattle.sl_run.specs.declared.event.Event.{Event}
 use Rattle.sl_run.specs.declared.header.Header.{Header}
 use Rattle.sl_world_law.proofs.PlainLists.{same_filter}
 use Rattle.sl_time.specs.Times.{reading_of}
-use Rattle.sl_trace.specs.Connections.{test_holds}
+use Rattle.sl_trace.specs.WatchdogConnections.{test_holds}
 use Rattle.sl_words.specs.Words.{first_of_list, least, some_is}
 use Rattle.sl_world_law.specs.DrawnCandidates.{DrawsAreKept, QuestionsStand, candidates_in, candidates_with, ended_in, is_useful_in, least_call_in, starves_in}
 use Rattle.std.proofs.Common.{ap, ap₂, refl, sym, ◌∙◌}

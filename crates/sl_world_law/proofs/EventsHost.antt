@@ -2,7 +2,9 @@
 use Rattle.sl_world_state.specs.Daemons.{Stood}
 use Rattle.sl_world_law.proofs.Lookups.{machine_place}
 use Rattle.sl_words.proofs.Lists.{contains_cases}
-use Rattle.sl_run.specs.Events.{add_landing, after_crash, after_effects, after_reset, after_restart, after_start, after_test, change_call, complete, fated, first_change, flight_at, land_torn, land_whole, next_step, sampled_more, sectors_left, take_step, torn_bytes, write_bytes}
+use Rattle.sl_run.specs.EventChanges.{add_landing, after_crash, after_effects, after_reset, after_restart, after_start, after_test, change_call, complete, fated, first_change, flight_at, land_torn, land_whole, next_step, sampled_more, take_step, write_bytes}
+use Rattle.sl_run.specs.Refusals.{sectors_left}
+use Rattle.sl_run.specs.Premises.{torn_bytes}
 use Rattle.sl_run.specs.Worlds.{Course, Daemon, Dropped, Fate, Landed, Machine, Torn, World, change_machine, daemons_on, is_in_flight, is_write_course, machine_at, new_daemon, next_numbers, setting_of, stamp_now}
 use Rattle.sl_run.specs.declared.event.Event.TheVariants.{Crash, Do, DropWrite, Land, Pass, Reset, Restart, Sample, StartDaemon, Tear, Test}
 use Rattle.sl_run.specs.declared.event.Event.{Event}

@@ -1,5 +1,5 @@
 -- What is kept and the daemons that run stand for the world after each event.
-use Rattle.sl_area.specs.Layouts.{Layout}
+use Rattle.sl_area.specs.AreaSizes.{Layout}
 use Rattle.sl_world_state.specs.Daemons.{IsSoundCall, MayCome, Stood, entry_of}
 use Rattle.sl_world_state.specs.declared.daemon.Most.{Most}
 use Rattle.sl_world_state.specs.Inputs.{input_in}
@@ -14,7 +14,9 @@ use Rattle.sl_world_law.proofs.RefusalCases.{refusals_are_kept}
 use Rattle.sl_world_law.proofs.WholeEvents.{RunsThen, events_are_kept, runs_then}
 use Rattle.sl_words.proofs.Lists.{contains_cases, contains_more, there_is}
 use Rattle.sl_words.proofs.Options.{then_value}
-use Rattle.sl_run.specs.Events.{after_step, first_change, happens, input_of, machine_of, may_happen, next_input, next_step, take_step}
+use Rattle.sl_run.specs.EventChanges.{after_step, first_change, happens, next_input, next_step, take_step}
+use Rattle.sl_run.specs.Inputs.{input_of, machine_of}
+use Rattle.sl_run.specs.Refusals.{may_happen}
 use Rattle.sl_run.specs.Runs.{HasSteps, own_effects_of}
 use Rattle.sl_run.specs.Worlds.{Daemon, Machine, World, daemons_on, machine_at, next_numbers, reading_now, stamp_now}
 use Rattle.sl_run.specs.declared.event.Event.TheVariants.{Crash, Reset, StartDaemon}

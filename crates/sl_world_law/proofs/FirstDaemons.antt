@@ -1,6 +1,6 @@
 -- The session lines of a header make settings of daemons.
-use Rattle.sl_area.specs.Layouts.{Layout, layout_of}
-use Rattle.sl_area.specs.Places.{is_base}
+use Rattle.sl_area.specs.AreaSizes.{Layout, layout_of}
+use Rattle.sl_area.specs.AreaLayout.{is_base}
 use Rattle.sl_world_state.specs.Daemons.{begun_with}
 use Rattle.sl_world_state.specs.FirstKept.{given_to}
 use Rattle.sl_run.specs.Lawful.{IsGiven}

@@ -1,5 +1,5 @@
 -- The world of a header, and its machines.
-use Rattle.sl_area.specs.Layouts.{Layout, layout_with}
+use Rattle.sl_area.specs.AreaSizes.{Layout, layout_with}
 use Rattle.sl_world_state.specs.Daemons.{program_of}
 use Rattle.sl_world_state.specs.SaneWorlds.{IsSaneMachine}
 use Rattle.sl_world_law.specs.FirstWorlds.{FirstWorldsAreSane}

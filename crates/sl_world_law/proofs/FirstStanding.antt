@@ -1,5 +1,5 @@
 -- What is kept of a header's world at moment 0, and the daemons that its session lines begin, stand for that world.
-use Rattle.sl_area.specs.Layouts.{layout_of}
+use Rattle.sl_area.specs.AreaSizes.{layout_of}
 use Rattle.sl_world_state.specs.Daemons.{Stood, begun_with, program_of}
 use Rattle.sl_world_state.specs.FirstKept.{first_machine, first_state, given_to, session_of}
 use Rattle.sl_world_state.specs.KeptWorld.{KeptState}
@@ -18,7 +18,7 @@ use Rattle.sl_run.specs.declared.header.SessionLine.{SessionLine}
 use Rattle.sl_run_law.proofs.Front.JoinedLists.{contains_flat}
 use Rattle.sl_world_law.proofs.PlainLists.{place_of_one}
 use Rattle.sl_text.specs.Forms.{Form}
-use Rattle.sl_trace.specs.Connections.{given_connection}
+use Rattle.sl_trace.specs.WatchdogConnections.{given_connection}
 use Rattle.sl_trace.specs.Traces.{Setting, Trace}
 use Rattle.sl_trace.specs.declared.command.Command.{Command}
 use Rattle.sl_words.proofs.CaseLaws.{some_value}

@@ -1,5 +1,5 @@
 -- Reads that sample, writes that take effect or never will, calls that are done.
-use Rattle.sl_area.specs.Layouts.{Layout, layout_of, sector_with}
+use Rattle.sl_area.specs.AreaSizes.{Layout, layout_of, sector_with}
 use Rattle.sl_world_state.specs.Changes.{change_flight, completed_in, dropped_flight, first_kept, landed_flight, landed_in, sampled_flight, torn_by, torn_flight, write_at}
 use Rattle.sl_world_state.specs.KeptWorld.{FlightState, KeptState, change_machine_in, flight_in, flight_of_machine}
 use Rattle.sl_world_state.specs.Refusals.{left_in, torn_in}
@@ -17,7 +17,9 @@ use Rattle.sl_world_law.proofs.TestLists.{Tests}
 use Rattle.sl_world_law.specs.Flights.{FlightsAreKept}
 use Rattle.sl_words.proofs.Lists.{find_fails, find_inside, got_index, there_is}
 use Rattle.sl_words.proofs.Numbers.{refl_le}
-use Rattle.sl_run.specs.Events.{add_landing, change_call, complete, event_tests, fated, first_change, flight_at, is_placed, is_read_course, land_torn, land_whole, on_flight, sample_at, sampled_more, sectors_left, sectors_of, spells_something, torn_bytes, write_bytes}
+use Rattle.sl_run.specs.EventChanges.{add_landing, change_call, complete, fated, first_change, flight_at, land_torn, land_whole, sample_at, sampled_more, write_bytes}
+use Rattle.sl_run.specs.Refusals.{event_tests, is_placed, is_read_course, on_flight, sectors_left, sectors_of}
+use Rattle.sl_run.specs.Premises.{spells_something, torn_bytes}
 use Rattle.sl_run.specs.Worlds.{Course, Dropped, Fate, Landed, Machine, Torn, World, change_machine, flight_of, is_in_flight, is_of_running, is_open, is_torn_fate, is_write_course, machine_at}
 use Rattle.sl_run.specs.declared.event.Event.TheVariants.{Do, Land, Sample, Tear}
 use Rattle.sl_run.specs.declared.event.Refusal.TheVariants.{MissingDaemon, MissingFlight, MissingLanding, MissingPlace, MissingSample, PremiseTorn}

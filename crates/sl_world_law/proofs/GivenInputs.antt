@@ -10,7 +10,9 @@ use Rattle.sl_world_law.proofs.Sectors.{placed_is, sector_there}
 use Rattle.sl_world_law.proofs.TestLists.{Tests}
 use Rattle.sl_world_law.specs.Inputs.{InputsAreKept, OwnEffectsAreKept}
 use Rattle.sl_words.proofs.Numbers.{refl_le}
-use Rattle.sl_run.specs.Events.{done_input, event_tests, input_at, input_of, is_placed, machine_of, may_happen, ok_input, on_flight, own_effects, rest_sampled, sectors_left}
+use Rattle.sl_run.specs.Inputs.{done_input, input_at, input_of, machine_of, ok_input, rest_sampled}
+use Rattle.sl_run.specs.Refusals.{event_tests, is_placed, may_happen, on_flight, sectors_left}
+use Rattle.sl_run.specs.EventChanges.{own_effects}
 use Rattle.sl_run.specs.Worlds.{Course, Machine, World, content, flight_of, is_of_running, is_torn_fate, machine_at, sector_size}
 use Rattle.sl_run.specs.declared.event.Event.TheVariants.{AnswerCall, Do, ExitOf, Reset}
 use Rattle.sl_run.specs.declared.event.Event.{Event}

@@ -4,7 +4,8 @@ use Rattle.sl_world_state.specs.KeptWorld.{KeptState}
 use Rattle.sl_world_state.specs.SaneWorlds.{IsSane}
 use Rattle.sl_world_state.specs.ShownWorlds.{Tells, disks_of, is_placed_in, place_in, sectors_of_disk}
 use Rattle.sl_world_law.proofs.Sectors.{LiesOn, lies_on, one_index, range_at, sector_is}
-use Rattle.sl_run.specs.Events.{add_landing, sectors_of}
+use Rattle.sl_run.specs.EventChanges.{add_landing}
+use Rattle.sl_run.specs.Refusals.{sectors_of}
 use Rattle.sl_run.specs.Worlds.{Landing, World, content, initial_bytes, mebibyte, sector_size}
 use Rattle.sl_run.specs.declared.header.Disk.{Disk}
 use Rattle.sl_run.specs.declared.header.Header.{Header}

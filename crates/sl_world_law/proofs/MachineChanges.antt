@@ -2,7 +2,7 @@
 use Rattle.sl_world_state.specs.KeptWorld.{KeptState, MachineState, change_machine_in}
 use Rattle.sl_world_state.specs.ShownWorlds.{Tells, disks_of, shown}
 use Rattle.sl_world_law.proofs.Lookups.{machine_place, machine_shown}
-use Rattle.sl_run.specs.Events.{next_step}
+use Rattle.sl_run.specs.EventChanges.{next_step}
 use Rattle.sl_run.specs.Worlds.{Daemon, Machine, World, change_machine, daemons_on, machine_at}
 use Rattle.sl_words.proofs.CaseLaws.{none_some, some_value}
 use Rattle.std.proofs.Common.{ap, ap₂, refl, subst, suc, sym, zero, ◌∙◌}

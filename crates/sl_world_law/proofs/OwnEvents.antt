@@ -1,5 +1,5 @@
 -- Events that no daemon takes: what is kept and the daemons that run stand for the world after them.
-use Rattle.sl_area.specs.Layouts.{layout_of}
+use Rattle.sl_area.specs.AreaSizes.{layout_of}
 use Rattle.sl_world_state.specs.Daemons.{Stood, begun_with, program_of}
 use Rattle.sl_world_state.specs.Inputs.{own_in}
 use Rattle.sl_world_state.specs.KeptWorld.{KeptState, MachineState}
@@ -12,7 +12,9 @@ use Rattle.sl_world_law.proofs.Lookups.{machine_place, machine_shown}
 use Rattle.sl_world_law.proofs.WholeEvents.{events_are_kept}
 use Rattle.sl_run.specs.Lawful.{IsSetting}
 use Rattle.sl_words.proofs.Options.{mapped_value}
-use Rattle.sl_run.specs.Events.{event_tests, first_change, happens, input_of, machine_of, may_happen, needs_daemon, next_step, take_step}
+use Rattle.sl_run.specs.Refusals.{event_tests, may_happen, needs_daemon}
+use Rattle.sl_run.specs.EventChanges.{first_change, happens, next_step, take_step}
+use Rattle.sl_run.specs.Inputs.{input_of, machine_of}
 use Rattle.sl_run.specs.Headers.{IsHeader}
 use Rattle.sl_run.specs.Runs.{HasSteps}
 use Rattle.sl_run.specs.Worlds.{Machine, World, machine_at, next_numbers, setting_of}

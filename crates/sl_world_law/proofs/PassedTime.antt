@@ -4,10 +4,10 @@ use Rattle.sl_world_state.specs.KeptWorld.{KeptState}
 use Rattle.sl_world_state.specs.ShownWorlds.{Tells, disks_of, shown}
 use Rattle.sl_world_law.proofs.MachineChanges.{names_on, tells_change}
 use Rattle.sl_world_law.specs.Changes.{TimesAreKept}
-use Rattle.sl_run.specs.Events.{after_pass, after_restart, after_test, first_change, passed}
+use Rattle.sl_run.specs.EventChanges.{after_pass, after_restart, after_test, first_change, passed}
 use Rattle.sl_run.specs.Worlds.{Machine, Stamp, World, reading_now, stamp_now}
 use Rattle.sl_run.specs.declared.header.Header.{Header}
-use Rattle.sl_trace.specs.Connections.{test_holds}
+use Rattle.sl_trace.specs.WatchdogConnections.{test_holds}
 use Rattle.std.proofs.Common.{ap, ap₂, refl, ◌∙◌}
 use Rattle.std.specs.List.{enumerate_from, list_any}
 use Rattle.std.specs.Prelude.{Bool, List, Option, bytes_eq, false, flat_map, if◌then◌else◌, map, true, [], ℕ, ◌++◌, ◌+◌, ◌∷◌, ◌≡◌}

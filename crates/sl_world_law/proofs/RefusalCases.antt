@@ -1,5 +1,5 @@
 -- What is refused in a world is refused by what is kept of it: event by event.
-use Rattle.sl_area.specs.Layouts.{Layout, layout_of, record_in, sector_with}
+use Rattle.sl_area.specs.AreaSizes.{Layout, layout_of, record_in, sector_with}
 use Rattle.sl_world_state.specs.Daemons.{text_for_locks}
 use Rattle.sl_world_state.specs.KeptWorld.{KeptState, MachineState, sector_of_call}
 use Rattle.sl_world_state.specs.Refusals.{drifts_off, is_overdue, is_shaped_in, left_in, pass_tests_in, reads_in, reads_past, spells_in, starves, tests_in, torn_in, writes_in}
@@ -13,7 +13,8 @@ use Rattle.sl_world_law.proofs.TestLists.{Agree, front_test, last_test, same_fli
 use Rattle.sl_world_law.specs.Refusals.{RefusalsAreKept}
 use Rattle.sl_words.proofs.Lists.{contains_first}
 use Rattle.sl_words.proofs.Options.{not_none}
-use Rattle.sl_run.specs.Events.{acts_for_locks, clock_after, drifts, event_tests, growth_of, has_start, is_for_locks, is_late_landing, is_placed, is_read_course, is_shaped, pass_tests, sectors_left, sectors_of, spells_something, torn_bytes}
+use Rattle.sl_run.specs.Refusals.{acts_for_locks, event_tests, has_start, is_for_locks, is_placed, is_read_course, is_shaped, sectors_left, sectors_of}
+use Rattle.sl_run.specs.Premises.{clock_after, drifts, growth_of, is_late_landing, pass_tests, spells_something, torn_bytes}
 use Rattle.sl_run.specs.Worlds.{Course, Daemon, Machine, Stamp, World, content, daemons_on, flight_of, is_in_flight, is_landed, is_of_running, is_open, is_torn_fate, is_write_course, machine_at, may_land, resets_after, sector_size}
 use Rattle.sl_run.specs.declared.event.Event.TheVariants.{AnswerCall, Crash, Do, DropWrite, ExitOf, GiveAsk, GiveCommand, GiveLvm, Land, Pass, Reset, Restart, Sample, SpawnedOf, StartDaemon, Tear, Test, WakeUp}
 use Rattle.sl_run.specs.declared.event.Event.{Event}

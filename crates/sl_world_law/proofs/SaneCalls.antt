@@ -2,7 +2,8 @@
 use Rattle.sl_world_state.specs.Daemons.{IsSoundCall}
 use Rattle.sl_world_state.specs.SaneWorlds.{IsSaneMachine}
 use Rattle.sl_words.proofs.Lists.{in_map, kept, kept_inside}
-use Rattle.sl_run.specs.Events.{change_call, fated, sectors_of}
+use Rattle.sl_run.specs.EventChanges.{change_call, fated}
+use Rattle.sl_run.specs.Refusals.{sectors_of}
 use Rattle.sl_run.specs.Worlds.{Course, Daemon, Fate, Machine, Stamp, World, daemons_on, flights, is_in_flight, is_of_running, is_open, is_write_course, may_land, next_numbers, sector_size}
 use Rattle.sl_world_law.proofs.PlainLists.{kept_twice, same_apart, same_kept}
 use Rattle.sl_trace.specs.declared.effects.Call.{Call}

@@ -1,5 +1,5 @@
 -- Each event leaves a sane world sane: by what it changes first, and by its step.
-use Rattle.sl_area.specs.Layouts.{Layout}
+use Rattle.sl_area.specs.AreaSizes.{Layout}
 use Rattle.sl_world_state.specs.Daemons.{IsSoundCall, IsSoundOp}
 use Rattle.sl_world_state.specs.SaneWorlds.{IsSane, IsSaneMachine}
 use Rattle.sl_world_law.proofs.AllowedEvents.{allowed, flight_allowed, flight_found, machine_allowed, machine_found, open_test}
@@ -11,7 +11,10 @@ use Rattle.sl_world_law.proofs.WholeEvents.{no_calls, runs_then}
 use Rattle.sl_words.proofs.Lists.{any_of, contains_cases, contains_first, contains_more, got_inside, head_is}
 use Rattle.sl_words.proofs.Numbers.{one_less}
 use Rattle.sl_words.proofs.Options.{none_is, then_value}
-use Rattle.sl_run.specs.Events.{add_landing, after_crash, after_effects, after_pass, after_reset, after_restart, after_start, after_step, after_test, change_call, clock_after, complete, event_tests, fated, first_change, flight_at, growth_of, input_of, is_placed, is_read_course, is_shaped, land_torn, land_whole, machine_of, may_happen, next_input, next_step, on_flight, on_machine, pass_tests, passed, refusal_of, sampled_more, sectors_left, spells_something, take_step, torn_bytes, write_bytes}
+use Rattle.sl_run.specs.EventChanges.{add_landing, after_crash, after_effects, after_pass, after_reset, after_restart, after_start, after_step, after_test, change_call, complete, fated, first_change, flight_at, land_torn, land_whole, next_input, next_step, passed, sampled_more, take_step, write_bytes}
+use Rattle.sl_run.specs.Premises.{clock_after, growth_of, pass_tests, spells_something, torn_bytes}
+use Rattle.sl_run.specs.Refusals.{event_tests, is_placed, is_read_course, is_shaped, may_happen, on_flight, on_machine, refusal_of, sectors_left}
+use Rattle.sl_run.specs.Inputs.{input_of, machine_of}
 use Rattle.sl_run.specs.Runs.{HasSteps, own_effects_of}
 use Rattle.sl_run.specs.Worlds.{Course, Daemon, Dropped, Fate, Landed, Machine, Program, Stamp, Torn, World, change_machine, daemons_on, first_that, flight_of, is_in_flight, is_write_course, machine_at, names_of, new_daemon, next_numbers, sector_size, setting_of, stamp_now}
 use Rattle.sl_run.specs.declared.event.Event.TheVariants.{AnswerCall, Crash, Do, DropWrite, ExitOf, GiveAsk, GiveCommand, GiveLvm, Land, Pass, Reset, Restart, Sample, SpawnedOf, StartDaemon, Tear, Test, WakeUp}
@@ -27,7 +30,7 @@ use Rattle.sl_world_law.proofs.SaneWorlds.{AreOf, IsOf, are_of, changed_world, l
 use Rattle.sl_world_law.specs.SanityStays.{HasSoundStep, SanityStays}
 use Rattle.sl_text.specs.Forms.{Form}
 use Rattle.sl_time.specs.Times.{reading_of}
-use Rattle.sl_trace.specs.Commands.{command_in}
+use Rattle.sl_trace.specs.CommandForms.{command_in}
 use Rattle.sl_trace.specs.declared.command.Command.{Command}
 use Rattle.sl_trace.specs.declared.effects.Call.{Call}
 use Rattle.sl_trace.specs.declared.effects.Effects.{Effects}

@@ -3,10 +3,11 @@ use Rattle.sl_world_state.specs.Daemons.{IsSoundCall}
 use Rattle.sl_world_state.specs.SaneWorlds.{IsSaneMachine}
 use Rattle.sl_words.proofs.Lists.{contains_cases, contains_first, contains_more, kept, kept_inside}
 use Rattle.sl_words.proofs.Numbers.{zero_least}
-use Rattle.sl_run.specs.Events.{after_crash, after_reset, after_restart, after_start, after_test, growth_of, next_step, passed}
+use Rattle.sl_run.specs.EventChanges.{after_crash, after_reset, after_restart, after_start, after_test, next_step, passed}
+use Rattle.sl_run.specs.Premises.{growth_of}
 use Rattle.sl_run.specs.Worlds.{Course, Daemon, Machine, Stamp, World, daemons_on, flights, is_of_running, is_open, may_land, new_daemon, next_numbers, reading_now, sector_size, setting_of, stamp_now}
 use Rattle.sl_time.specs.Times.{reading_of}
-use Rattle.sl_trace.specs.Connections.{test_holds}
+use Rattle.sl_trace.specs.WatchdogConnections.{test_holds}
 use Rattle.sl_trace.specs.Traces.{children, first_child, last_reading, outstanding}
 use Rattle.sl_words.proofs.CaseLaws.{none_some, some_value, true_is_false}
 use Rattle.sl_words.specs.Bounds.{moments}

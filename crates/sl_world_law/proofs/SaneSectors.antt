@@ -1,9 +1,11 @@
 -- What stands at a place, what lands there and what is sampled are whole sectors.
-use Rattle.sl_area.specs.Layouts.{Layout, program_digest, sector_with}
+use Rattle.sl_area.specs.AreaSizes.{Layout, program_digest, sector_with}
 use Rattle.sl_world_state.specs.Daemons.{IsSoundOp}
 use Rattle.sl_world_state.specs.SaneWorlds.{IsSane, IsSaneMachine}
 use Rattle.sl_world_law.proofs.FlightEvents.{the_flight}
-use Rattle.sl_run.specs.Events.{sample_at, sampled_more, sectors_left, sectors_of, torn_bytes, write_bytes}
+use Rattle.sl_run.specs.EventChanges.{sample_at, sampled_more, write_bytes}
+use Rattle.sl_run.specs.Refusals.{sectors_left, sectors_of}
+use Rattle.sl_run.specs.Premises.{torn_bytes}
 use Rattle.sl_run.specs.Worlds.{Course, Machine, World, content, flight_of, sector_size}
 use Rattle.sl_run.specs.declared.header.Header.{Header}
 use Rattle.sl_run_law.proofs.Landing.InitialRecords.{is_size}

@@ -6,7 +6,8 @@ use Rattle.sl_world_law.proofs.NextNumbers.{calls_next}
 use Rattle.sl_world_law.proofs.Sectors.{range_at}
 use Rattle.sl_words.proofs.Lists.{contains_cases, contains_first, contains_more, head_is, in_map, kept, kept_inside, tail_is}
 use Rattle.sl_words.proofs.Numbers.{number_itself, refl_le}
-use Rattle.sl_run.specs.Events.{after_effects, after_step, daemon_number, new_course, next_step, number_of_step, sectors_of, with_entry}
+use Rattle.sl_run.specs.EventChanges.{after_effects, after_step, daemon_number, new_course, next_step, number_of_step, with_entry}
+use Rattle.sl_run.specs.Refusals.{sectors_of}
 use Rattle.sl_run.specs.Locks.{locks_after}
 use Rattle.sl_run.specs.Worlds.{Course, Daemon, Machine, Stamp, World, daemons_on, flights, is_in_flight, is_of_running, is_open, is_write_course, reading_now, sector_size, stamp_now}
 use Rattle.sl_world_law.proofs.NextTraces.{answers, numbered_next, open_next}

@@ -3,12 +3,12 @@ use Rattle.sl_world_state.specs.SaneWorlds.{IsSane, IsSaneMachine}
 use Rattle.sl_world_law.proofs.Lookups.{machine_place}
 use Rattle.sl_words.proofs.Lists.{contains_cases, set_length}
 use Rattle.sl_words.proofs.Places.{PlacedAt, Replaced, Stayed, placed}
-use Rattle.sl_run.specs.Events.{add_landing, next_step}
+use Rattle.sl_run.specs.EventChanges.{add_landing, next_step}
 use Rattle.sl_run.specs.Worlds.{Daemon, Landing, Machine, World, change_machine, daemons_on, machine_at, sector_size}
 use Rattle.sl_run.specs.declared.header.Header.{Header}
 use Rattle.sl_world_law.proofs.SaneMachines.{still_sane}
 use Rattle.sl_text.specs.Forms.{Form}
-use Rattle.sl_trace.specs.Commands.{command_in}
+use Rattle.sl_trace.specs.CommandForms.{command_in}
 use Rattle.sl_trace.specs.Traces.{Setting}
 use Rattle.sl_trace.specs.declared.command.Command.{Command}
 use Rattle.sl_trace.specs.declared.effects.Call.{Call}

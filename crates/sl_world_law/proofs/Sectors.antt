@@ -1,12 +1,12 @@
 -- What stands at the sectors of a call.
 use Rattle.sl_area.proofs.SizeLaws.{has_room}
-use Rattle.sl_area.specs.Layouts.{Layout}
+use Rattle.sl_area.specs.AreaSizes.{Layout}
 use Rattle.sl_world_state.specs.KeptWorld.{KeptState, Place, sector_in, sector_of_call}
 use Rattle.sl_world_state.specs.SaneWorlds.{IsSane}
 use Rattle.sl_world_state.specs.ShownWorlds.{Tells, disks_of, is_placed_in, place_at, place_in, sectors_of_disk}
 use Rattle.sl_words.proofs.Lists.{any_found, got_index, there_is}
 use Rattle.sl_words.proofs.Places.{position_found, position_none}
-use Rattle.sl_run.specs.Events.{is_placed, sectors_of}
+use Rattle.sl_run.specs.Refusals.{is_placed, sectors_of}
 use Rattle.sl_run.specs.Worlds.{World, content, mebibyte, sector_size}
 use Rattle.sl_run.specs.declared.header.Disk.{Disk}
 use Rattle.sl_run.specs.declared.header.Header.{Header}

@@ -4,7 +4,8 @@ use Rattle.sl_world_state.specs.ShownWorlds.{flight_of_course, place_in, write_i
 use Rattle.sl_world_state.specs.Steps.{new_flight}
 use Rattle.sl_words.proofs.Lists.{contains_first, contains_more}
 use Rattle.sl_words.proofs.Numbers.{number_itself}
-use Rattle.sl_run.specs.Events.{new_course, sectors_of}
+use Rattle.sl_run.specs.EventChanges.{new_course}
+use Rattle.sl_run.specs.Refusals.{sectors_of}
 use Rattle.sl_run.specs.Worlds.{Course, Daemon, Machine, Stamp, is_in_flight, is_landed, is_of_running, is_open, is_torn_fate, may_land}
 use Rattle.sl_run.specs.declared.header.Header.{Header}
 use Rattle.sl_trace.specs.declared.effects.Call.{Call}

@@ -6,11 +6,11 @@ use Rattle.sl_world_law.proofs.MachineChanges.{names_on, tells_change, tells_nex
 use Rattle.sl_world_law.proofs.ShownCalls.{answered_at, closes, made, same_shows, shows}
 use Rattle.sl_world_law.proofs.NextNumbers.{calls_next, jobs_next, starting_next}
 use Rattle.sl_world_law.specs.Steps.{OwnIsKept, StepsAreKept}
-use Rattle.sl_run.specs.Events.{after_effects, after_step, daemon_number, new_course, number_of_step, with_entry}
+use Rattle.sl_run.specs.EventChanges.{after_effects, after_step, daemon_number, new_course, number_of_step, with_entry}
 use Rattle.sl_run.specs.Locks.{locks_after}
 use Rattle.sl_run.specs.Worlds.{Course, Daemon, Machine, Stamp, first_numbers, machine_at, next_numbers, reading_now, stamp_now}
 use Rattle.sl_run.specs.declared.header.Header.{Header}
-use Rattle.sl_trace.specs.Connections.{after_move}
+use Rattle.sl_trace.specs.WatchdogConnections.{after_move}
 use Rattle.sl_trace.specs.Traces.{held_after, is_ok_answer, next_call, next_job}
 use Rattle.sl_trace.specs.declared.effects.Effects.{Effects}
 use Rattle.sl_trace.specs.declared.effects.Entry.{Entry}

@@ -8,7 +8,9 @@ use Rattle.sl_world_law.proofs.Lookups.{machine_shown}
 use Rattle.sl_world_law.proofs.WholeEvents.{runs_then}
 use Rattle.sl_report.specs.Reports.{conflicts_of, step_told, test_lines, test_words}
 use Rattle.sl_run.specs.Conflicts.{Holding}
-use Rattle.sl_run.specs.Events.{event_tests, input_of, machine_of, may_happen, number_of_step}
+use Rattle.sl_run.specs.Refusals.{event_tests, may_happen}
+use Rattle.sl_run.specs.Inputs.{input_of, machine_of}
+use Rattle.sl_run.specs.EventChanges.{number_of_step}
 use Rattle.sl_run.specs.Locks.{locks_after, told_effects}
 use Rattle.sl_run.specs.Worlds.{Daemon, Machine, World, machine_at, next_numbers}
 use Rattle.sl_run.specs.declared.event.Event.TheVariants.{Test}
@@ -17,7 +19,7 @@ use Rattle.sl_run.specs.declared.event.Refusal.TheVariants.{MissingUp}
 use Rattle.sl_run.specs.declared.header.Header.{Header}
 use Rattle.sl_text.specs.Forms.{Form}
 use Rattle.sl_time.specs.Times.{reading_of}
-use Rattle.sl_trace.specs.Connections.{test_holds}
+use Rattle.sl_trace.specs.WatchdogConnections.{test_holds}
 use Rattle.sl_trace.specs.EffectTexts.{machine_line}
 use Rattle.sl_trace.specs.declared.command.Command.{Command}
 use Rattle.sl_trace.specs.declared.effects.Effects.{Effects}

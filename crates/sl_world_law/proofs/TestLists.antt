@@ -3,7 +3,7 @@ use Rattle.sl_world_state.specs.KeptWorld.{FlightState, KeptState, MachineState}
 use Rattle.sl_world_state.specs.Refusals.{on_flight_in, on_kept}
 use Rattle.sl_world_state.specs.ShownWorlds.{Tells, flight_of_course, shown}
 use Rattle.sl_world_law.proofs.Lookups.{flight_shown, machine_shown}
-use Rattle.sl_run.specs.Events.{on_flight, on_machine}
+use Rattle.sl_run.specs.Refusals.{on_flight, on_machine}
 use Rattle.sl_run.specs.Worlds.{Course, Machine, World, first_that, flight_of, machine_at}
 use Rattle.sl_run.specs.declared.event.Refusal.TheVariants.{MissingCall, MissingMachine}
 use Rattle.sl_run.specs.declared.event.Refusal.{Refusal}

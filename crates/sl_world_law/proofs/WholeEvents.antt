@@ -19,7 +19,9 @@ use Rattle.sl_words.proofs.Options.{not_none, some_there, then_value}
 use Rattle.sl_words.proofs.CaseLaws.{none_some}
 use Rattle.sl_words.proofs.WordLaws.{choose_some}
 use Rattle.sl_words.specs.Words.{choose}
-use Rattle.sl_run.specs.Events.{add_landing, change_call, complete, event_tests, fated, first_change, flight_at, if_running, input_at, input_of, is_placed, is_read_course, land_whole, machine_of, may_happen, next_input, next_step, on_flight, own_effects, sampled_more, sectors_left, take_step, write_bytes}
+use Rattle.sl_run.specs.EventChanges.{add_landing, change_call, complete, fated, first_change, flight_at, land_whole, next_input, next_step, own_effects, sampled_more, take_step, write_bytes}
+use Rattle.sl_run.specs.Refusals.{event_tests, is_placed, is_read_course, may_happen, on_flight, sectors_left}
+use Rattle.sl_run.specs.Inputs.{if_running, input_at, input_of, machine_of}
 use Rattle.sl_run.specs.Runs.{HasSteps, own_effects_of}
 use Rattle.sl_run.specs.Worlds.{Course, Daemon, Landed, Machine, Stamp, World, change_machine, is_in_flight, is_landed, is_of_running, is_torn_fate, is_write_course, machine_at}
 use Rattle.sl_run.specs.declared.event.Event.TheVariants.{AnswerCall, Crash, Do, DropWrite, ExitOf, GiveAsk, GiveCommand, GiveLvm, Land, Pass, Reset, Restart, Sample, SpawnedOf, StartDaemon, Tear, Test, WakeUp}

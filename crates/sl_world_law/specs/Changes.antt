@@ -3,7 +3,8 @@ use Rattle.sl_world_state.specs.Changes.{first_kept}
 use Rattle.sl_world_state.specs.KeptWorld.{KeptState}
 use Rattle.sl_world_state.specs.SaneWorlds.{IsSane}
 use Rattle.sl_world_state.specs.ShownWorlds.{Tells}
-use Rattle.sl_run.specs.Events.{first_change, may_happen}
+use Rattle.sl_run.specs.EventChanges.{first_change}
+use Rattle.sl_run.specs.Refusals.{may_happen}
 use Rattle.sl_run.specs.Worlds.{World}
 use Rattle.sl_run.specs.declared.event.Event.TheVariants.{Crash, Pass, Reset, Restart, StartDaemon, Test}
 use Rattle.sl_run.specs.declared.event.Event.{Event}

@@ -3,14 +3,14 @@ use Rattle.sl_world_state.specs.KeptWorld.{KeptState, MachineState, machine_in}
 use Rattle.sl_world_state.specs.Refusals.{refusal_in}
 use Rattle.sl_world_state.specs.SaneWorlds.{IsSane}
 use Rattle.sl_world_state.specs.ShownWorlds.{Tells}
-use Rattle.sl_report.specs.Generator.{gen_event, gen_host_name, gen_path, gen_resource_word, is_starving, is_useful_test, least_call as the_least_call, least_ended as the_least_ended, with_call}
+use Rattle.sl_report.specs.GeneratedSchedules.{gen_event, gen_host_name, gen_path, gen_resource_word, is_starving, is_useful_test, least_call as the_least_call, least_ended as the_least_ended, with_call}
 use Rattle.sl_run.specs.Worlds.{World}
 use Rattle.sl_run.specs.declared.event.Event.TheVariants.{AnswerCall, Crash, Do, DropWrite, ExitOf, GiveCommand, Pass, Reset, Restart, StartDaemon, Test, WakeUp}
 use Rattle.sl_run.specs.declared.event.Event.{Event}
 use Rattle.sl_run.specs.declared.header.Header.{Header}
 use Rattle.sl_text.specs.Forms.{Form, coloned, spaced}
 use Rattle.sl_time.specs.Times.{reading_of}
-use Rattle.sl_trace.specs.Connections.{test_holds}
+use Rattle.sl_trace.specs.WatchdogConnections.{test_holds}
 use Rattle.sl_trace.specs.declared.command.Command.{Command}
 use Rattle.sl_words.specs.Words.{first_of_list, least, some_is}
 use Rattle.std.specs.List.{enumerate_from, range_with_len}

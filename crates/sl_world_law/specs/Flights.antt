@@ -3,7 +3,7 @@ use Rattle.sl_world_state.specs.KeptWorld.{KeptState}
 use Rattle.sl_world_state.specs.SaneWorlds.{IsSane}
 use Rattle.sl_world_state.specs.ShownWorlds.{Tells}
 use Rattle.sl_world_law.specs.Changes.{IsKeptAt}
-use Rattle.sl_run.specs.Events.{may_happen}
+use Rattle.sl_run.specs.Refusals.{may_happen}
 use Rattle.sl_run.specs.Worlds.{World}
 use Rattle.sl_run.specs.declared.event.Event.TheVariants.{Do, DropWrite, Land, Sample, Tear}
 use Rattle.sl_run.specs.declared.event.Event.{Event}

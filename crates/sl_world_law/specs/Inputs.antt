@@ -3,7 +3,8 @@ use Rattle.sl_world_state.specs.Inputs.{input_in, own_in}
 use Rattle.sl_world_state.specs.KeptWorld.{KeptState}
 use Rattle.sl_world_state.specs.SaneWorlds.{IsSane}
 use Rattle.sl_world_state.specs.ShownWorlds.{Tells}
-use Rattle.sl_run.specs.Events.{input_of, may_happen}
+use Rattle.sl_run.specs.Inputs.{input_of}
+use Rattle.sl_run.specs.Refusals.{may_happen}
 use Rattle.sl_run.specs.Runs.{own_effects_of}
 use Rattle.sl_run.specs.Worlds.{World}
 use Rattle.sl_run.specs.declared.event.Event.{Event}

@@ -3,7 +3,7 @@ use Rattle.sl_world_state.specs.KeptWorld.{KeptState}
 use Rattle.sl_world_state.specs.Refusals.{refusal_in}
 use Rattle.sl_world_state.specs.SaneWorlds.{IsSane}
 use Rattle.sl_world_state.specs.ShownWorlds.{Tells}
-use Rattle.sl_run.specs.Events.{refusal_of}
+use Rattle.sl_run.specs.Refusals.{refusal_of}
 use Rattle.sl_run.specs.Worlds.{World}
 use Rattle.sl_run.specs.declared.event.Event.{Event}
 use Rattle.sl_run.specs.declared.header.Header.{Header}

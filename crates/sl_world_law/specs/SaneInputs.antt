@@ -1,7 +1,8 @@
 -- What an event gives a daemon may come to it.
 use Rattle.sl_world_state.specs.Daemons.{MayCome, spare_numbers}
 use Rattle.sl_world_state.specs.SaneWorlds.{IsSane}
-use Rattle.sl_run.specs.Events.{input_of, machine_of, may_happen}
+use Rattle.sl_run.specs.Inputs.{input_of, machine_of}
+use Rattle.sl_run.specs.Refusals.{may_happen}
 use Rattle.sl_run.specs.Worlds.{Daemon, Machine, World, machine_at, next_numbers, reading_now}
 use Rattle.sl_run.specs.declared.event.Event.{Event}
 use Rattle.sl_run.specs.declared.header.Header.{Header}

@@ -1,7 +1,9 @@
 -- An event that may happen leaves a sane world sane.
 use Rattle.sl_world_state.specs.Daemons.{IsNumbered, IsSoundCall}
 use Rattle.sl_world_state.specs.SaneWorlds.{IsSane}
-use Rattle.sl_run.specs.Events.{happens, input_of, machine_of, may_happen}
+use Rattle.sl_run.specs.EventChanges.{happens}
+use Rattle.sl_run.specs.Inputs.{input_of, machine_of}
+use Rattle.sl_run.specs.Refusals.{may_happen}
 use Rattle.sl_run.specs.Runs.{HasSteps}
 use Rattle.sl_run.specs.Worlds.{Daemon, Machine, World, machine_at}
 use Rattle.sl_run.specs.declared.event.Event.{Event}

@@ -2,7 +2,7 @@
 use Rattle.sl_world_state.specs.KeptWorld.{KeptState}
 use Rattle.sl_world_state.specs.ShownWorlds.{Tells}
 use Rattle.sl_world_state.specs.Steps.{taken_kept}
-use Rattle.sl_run.specs.Events.{take_step}
+use Rattle.sl_run.specs.EventChanges.{take_step}
 use Rattle.sl_run.specs.Worlds.{Daemon, Machine, Stamp, World, machine_at}
 use Rattle.sl_trace.specs.declared.effects.Effects.{Effects}
 use Rattle.sl_trace.specs.declared.input.Input.{Input}

@@ -3,7 +3,8 @@ use Rattle.sl_world_state.specs.Inputs.{input_in}
 use Rattle.sl_world_state.specs.KeptWorld.{KeptState, MachineState, machine_in}
 use Rattle.sl_world_state.specs.ShownWorlds.{Tells}
 use Rattle.sl_run.specs.Conflicts.{Holding, conflicts, has_conflict, world_holdings}
-use Rattle.sl_run.specs.Events.{asking, machine_of, may_happen}
+use Rattle.sl_run.specs.Inputs.{asking, machine_of}
+use Rattle.sl_run.specs.Refusals.{may_happen}
 use Rattle.sl_run.specs.Locks.{locks_after, told_effects}
 use Rattle.sl_run.specs.Worlds.{World, machine_at}
 use Rattle.sl_run.specs.declared.event.Event.TheVariants.{Test}
@@ -13,7 +14,7 @@ use Rattle.sl_run.specs.declared.header.Header.{Header}
 use Rattle.sl_report.specs.Reports.{StepTold, conflicts_after, conflicts_of, event_told, held_by_others, test_lines, test_words}
 use Rattle.sl_text.specs.Forms.{Form}
 use Rattle.sl_time.specs.Times.{reading_of}
-use Rattle.sl_trace.specs.Connections.{test_holds}
+use Rattle.sl_trace.specs.WatchdogConnections.{test_holds}
 use Rattle.sl_trace.specs.EffectTexts.{machine_line}
 use Rattle.sl_trace.specs.declared.command.Command.{Command}
 use Rattle.sl_trace.specs.declared.effects.Effects.{Effects}

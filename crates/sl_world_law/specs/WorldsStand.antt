@@ -1,5 +1,5 @@
 -- What each event makes of what is kept and of the daemons that run, and for which world that stands then.
-use Rattle.sl_area.specs.Layouts.{layout_of}
+use Rattle.sl_area.specs.AreaSizes.{layout_of}
 use Rattle.sl_world_state.specs.Daemons.{IsNumbered, IsSoundCall, IsStep, MayCome, Stood, begun_with, entry_of, program_of}
 use Rattle.sl_world_state.specs.declared.daemon.Most.{Most}
 use Rattle.sl_world_state.specs.declared.daemon.Site.{Site}
@@ -10,7 +10,9 @@ use Rattle.sl_world_state.specs.Refusals.{refusal_in}
 use Rattle.sl_world_state.specs.SaneWorlds.{ReadsCommands, WorldStands}
 use Rattle.sl_world_state.specs.Steps.{stepped_kept}
 use Rattle.sl_run.specs.Lawful.{IsSetting}
-use Rattle.sl_run.specs.Events.{happens, machine_of, may_happen, refusal_of}
+use Rattle.sl_run.specs.EventChanges.{happens}
+use Rattle.sl_run.specs.Inputs.{machine_of}
+use Rattle.sl_run.specs.Refusals.{may_happen, refusal_of}
 use Rattle.sl_run.specs.Headers.{IsHeader}
 use Rattle.sl_run.specs.Runs.{EachDaemon, HasSteps}
 use Rattle.sl_run.specs.Worlds.{World, first_numbers, world_with}

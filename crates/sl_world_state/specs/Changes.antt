@@ -2,13 +2,13 @@
 use Rattle.sl_world_state.specs.Inputs.{rest_in}
 use Rattle.sl_world_state.specs.KeptWorld.{FlightState, KeptState, MachineState, Place, change_machine_in, flight_of_machine}
 use Rattle.sl_world_state.specs.Refusals.{lands, left_in, torn_in}
-use Rattle.sl_run.specs.Events.{growth_of}
+use Rattle.sl_run.specs.Premises.{growth_of}
 use Rattle.sl_run.specs.Locks.{fresh_locks}
 use Rattle.sl_run.specs.declared.event.Event.TheVariants.{Crash, Do, DropWrite, Land, Pass, Reset, Restart, Sample, StartDaemon, Tear, Test}
 use Rattle.sl_run.specs.declared.event.Event.{Event}
 use Rattle.sl_run.specs.declared.header.Header.{Header}
 use Rattle.sl_time.specs.Times.{reading_of}
-use Rattle.sl_trace.specs.Connections.{test_holds}
+use Rattle.sl_trace.specs.WatchdogConnections.{test_holds}
 use Rattle.std.specs.List.{enumerate_from}
 use Rattle.std.specs.Prelude.{Bool, List, None, Option, Some, false, filter, if◌then◌else◌, map, slice_get, slice_set, true, unwrap_or, [], ℕ, ◌+◌, ◌==◌, ◌||◌, ◌∷◌}
 

@@ -1,15 +1,15 @@
 -- What a world asks of a daemon's steps, and what is known of every trace.
-use Rattle.sl_area.specs.Layouts.{layout_of, program_digest}
+use Rattle.sl_area.specs.AreaSizes.{layout_of, program_digest}
 use Rattle.sl_world_state.specs.declared.daemon.Most.{Most}
 use Rattle.sl_world_state.specs.declared.daemon.Site.{Site}
 use Rattle.sl_run.specs.Lawful.{IsSetting}
-use Rattle.sl_run.specs.Events.{is_for_locks, sectors_of}
+use Rattle.sl_run.specs.Refusals.{is_for_locks, sectors_of}
 use Rattle.sl_run.specs.Worlds.{Program, setting_of}
 use Rattle.sl_run.specs.declared.header.Header.{Header}
 use Rattle.sl_sector.specs.Records.{IsRecord}
 use Rattle.sl_sector.specs.Images.{Run}
 use Rattle.sl_text.specs.Forms.{Form}
-use Rattle.sl_trace.specs.Commands.{command_in}
+use Rattle.sl_trace.specs.CommandForms.{command_in}
 use Rattle.sl_trace.specs.Traces.{IsTrace, Setting, Trace, is_expected, last_reading, next_call, next_child, next_job}
 use Rattle.sl_trace.specs.declared.command.Command.{Command}
 use Rattle.sl_trace.specs.declared.effects.Call.{Call}

@@ -1,12 +1,12 @@
 -- What is kept of a header's world at moment 0.
-use Rattle.sl_area.specs.Layouts.{layout_of}
+use Rattle.sl_area.specs.AreaSizes.{layout_of}
 use Rattle.sl_world_state.specs.KeptWorld.{KeptState, MachineState}
 use Rattle.sl_run.specs.Locks.{fresh_locks}
 use Rattle.sl_run.specs.Worlds.{clock_reading, first_numbers, given_of, initial_bytes, mebibyte}
 use Rattle.sl_run.specs.declared.header.Disk.{Disk}
 use Rattle.sl_run.specs.declared.header.Header.{Header}
 use Rattle.sl_run.specs.declared.header.SessionLine.{SessionLine}
-use Rattle.sl_trace.specs.Connections.{given_connection}
+use Rattle.sl_trace.specs.WatchdogConnections.{given_connection}
 use Rattle.sl_trace.specs.declared.input.Given.{Given}
 use Rattle.std.specs.List.{filter_map, range_with_len}
 use Rattle.std.specs.Prelude.{List, Option, find, is_some, map, option_map, true, [], ℕ, ◌*◌, ◌/◌, ◌==◌}

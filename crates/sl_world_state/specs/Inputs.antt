@@ -1,7 +1,8 @@
 -- The input that an event gives to a running daemon, and what a machine does itself, by what is kept.
 use Rattle.sl_world_state.specs.KeptWorld.{FlightState, KeptState, MachineState, flight_in, machine_in, sector_of_call}
 use Rattle.sl_world_state.specs.Refusals.{left_in}
-use Rattle.sl_run.specs.Events.{ends_of, machine_of}
+use Rattle.sl_run.specs.EventChanges.{ends_of}
+use Rattle.sl_run.specs.Inputs.{machine_of}
 use Rattle.sl_run.specs.declared.event.Event.TheVariants.{AnswerCall, Do, ExitOf, GiveAsk, GiveCommand, GiveLvm, Reset, SpawnedOf, WakeUp}
 use Rattle.sl_run.specs.declared.event.Event.{Event}
 use Rattle.sl_trace.specs.Traces.{no_effects, orphans_left}

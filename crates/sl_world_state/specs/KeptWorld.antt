@@ -1,7 +1,7 @@
 -- What is kept of a world.
 use Rattle.sl_run.specs.Locks.{Locks}
 use Rattle.sl_run.specs.declared.header.Header.{Header}
-use Rattle.sl_trace.specs.Connections.{Connection}
+use Rattle.sl_trace.specs.WatchdogConnections.{Connection}
 use Rattle.sl_trace.specs.declared.effects.Grant.{Grant}
 use Rattle.sl_trace.specs.declared.input.Numbers.{Numbers}
 use Rattle.std.specs.Prelude.{Bool, List, None, Option, Some, find, if◌then◌else◌, option_and_then, slice_get, slice_set, unwrap_or, [], ℕ, ◌+◌, ◌-◌, ◌==◌}

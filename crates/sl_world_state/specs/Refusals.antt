@@ -1,8 +1,8 @@
 -- Why an event may not happen, by what is kept: the tests of the definitions, in their order.
-use Rattle.sl_area.specs.Layouts.{layout_of, record_in}
+use Rattle.sl_area.specs.AreaSizes.{layout_of, record_in}
 use Rattle.sl_world_state.specs.Daemons.{text_for_locks}
 use Rattle.sl_world_state.specs.KeptWorld.{FlightState, KeptState, MachineState, flight_in, machine_in, sector_of_call}
-use Rattle.sl_run.specs.Events.{drifts, growth_of}
+use Rattle.sl_run.specs.Premises.{drifts, growth_of}
 use Rattle.sl_run.specs.Worlds.{first_that}
 use Rattle.sl_run.specs.declared.event.Event.TheVariants.{AnswerCall, Crash, Do, DropWrite, ExitOf, GiveAsk, GiveCommand, GiveLvm, Land, Pass, Reset, Restart, Sample, SpawnedOf, StartDaemon, Tear, Test, WakeUp}
 use Rattle.sl_run.specs.declared.event.Event.{Event}

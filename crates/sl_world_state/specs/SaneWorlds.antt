@@ -1,14 +1,14 @@
 -- What is known of each world, beside what is kept of it: every event keeps it, if daemons number their calls and children.
-use Rattle.sl_area.specs.Layouts.{layout_of}
+use Rattle.sl_area.specs.AreaSizes.{layout_of}
 use Rattle.sl_world_state.specs.Daemons.{IsSoundCall, Stood, program_of}
 use Rattle.sl_world_state.specs.KeptWorld.{KeptState}
 use Rattle.sl_world_state.specs.ShownWorlds.{Tells}
-use Rattle.sl_run.specs.Events.{sectors_of}
+use Rattle.sl_run.specs.Refusals.{sectors_of}
 use Rattle.sl_run.specs.Headers.{IsHeader}
 use Rattle.sl_run.specs.Worlds.{Course, Daemon, Landing, Machine, Stamp, World, daemons_on, flights, is_of_running, next_numbers, reading_now, sector_size}
 use Rattle.sl_run.specs.declared.header.Header.{Header}
 use Rattle.sl_text.specs.Forms.{Form}
-use Rattle.sl_trace.specs.Commands.{IsCommand, command_in}
+use Rattle.sl_trace.specs.CommandForms.{IsCommand, command_in}
 use Rattle.sl_trace.specs.Traces.{Setting, Trace, children, first_child, last_reading, outstanding}
 use Rattle.sl_trace.specs.declared.command.Command.{Command}
 use Rattle.sl_words.specs.Bounds.{moments}

@@ -1,7 +1,7 @@
 -- What is kept of each machine, as a function of the machine; and of which world something is kept.
-use Rattle.sl_area.specs.Layouts.{layout_of, sector_with}
+use Rattle.sl_area.specs.AreaSizes.{layout_of, sector_with}
 use Rattle.sl_world_state.specs.KeptWorld.{FlightState, KeptState, MachineState, Place}
-use Rattle.sl_run.specs.Events.{sectors_of}
+use Rattle.sl_run.specs.Refusals.{sectors_of}
 use Rattle.sl_run.specs.Worlds.{Course, Daemon, Machine, Stamp, World, content, flights, is_in_flight, is_landed, is_of_running, is_torn_fate, mebibyte, names_of, next_numbers, resets_after, sector_size}
 use Rattle.sl_run.specs.declared.header.Disk.{Disk}
 use Rattle.sl_run.specs.declared.header.Header.{Header}

@@ -3,11 +3,12 @@ use Rattle.sl_world_state.specs.Changes.{first_kept}
 use Rattle.sl_world_state.specs.Inputs.{input_in}
 use Rattle.sl_world_state.specs.KeptWorld.{FlightState, KeptState, MachineState, change_machine_in}
 use Rattle.sl_world_state.specs.ShownWorlds.{place_in, write_in}
-use Rattle.sl_run.specs.Events.{machine_of, sectors_of}
+use Rattle.sl_run.specs.Inputs.{machine_of}
+use Rattle.sl_run.specs.Refusals.{sectors_of}
 use Rattle.sl_run.specs.Locks.{locks_after}
 use Rattle.sl_run.specs.declared.event.Event.{Event}
 use Rattle.sl_run.specs.declared.header.Header.{Header}
-use Rattle.sl_trace.specs.Connections.{after_move}
+use Rattle.sl_trace.specs.WatchdogConnections.{after_move}
 use Rattle.sl_trace.specs.Traces.{held_after, takes_number}
 use Rattle.sl_trace.specs.declared.effects.Call.{Call}
 use Rattle.sl_trace.specs.declared.effects.Effects.{Effects}

@@ -6,18 +6,19 @@ use Rattle.sl_due_facts.proofs.Acts.SessionsStay.{Stays, call_stays, itself}
 use Rattle.sl_due_facts.proofs.Acts.HeadsKeep.{IsUnused}
 use Rattle.sl_due_facts.proofs.Acts.StepsKeep.{arrives_as_expected, at_input, bare_at_input, expected_there, step_by}
 use Rattle.sl_due_facts.specs.Acts.Acts.{AnswerActs, Expects, Hears, IsIdle, OtherActs, lone_job}
-use Rattle.sl_area.specs.Places.{request_offset}
+use Rattle.sl_area.specs.AreaLayout.{request_offset}
 use Rattle.sl_due.specs.Due.{due_step}
 use Rattle.sl_due.specs.DueAnswers.{after_answer, after_answer_of, for_job, set_reply}
-use Rattle.sl_due.specs.DueDelta.{after_free, after_join_answer, after_renewal, after_survey, begins_by_read, carry_delta, is_session_asked, see_request, see_request_on, see_requests}
-use Rattle.sl_due.specs.DueFirst.{begin_recoveries, remove_of_refused, send, signal_and_refuse}
+use Rattle.sl_due.specs.CarriedDelta.{after_free, after_join_answer, after_renewal, after_survey, begins_by_read, carry_delta, is_session_asked, see_request, see_request_on, see_requests}
+use Rattle.sl_due.specs.DueRecovery.{begin_recoveries, send, signal_and_refuse}
+use Rattle.sl_due.specs.DueTimeOuts.{remove_of_refused}
 use Rattle.sl_due.specs.DueInputs.{take_input}
-use Rattle.sl_due.specs.DueLease.{after_lease_answer, carry_lease, goes_on, next_of_lease, with_command}
+use Rattle.sl_due.specs.CarriedLease.{after_lease_answer, carry_lease, goes_on, next_of_lease, with_command}
 use Rattle.sl_due.specs.DueRequests.{after_request_read, after_see_request, after_value_read, signal_of_request}
 use Rattle.sl_due.specs.Steps.{Step, add_reply, begin_step, seen, when, with_input, with_some}
 use Rattle.sl_trace.specs.Jobs.{aim_of, command_numbered}
 use Rattle.sl_trace.specs.Leases.{exclusive_on, lease_spots, spot_of_call}
-use Rattle.sl_trace.specs.Deltas.{delta_of_session, next_in_joining}
+use Rattle.sl_trace.specs.DeltaDecisions.{delta_of_session, next_in_joining}
 use Rattle.sl_trace.specs.Sessions.{calls_of, generation_of, is_joined, is_present, recovery_of, session_numbered}
 use Rattle.sl_trace.specs.declared.session.Session.{Session}
 use Rattle.sl_trace.specs.Traces.{Setting, Submitted, Trace, bytes_given, call_numbered, is_expected, is_orphan, is_running}

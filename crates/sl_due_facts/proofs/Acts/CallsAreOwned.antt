@@ -9,10 +9,10 @@ use Rattle.sl_due_facts.specs.Acts.Acts.{Has}
 use Rattle.sl_due_facts.specs.Acts.KeptByEffects.{Plainly}
 use Rattle.sl_due_facts.specs.Acts.DueDaemons.{IsDecidedFor}
 use Rattle.sl_due_facts.specs.Acts.TraceSoFar.{entry_of}
-use Rattle.sl_area.specs.Places.{delta_offset}
+use Rattle.sl_area.specs.AreaLayout.{delta_offset}
 use Rattle.sl_due.specs.Due.{IsHostTrace}
 use Rattle.sl_due.specs.DueCommands.{carry_decision}
-use Rattle.sl_due.specs.DueFirst.{begin_recoveries}
+use Rattle.sl_due.specs.DueRecovery.{begin_recoveries}
 use Rattle.sl_due.specs.Steps.{Step, add_call_of, begin_step, seen, with_input}
 use Rattle.sl_due.specs.declared.decision.Decision.TheVariants.{Joins}
 use Rattle.sl_words.proofs.Lists.{contains_cases, contains_none}

@@ -4,13 +4,14 @@ use Rattle.sl_due_facts.proofs.Acts.LoopsKeep.{each_in_turn, for_each_keeps, whe
 use Rattle.sl_due_facts.proofs.Acts.SessionsStay.{Stays, itself, refused_stays}
 use Rattle.sl_due_facts.proofs.Acts.WakesKeep.{present_has}
 use Rattle.sl_due_facts.specs.Acts.Acts.{Has, OtherActs}
-use Rattle.sl_due.specs.DueFirst.{is_overdue, kill_holders, kills, kills_holders, refuse, remove_connection, remove_of_refused, send, signal_holders, time_out, time_outs}
+use Rattle.sl_due.specs.DueTimeOuts.{is_overdue, refuse, remove_connection, remove_of_refused, time_out, time_outs}
+use Rattle.sl_due.specs.DueRecovery.{kill_holders, kills, kills_holders, send, signal_holders}
 use Rattle.sl_due.specs.Steps.{Step, add_move, add_reply, seen, when}
 use Rattle.sl_words.proofs.Lists.{contains_cases, contains_first, contains_more, contains_none, kept_inside}
 use Rattle.sl_words.proofs.Numbers.{less_is_other}
 use Rattle.sl_trace.specs.Sessions.{has_open_write, holders_of, present_sessions, refused_after, session_of_job}
 use Rattle.sl_trace.specs.declared.session.Session.{Session}
-use Rattle.sl_trace.specs.Connections.{is_registered}
+use Rattle.sl_trace.specs.WatchdogConnections.{is_registered}
 use Rattle.sl_trace.specs.Traces.{Job, Replied, Setting, Submitted, Trace, is_running, jobs, line_in, next_job, numbers_taken, reply_to, running_jobs, takes_number, waiting_call}
 use Rattle.sl_trace.specs.declared.effects.JobReply.{JobReply}
 use Rattle.sl_trace.specs.declared.effects.Move.TheVariants.{Unregister}

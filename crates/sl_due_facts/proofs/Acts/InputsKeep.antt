@@ -4,21 +4,22 @@ use Rattle.sl_due_facts.proofs.Acts.HeadsKeep.{IsUnused}
 use Rattle.sl_due_facts.proofs.Acts.LoopsKeep.{for_each_keeps, when_keeps, with_some_keeps}
 use Rattle.sl_due_facts.proofs.Acts.SessionsStay.{Stays, call_stays, itself, reply_stays}
 use Rattle.sl_due_facts.specs.Acts.Acts.{Has, Hears, IsKept, OtherActs, lone_job}
-use Rattle.sl_area.specs.Places.{request_offset}
+use Rattle.sl_area.specs.AreaLayout.{request_offset}
 use Rattle.sl_due.specs.DueAnswers.{after_answer, after_answer_of, for_job, set_reply}
 use Rattle.sl_due.specs.DueCommands.{answer_line, carry_decision, carry_line, decided, on_line, reply_at_once}
-use Rattle.sl_due.specs.DueDelta.{after_free, after_join_answer, after_renewal, after_survey, begins_by_read, carry_delta, is_session_asked, see_request, see_request_on, see_requests}
-use Rattle.sl_due.specs.DueFirst.{remove_of_refused, send, signal_and_refuse, signal_holders}
+use Rattle.sl_due.specs.CarriedDelta.{after_free, after_join_answer, after_renewal, after_survey, begins_by_read, carry_delta, is_session_asked, see_request, see_request_on, see_requests}
+use Rattle.sl_due.specs.DueTimeOuts.{remove_of_refused}
+use Rattle.sl_due.specs.DueRecovery.{send, signal_and_refuse, signal_holders}
 use Rattle.sl_due.specs.DueInputs.{end_holdings, leave_holdings, on_exit, on_spawned, refuse_jobs_of, started_reply, take_input, when_running}
-use Rattle.sl_due.specs.DueLease.{after_lease_answer, carry_lease, goes_on, next_of_lease, with_command}
+use Rattle.sl_due.specs.CarriedLease.{after_lease_answer, carry_lease, goes_on, next_of_lease, with_command}
 use Rattle.sl_due.specs.DueRequests.{after_request_read, after_see_request, after_value_read, signal_of_request}
 use Rattle.sl_due.specs.Steps.{Step, add_end, add_reply, add_signal, add_start, seen, when, with_input, with_some}
 use Rattle.sl_due.specs.declared.decision.Decision.TheVariants.{Replies}
 use Rattle.sl_due.specs.declared.decision.Decision.{Decision}
-use Rattle.sl_trace.specs.Counts.{stopper_of}
+use Rattle.sl_trace.specs.KillPrograms.{stopper_of}
 use Rattle.sl_trace.specs.Jobs.{aim_of, command_numbered, job_of_start, jobs_of_session}
 use Rattle.sl_trace.specs.Leases.{exclusive_on, lease_spots, spot_of_call}
-use Rattle.sl_trace.specs.Deltas.{delta_of_session, next_in_joining}
+use Rattle.sl_trace.specs.DeltaDecisions.{delta_of_session, next_in_joining}
 use Rattle.sl_trace.specs.Sessions.{calls_of, generation_of, holders_of, is_joined, is_present, last_renewal, recovery_of, session_numbered}
 use Rattle.sl_trace.specs.declared.session.Session.{Session}
 use Rattle.sl_trace.specs.Traces.{Submitted, call_numbered, end_of, holdings, is_orphan, is_running, next_child, next_job, no_process, stands_for}

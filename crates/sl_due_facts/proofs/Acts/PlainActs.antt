@@ -8,10 +8,10 @@ use Rattle.sl_due_facts.proofs.Acts.WakesKeep.{present_has}
 use Rattle.sl_due_facts.specs.Acts.Acts.{Acts, Has, next_of_conversion, next_of_release}
 use Rattle.sl_due_facts.specs.Acts.KeptByEffects.{ByEffects, Plainly}
 use Rattle.sl_due_facts.specs.Acts.TraceSoFar.{entry_of}
-use Rattle.sl_area.specs.Places.{request_offset, value_offset}
+use Rattle.sl_area.specs.AreaLayout.{request_offset, value_offset}
 use Rattle.sl_due.specs.DueCommands.{after_end, carry_decision, decided}
 use Rattle.sl_due.specs.DueInputs.{end_holdings, leave_holdings, refuse_jobs_of, when_running}
-use Rattle.sl_due.specs.DueLease.{carry_lease}
+use Rattle.sl_due.specs.CarriedLease.{carry_lease}
 use Rattle.sl_due.specs.DueRequests.{after_request_read, after_value_read, owner_read, request_refusal, write_request}
 use Rattle.sl_due.specs.Steps.{Step, add_end, add_grant, add_reply, seen, with_input}
 use Rattle.sl_due.specs.declared.decision.Decision.TheVariants.{ConvertsTo, GetsValue, GivesUp, Joins, Leaves, ReadsArea, Replies, Requests, SetsValue, Shares, TakesOver}

@@ -9,11 +9,12 @@ use Rattle.sl_due_facts.specs.Acts.Acts.{Expects, IsKept, OtherActs}
 use Rattle.sl_due_facts.specs.Acts.KeptByEffects.{ByEffects, Plainly}
 use Rattle.sl_due.specs.Due.{after_input, before_input, due_step}
 use Rattle.sl_due.specs.DueCommands.{carry_decision}
-use Rattle.sl_due.specs.DueFirst.{begin_recoveries, begin_recovery, begins_now, kills, send, signal_and_refuse, signal_holders, time_outs}
+use Rattle.sl_due.specs.DueRecovery.{begin_recoveries, begin_recovery, begins_now, kills, send, signal_and_refuse, signal_holders}
+use Rattle.sl_due.specs.DueTimeOuts.{time_outs}
 use Rattle.sl_due.specs.DueInputs.{take_input}
 use Rattle.sl_due.specs.DueWake.{on_wake}
 use Rattle.sl_due.specs.Steps.{Step, add_reply, add_signal, add_start, begin_step, seen}
-use Rattle.sl_trace.specs.Counts.{stopper_of}
+use Rattle.sl_trace.specs.KillPrograms.{stopper_of}
 use Rattle.sl_trace.specs.Jobs.{jobs_of_session}
 use Rattle.sl_trace.specs.Sessions.{holders_of, last_renewal, present_sessions, recovery_of}
 use Rattle.sl_trace.specs.declared.session.Session.{Session}

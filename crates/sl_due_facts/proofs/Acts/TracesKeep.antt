@@ -11,7 +11,7 @@ use Rattle.sl_due_facts.specs.Acts.Acts.{Acts, AnswerActs, Has, OtherActs}
 use Rattle.sl_due_facts.specs.Acts.KeptByEffects.{ByEffects, Plainly}
 use Rattle.sl_due.specs.Due.{IsDue, IsHostTrace, after_input, before_input, due, due_step}
 use Rattle.sl_due.specs.DueCommands.{answer_line, carry_decision, carry_line, decided, on_line, reply_at_once}
-use Rattle.sl_due.specs.DueFirst.{begin_recoveries}
+use Rattle.sl_due.specs.DueRecovery.{begin_recoveries}
 use Rattle.sl_due.specs.DueInputs.{leave_holdings, on_exit, refuse_jobs_of, take_input}
 use Rattle.sl_due.specs.DueWake.{on_wake}
 use Rattle.sl_due.specs.Steps.{Step, begin_step, seen, with_input}

@@ -3,9 +3,9 @@ use Rattle.sl_due_facts.proofs.Acts.AddedAtEnd.{contains_at, not_is}
 use Rattle.sl_due_facts.proofs.Acts.LoopsKeep.{for_each_keeps, when_keeps, with_some_keeps}
 use Rattle.sl_due_facts.proofs.Acts.SessionsStay.{Stays, delta_stays, itself, lease_stays, removal_stays}
 use Rattle.sl_due_facts.specs.Acts.Acts.{Has, OtherActs, next_of_settling}
-use Rattle.sl_due.specs.DueDelta.{carry_delta}
-use Rattle.sl_due.specs.DueFirst.{remove_connection}
-use Rattle.sl_due.specs.DueLease.{carry_lease, settle}
+use Rattle.sl_due.specs.CarriedDelta.{carry_delta}
+use Rattle.sl_due.specs.DueTimeOuts.{remove_connection}
+use Rattle.sl_due.specs.CarriedLease.{carry_lease, settle}
 use Rattle.sl_due.specs.DueRequests.{bits_due}
 use Rattle.sl_due.specs.DueWake.{end_if_done, finish, finish_session, for_sessions, free_if_done, join_on_wake, on_wake, renew_on_wake, settle_on_wake, settlings}
 use Rattle.sl_due.specs.Steps.{Step, for_each, seen, when}
@@ -13,10 +13,10 @@ use Rattle.sl_trace.specs.Leases.{is_lease_call, is_spot_before, lease_spots, op
 use Rattle.sl_trace.specs.declared.lease.LeaseNext.TheVariants.{AnswerJob, BecomeExclusive, BecomeShared, GrantJob, Nothing, ReadFor, WriteBlock, WriteLeader}
 use Rattle.sl_trace.specs.declared.lease.LeaseNext.{LeaseNext}
 use Rattle.sl_words.proofs.Lists.{contains_cases, contains_first, contains_more, contains_none, kept_inside}
-use Rattle.sl_trace.specs.Deltas.{delta_known, delta_of_session, next_free, next_on_wake, next_renewal}
+use Rattle.sl_trace.specs.DeltaDecisions.{delta_known, delta_of_session, next_free, next_on_wake, next_renewal}
 use Rattle.sl_trace.specs.Sessions.{calls_of, has_open_write, holdings_of, is_active, is_joined, is_present, open_calls_of, present_sessions, recovery_of, session_numbered, sessions}
 use Rattle.sl_trace.specs.declared.session.Session.{Session}
-use Rattle.sl_area.specs.Layouts.{Layout}
+use Rattle.sl_area.specs.AreaSizes.{Layout}
 use Rattle.sl_trace.specs.Traces.{Setting, Submitted, is_running, same_spot}
 use Rattle.sl_trace.specs.declared.effects.LeaseRead.TheVariants.{OfArea, OfFree}
 use Rattle.sl_trace.specs.declared.effects.LeaseStep.TheVariants.{ReadAgain, ReadArea, ReadBeforeFree}

@@ -6,7 +6,7 @@ use Rattle.sl_due_facts.specs.AddedEffects.EffectLaws.{EffectsAreTold}
 use Rattle.sl_words.proofs.Lists.{filter_both}
 use Rattle.sl_words.proofs.Numbers.{number_itself}
 use Rattle.sl_trace.proofs.TraceFacts.{fold-push}
-use Rattle.sl_trace.specs.Connections.{after_move, connections}
+use Rattle.sl_trace.specs.WatchdogConnections.{after_move, connections}
 use Rattle.sl_trace.specs.Traces.{Replied, Trace, child_after, children, holdings, is_ended_by, is_running, new_child, reply_in, reply_to, same_place}
 use Rattle.sl_trace.specs.declared.effects.End.{End}
 use Rattle.sl_trace.specs.declared.effects.Entry.{Entry}

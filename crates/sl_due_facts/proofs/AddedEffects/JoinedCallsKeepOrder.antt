@@ -10,7 +10,7 @@ use Rattle.sl_run.specs.LawfulLeader.{LawfulLeaderWrite}
 use Rattle.sl_run.specs.LawfulModes.{LawfulMode}
 use Rattle.sl_run.specs.LawfulParting.{MayPart, is_leaving_write}
 use Rattle.sl_run.specs.LawfulValue.{LawfulValueRead, LawfulValueWrite}
-use Rattle.sl_run.specs.LawfulWatchdog.{CoveredBy, LawfulWatchdog, is_covered}
+use Rattle.sl_run.specs.LawfulConnections.{CoveredBy, LawfulWatchdog, is_covered}
 use Rattle.sl_run.specs.LawForms.{EachCall}
 use Rattle.sl_trace.specs.Leases.{Phase2_read, base_turn, block_written, is_again, is_at, leader_written, lease_calls, spot_of_call, turn_written, value_written}
 use Rattle.sl_due_facts.proofs.AddedEffects.CallsGrow.{each_more, mine_more, next_more, others_stay, same_sessions}
@@ -25,7 +25,7 @@ use Rattle.sl_sector.specs.declared.sector.ValueRec.{ValueRec}
 use Rattle.sl_trace.specs.Sessions.{begun_in, calls_of, free_write, has_open_delta, has_open_write, is_active, is_covered_stage, is_delta_purpose, is_join_call, is_joined, is_leaving, is_recovering, is_survey_purpose, join_call, joined_after, refused_after, removed_after, session_numbered, sessions, stage_in, stage_of}
 use Rattle.sl_trace.specs.declared.session.Session.{Session}
 use Rattle.sl_trace.specs.declared.stage.Stage.{Stage}
-use Rattle.sl_trace.specs.Connections.{unregisters}
+use Rattle.sl_trace.specs.WatchdogConnections.{unregisters}
 use Rattle.sl_trace.specs.TraceLaws.{with_call}
 use Rattle.sl_trace.specs.Traces.{FollowsTrace, Setting, Submitted, Trace, is_write, new_call, next_call, record_of, unanswered}
 use Rattle.sl_trace.specs.declared.effects.Call.{Call}

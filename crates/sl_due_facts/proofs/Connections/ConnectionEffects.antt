@@ -1,10 +1,10 @@
 -- What a reply, a move and a call leave of the sessions and of what is known of connections.
 use Rattle.sl_due_facts.specs.Acts.Acts.{Has}
 use Rattle.sl_due_facts.specs.Acts.TraceSoFar.{entry_of}
-use Rattle.sl_due.specs.DueFirst.{remove_connection}
+use Rattle.sl_due.specs.DueTimeOuts.{remove_connection}
 use Rattle.sl_due.specs.Steps.{Step, add_call_of, add_move, add_reply, seen, when}
 use Rattle.sl_due_facts.proofs.Jobs.CallsStay.{IsLate, calls_stay}
-use Rattle.sl_run.specs.LawfulWatchdog.{is_covered}
+use Rattle.sl_run.specs.LawfulConnections.{is_covered}
 use Rattle.sl_due_facts.proofs.AddedEffects.CallsGrow.{any_more, others_stay, same_sessions}
 use Rattle.sl_due_facts.proofs.AddedEffects.EffectsAreTold.{effects_are_told}
 use Rattle.sl_due_facts.proofs.AddedEffects.JoinedCallsKeepOrder.{one_number}
@@ -20,7 +20,7 @@ use Rattle.sl_trace.specs.Sessions.{calls_of, is_call_of, is_join_call, is_join_
 use Rattle.sl_trace.specs.declared.session.Session.{Session}
 use Rattle.sl_due_facts.specs.Facts.HeardCall.{IsOpen, heard_by}
 use Rattle.sl_due_facts.specs.Facts.SessionFacts.{ConnectionFacts}
-use Rattle.sl_trace.specs.Connections.{Connection, after_move, connection_named, connections, is_registered, last_registering, registers, unregisters}
+use Rattle.sl_trace.specs.WatchdogConnections.{Connection, after_move, connection_named, connections, is_registered, last_registering, registers, unregisters}
 use Rattle.sl_trace.specs.Traces.{Replied, Setting, Submitted, Trace, is_write, new_call, next_call, reply_to}
 use Rattle.sl_trace.specs.declared.effects.Call.{Call}
 use Rattle.sl_trace.specs.declared.effects.JoinStep.TheVariants.{FirstRead}

@@ -4,12 +4,13 @@ use Rattle.sl_due_facts.proofs.Acts.InputsKeep.{has_heard}
 use Rattle.sl_due_facts.proofs.Acts.LoopsKeep.{for_each_keeps, when_keeps}
 use Rattle.sl_due_facts.specs.Acts.Acts.{Has, Hears, lone_job, next_of_settling}
 use Rattle.sl_due_facts.specs.Acts.TraceSoFar.{entry_of}
-use Rattle.sl_area.specs.Places.{request_offset}
+use Rattle.sl_area.specs.AreaLayout.{request_offset}
 use Rattle.sl_due.specs.DueAnswers.{set_reply}
-use Rattle.sl_due.specs.DueDelta.{carry_delta, end_leaving, move_connection, survey, write_own_sector}
-use Rattle.sl_due.specs.DueFirst.{begin_recoveries, begin_recovery, begins_now, remove_connection, signal_and_refuse}
+use Rattle.sl_due.specs.CarriedDelta.{carry_delta, end_leaving, move_connection, survey, write_own_sector}
+use Rattle.sl_due.specs.DueRecovery.{begin_recoveries, begin_recovery, begins_now, signal_and_refuse}
+use Rattle.sl_due.specs.DueTimeOuts.{remove_connection}
 use Rattle.sl_due.specs.DueInputs.{end_holdings, leave_holdings, refuse_jobs_of, started_reply}
-use Rattle.sl_due.specs.DueLease.{carry_lease, next_of_lease}
+use Rattle.sl_due.specs.CarriedLease.{carry_lease, next_of_lease}
 use Rattle.sl_due.specs.DueRequests.{after_value_read, bits_due, value_reply}
 use Rattle.sl_due.specs.Steps.{Step, add_move, add_reply, begin_step, seen, when, with_input}
 use Rattle.sl_due_facts.proofs.Jobs.CallsStay.{IsLate, is_special, late}
@@ -21,9 +22,9 @@ use Rattle.sl_due_facts.proofs.Jobs.NearlyPlainActs.{AnyStart}
 use Rattle.sl_due_facts.proofs.Jobs.RepliesComeAfter.{IsLateLease, lease_late, on_bool, on_option, set_late, value_late}
 use Rattle.sl_due_facts.proofs.Jobs.SessionsArePresent.{joined_present, present_is, session_has}
 use Rattle.sl_due_facts.proofs.Jobs.SessionsStand.{joined_then, leaving_joined, recovery_joined}
-use Rattle.sl_run.specs.LawfulWatchdog.{is_covered}
+use Rattle.sl_run.specs.LawfulConnections.{is_covered}
 use Rattle.sl_trace.specs.Jobs.{is_job_of_process, job_of_start}
-use Rattle.sl_trace.specs.LeaseWork.{lease_place}
+use Rattle.sl_trace.specs.LeaseDecisions.{lease_place}
 use Rattle.sl_trace.specs.Leases.{holdings_on, known, lver_written, spot_of_call}
 use Rattle.sl_trace.specs.declared.lease.LeaseNext.TheVariants.{AnswerJob}
 use Rattle.sl_trace.specs.declared.lease.LeaseNext.{LeaseNext}
@@ -52,7 +53,7 @@ use Rattle.sl_due_facts.proofs.Sessions.NameFactsAreKept.{joined_on_wake, names_
 use Rattle.sl_due_facts.proofs.Sessions.NamesAreAllowed.{NameCall, NameReply, heard_joined, heard_mine, is_joining, joined_unrefused, lease_named, request_named}
 use Rattle.sl_due_facts.proofs.Sessions.NamesGrow.{input_names}
 use Rattle.sl_due_facts.specs.Sessions.SessionLaws.{HasNameFacts}
-use Rattle.sl_trace.specs.Deltas.{DeltaLease}
+use Rattle.sl_trace.specs.DeltaDecisions.{DeltaLease, delta_known, delta_of_session, delta_record, is_renewal_due, next_after_free, next_after_renewal, next_free, next_in_joining, next_on_wake, next_renewal, own_offset}
 use Rattle.sl_trace.specs.Sessions.{calls_of, free_write, generation_of, holdings_of, is_free_purpose, is_join_call, is_joined, is_renewal, joined_after, last_renewal, leaving_job, present_sessions, recovery_of, refused_after, removed_after, session_numbered, sessions}
 use Rattle.sl_trace.specs.declared.delta.DeltaKnown.{DeltaKnown}
 use Rattle.sl_trace.specs.declared.delta.DeltaNext.TheVariants.{MoveConnection, Nothing, WriteFree, WriteRenewal}
@@ -63,7 +64,7 @@ use Rattle.sl_due_facts.specs.Facts.HeardCall.{IsOpen, heard_by}
 use Rattle.sl_due_facts.specs.Facts.SessionFacts.{ConnectionFacts}
 use Rattle.sl_due_facts.specs.Facts.AllFacts.{Whole}
 use Rattle.sl_time.specs.Times.{fail}
-use Rattle.sl_trace.specs.Connections.{connections, is_registered, unregisters}
+use Rattle.sl_trace.specs.WatchdogConnections.{connections, is_registered, unregisters}
 use Rattle.sl_trace.specs.Traces.{Setting, Submitted, Trace, holdings, is_running, is_shared, job_of, running_jobs, same_place, work_job}
 use Rattle.sl_trace.specs.declared.effects.Grant.{Grant}
 use Rattle.sl_trace.specs.declared.effects.JoinStep.TheVariants.{FirstRead}
@@ -88,7 +89,6 @@ use Rattle.std.proofs.Common.{ap, ap₂, inl, inr, refl, subst, sym, ◌∙◌}
 use Rattle.std.proofs.lemmas.Bool.{eqb-true}
 use Rattle.std.specs.List.{list_any}
 use Rattle.std.specs.Prelude.{Bool, Contains, List, None, Option, Some, [], false, filter, is_none, is_some, length, not, true, ℕ, ◌&&◌, ◌++◌, ◌+◌, ◌==◌, ◌∷◌, ◌≡◌}
-use Rattle.sl_trace.specs.Deltas.{delta_known, delta_of_session, delta_record, is_renewal_due, next_after_free, next_after_renewal, next_free, next_in_joining, next_on_wake, next_renewal, own_offset}
 use Rattle.sl_words.proofs.Numbers.{equal_is_most}
 use Rattle.sl_due_facts.proofs.Jobs.AnsweredCallsFit.{at, both_of}
 

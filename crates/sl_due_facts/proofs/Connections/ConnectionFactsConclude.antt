@@ -3,11 +3,12 @@ use Rattle.sl_due_facts.proofs.Acts.InputsKeep.{has_heard}
 use Rattle.sl_due_facts.proofs.Acts.LoopsKeep.{when_keeps}
 use Rattle.sl_due_facts.specs.Acts.Acts.{Has, Hears, IsIdle}
 use Rattle.sl_due_facts.specs.Acts.TraceSoFar.{entry_of}
-use Rattle.sl_area.specs.Places.{request_offset}
+use Rattle.sl_area.specs.AreaLayout.{request_offset}
 use Rattle.sl_due.specs.DueAnswers.{set_reply}
-use Rattle.sl_due.specs.DueDelta.{carry_delta, move_connection, survey}
-use Rattle.sl_due.specs.DueFirst.{refuse, remove_connection, remove_of_refused, send, signal_and_refuse}
-use Rattle.sl_due.specs.DueLease.{carry_lease, next_of_lease}
+use Rattle.sl_due.specs.CarriedDelta.{carry_delta, move_connection, survey}
+use Rattle.sl_due.specs.DueTimeOuts.{refuse, remove_connection, remove_of_refused}
+use Rattle.sl_due.specs.DueRecovery.{send, signal_and_refuse}
+use Rattle.sl_due.specs.CarriedLease.{carry_lease, next_of_lease}
 use Rattle.sl_due.specs.DueRequests.{after_request_read, after_value_read, value_reply}
 use Rattle.sl_due.specs.Steps.{Step, add_move, add_reply, add_signal, seen, when, with_input, with_some}
 use Rattle.sl_due_facts.proofs.Jobs.CallsOfJobsFit.{joining_of}
@@ -20,8 +21,8 @@ use Rattle.sl_due_facts.proofs.Jobs.SessionsArePresent.{session_has}
 use Rattle.sl_due_facts.proofs.Jobs.SessionsHaveJobs.{one_session}
 use Rattle.sl_due_facts.proofs.Jobs.SessionsStand.{recovery_joined}
 use Rattle.sl_due_facts.specs.Jobs.JobLaws.{HasCallFacts}
-use Rattle.sl_run.specs.LawfulWatchdog.{is_covered}
-use Rattle.sl_trace.specs.LeaseWork.{lease_place}
+use Rattle.sl_run.specs.LawfulConnections.{is_covered}
+use Rattle.sl_trace.specs.LeaseDecisions.{lease_place}
 use Rattle.sl_trace.specs.Leases.{holdings_on, known, lver_written, spot_of_call}
 use Rattle.sl_trace.specs.declared.lease.LeaseNext.{LeaseNext}
 use Rattle.sl_words.proofs.Lists.{any_found, any_of, contains_map, contains_more, find_fails, find_inside, got_inside, kept, kept_inside}
@@ -53,7 +54,7 @@ use Rattle.sl_trace.specs.declared.session.Session.{Session}
 use Rattle.sl_due_facts.specs.Facts.HeardCall.{IsOpen, heard_by}
 use Rattle.sl_due_facts.specs.Facts.SessionFacts.{IsHeardWriter}
 use Rattle.sl_due_facts.specs.Facts.AllFacts.{Whole}
-use Rattle.sl_trace.specs.Connections.{is_registered}
+use Rattle.sl_trace.specs.WatchdogConnections.{is_registered}
 use Rattle.sl_trace.specs.Traces.{Answered, Replied, Submitted, answered_in, call_numbered, is_answer_for, is_expected, is_running, is_shared, is_write, job_of, mark, new_call, next_call, outstanding, reply_to, submitted, unanswered}
 use Rattle.sl_trace.specs.declared.effects.Call.{Call}
 use Rattle.sl_trace.specs.declared.effects.Grant.{Grant}
@@ -83,7 +84,7 @@ use Rattle.std.proofs.Common.{ap, ap₂, inl, inr, refl, subst, sym, ◌∙◌}
 use Rattle.std.proofs.lemmas.Bool.{eqb-true}
 use Rattle.std.specs.List.{list_any}
 use Rattle.std.specs.Prelude.{Bool, Contains, IsTrue, List, None, Option, Some, [], false, filter, fold, if◌then◌else◌, is_none, is_some, length, not, option_and_then, true, ℕ, ◌&&◌, ◌+◌, ◌<◌, ◌==◌, ◌||◌, ◌∷◌, ◌≡◌, ◌⊎◌}
-use Rattle.sl_trace.specs.Deltas.{delta_known, delta_of_session, delta_record, next_after_free, next_after_renewal, next_free, next_in_joining, own_offset}
+use Rattle.sl_trace.specs.DeltaDecisions.{delta_known, delta_of_session, delta_record, next_after_free, next_after_renewal, next_free, next_in_joining, own_offset}
 use Rattle.sl_due_facts.proofs.Jobs.AnsweredCallsFit.{at, both_of}
 
 -- ---- what an act leaves of calls and sessions

@@ -8,7 +8,7 @@ use Rattle.sl_due_facts.proofs.Jobs.JobFactsGrow.{was_unanswered}
 use Rattle.sl_due_facts.proofs.Jobs.JobsAreAllowed.{is_told}
 use Rattle.sl_due_facts.proofs.Jobs.SessionsArePresent.{session_has}
 use Rattle.sl_run.specs.LawfulDelta.{LawfulClaim}
-use Rattle.sl_run.specs.LawfulWatchdog.{is_covered}
+use Rattle.sl_run.specs.LawfulConnections.{is_covered}
 use Rattle.sl_due_facts.proofs.AddedEffects.JoinedCallsKeepOrder.{joined_is_covered}
 use Rattle.sl_words.proofs.Lists.{any_found, any_of, contains_first, contains_map, find_inside, in_map, kept, kept_inside}
 use Rattle.sl_words.proofs.Numbers.{trans_le}
@@ -22,7 +22,7 @@ use Rattle.sl_due_facts.proofs.Connections.SessionParts.{covered_at_work, covere
 use Rattle.sl_due_facts.specs.Connections.ConnectionLaws.{HasConnectionFacts}
 use Rattle.sl_due_facts.proofs.Sessions.JoiningsGoOn.{law_of}
 use Rattle.sl_due_facts.proofs.Sessions.NamesGrow.{calls_of_told, input_present, write_then}
-use Rattle.sl_trace.specs.Deltas.{delta_of_session, delta_record}
+use Rattle.sl_trace.specs.DeltaDecisions.{delta_of_session, delta_record}
 use Rattle.sl_trace.specs.Sessions.{calls_of, delta_of_record, has_open_write, is_call_of, is_covered_stage, is_join_call, is_present, joined_after, last_renewal, open_calls_of, refused_after, removed_after, session_numbered, sessions, stage_after, stage_in}
 use Rattle.sl_trace.specs.declared.session.Session.{Session}
 use Rattle.sl_trace.specs.declared.stage.Stage.TheVariants.{Looking}

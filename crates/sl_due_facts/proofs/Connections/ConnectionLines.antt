@@ -4,7 +4,7 @@ use Rattle.sl_due_facts.proofs.Acts.DecisionsAreTheirs.{Of}
 use Rattle.sl_due_facts.proofs.Acts.PlainActs.{line_has}
 use Rattle.sl_due_facts.specs.Acts.Acts.{Has}
 use Rattle.sl_due_facts.specs.Acts.TraceSoFar.{entry_of}
-use Rattle.sl_area.specs.Places.{delta_offset}
+use Rattle.sl_area.specs.AreaLayout.{delta_offset}
 use Rattle.sl_due.specs.DueCommands.{carry_decision, decided}
 use Rattle.sl_due.specs.Steps.{Step, add_call_of, add_reply, seen, with_input}
 use Rattle.sl_due.specs.declared.decision.Decision.TheVariants.{ConvertsTo, GetsValue, GivesUp, Joins, Leaves, ReadsArea, Replies, Requests, SetsValue, Shares, TakesOver}
@@ -20,7 +20,7 @@ use Rattle.sl_due_facts.proofs.Jobs.LinesAreAllowed.{IsBegun, late_on_line}
 use Rattle.sl_due_facts.proofs.Jobs.NearlyPlainActs.{AnyStart}
 use Rattle.sl_due_facts.proofs.Jobs.SessionsArePresent.{joined_present}
 use Rattle.sl_due_facts.proofs.Jobs.SessionsHaveJobs.{number_taken}
-use Rattle.sl_run.specs.LawfulWatchdog.{is_covered}
+use Rattle.sl_run.specs.LawfulConnections.{is_covered}
 use Rattle.sl_trace.specs.Jobs.{is_command_that, jobs_of_session, lockspace_named}
 use Rattle.sl_due_facts.proofs.AddedEffects.CallsGrow.{mine_more, others_stay}
 use Rattle.sl_words.proofs.Lists.{any_of, contains_cases, got_inside, kept, kept_inside}
@@ -46,7 +46,7 @@ use Rattle.sl_due_facts.specs.Facts.HeardCall.{IsOpen}
 use Rattle.sl_due_facts.specs.Facts.SessionFacts.{ConnectionFacts, IsHeardWriter}
 use Rattle.sl_due_facts.specs.Facts.AllFacts.{Whole}
 use Rattle.sl_time.specs.Times.{fail}
-use Rattle.sl_trace.specs.Connections.{Connection, is_registered, last_registering}
+use Rattle.sl_trace.specs.WatchdogConnections.{Connection, is_registered, last_registering}
 use Rattle.sl_trace.specs.Traces.{Job, Setting, Submitted, Trace, is_running, is_write, job_numbered, jobs, new_call, next_call, next_job, running_jobs, submitted, unanswered}
 use Rattle.sl_trace.specs.declared.command.Command.TheVariants.{AddLockspace}
 use Rattle.sl_trace.specs.declared.command.Command.{Command}

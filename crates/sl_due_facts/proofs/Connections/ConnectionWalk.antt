@@ -7,7 +7,7 @@ use Rattle.sl_due_facts.proofs.Jobs.EffectsAreAllowed.{Allows}
 use Rattle.sl_due_facts.proofs.Jobs.NearlyPlainActs.{AnyStart}
 use Rattle.sl_due_facts.proofs.Jobs.SessionsArePresent.{joined_present, present_inside}
 use Rattle.sl_due_facts.proofs.Jobs.SessionsStand.{joined_then, running_before}
-use Rattle.sl_run.specs.LawfulWatchdog.{is_covered}
+use Rattle.sl_run.specs.LawfulConnections.{is_covered}
 use Rattle.sl_due_facts.proofs.AddedEffects.JoinedCallsKeepOrder.{joined_is_covered}
 use Rattle.sl_words.proofs.Lists.{got_inside}
 use Rattle.sl_words.proofs.Options.{some_there}

@@ -1,6 +1,6 @@
 -- What an act that is of one session, its calls, its job and its name, leaves of what is known of connections.
 use Rattle.sl_due_facts.proofs.Jobs.SessionsArePresent.{joined_present}
-use Rattle.sl_run.specs.LawfulWatchdog.{is_covered}
+use Rattle.sl_run.specs.LawfulConnections.{is_covered}
 use Rattle.sl_due_facts.proofs.Connections.ConnectionsNamed.{connected}
 use Rattle.sl_due_facts.proofs.Connections.SessionParts.{SameSession, covered_present, same_covered, same_is_joined, same_present}
 use Rattle.sl_trace.specs.Sessions.{calls_of, is_joined, is_present, joined_after, last_renewal, sessions}
@@ -8,7 +8,7 @@ use Rattle.sl_trace.specs.declared.session.Session.{Session}
 use Rattle.sl_due_facts.specs.Facts.HeardCall.{IsOpen}
 use Rattle.sl_due_facts.specs.Facts.SessionFacts.{ConnectionFacts, IsHeardWriter}
 use Rattle.sl_time.specs.Times.{fail}
-use Rattle.sl_trace.specs.Connections.{Connection, is_registered, last_registering}
+use Rattle.sl_trace.specs.WatchdogConnections.{Connection, is_registered, last_registering}
 use Rattle.sl_trace.specs.Traces.{Setting, Submitted, Trace, is_write}
 use Rattle.sl_words.proofs.CaseLaws.{none_some, not_both}
 use Rattle.std.proofs.Common.{ap, inl, inr, refl, subst, sym, ◌∙◌}

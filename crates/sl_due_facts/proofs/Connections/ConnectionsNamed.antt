@@ -4,7 +4,7 @@ use Rattle.sl_due_facts.proofs.Jobs.CallsHaveFacts.{find_mapped}
 use Rattle.sl_due_facts.proofs.Jobs.JobsAreNumbered.{finds_none}
 use Rattle.sl_words.proofs.Lists.{find_inside, kept_inside}
 use Rattle.sl_words.proofs.Options.{mapped_value}
-use Rattle.sl_trace.specs.Connections.{Connection, after_move, connection_named, connections, renewed_connection}
+use Rattle.sl_trace.specs.WatchdogConnections.{Connection, after_move, connection_named, connections, renewed_connection}
 use Rattle.sl_trace.specs.Traces.{Setting, Trace}
 use Rattle.sl_trace.specs.declared.effects.Move.TheVariants.{Register, Renew, Unregister}
 use Rattle.sl_run_law.proofs.Sessions.SessionNames.{same_name}

@@ -1,12 +1,12 @@
 -- A call that is on no delta sector keeps the law of delta sectors; so does what a delta lease decides where nothing was called before.
 use Rattle.sl_due_facts.specs.Acts.Acts.{Has, Hears}
 use Rattle.sl_due_facts.specs.Acts.TraceSoFar.{entry_of}
-use Rattle.sl_area.specs.Layouts.{record_in, sector_with}
-use Rattle.sl_due.specs.DueDelta.{carry_delta, for_joining, move_connection, read_own_sector, register, survey, write_own_sector}
-use Rattle.sl_due.specs.DueFirst.{refuse, remove_connection}
-use Rattle.sl_due.specs.DueLease.{name_on, next_turn}
+use Rattle.sl_area.specs.AreaSizes.{record_in, sector_with}
+use Rattle.sl_due.specs.CarriedDelta.{carry_delta, for_joining, move_connection, read_own_sector, register, survey, write_own_sector}
+use Rattle.sl_due.specs.DueTimeOuts.{refuse, remove_connection}
+use Rattle.sl_due.specs.CarriedLease.{name_on, next_turn}
 use Rattle.sl_due.specs.Steps.{Step, add_call_of, add_reply, seen, with_some}
-use Rattle.sl_due_facts.proofs.Jobs.EffectsAreAllowed.{Allows, GrantAllowed, LeaseAllowed, ReadAllowed, RequestAllowed, block_no_delta, leader_no_delta, refusal, removal}
+use Rattle.sl_due_facts.proofs.Jobs.EffectsAreAllowed.{Allows, GrantAllowed, LeaseAllowed, ReadAllowed, RequestAllowed, block_no_delta, leader_no_delta, refusal, removal, delta}
 use Rattle.sl_due_facts.proofs.Jobs.NearlyPlainActs.{AnyMove, AnyStart}
 use Rattle.sl_due_facts.proofs.Jobs.RepliesComeAfter.{on_bool, on_option}
 use Rattle.sl_run.specs.LawfulDelta.{LawfulDeltaCall}
@@ -15,7 +15,7 @@ use Rattle.sl_trace.specs.declared.lease.LeaseNext.TheVariants.{AnswerJob, Becom
 use Rattle.sl_trace.specs.declared.lease.LeaseNext.{LeaseNext}
 use Rattle.sl_due_facts.proofs.AddedEffects.CallsGrow.{each_more}
 use Rattle.sl_sector.specs.Bitmaps.{no_bits}
-use Rattle.sl_sector.specs.Spelling.{delta_in}
+use Rattle.sl_sector.specs.SectorLayouts.{delta_in}
 use Rattle.sl_sector.specs.declared.sector.DeltaRec.{DeltaRec}
 use Rattle.sl_sector.specs.declared.sector.DeltaState.TheVariants.{Claimed, Live}
 use Rattle.sl_sector.specs.declared.sector.Rec.TheVariants.{DeltaIs}
@@ -28,7 +28,7 @@ use Rattle.sl_due_facts.proofs.Connections.LooksAreLawful.{free_is_decided, watc
 use Rattle.sl_due_facts.specs.Connections.DeltaCalls.{DeltaLawful, own_read, own_write, survey_read}
 use Rattle.sl_due_facts.specs.Connections.DeltasSoFar.{CallsKept, DeltaKept}
 use Rattle.sl_due_facts.specs.Connections.WatchFacts.{HasWatchFacts}
-use Rattle.sl_trace.specs.Deltas.{DeltaLease, claim_of, claim_on, delta_of_session, delta_record, id_held, id_lost, is_watched_out, next_after_deciding, next_after_first, next_after_verify, next_after_watch, next_in_joining, own_offset, watched}
+use Rattle.sl_trace.specs.DeltaDecisions.{DeltaLease, claim_of, claim_on, delta_of_session, delta_record, id_held, id_lost, is_watched_out, next_after_deciding, next_after_first, next_after_verify, next_after_watch, next_in_joining, own_offset, watched}
 use Rattle.sl_trace.specs.Sessions.{calls_of, delta_of_record, delta_written, generation_of, is_delta_purpose, is_join_call, is_survey_purpose, session_numbered}
 use Rattle.sl_trace.specs.Sightings.{is_free_state}
 use Rattle.sl_trace.specs.declared.delta.DeltaNext.TheVariants.{Disconnect, EndLeaving, Join, MoveConnection, Nothing, ReadOwn, RefuseJoin, RegisterAndRead, WriteClaim, WriteFirst, WriteFree, WriteRenewal}
@@ -60,7 +60,6 @@ use Rattle.sl_words.proofs.WordLaws.{and_true}
 use Rattle.sl_words.specs.Bounds.{is_number}
 use Rattle.std.proofs.Common.{ap, refl, subst, sym, ◌∙◌}
 use Rattle.std.specs.Prelude.{List, None, Some, [], bytes_eq, false, length, not, option_and_then, slice_get, true, ℕ, ◌&&◌, ◌+◌, ◌==◌, ◌∷◌, ◌≡◌}
-use Rattle.sl_due_facts.proofs.Jobs.EffectsAreAllowed.{delta}
 
 -- ---- calls that are on no delta sector
 

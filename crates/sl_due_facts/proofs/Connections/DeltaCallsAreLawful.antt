@@ -2,7 +2,7 @@
 use Rattle.sl_due_facts.proofs.Acts.AddedAtEnd.{not_is}
 use Rattle.sl_due_facts.proofs.Acts.InputsKeep.{has_heard}
 use Rattle.sl_due_facts.specs.Acts.Acts.{Has, Hears}
-use Rattle.sl_area.specs.Layouts.{record_in, sector_with}
+use Rattle.sl_area.specs.AreaSizes.{record_in, sector_with}
 use Rattle.sl_due.specs.Steps.{Step, seen}
 use Rattle.sl_due_facts.proofs.Jobs.EffectsAreAllowed.{DeltaAllowed}
 use Rattle.sl_due_facts.proofs.Jobs.JobsAreAllowed.{heard_answered}
@@ -13,7 +13,7 @@ use Rattle.sl_words.proofs.Lists.{find_inside, kept, kept_inside}
 use Rattle.sl_words.proofs.Numbers.{number_itself}
 use Rattle.sl_words.proofs.Options.{not_some, then_value}
 use Rattle.sl_sector.specs.Bitmaps.{no_bits}
-use Rattle.sl_sector.specs.Spelling.{delta_in}
+use Rattle.sl_sector.specs.SectorLayouts.{delta_in}
 use Rattle.sl_sector.specs.declared.sector.DeltaRec.{DeltaRec}
 use Rattle.sl_sector.specs.declared.sector.DeltaState.TheVariants.{Claimed, Free, Live}
 use Rattle.sl_sector.specs.declared.sector.Rec.TheVariants.{DeltaIs}
@@ -25,7 +25,7 @@ use Rattle.sl_due_facts.proofs.Sessions.DeltaGrow.{DeltaCall, DeltaReply}
 use Rattle.sl_due_facts.proofs.Sessions.JoiningsGoOn.{AtWork, law_of, one_first}
 use Rattle.sl_due_facts.proofs.Sessions.NameFactsConclude.{heard_answer}
 use Rattle.sl_due_facts.proofs.Sessions.NamesAreAllowed.{heard_mine}
-use Rattle.sl_trace.specs.Deltas.{DeltaLease}
+use Rattle.sl_trace.specs.DeltaDecisions.{DeltaLease, claim_of, claim_on, delta_known, delta_of_session, delta_record, is_renewal_due, next_after_deciding, next_after_verify, next_free, next_renewal, own_offset, has_seq_left, id_held, id_lost, watched}
 use Rattle.sl_trace.specs.Sessions.{calls_of, free_write, generation_of, has_open_delta, holdings_of, is_call_of, is_delta_purpose, is_join_call, is_joined, join_call, joined_after, last_seq, leaving_job, open_calls_of, recovery_of, refused_after, removed_after, stage_after, stage_in, stage_of}
 use Rattle.sl_trace.specs.declared.delta.DeltaKnown.{DeltaKnown}
 use Rattle.sl_trace.specs.declared.delta.DeltaNext.TheVariants.{Nothing, RefuseJoin, WriteClaim, WriteFirst, WriteFree, WriteRenewal}
@@ -59,7 +59,6 @@ use Rattle.std.proofs.lemmas.Slice.Eq.{bytes_eq-Decides}
 use Rattle.std.specs.List.{list_any}
 use Rattle.std.specs.Prelude.{Bool, Contains, List, None, Option, Some, [], bytes_eq, false, if◌then◌else◌, is_none, is_some, nat_le, not, option_and_then, option_map, true, unwrap_or, ℕ, ◌&&◌, ◌+◌, ◌==◌, ◌∷◌, ◌≡◌}
 use Rattle.sl_due_facts.specs.Connections.DeltaCalls.{DeltaLawful, own_write}
-use Rattle.sl_trace.specs.Deltas.{claim_of, claim_on, delta_known, delta_of_session, delta_record, is_renewal_due, next_after_deciding, next_after_verify, next_free, next_renewal, own_offset, has_seq_left, id_held, id_lost, watched}
 
 -- ---- what every write of the own sector keeps to
 

@@ -2,14 +2,14 @@
 use Rattle.sl_due_facts.proofs.Acts.AddedAtEnd.{any_last}
 use Rattle.sl_due_facts.specs.Acts.Acts.{Has, Hears}
 use Rattle.sl_due_facts.specs.Acts.TraceSoFar.{entry_of}
-use Rattle.sl_due.specs.DueDelta.{move_connection, register}
+use Rattle.sl_due.specs.CarriedDelta.{move_connection, register}
 use Rattle.sl_due.specs.Steps.{Step, add_reply, seen}
 use Rattle.sl_due_facts.proofs.Jobs.CallsStay.{calls_stay, late_join}
 use Rattle.sl_due_facts.proofs.Jobs.SessionsArePresent.{present_inside}
 use Rattle.sl_run.proofs.LawFacts.{orderly-front}
 use Rattle.sl_run.specs.Lawful.{Orderly}
 use Rattle.sl_run.specs.LawfulCalls.{may_submit}
-use Rattle.sl_run.specs.LawfulWatchdog.{is_covered}
+use Rattle.sl_run.specs.LawfulConnections.{is_covered}
 use Rattle.sl_run.specs.LawForms.{cut_at}
 use Rattle.sl_words.proofs.Lists.{any_found, contains_cases, contains_first, contains_none, got_inside, in_map, kept, kept_inside}
 use Rattle.sl_words.proofs.Numbers.{number_itself}
@@ -36,7 +36,7 @@ use Rattle.sl_due_facts.specs.Facts.HeardCall.{heard_by}
 use Rattle.sl_due_facts.specs.Facts.SessionFacts.{ConnectionFacts, IsHeardWriter, NameFacts}
 use Rattle.sl_due_facts.specs.Facts.AllFacts.{Whole}
 use Rattle.sl_time.specs.Times.{dead, fail, join_max}
-use Rattle.sl_trace.specs.Connections.{is_registered, registers_with}
+use Rattle.sl_trace.specs.WatchdogConnections.{is_registered, registers_with}
 use Rattle.sl_trace.specs.Traces.{Answered, Setting, Submitted, Trace, answer_of, answered_in, is_answered_ok, is_ok_answer, is_running, mark, new_call, submitted, unanswered}
 use Rattle.sl_trace.specs.declared.effects.Call.{Call}
 use Rattle.sl_trace.specs.declared.effects.Entry.{Entry}
@@ -64,7 +64,7 @@ use Rattle.std.specs.Prelude.{Bool, Contains, List, None, Option, Some, [], cond
 use Rattle.std.proofs.lemmas.Bool.{eqb-true, leb-true, ltb-false}
 use Rattle.sl_due_facts.proofs.Connections.MovesAreKept.{answered_before, unjoined_before, unrefused_before, woken_inside}
 use Rattle.sl_due_facts.specs.Connections.DeltaCalls.{DeltaLawful, own_read, survey_read}
-use Rattle.sl_trace.specs.Deltas.{delta_of_session, next_after_claim}
+use Rattle.sl_trace.specs.DeltaDecisions.{delta_of_session, next_after_claim}
 
 -- ---- one call on a delta sector is open
 

@@ -6,13 +6,15 @@ use Rattle.sl_due_facts.proofs.Acts.InputsKeep.{has_heard}
 use Rattle.sl_due_facts.proofs.Acts.LoopsKeep.{for_each_keeps, when_keeps, with_some_keeps}
 use Rattle.sl_due_facts.specs.Acts.Acts.{Acts, Has, Hears, next_of_conversion, next_of_release, next_of_settling}
 use Rattle.sl_due_facts.specs.Acts.TraceSoFar.{entry_of}
-use Rattle.sl_area.specs.Places.{area_sectors, block_offset, block_place, block_record, block_sectors, delta_offset, leader_offset, leader_record, request_offset}
+use Rattle.sl_area.specs.AreaLayout.{area_sectors, block_offset, block_place, block_sectors, delta_offset, leader_offset, request_offset}
+use Rattle.sl_area.specs.AreaRecords.{block_record, leader_record}
 use Rattle.sl_due.specs.DueAnswers.{set_reply}
 use Rattle.sl_due.specs.DueCommands.{answer_line, carry_decision, decided}
-use Rattle.sl_due.specs.DueDelta.{carry_delta, move_connection, read_own_sector, register}
-use Rattle.sl_due.specs.DueFirst.{begin_recoveries, begin_recovery, begins_now, refuse, remove_connection, remove_of_refused, send, signal_and_refuse}
+use Rattle.sl_due.specs.CarriedDelta.{carry_delta, move_connection, read_own_sector, register}
+use Rattle.sl_due.specs.DueRecovery.{begin_recoveries, begin_recovery, begins_now, send, signal_and_refuse}
+use Rattle.sl_due.specs.DueTimeOuts.{refuse, remove_connection, remove_of_refused}
 use Rattle.sl_due.specs.DueInputs.{end_holdings, leave_holdings, refuse_jobs_of, started_reply, when_running}
-use Rattle.sl_due.specs.DueLease.{carry_lease, name_on, next_of_lease, next_turn, read_for}
+use Rattle.sl_due.specs.CarriedLease.{carry_lease, name_on, next_of_lease, next_turn, read_for}
 use Rattle.sl_due.specs.DueRequests.{after_request_read, after_value_read, bits_due, value_reply}
 use Rattle.sl_due.specs.Steps.{Step, add_call_of, add_end, add_reply, begin_step, seen, with_input}
 use Rattle.sl_due.specs.declared.decision.Decision.TheVariants.{ConvertsTo, GetsValue, GivesUp, Joins, Leaves, ReadsArea, Replies, Requests, SetsValue, Shares, TakesOver}
@@ -22,7 +24,7 @@ use Rattle.sl_due_facts.proofs.Jobs.CallsHaveFacts.{sessions_told}
 use Rattle.sl_due_facts.proofs.Jobs.CallsOfJobsFit.{joining_of, list_all_inside}
 use Rattle.sl_due_facts.proofs.Jobs.CallsStay.{late}
 use Rattle.sl_due_facts.proofs.Jobs.DecisionsFit.{DecisionFits, decisions_fit}
-use Rattle.sl_due_facts.proofs.Jobs.EffectsAreAllowed.{DecisionAllowed, DeltaAllowed, block_no_delta, decision, exited, leader_no_delta, lease, left, refusal, removal_of_refused, requested, sent, stopped}
+use Rattle.sl_due_facts.proofs.Jobs.EffectsAreAllowed.{DecisionAllowed, DeltaAllowed, block_no_delta, decision, exited, leader_no_delta, lease, left, refusal, removal_of_refused, requested, sent, stopped, delta}
 use Rattle.sl_due_facts.proofs.Jobs.JobFactsAreKept.{begun_sessions}
 use Rattle.sl_due_facts.proofs.Jobs.JobsAreAllowed.{late_on_wake}
 use Rattle.sl_due_facts.proofs.Jobs.JobsAreNumbered.{next_is_new}
@@ -57,7 +59,7 @@ use Rattle.sl_due_facts.proofs.Connections.SteadyActs.{Steady, steady_allow, ste
 use Rattle.sl_due_facts.specs.Connections.DeltaCalls.{DeltaLawful, own_read, own_write, survey_read}
 use Rattle.sl_due_facts.specs.Connections.DeltasSoFar.{CallsKept, DeltaKept, KnowsCalls}
 use Rattle.sl_due_facts.proofs.Sessions.NamesAtEnd.{running_unjoined}
-use Rattle.sl_trace.specs.Deltas.{delta_known, delta_of_session, delta_record, is_renewal_due, join_step_of, next_after_claim, next_after_free, next_after_renewal, next_by_time, next_free, next_in_joining, next_in_watch, next_on_wake, next_renewal, own_offset}
+use Rattle.sl_trace.specs.DeltaDecisions.{delta_known, delta_of_session, delta_record, is_renewal_due, join_step_of, next_after_claim, next_after_free, next_after_renewal, next_by_time, next_free, next_in_joining, next_in_watch, next_on_wake, next_renewal, own_offset}
 use Rattle.sl_trace.specs.Sessions.{calls_of, generation_of, has_open_write, holders_of, holdings_of, is_call_of, is_join_call, is_joined, joining_session, last_seq, open_calls_of, present_sessions, recovery_of, refused_after, session_numbered, session_of_job, sessions}
 use Rattle.sl_trace.specs.declared.delta.DeltaKnown.{DeltaKnown}
 use Rattle.sl_trace.specs.declared.delta.DeltaNext.TheVariants.{Disconnect, EndLeaving, Join, MoveConnection, Nothing, ReadOwn, RefuseJoin, RegisterAndRead, WriteClaim, WriteFirst, WriteFree, WriteRenewal}
@@ -100,7 +102,6 @@ use Rattle.std.proofs.Common.{ap, ap₂, arith, inl, inr, refl, subst, sym, ◌�
 use Rattle.std.proofs.lemmas.Bool.{eqb-true}
 use Rattle.std.proofs.lemmas.Option.{slice_get_within}
 use Rattle.std.specs.Prelude.{Bool, Contains, List, None, Ok, Option, Some, [], false, filter, fold, is_none, is_some, length, nat_le, nat_lt, not, slice_get, true, ℕ, ◌&&◌, ◌++◌, ◌+◌, ◌<◌, ◌==◌, ◌∷◌, ◌≡◌, ◌⊎◌}
-use Rattle.sl_due_facts.proofs.Jobs.EffectsAreAllowed.{delta}
 
 -- ---- a joining whose newest call is answered has made none in this entry
 

@@ -5,9 +5,9 @@ use Rattle.sl_due_facts.proofs.Acts.AddedAtEnd.{any_stays}
 use Rattle.sl_due_facts.proofs.Acts.LoopsKeep.{when_keeps}
 use Rattle.sl_due_facts.specs.Acts.Acts.{Has}
 use Rattle.sl_due_facts.specs.Acts.TraceSoFar.{entry_of}
-use Rattle.sl_area.specs.Layouts.{sector_with}
+use Rattle.sl_area.specs.AreaSizes.{sector_with}
 use Rattle.sl_due.specs.DueCommands.{decided}
-use Rattle.sl_due.specs.DueFirst.{remove_connection}
+use Rattle.sl_due.specs.DueTimeOuts.{remove_connection}
 use Rattle.sl_due.specs.Steps.{Step, add_end, add_move, add_reply, add_signal, seen}
 use Rattle.sl_due_facts.proofs.Jobs.CallsStay.{IsLate, calls_stay}
 use Rattle.sl_due_facts.proofs.Jobs.JobsAreNumbered.{finds_none}
@@ -26,14 +26,14 @@ use Rattle.sl_due_facts.proofs.Connections.SessionParts.{SameSession}
 use Rattle.sl_due_facts.specs.Connections.DeltasSoFar.{CallsKept, DeltaKept}
 use Rattle.sl_due_facts.proofs.Sessions.HoldingsOfSessions.{end_held, held_itself}
 use Rattle.sl_due_facts.proofs.Sessions.NameEffects.{move_present, reply_present}
-use Rattle.sl_trace.specs.Deltas.{claim_of, delta_of_session, delta_record, watched}
+use Rattle.sl_trace.specs.DeltaDecisions.{claim_of, delta_of_session, delta_record, watched}
 use Rattle.sl_trace.specs.Sessions.{calls_of, delta_written, free_write, generation_in, holdings_of, is_delta_purpose, is_join_call, is_joined, is_present, is_survey_purpose, join_call, joined_after, leaves, leaving_in, leaving_job, present_sessions, recovery_of, refused_after, removed_after, seq_in, session_named, session_numbered, sessions, stage_in, stage_of}
 use Rattle.sl_trace.specs.declared.session.Session.{Session}
 use Rattle.sl_trace.specs.declared.stage.Stage.TheVariants.{Deciding, Ended, Freeing, Looking, Refused, Standing, Verifying, Waiting}
 use Rattle.sl_trace.specs.declared.stage.Stage.{Stage}
 use Rattle.sl_due_facts.specs.Facts.AllFacts.{Whole}
 use Rattle.sl_time.specs.Times.{fail}
-use Rattle.sl_trace.specs.Connections.{is_registered, registers_with, unregisters}
+use Rattle.sl_trace.specs.WatchdogConnections.{is_registered, registers_with, unregisters}
 use Rattle.sl_trace.specs.Traces.{Job, Setting, Submitted, Trace, holdings, line_in, new_call, next_job, unanswered}
 use Rattle.sl_trace.specs.declared.effects.Call.{Call}
 use Rattle.sl_trace.specs.declared.effects.Effects.{Effects}

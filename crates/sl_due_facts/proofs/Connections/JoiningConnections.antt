@@ -2,14 +2,14 @@
 use Rattle.sl_due_facts.proofs.Acts.InputsKeep.{has_heard}
 use Rattle.sl_due_facts.specs.Acts.Acts.{Has, Hears}
 use Rattle.sl_due_facts.specs.Acts.TraceSoFar.{SoFar, entry_of}
-use Rattle.sl_due.specs.DueFirst.{refuse, remove_connection, remove_of_refused}
+use Rattle.sl_due.specs.DueTimeOuts.{refuse, remove_connection, remove_of_refused}
 use Rattle.sl_due.specs.Steps.{Step, add_move, add_reply, seen, when, with_input, with_some}
 use Rattle.sl_due_facts.proofs.Jobs.CallsHaveFacts.{calls_before}
 use Rattle.sl_due_facts.proofs.Jobs.CallsStay.{IsLate, calls_stay}
 use Rattle.sl_due_facts.proofs.Jobs.JobsAreAllowed.{calls_heard}
 use Rattle.sl_due_facts.proofs.Jobs.SessionsArePresent.{session_has}
 use Rattle.sl_due_facts.proofs.Jobs.SessionsHaveJobs.{one_session}
-use Rattle.sl_run.specs.LawfulWatchdog.{is_covered}
+use Rattle.sl_run.specs.LawfulConnections.{is_covered}
 use Rattle.sl_due_facts.proofs.AddedEffects.EffectsAreTold.{effects_are_told}
 use Rattle.sl_words.proofs.Lists.{any_found, contains_map, find_fails, find_inside, got_inside, kept, kept_inside}
 use Rattle.sl_words.proofs.Numbers.{number_itself}
@@ -26,7 +26,7 @@ use Rattle.sl_trace.specs.Sessions.{calls_of, has_open_write, is_call_of, is_joi
 use Rattle.sl_trace.specs.declared.session.Session.{Session}
 use Rattle.sl_due_facts.specs.Facts.HeardCall.{IsOpen, heard_by}
 use Rattle.sl_due_facts.specs.Facts.SessionFacts.{NameFacts}
-use Rattle.sl_trace.specs.Connections.{is_registered}
+use Rattle.sl_trace.specs.WatchdogConnections.{is_registered}
 use Rattle.sl_trace.specs.Traces.{Replied, Submitted, answer_of, answered_in, is_running, is_write, reply_to, submitted, unanswered}
 use Rattle.sl_trace.specs.declared.effects.Call.{Call}
 use Rattle.sl_trace.specs.declared.effects.Move.TheVariants.{Unregister}

@@ -1,16 +1,16 @@
 -- What a joining decides may be done of its connection: after an answer, and on a wake.
 use Rattle.sl_due_facts.proofs.Acts.InputsKeep.{has_heard}
 use Rattle.sl_due_facts.specs.Acts.Acts.{Has, Hears}
-use Rattle.sl_area.specs.Layouts.{record_in, sector_with}
+use Rattle.sl_area.specs.AreaSizes.{record_in, sector_with}
 use Rattle.sl_due.specs.Steps.{Step, seen}
 use Rattle.sl_due_facts.proofs.Jobs.AnsweredCallsFit.{both_of}
 use Rattle.sl_due_facts.proofs.Jobs.CallsOfJobsFit.{joining_of}
 use Rattle.sl_due_facts.proofs.Jobs.JobsAreAllowed.{is_told}
 use Rattle.sl_due_facts.proofs.Jobs.RepliesComeAfter.{on_bool, on_option}
-use Rattle.sl_run.specs.LawfulWatchdog.{is_covered}
+use Rattle.sl_run.specs.LawfulConnections.{is_covered}
 use Rattle.sl_words.proofs.Lists.{contains_first, find_inside, got_inside, kept_inside}
 use Rattle.sl_sector.specs.Bitmaps.{no_bits}
-use Rattle.sl_sector.specs.Spelling.{delta_in}
+use Rattle.sl_sector.specs.SectorLayouts.{delta_in}
 use Rattle.sl_sector.specs.declared.sector.DeltaRec.{DeltaRec}
 use Rattle.sl_sector.specs.declared.sector.DeltaState.TheVariants.{Claimed, Live}
 use Rattle.sl_sector.specs.declared.sector.Rec.TheVariants.{DeltaIs}
@@ -18,7 +18,7 @@ use Rattle.sl_due_facts.proofs.Connections.HeardCalls.{heard_ok, newest_heard, r
 use Rattle.sl_due_facts.proofs.Connections.JoiningConnections.{Working, working_turn, working_unjoined, working_unrefused}
 use Rattle.sl_due_facts.proofs.Connections.JoiningSteps.{JoinsConnection, NoHeardWriter}
 use Rattle.sl_due_facts.proofs.Connections.SessionParts.{covered_at_work}
-use Rattle.sl_trace.specs.Deltas.{DeltaLease, claim_of, claim_on, delta_of_session, delta_record, id_held, id_lost, is_watched_out, join_step_of, next_after_deciding, next_after_first, next_after_verify, next_after_watch, next_by_time, next_in_joining, next_in_watch, next_on_wake, watched}
+use Rattle.sl_trace.specs.DeltaDecisions.{DeltaLease, claim_of, claim_on, delta_of_session, delta_record, id_held, id_lost, is_watched_out, join_step_of, next_after_deciding, next_after_first, next_after_verify, next_after_watch, next_by_time, next_in_joining, next_in_watch, next_on_wake, watched}
 use Rattle.sl_trace.specs.Sessions.{calls_of, generation_of, is_call_of, is_covered_stage, is_renewal, last_renewal, session_numbered, sessions, stage_after, stage_in}
 use Rattle.sl_trace.specs.Sightings.{is_free_state}
 use Rattle.sl_trace.specs.declared.delta.DeltaNext.TheVariants.{Nothing, ReadOwn, RefuseJoin, RegisterAndRead, WriteClaim, WriteFirst}

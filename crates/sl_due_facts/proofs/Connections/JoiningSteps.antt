@@ -1,14 +1,14 @@
 -- What is known of connections is kept by each step of a joining at work.
 use Rattle.sl_due_facts.specs.Acts.TraceSoFar.{entry_of}
-use Rattle.sl_due.specs.DueDelta.{carry_delta, for_joining, move_connection, read_own_sector, register, survey, write_own_sector}
-use Rattle.sl_due.specs.DueFirst.{refuse}
+use Rattle.sl_due.specs.CarriedDelta.{carry_delta, for_joining, move_connection, read_own_sector, register, survey, write_own_sector}
+use Rattle.sl_due.specs.DueTimeOuts.{refuse}
 use Rattle.sl_due.specs.Steps.{Step, add_call_of, add_move, add_reply, seen, with_some}
 use Rattle.sl_due_facts.proofs.Jobs.CallsStay.{is_special, late, late_join}
 use Rattle.sl_due_facts.proofs.Jobs.SessionsHaveJobs.{one_session}
-use Rattle.sl_run.specs.LawfulWatchdog.{is_covered}
+use Rattle.sl_run.specs.LawfulConnections.{is_covered}
 use Rattle.sl_due_facts.proofs.AddedEffects.CallsGrow.{mine_more}
 use Rattle.sl_due_facts.proofs.AddedEffects.JoinedCallsKeepOrder.{joined_is_covered}
-use Rattle.sl_words.proofs.Numbers.{number_itself}
+use Rattle.sl_words.proofs.Numbers.{number_itself, equal_is_most}
 use Rattle.sl_words.proofs.Options.{not_some, some_there}
 use Rattle.sl_sector.specs.declared.sector.Rec.TheVariants.{DeltaIs}
 use Rattle.sl_due_facts.proofs.Connections.ConnectionEffects.{alters_call, alters_move, alters_nothing, alters_reply, move_named, move_same, registers_own, renews_own}
@@ -19,7 +19,7 @@ use Rattle.sl_due_facts.proofs.Connections.SessionParts.{covered_at_work, covere
 use Rattle.sl_due_facts.specs.Connections.ConnectionLaws.{HasConnectionFacts}
 use Rattle.sl_due_facts.proofs.Sessions.NameActs.{joined_by_reply}
 use Rattle.sl_due_facts.proofs.Sessions.NamesAreAllowed.{joined_unrefused}
-use Rattle.sl_trace.specs.Deltas.{own_offset}
+use Rattle.sl_trace.specs.DeltaDecisions.{own_offset}
 use Rattle.sl_trace.specs.Sessions.{calls_of, is_covered_stage, is_join_call, is_join_done, is_joined, joined_after, last_renewal, refused_after, removed_after, removed_in, same_join_step, sessions, stage_after, stage_in}
 use Rattle.sl_trace.specs.declared.delta.DeltaNext.TheVariants.{Disconnect, EndLeaving, Join, MoveConnection, Nothing, ReadOwn, RefuseJoin, RegisterAndRead, WriteClaim, WriteFirst, WriteFree, WriteRenewal}
 use Rattle.sl_trace.specs.declared.delta.DeltaNext.{DeltaNext}
@@ -28,7 +28,7 @@ use Rattle.sl_trace.specs.declared.stage.Stage.TheVariants.{Waiting}
 use Rattle.sl_due_facts.specs.Facts.HeardCall.{heard_by}
 use Rattle.sl_due_facts.specs.Facts.SessionFacts.{IsHeardWriter}
 use Rattle.sl_time.specs.Times.{fail}
-use Rattle.sl_trace.specs.Connections.{Connection, connections, last_registering, registers, unregisters}
+use Rattle.sl_trace.specs.WatchdogConnections.{Connection, connections, last_registering, registers, unregisters}
 use Rattle.sl_trace.specs.Traces.{Trace, is_before_input, next_call}
 use Rattle.sl_trace.specs.declared.effects.Call.{Call}
 use Rattle.sl_trace.specs.declared.effects.JoinStep.TheVariants.{ClaimWrite, FirstRead, FirstRenewal, WatchRead}
@@ -47,7 +47,6 @@ use Rattle.sl_words.specs.Words.{choose}
 use Rattle.std.proofs.Common.{ap, ap₂, inl, inr, refl, subst, sym, ◌∙◌}
 use Rattle.std.specs.List.{list_any}
 use Rattle.std.specs.Prelude.{Bool, Contains, List, None, Option, Some, [], bytes_eq, false, is_none, is_some, length, true, ℕ, ◌&&◌, ◌++◌, ◌+◌, ◌||◌, ◌∷◌, ◌≡◌, ◌⊎◌}
-use Rattle.sl_words.proofs.Numbers.{equal_is_most}
 
 -- ---- removed only where joined
 

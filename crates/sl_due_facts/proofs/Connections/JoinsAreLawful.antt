@@ -4,10 +4,11 @@ use Rattle.sl_due_facts.proofs.Acts.InputsKeep.{has_heard}
 use Rattle.sl_due_facts.proofs.Acts.LoopsKeep.{when_keeps, with_some_keeps}
 use Rattle.sl_due_facts.specs.Acts.Acts.{Acts, Has, Hears}
 use Rattle.sl_due_facts.specs.Acts.TraceSoFar.{entry_of}
-use Rattle.sl_area.specs.Places.{delta_offset}
+use Rattle.sl_area.specs.AreaLayout.{delta_offset}
 use Rattle.sl_due.specs.DueCommands.{carry_decision}
-use Rattle.sl_due.specs.DueDelta.{carry_delta, end_leaving, for_joining, move_connection, read_own_sector, register, survey, write_own_sector}
-use Rattle.sl_due.specs.DueFirst.{begin_recoveries, refuse, remove_connection, remove_of_refused}
+use Rattle.sl_due.specs.CarriedDelta.{carry_delta, end_leaving, for_joining, move_connection, read_own_sector, register, survey, write_own_sector}
+use Rattle.sl_due.specs.DueRecovery.{begin_recoveries}
+use Rattle.sl_due.specs.DueTimeOuts.{refuse, remove_connection, remove_of_refused}
 use Rattle.sl_due.specs.Steps.{Step, add_call_of, add_move, add_reply, begin_step, seen, when, with_input, with_some}
 use Rattle.sl_due.specs.declared.decision.Decision.TheVariants.{Joins}
 use Rattle.sl_due_facts.proofs.Jobs.CallsHaveFacts.{find_mapped, more_is_other, sessions_told}
@@ -44,14 +45,14 @@ use Rattle.sl_due_facts.proofs.Sessions.NameFactsAreKept.{joined_on_wake}
 use Rattle.sl_due_facts.proofs.Sessions.NameFactsConclude.{heard_answer}
 use Rattle.sl_due_facts.proofs.Sessions.NamesAtEnd.{running_unjoined}
 use Rattle.sl_due_facts.proofs.Sessions.NamesGrow.{calls_of_told}
-use Rattle.sl_trace.specs.Deltas.{delta_of_session, next_after_free, next_after_renewal, next_in_joining, next_on_wake, own_offset}
+use Rattle.sl_trace.specs.DeltaDecisions.{delta_of_session, next_after_free, next_after_renewal, next_in_joining, next_on_wake, own_offset}
 use Rattle.sl_trace.specs.Sessions.{calls_of, generation_of, given_session, has_open_write, is_call_of, is_join_call, is_join_done, join_call, joined_after, joining_session, recovery_of, refused_after, same_join_step, session_of_job, sessions}
 use Rattle.sl_trace.specs.declared.delta.DeltaNext.TheVariants.{Disconnect, EndLeaving, Join, MoveConnection, Nothing, ReadOwn, RefuseJoin, RegisterAndRead, WriteClaim, WriteFirst, WriteFree, WriteRenewal}
 use Rattle.sl_trace.specs.declared.delta.DeltaNext.{DeltaNext}
 use Rattle.sl_trace.specs.declared.session.Session.{Session}
 use Rattle.sl_due_facts.specs.Facts.AllFacts.{Whole}
 use Rattle.sl_time.specs.Times.{fail}
-use Rattle.sl_trace.specs.Connections.{is_registered}
+use Rattle.sl_trace.specs.WatchdogConnections.{is_registered}
 use Rattle.sl_trace.specs.Traces.{Answered, Replied, Setting, Submitted, Trace, answer_of, answered_in, is_running, job_numbered, mark, new_call, next_call, next_job, reply_to}
 use Rattle.sl_trace.specs.declared.command.Command.{Command}
 use Rattle.sl_trace.specs.declared.command.LockspaceArg.{LockspaceArg}

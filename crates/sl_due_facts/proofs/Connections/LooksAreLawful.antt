@@ -1,8 +1,8 @@
 -- The first read of a joining and its deciding read are lawful where they are made.
 use Rattle.sl_due_facts.proofs.Acts.AddedAtEnd.{any_last}
 use Rattle.sl_due_facts.specs.Acts.Acts.{Hears}
-use Rattle.sl_area.specs.Layouts.{record_in}
-use Rattle.sl_due.specs.DueDelta.{register}
+use Rattle.sl_area.specs.AreaSizes.{record_in}
+use Rattle.sl_due.specs.CarriedDelta.{register}
 use Rattle.sl_due.specs.Steps.{Step, seen, with_input}
 use Rattle.sl_due.specs.declared.decision.Decision.TheVariants.{Joins}
 use Rattle.sl_due_facts.proofs.Jobs.CallsHaveFacts.{input_kept, sessions_told}
@@ -17,7 +17,7 @@ use Rattle.sl_run.specs.LawfulDelta.{Gave, WatchOver}
 use Rattle.sl_words.proofs.Lists.{contains_cases, contains_none, find_inside, kept_inside}
 use Rattle.sl_words.proofs.Numbers.{number_itself}
 use Rattle.sl_words.proofs.Options.{some_of}
-use Rattle.sl_sector.specs.Spelling.{delta_in}
+use Rattle.sl_sector.specs.SectorLayouts.{delta_in}
 use Rattle.sl_sector.specs.declared.sector.DeltaRec.{DeltaRec}
 use Rattle.sl_sector.specs.declared.sector.DeltaState.TheVariants.{Claimed, Free, Live}
 use Rattle.sl_sector.specs.declared.sector.DeltaState.{DeltaState}
@@ -40,8 +40,8 @@ use Rattle.sl_trace.specs.declared.stage.Stage.TheVariants.{Looking}
 use Rattle.sl_due_facts.specs.Facts.HeardCall.{heard_by}
 use Rattle.sl_due_facts.specs.Facts.AllFacts.{Whole}
 use Rattle.sl_time.specs.Times.{fail, take_over}
-use Rattle.sl_trace.specs.Commands.{IsLockspaceArg}
-use Rattle.sl_trace.specs.Connections.{registers_with}
+use Rattle.sl_trace.specs.CommandForms.{IsLockspaceArg}
+use Rattle.sl_trace.specs.WatchdogConnections.{registers_with}
 use Rattle.sl_trace.specs.Traces.{Answered, Submitted, bytes_given, call_numbered, gave, is_answer_for, is_answered_ok, is_ok_answer, is_running, is_write, job_numbered, next_job, submitted, unanswered}
 use Rattle.sl_trace.specs.declared.command.Command.TheVariants.{AddLockspace}
 use Rattle.sl_trace.specs.declared.command.Command.{Command}
@@ -70,7 +70,7 @@ use Rattle.std.specs.List.{list_any}
 use Rattle.std.specs.Prelude.{Bool, Contains, List, None, Ok, Option, Some, [], bytes_eq, false, length, nat_le, option_and_then, option_map, true, unwrap_or, ℕ, ◌&&◌, ◌+◌, ◌<◌, ◌==◌, ◌∷◌, ◌≡◌}
 use Rattle.sl_due_facts.specs.Connections.DeltaCalls.{DeltaLawful, own_read}
 use Rattle.sl_due_facts.specs.Connections.WatchFacts.{HasRead, HasWatchFacts}
-use Rattle.sl_trace.specs.Deltas.{delta_of_session, is_watched_out, next_after_first, next_after_watch, id_held, watched}
+use Rattle.sl_trace.specs.DeltaDecisions.{delta_of_session, is_watched_out, next_after_first, next_after_watch, id_held, watched}
 use Rattle.std.proofs.lemmas.Bool.{eqb-true, leb-true}
 
 -- ---- a first read

@@ -3,7 +3,7 @@ use Rattle.sl_due_facts.specs.Connections.MovedSoFar.{IsClosed, MovedSoFar}
 use Rattle.sl_due_facts.specs.Acts.TraceSoFar.{SoFar, entry_of}
 use Rattle.sl_due.specs.Steps.{Step, seen, with_input}
 use Rattle.sl_due_facts.proofs.Jobs.SessionsArePresent.{joined_present, present_inside, session_has}
-use Rattle.sl_run.specs.LawfulWatchdog.{is_covered}
+use Rattle.sl_run.specs.LawfulConnections.{is_covered}
 use Rattle.sl_words.proofs.Lists.{any_found, any_of, kept, kept_inside}
 use Rattle.sl_words.proofs.Options.{none_is}
 use Rattle.sl_run_law.proofs.Front.JoinedLists.{contains_left}
@@ -17,7 +17,7 @@ use Rattle.sl_trace.specs.declared.session.Session.{Session}
 use Rattle.sl_trace.specs.declared.stage.Stage.TheVariants.{Waiting}
 use Rattle.sl_due_facts.specs.Facts.HeardCall.{IsOpen, heard_by}
 use Rattle.sl_due_facts.specs.Facts.SessionFacts.{NameFacts}
-use Rattle.sl_trace.specs.Connections.{registers, unregisters}
+use Rattle.sl_trace.specs.WatchdogConnections.{registers, unregisters}
 use Rattle.sl_trace.specs.Traces.{Submitted, is_write, unanswered}
 use Rattle.sl_trace.specs.declared.input.Input.TheVariants.{Wake}
 use Rattle.sl_trace.specs.declared.input.Input.{Input}

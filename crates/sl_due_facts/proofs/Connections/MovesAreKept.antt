@@ -4,10 +4,11 @@ use Rattle.sl_due_facts.proofs.Acts.AddedAtEnd.{contains_at}
 use Rattle.sl_due_facts.proofs.Acts.InputsKeep.{has_heard}
 use Rattle.sl_due_facts.specs.Acts.Acts.{Acts, Has, Hears}
 use Rattle.sl_due_facts.specs.Acts.TraceSoFar.{SoFar, entry_of}
-use Rattle.sl_area.specs.Places.{delta_offset}
+use Rattle.sl_area.specs.AreaLayout.{delta_offset}
 use Rattle.sl_due.specs.DueCommands.{carry_decision}
-use Rattle.sl_due.specs.DueDelta.{carry_delta, end_leaving, move_connection, survey}
-use Rattle.sl_due.specs.DueFirst.{begin_recoveries, remove_connection, remove_of_refused}
+use Rattle.sl_due.specs.CarriedDelta.{carry_delta, end_leaving, move_connection, survey}
+use Rattle.sl_due.specs.DueRecovery.{begin_recoveries}
+use Rattle.sl_due.specs.DueTimeOuts.{remove_connection, remove_of_refused}
 use Rattle.sl_due.specs.Steps.{Step, add_call_of, add_move, add_reply, begin_step, seen, when, with_input}
 use Rattle.sl_due.specs.declared.decision.Decision.TheVariants.{Joins}
 use Rattle.sl_due_facts.proofs.Jobs.CallsHaveFacts.{more_is_other, sessions_bare, timely}
@@ -18,7 +19,7 @@ use Rattle.sl_due_facts.proofs.Jobs.SessionsArePresent.{joined_present}
 use Rattle.sl_due_facts.proofs.Jobs.SessionsHaveJobs.{contains_either}
 use Rattle.sl_due_facts.proofs.Jobs.SessionsStand.{joined_then, leaving_joined, recovery_joined}
 use Rattle.sl_due_facts.specs.Jobs.JobLaws.{BeginsWith}
-use Rattle.sl_run.specs.LawfulWatchdog.{is_covered}
+use Rattle.sl_run.specs.LawfulConnections.{is_covered}
 use Rattle.sl_due_facts.proofs.AddedEffects.CallsGrow.{any_more, others_stay}
 use Rattle.sl_due_facts.proofs.AddedEffects.JoinedCallsKeepOrder.{joined_is_covered}
 use Rattle.sl_words.proofs.Lists.{any_found, contains_first, contains_map, contains_none, find_fails, find_inside, got_inside, head_is, in_map, kept_inside}
@@ -36,7 +37,7 @@ use Rattle.sl_due_facts.proofs.Connections.SteadyActs.{all_acts, steady_allow, s
 use Rattle.sl_due_facts.proofs.Sessions.DeltaConditions.{heard_at}
 use Rattle.sl_due_facts.proofs.Sessions.NameEffects.{move_present}
 use Rattle.sl_due_facts.proofs.Sessions.NamesAreAllowed.{heard_mine, joined_unrefused}
-use Rattle.sl_trace.specs.Deltas.{DeltaLease, join_step_of, next_by_time}
+use Rattle.sl_trace.specs.DeltaDecisions.{DeltaLease, join_step_of, next_by_time, delta_of_session, next_after_free, next_after_renewal, next_in_joining, next_on_wake}
 use Rattle.sl_trace.specs.Sessions.{added_by, begun_in, calls_of, free_write, generation_of, has_open_write, is_call_of, is_covered_stage, is_free_purpose, is_join_call, is_joined, is_present, joined_after, joining_session, leaving_job, open_calls_of, recovery_of, refused_after, sessions, stage_in}
 use Rattle.sl_trace.specs.declared.delta.DeltaNext.TheVariants.{MoveConnection, Nothing}
 use Rattle.sl_trace.specs.declared.delta.DeltaNext.{DeltaNext}
@@ -45,7 +46,7 @@ use Rattle.sl_trace.specs.declared.stage.Stage.TheVariants.{Waiting}
 use Rattle.sl_due_facts.specs.Facts.HeardCall.{heard_by}
 use Rattle.sl_due_facts.specs.Facts.AllFacts.{Whole}
 use Rattle.sl_time.specs.Times.{fail}
-use Rattle.sl_trace.specs.Connections.{is_registered, registers, unregisters}
+use Rattle.sl_trace.specs.WatchdogConnections.{is_registered, registers, unregisters}
 use Rattle.sl_trace.specs.Traces.{Answered, Submitted, answered_in, is_answered_ok, is_running, is_write, mark, new_call, next_call, next_job, submitted}
 use Rattle.sl_trace.specs.declared.command.Command.{Command}
 use Rattle.sl_trace.specs.declared.command.LockspaceArg.{LockspaceArg}
@@ -74,7 +75,6 @@ use Rattle.std.specs.Prelude.{Bool, Contains, List, None, Option, Some, [], byte
 use Rattle.sl_due_facts.proofs.Connections.MovesAltered.{absent_closed, closed_same, closed_unjoined, moves_one, moves_seen, moves_steady, there_now}
 use Rattle.sl_due_facts.proofs.Connections.JoiningMoves.{UncoveredBefore, any_split, closed_refused, closed_removed, joining_moves, refuse_moves, same_text}
 use Rattle.sl_due_facts.specs.Connections.MovedSoFar.{IsClosed, MovedSoFar}
-use Rattle.sl_trace.specs.Deltas.{delta_of_session, next_after_free, next_after_renewal, next_in_joining, next_on_wake}
 
 -- ---- a joining at work was there before
 

@@ -1,7 +1,7 @@
 -- Whether a session is present, joined, covered is a function of four marks of it: when it was joined, removed, refused, and its calls.
 use Rattle.sl_due_facts.proofs.Jobs.SessionsArePresent.{joined_present}
 use Rattle.sl_due_facts.proofs.Jobs.SessionsStand.{joined_then}
-use Rattle.sl_run.specs.LawfulWatchdog.{is_covered}
+use Rattle.sl_run.specs.LawfulConnections.{is_covered}
 use Rattle.sl_words.proofs.Truth.{or_false}
 use Rattle.sl_due_facts.proofs.Sessions.NameEffects.{at_work_present}
 use Rattle.sl_due_facts.proofs.Sessions.NamesAreAllowed.{joined_unrefused}

@@ -7,13 +7,14 @@ use Rattle.sl_due_facts.proofs.Acts.LoopsKeep.{for_each_keeps}
 use Rattle.sl_due_facts.proofs.Acts.PlainActs.{line_has}
 use Rattle.sl_due_facts.specs.Acts.Acts.{Acts, Expects, Has, Hears, next_of_settling}
 use Rattle.sl_due_facts.specs.Acts.TraceSoFar.{entry_of}
-use Rattle.sl_area.specs.Places.{request_offset}
+use Rattle.sl_area.specs.AreaLayout.{request_offset}
 use Rattle.sl_due.specs.DueAnswers.{set_reply}
 use Rattle.sl_due.specs.DueCommands.{carry_decision, decided}
-use Rattle.sl_due.specs.DueDelta.{carry_delta, see_request, write_own_sector}
-use Rattle.sl_due.specs.DueFirst.{refuse, remove_connection, remove_of_refused, send, signal_and_refuse, signal_holders}
+use Rattle.sl_due.specs.CarriedDelta.{carry_delta, see_request, write_own_sector}
+use Rattle.sl_due.specs.DueTimeOuts.{refuse, remove_connection, remove_of_refused}
+use Rattle.sl_due.specs.DueRecovery.{send, signal_and_refuse, signal_holders}
 use Rattle.sl_due.specs.DueInputs.{end_holdings, leave_holdings, refuse_jobs_of, started_reply, when_running}
-use Rattle.sl_due.specs.DueLease.{carry_lease, next_of_lease}
+use Rattle.sl_due.specs.CarriedLease.{carry_lease, next_of_lease}
 use Rattle.sl_due.specs.DueRequests.{after_request_read, after_value_read, bits_due, value_reply}
 use Rattle.sl_due.specs.Steps.{Step, add_call_of, add_reply, add_signal, seen, with_input}
 use Rattle.sl_due.specs.declared.decision.Decision.TheVariants.{ConvertsTo, GetsValue, GivesUp, Joins, Leaves, ReadsArea, Replies, Requests, SetsValue, Shares, TakesOver}
@@ -29,7 +30,7 @@ use Rattle.sl_due_facts.proofs.Jobs.RepliesComeAfter.{IsLateLease, lease_late, o
 use Rattle.sl_due_facts.proofs.Jobs.SessionsArePresent.{joined_present}
 use Rattle.sl_due_facts.proofs.Jobs.SessionsStand.{joined_then, running_before}
 use Rattle.sl_trace.specs.Jobs.{is_command_that, is_job_of_process, job_of_start, jobs_of_session, lockspace_named}
-use Rattle.sl_trace.specs.LeaseWork.{lease_place}
+use Rattle.sl_trace.specs.LeaseDecisions.{lease_place}
 use Rattle.sl_trace.specs.Leases.{holdings_on, known, lver_written, spot_of_call}
 use Rattle.sl_trace.specs.declared.lease.LeaseNext.TheVariants.{AnswerJob}
 use Rattle.sl_trace.specs.declared.lease.LeaseNext.{LeaseNext}
@@ -49,7 +50,7 @@ use Rattle.sl_due_facts.proofs.Connections.OtherJobs.{other_heard, other_of_proc
 use Rattle.sl_due_facts.proofs.Sessions.NamesAreAllowed.{Holds, NameCall, NameReply, decision_named, is_joining, lease_named, request_named}
 use Rattle.sl_due_facts.proofs.Sessions.NamesGrow.{input_names}
 use Rattle.sl_due_facts.specs.Sessions.SessionLaws.{HasNameFacts}
-use Rattle.sl_trace.specs.Deltas.{DeltaLease}
+use Rattle.sl_trace.specs.DeltaDecisions.{DeltaLease, delta_known, delta_of_session, delta_record, is_renewal_due, next_after_free, next_after_renewal, next_free, next_in_joining, next_on_wake, next_renewal, own_offset}
 use Rattle.sl_trace.specs.Sessions.{calls_of, generation_of, has_open_write, holdings_of, is_joined, join_call, joined_after, last_renewal, recovery_of, refused_after, removed_after, sessions}
 use Rattle.sl_trace.specs.declared.delta.DeltaKnown.{DeltaKnown}
 use Rattle.sl_trace.specs.declared.delta.DeltaNext.TheVariants.{Nothing, WriteFree, WriteRenewal}
@@ -78,7 +79,6 @@ use Rattle.sl_words.proofs.CaseLaws.{is_false, none_some, not_both}
 use Rattle.sl_words.specs.Words.{some_is}
 use Rattle.std.proofs.Common.{ap, inl, inr, refl, subst, sym, ◌∙◌}
 use Rattle.std.specs.Prelude.{Bool, Contains, List, None, Ok, Some, [], bytes_eq, cond, false, filter, is_some, length, not, true, ℕ, ◌+◌, ◌==◌, ◌≡◌, ◌⊎◌}
-use Rattle.sl_trace.specs.Deltas.{delta_known, delta_of_session, delta_record, is_renewal_due, next_after_free, next_after_renewal, next_free, next_in_joining, next_on_wake, next_renewal, own_offset}
 use Rattle.sl_due_facts.proofs.Jobs.AnsweredCallsFit.{at, both_of}
 
 -- ---- what such an act leaves

@@ -3,12 +3,13 @@ use Rattle.sl_due_facts.proofs.Acts.InputsKeep.{has_heard}
 use Rattle.sl_due_facts.proofs.Acts.LoopsKeep.{when_keeps}
 use Rattle.sl_due_facts.specs.Acts.Acts.{Hears, IsIdle}
 use Rattle.sl_due_facts.specs.Acts.TraceSoFar.{entry_of}
-use Rattle.sl_area.specs.Layouts.{record_in}
-use Rattle.sl_area.specs.Places.{request_offset}
+use Rattle.sl_area.specs.AreaSizes.{record_in}
+use Rattle.sl_area.specs.AreaLayout.{request_offset}
 use Rattle.sl_due.specs.DueAnswers.{set_reply}
-use Rattle.sl_due.specs.DueDelta.{carry_delta, for_joining}
-use Rattle.sl_due.specs.DueFirst.{refuse, remove_of_refused, send, signal_and_refuse}
-use Rattle.sl_due.specs.DueLease.{carry_lease, next_of_lease}
+use Rattle.sl_due.specs.CarriedDelta.{carry_delta, for_joining}
+use Rattle.sl_due.specs.DueTimeOuts.{refuse, remove_of_refused}
+use Rattle.sl_due.specs.DueRecovery.{send, signal_and_refuse}
+use Rattle.sl_due.specs.CarriedLease.{carry_lease, next_of_lease}
 use Rattle.sl_due.specs.DueRequests.{after_request_read, after_value_read, value_reply}
 use Rattle.sl_due.specs.Steps.{Step, add_call_of, add_move, add_reply, add_signal, seen, with_input, with_some}
 use Rattle.sl_due_facts.proofs.Jobs.CallsOfJobsFit.{joining_of}
@@ -20,7 +21,7 @@ use Rattle.sl_due_facts.proofs.Jobs.RepliesComeAfter.{IsLateDelta, IsLateLease, 
 use Rattle.sl_due_facts.proofs.Jobs.SessionsArePresent.{session_has}
 use Rattle.sl_due_facts.proofs.Jobs.SessionsHaveJobs.{contains_only}
 use Rattle.sl_due_facts.specs.Jobs.JobLaws.{HasCallFacts}
-use Rattle.sl_trace.specs.LeaseWork.{lease_place}
+use Rattle.sl_trace.specs.LeaseDecisions.{lease_place}
 use Rattle.sl_trace.specs.Leases.{known, lver_written, spot_of_call}
 use Rattle.sl_trace.specs.declared.lease.LeaseNext.{LeaseNext}
 use Rattle.sl_due_facts.proofs.AddedEffects.CallsGrow.{same_sessions}
@@ -28,7 +29,7 @@ use Rattle.sl_words.proofs.Lists.{contains_cases, find_inside, kept, kept_inside
 use Rattle.sl_words.proofs.Numbers.{number_itself}
 use Rattle.sl_words.proofs.Options.{some_of, some_there}
 use Rattle.sl_sector.specs.Bitmaps.{no_bits}
-use Rattle.sl_sector.specs.Spelling.{delta_in}
+use Rattle.sl_sector.specs.SectorLayouts.{delta_in}
 use Rattle.sl_sector.specs.declared.sector.DeltaRec.{DeltaRec}
 use Rattle.sl_sector.specs.declared.sector.DeltaState.TheVariants.{Free}
 use Rattle.sl_sector.specs.declared.sector.Rec.TheVariants.{DeltaIs}
@@ -54,7 +55,7 @@ use Rattle.sl_due_facts.specs.Facts.ConcludingActs.{Concludes}
 use Rattle.sl_due_facts.specs.Facts.HeardCall.{heard_by}
 use Rattle.sl_due_facts.specs.Facts.AllFacts.{Whole}
 use Rattle.sl_trace.proofs.TraceFacts.{submitted-push}
-use Rattle.sl_trace.specs.Connections.{is_registered}
+use Rattle.sl_trace.specs.WatchdogConnections.{is_registered}
 use Rattle.sl_trace.specs.Traces.{Answered, Setting, Submitted, bytes_given, call_numbered, gave, is_running, job_of, new_call, next_call, submitted}
 use Rattle.sl_trace.specs.declared.effects.Call.{Call}
 use Rattle.sl_trace.specs.declared.effects.JoinStep.TheVariants.{ClaimWrite, DecidingRead, FirstRead, FirstRenewal, VerifyRead, WatchRead}
@@ -82,7 +83,7 @@ use Rattle.std.proofs.lemmas.Bool.{eqb-true}
 use Rattle.std.proofs.lemmas.Slice.Eq.{bytes_eq-Decides}
 use Rattle.std.specs.Prelude.{Bool, Contains, List, None, Option, Some, [], bytes_eq, false, is_some, length, option_and_then, true, unwrap_or, ℕ, ◌&&◌, ◌+◌, ◌==◌, ◌∷◌, ◌≡◌, ◌⊎◌}
 use Rattle.sl_due_facts.specs.Connections.WatchFacts.{HasRead, HasWatchFacts, HasWatchesPlainly}
-use Rattle.sl_trace.specs.Deltas.{delta_known, delta_of_session, delta_record, is_watched_out, next_after_first, next_after_free, next_after_renewal, next_after_watch, next_free, next_in_joining, own_offset, id_held, watched}
+use Rattle.sl_trace.specs.DeltaDecisions.{delta_known, delta_of_session, delta_record, is_watched_out, next_after_first, next_after_free, next_after_renewal, next_after_watch, next_free, next_in_joining, own_offset, id_held, watched}
 use Rattle.sl_due_facts.proofs.Jobs.AnsweredCallsFit.{at, both_of}
 
 -- ---- what an act leaves of answered calls

@@ -4,7 +4,7 @@ use Rattle.sl_due_facts.specs.Acts.TraceSoFar.{entry_of}
 use Rattle.sl_due.specs.Steps.{Step, seen}
 use Rattle.sl_due_facts.proofs.Jobs.SessionsArePresent.{session_has}
 use Rattle.sl_due_facts.proofs.Jobs.SessionsStand.{no_members}
-use Rattle.sl_run.specs.LawfulWatchdog.{CoveredBy, LawfulWatchdog, acts_until, is_covered}
+use Rattle.sl_run.specs.LawfulConnections.{CoveredBy, LawfulWatchdog, acts_until, is_covered}
 use Rattle.sl_words.proofs.Lists.{kept_inside}
 use Rattle.sl_words.proofs.Options.{some_there}
 use Rattle.sl_due_facts.proofs.Connections.SessionParts.{covered_present, joined_and_covered}
@@ -14,7 +14,7 @@ use Rattle.sl_trace.specs.declared.session.Session.{Session}
 use Rattle.sl_due_facts.specs.Facts.HeardCall.{heard_by}
 use Rattle.sl_due_facts.specs.Facts.HoldingFacts.{HoldingFacts}
 use Rattle.sl_time.specs.Times.{fail}
-use Rattle.sl_trace.specs.Connections.{Connection, connection_named, connections, last_registering, registers, unregisters}
+use Rattle.sl_trace.specs.WatchdogConnections.{Connection, connection_named, connections, last_registering, registers, unregisters}
 use Rattle.sl_trace.specs.Traces.{holdings}
 use Rattle.sl_trace.specs.declared.effects.Grant.{Grant}
 use Rattle.sl_words.proofs.CaseLaws.{is_false, not_both, one_value, true_is_false}

@@ -2,7 +2,7 @@
 use Rattle.sl_due_facts.proofs.Acts.InputsKeep.{has_heard}
 use Rattle.sl_due_facts.specs.Acts.Acts.{Has, Hears}
 use Rattle.sl_due_facts.specs.Acts.TraceSoFar.{SoFar}
-use Rattle.sl_area.specs.Places.{request_offset}
+use Rattle.sl_area.specs.AreaLayout.{request_offset}
 use Rattle.sl_due.specs.DueRequests.{owner_read}
 use Rattle.sl_due.specs.Steps.{Step, seen}
 use Rattle.sl_due_facts.proofs.Jobs.CallsOfJobsFit.{no_job}
@@ -28,7 +28,7 @@ use Rattle.sl_sector.specs.declared.sector.DeltaRec.{DeltaRec}
 use Rattle.sl_sector.specs.declared.sector.DeltaState.TheVariants.{Free, Live}
 use Rattle.sl_sector.specs.declared.sector.Rec.{Rec}
 use Rattle.sl_sector.specs.declared.sector.Rec.TheVariants.{DeltaIs}
-use Rattle.sl_trace.specs.Deltas.{DeltaLease, delta_of_session, delta_record, is_renewal_due, next_after_free, next_after_renewal, next_free, next_renewal, own_offset}
+use Rattle.sl_trace.specs.DeltaDecisions.{DeltaLease, delta_of_session, delta_record, is_renewal_due, next_after_free, next_after_renewal, next_free, next_renewal, own_offset}
 use Rattle.sl_trace.specs.Sessions.{calls_of, delta_of_record, generation_of, has_open_write, is_call_of, is_joined, is_session_arg, joined_after, last_seq, leaving_job, open_calls_of, removed_after, session_numbered, sessions}
 use Rattle.sl_trace.specs.declared.delta.DeltaKnown.{DeltaKnown}
 use Rattle.sl_trace.specs.declared.delta.DeltaNext.{DeltaNext}

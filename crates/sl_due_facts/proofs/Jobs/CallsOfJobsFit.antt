@@ -13,7 +13,7 @@ use Rattle.sl_trace.specs.Jobs.{command_numbered}
 use Rattle.sl_words.proofs.Lists.{contains_cases, contains_none, find_inside, got_inside, kept}
 use Rattle.sl_words.proofs.Numbers.{number_itself}
 use Rattle.sl_words.proofs.Options.{none_is, some_of}
-use Rattle.sl_trace.specs.Deltas.{own_offset}
+use Rattle.sl_trace.specs.DeltaDecisions.{own_offset}
 use Rattle.sl_trace.specs.Sessions.{calls_of, is_call_of, is_join_done, joined_after, session_numbered, sessions}
 use Rattle.sl_trace.specs.declared.delta.DeltaNext.{DeltaNext}
 use Rattle.sl_trace.specs.declared.delta.DeltaNext.TheVariants.{Disconnect, EndLeaving, Join, MoveConnection, Nothing, ReadOwn, RefuseJoin, RegisterAndRead, WriteClaim, WriteFirst, WriteFree, WriteRenewal}

@@ -1,11 +1,11 @@
 -- A call on a resource's area is of the area where it begins.
 use Rattle.sl_area.proofs.SizeLaws.{HasRoom, has_room, sectors_of_pairs}
-use Rattle.sl_area.specs.Layouts.{Layout, Sizes, layout_of, layout_with}
-use Rattle.sl_area.specs.Places.{block_place, block_sectors, is_base}
+use Rattle.sl_area.specs.AreaSizes.{Layout, Sizes, layout_of, layout_with}
+use Rattle.sl_area.specs.AreaLayout.{block_place, block_sectors, is_base}
 use Rattle.sl_run.specs.Lawful.{IsSetting}
 use Rattle.sl_trace.specs.Leases.{spot_of_call}
 use Rattle.sl_words.proofs.Numbers.{plus_zero}
-use Rattle.sl_sector.specs.Spelling.{is_first_turn}
+use Rattle.sl_sector.specs.SectorLayouts.{is_first_turn}
 use Rattle.sl_trace.specs.Traces.{Setting, Submitted}
 use Rattle.sl_trace.specs.declared.effects.Spot.{Spot}
 use Rattle.sl_words.proofs.WordLaws.{and_true}

@@ -6,18 +6,20 @@ use Rattle.sl_sector.specs.declared.sector.Leader.{Leader}
 use Rattle.sl_sector.specs.declared.sector.Block.{Block}
 use Rattle.sl_sector.specs.declared.sector.Rec.{Rec}
 use Rattle.sl_due_facts.proofs.Acts.LoopsKeep.{for_each_keeps, when_keeps, with_some_keeps}
-use Rattle.sl_area.specs.Layouts.{Layout}
-use Rattle.sl_area.specs.Places.{area_sectors, block_offset, block_place, block_record, block_sectors, delta_offset, leader_offset, leader_record, request_offset, value_offset}
+use Rattle.sl_area.specs.AreaSizes.{Layout}
+use Rattle.sl_area.specs.AreaLayout.{area_sectors, block_offset, block_place, block_sectors, delta_offset, leader_offset, request_offset, value_offset}
+use Rattle.sl_area.specs.AreaRecords.{block_record, leader_record}
 use Rattle.sl_due.specs.DueCommands.{after_end, carry_decision}
-use Rattle.sl_due.specs.DueDelta.{carry_delta, end_leaving, for_joining, move_connection, read_own_sector, register, survey, write_own_sector}
-use Rattle.sl_due.specs.DueFirst.{refuse, remove_connection, remove_of_refused, send, signal_and_refuse, signal_holders}
+use Rattle.sl_due.specs.CarriedDelta.{carry_delta, end_leaving, for_joining, move_connection, read_own_sector, register, survey, write_own_sector}
+use Rattle.sl_due.specs.DueTimeOuts.{refuse, remove_connection, remove_of_refused}
+use Rattle.sl_due.specs.DueRecovery.{send, signal_and_refuse, signal_holders}
 use Rattle.sl_due.specs.DueInputs.{end_holdings, leave_holdings, refuse_jobs_of, when_running}
-use Rattle.sl_due.specs.DueLease.{carry_lease, convert_for, convert_holding, for_work, grant_for, held_otherwise, read_for, with_command, name_on, next_turn}
+use Rattle.sl_due.specs.CarriedLease.{carry_lease, convert_for, convert_holding, for_work, grant_for, held_otherwise, read_for, with_command, name_on, next_turn}
 use Rattle.sl_due.specs.DueRequests.{after_request_read, owner_read, request_refusal, write_request}
 use Rattle.sl_due.specs.Steps.{Step, add_call_of, add_end, add_grant, add_move, add_reply, add_signal, add_start, seen, with_some}
 use Rattle.sl_due.specs.declared.decision.Decision.{Decision}
 use Rattle.sl_due.specs.declared.decision.Decision.TheVariants.{ConvertsTo, GetsValue, GivesUp, Joins, Leaves, ReadsArea, Replies, Requests, SetsValue, Shares, TakesOver}
-use Rattle.sl_trace.specs.Counts.{stopper_of}
+use Rattle.sl_trace.specs.KillPrograms.{stopper_of}
 use Rattle.sl_trace.specs.Jobs.{command_numbered, is_job_of_process, jobs_of_session, process_named}
 use Rattle.sl_due_facts.specs.Acts.Acts.{next_of_conversion, next_of_release}
 use Rattle.sl_trace.specs.Leases.{holdings_on, spot_of}
@@ -25,13 +27,13 @@ use Rattle.sl_trace.specs.declared.lease.LeaseNext.{LeaseNext}
 use Rattle.sl_trace.specs.declared.lease.LeaseNext.TheVariants.{AnswerJob, BecomeExclusive, BecomeShared, GrantJob, Nothing as No_lease, ReadFor, WriteBlock, WriteLeader}
 use Rattle.sl_words.proofs.Lists.{kept_inside}
 use Rattle.sl_sector.specs.declared.sector.Rec.TheVariants.{BlockIs, DeltaIs, LeaderIs, PairIs, PairLeaderIs, RequestIs, ValueIs}
-use Rattle.sl_trace.specs.Deltas.{own_offset}
+use Rattle.sl_trace.specs.DeltaDecisions.{own_offset}
 use Rattle.sl_trace.specs.Sessions.{delta_of_record, has_open_write, holders_of, last_renewal, refused_after, session_of_job}
 use Rattle.sl_trace.specs.declared.delta.DeltaNext.{DeltaNext}
 use Rattle.sl_trace.specs.declared.delta.DeltaNext.TheVariants.{Nothing, Disconnect, EndLeaving, Join, MoveConnection, ReadOwn, RefuseJoin, RegisterAndRead, WriteClaim, WriteFirst, WriteFree, WriteRenewal}
 use Rattle.sl_trace.specs.declared.session.Session.{Session}
 use Rattle.sl_time.specs.Times.{fail}
-use Rattle.sl_trace.specs.Connections.{is_registered}
+use Rattle.sl_trace.specs.WatchdogConnections.{is_registered}
 use Rattle.sl_trace.specs.Traces.{Job, Setting, end_of, holdings, is_running, next_child, orphans_left, running_jobs, spot_of_grant, work_job}
 use Rattle.sl_trace.specs.declared.command.Command.{Command}
 use Rattle.sl_trace.specs.declared.command.Command.TheVariants.{Acquire, Request, RunProgram, TakeOver}

@@ -5,13 +5,14 @@ use Rattle.sl_due_facts.proofs.Acts.InputsKeep.{has_heard}
 use Rattle.sl_due_facts.proofs.Acts.PlainActs.{line_has}
 use Rattle.sl_due_facts.specs.Acts.Acts.{Acts, Has, Hears, lone_job, next_of_settling}
 use Rattle.sl_due_facts.specs.Acts.TraceSoFar.{entry_of}
-use Rattle.sl_area.specs.Places.{delta_offset}
+use Rattle.sl_area.specs.AreaLayout.{delta_offset}
 use Rattle.sl_due.specs.DueAnswers.{set_reply}
 use Rattle.sl_due.specs.DueCommands.{carry_decision, decided}
-use Rattle.sl_due.specs.DueDelta.{carry_delta}
-use Rattle.sl_due.specs.DueFirst.{refuse, signal_and_refuse}
+use Rattle.sl_due.specs.CarriedDelta.{carry_delta}
+use Rattle.sl_due.specs.DueTimeOuts.{refuse}
+use Rattle.sl_due.specs.DueRecovery.{signal_and_refuse}
 use Rattle.sl_due.specs.DueInputs.{end_holdings, leave_holdings, refuse_jobs_of, started_reply, when_running}
-use Rattle.sl_due.specs.DueLease.{carry_lease, next_of_lease}
+use Rattle.sl_due.specs.CarriedLease.{carry_lease, next_of_lease}
 use Rattle.sl_due.specs.DueRequests.{after_value_read, bits_due, value_reply}
 use Rattle.sl_due.specs.Steps.{Step, add_call_of, add_reply, seen, with_input}
 use Rattle.sl_due.specs.declared.decision.Decision.{Decision}
@@ -29,12 +30,12 @@ use Rattle.sl_due_facts.proofs.Jobs.LeaseCallsFit.{settling_allowed}
 use Rattle.sl_due_facts.proofs.Jobs.LinesAreAllowed.{IsBegun, decision_allowed, late_on_line, new_command, new_free, new_numbered}
 use Rattle.sl_due_facts.proofs.Jobs.RepliesComeAfter.{joining_late, lease_within, set_late, value_late, wake_late}
 use Rattle.sl_trace.specs.Jobs.{job_of_start}
-use Rattle.sl_trace.specs.LeaseWork.{lease_place}
+use Rattle.sl_trace.specs.LeaseDecisions.{lease_place}
 use Rattle.sl_trace.specs.Leases.{known, lver_written, spot_of_call}
 use Rattle.sl_trace.specs.declared.lease.LeaseNext.{LeaseNext}
 use Rattle.sl_words.proofs.Lists.{find_inside, got_before, kept_inside}
 use Rattle.sl_words.proofs.Places.{last_there}
-use Rattle.sl_trace.specs.Deltas.{delta_known, delta_of_session, join_step_of, next_after_free, next_after_renewal, next_by_time, next_free, next_in_joining, next_on_wake, next_renewal}
+use Rattle.sl_trace.specs.DeltaDecisions.{delta_known, delta_of_session, join_step_of, next_after_free, next_after_renewal, next_by_time, next_free, next_in_joining, next_on_wake, next_renewal}
 use Rattle.sl_trace.specs.Sessions.{added, calls_of, generation_of, is_join_call, joining_session, recovery_of, sessions}
 use Rattle.sl_trace.specs.declared.delta.DeltaNext.{DeltaNext}
 use Rattle.sl_trace.specs.declared.delta.DeltaNext.TheVariants.{Nothing}

@@ -1,6 +1,6 @@
 -- What is known of calls and of jobs holds once a step has begun.
 use Rattle.sl_due_facts.proofs.Acts.LoopsKeep.{for_each_keeps, when_keeps}
-use Rattle.sl_due.specs.DueFirst.{begin_recoveries, begin_recovery, begins_now, signal_and_refuse}
+use Rattle.sl_due.specs.DueRecovery.{begin_recoveries, begin_recovery, begins_now, signal_and_refuse}
 use Rattle.sl_due.specs.Steps.{Step, begin_step, seen}
 use Rattle.sl_due_facts.proofs.Jobs.AnsweredCallsFit.{at}
 use Rattle.sl_due_facts.proofs.Jobs.CallsHaveFacts.{sessions_bare, timely}

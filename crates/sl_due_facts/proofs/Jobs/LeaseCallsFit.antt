@@ -1,7 +1,7 @@
 -- Where a call on a resource's area is made for a job it is of the command's resource, and the job has no other call unanswered.
-use Rattle.sl_due.specs.DueLease.{next_turn}
+use Rattle.sl_due.specs.CarriedLease.{next_turn}
 use Rattle.sl_due_facts.specs.Acts.Acts.{Has}
-use Rattle.sl_area.specs.Places.{block_offset, block_place, block_sectors}
+use Rattle.sl_area.specs.AreaLayout.{block_offset, block_place, block_sectors}
 use Rattle.sl_due.specs.Steps.{Step, seen}
 use Rattle.sl_due_facts.proofs.Jobs.CallsOfJobsFit.{no_job}
 use Rattle.sl_due_facts.proofs.Jobs.CallsStandInAreas.{IsWithin, Roomy, stands_in}
@@ -14,7 +14,7 @@ use Rattle.sl_due_facts.proofs.Jobs.RepliesComeAfter.{IsApartFrom, IsApartLease,
 use Rattle.sl_due_facts.proofs.Jobs.SessionsHaveJobs.{given_one, joined_by}
 use Rattle.sl_run.specs.Lawful.{IsGiven, IsSetting}
 use Rattle.sl_trace.specs.Jobs.{aim_of_command, command_numbered, resource_named}
-use Rattle.sl_trace.specs.LeaseWork.{read_of_step}
+use Rattle.sl_trace.specs.LeaseDecisions.{read_of_step}
 use Rattle.sl_trace.specs.Leases.{spot_of}
 use Rattle.sl_trace.specs.declared.lease.LeaseNext.{LeaseNext}
 use Rattle.sl_trace.specs.declared.lease.LeaseNext.TheVariants.{AnswerJob, BecomeExclusive, BecomeShared, GrantJob, Nothing as No_lease, ReadFor, WriteBlock, WriteLeader}
@@ -23,7 +23,7 @@ use Rattle.sl_words.proofs.Numbers.{plus_zero}
 use Rattle.sl_trace.specs.Sessions.{sessions}
 use Rattle.sl_trace.specs.declared.session.Session.{Session}
 use Rattle.sl_due_facts.specs.Facts.JobFacts.{SeeksResource}
-use Rattle.sl_trace.specs.Commands.{IsLockspaceArg}
+use Rattle.sl_trace.specs.CommandForms.{IsLockspaceArg}
 use Rattle.sl_trace.specs.Traces.{Setting, Trace, job_of}
 use Rattle.sl_trace.specs.declared.command.Command.{Command}
 use Rattle.sl_trace.specs.declared.command.Command.TheVariants.{Acquire, AddLockspace, Convert, GetLvb, HostStatus, InqLockspace, Release, ReleaseOrphan, RemLockspace, Request, RunProgram, SetKillpath, SetLvb, Status, TakeOver}

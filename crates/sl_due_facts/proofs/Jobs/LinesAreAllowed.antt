@@ -3,8 +3,8 @@ use Rattle.sl_trace.specs.declared.lease.Aim.TheVariants.{Converts}
 use Rattle.sl_due_facts.proofs.Acts.DecisionsAreTheirs.{Of}
 use Rattle.sl_due_facts.proofs.Acts.Pairs.Decisions.{within_cases}
 use Rattle.sl_due_facts.specs.Acts.Acts.{Has, next_of_conversion, next_of_release}
-use Rattle.sl_area.specs.Layouts.{Layout}
-use Rattle.sl_area.specs.Places.{is_base, value_offset}
+use Rattle.sl_area.specs.AreaSizes.{Layout}
+use Rattle.sl_area.specs.AreaLayout.{is_base, value_offset}
 use Rattle.sl_due.specs.Steps.{Step, add_end, seen, with_input}
 use Rattle.sl_due.specs.declared.decision.Decision.{Decision}
 use Rattle.sl_due.specs.declared.decision.Decision.TheVariants.{ConvertsTo, GetsValue, GivesUp, Joins, Leaves, ReadsArea, Replies, Requests, SetsValue, Shares, TakesOver}
@@ -21,7 +21,8 @@ use Rattle.sl_due_facts.proofs.Jobs.RepliesComeAfter.{mapped_or, release_within}
 use Rattle.sl_run.specs.Lawful.{IsSetting}
 use Rattle.sl_trace.specs.Ballots.{moded_block}
 use Rattle.sl_trace.specs.Jobs.{aim_of_command, command_numbered, command_of, resource_named}
-use Rattle.sl_trace.specs.LeaseWork.{LeasePlace, convert_next, lease_place, within_turn}
+use Rattle.sl_trace.specs.LeaseDecisions.{LeasePlace, lease_place, within_turn}
+use Rattle.sl_trace.specs.Conversions.{convert_next}
 use Rattle.sl_trace.specs.Leases.{LeaseKnown, holdings_on, known, spot_of}
 use Rattle.sl_trace.specs.declared.lease.LeaseNext.{LeaseNext}
 use Rattle.sl_trace.specs.declared.lease.LeaseNext.TheVariants.{Nothing as No_lease, ReadFor, WriteBlock}
@@ -32,7 +33,7 @@ use Rattle.sl_sector.specs.declared.sector.Rec.TheVariants.{ValueIs}
 use Rattle.sl_trace.specs.Sessions.{holdings_of, present_sessions, session_named, sessions}
 use Rattle.sl_trace.specs.declared.session.Session.{Session}
 use Rattle.sl_due_facts.specs.Facts.JobFacts.{FitsCommand, IsOfResource}
-use Rattle.sl_trace.specs.Commands.{IsCommand}
+use Rattle.sl_trace.specs.CommandForms.{IsCommand}
 use Rattle.sl_trace.specs.Traces.{Setting, Submitted, Trace, end_of, job_numbered, job_of, next_job, same_place, spot_of_grant, submitted}
 use Rattle.sl_trace.specs.declared.command.Command.{Command}
 use Rattle.sl_trace.specs.declared.command.Command.TheVariants.{Acquire, AddLockspace, Convert, GetLvb, HostStatus, InqLockspace, Release, ReleaseOrphan, RemLockspace, Request, RunProgram, SetKillpath, SetLvb, Status, TakeOver}

@@ -1,9 +1,9 @@
 -- At the end of an answer's entry no job goes on under a session in recovery or leaving.
 use Rattle.sl_due_facts.specs.Acts.Acts.{Hears, IsIdle, lone_job}
-use Rattle.sl_area.specs.Places.{request_offset}
+use Rattle.sl_area.specs.AreaLayout.{request_offset}
 use Rattle.sl_due.specs.DueAnswers.{set_reply}
-use Rattle.sl_due.specs.DueDelta.{begins_by_read}
-use Rattle.sl_due.specs.DueLease.{next_of_lease}
+use Rattle.sl_due.specs.CarriedDelta.{begins_by_read}
+use Rattle.sl_due.specs.CarriedLease.{next_of_lease}
 use Rattle.sl_due.specs.DueRequests.{after_value_read, value_reply}
 use Rattle.sl_due.specs.Steps.{Step, seen, with_input}
 use Rattle.sl_due_facts.proofs.Jobs.EffectsAreAllowed.{delta, lease, removal, removal_of_refused, requested, sent}
@@ -16,7 +16,7 @@ use Rattle.sl_due_facts.specs.Jobs.JobLaws.{IsQuiet, QuietFactsConclude}
 use Rattle.sl_trace.specs.Leases.{spot_of_call}
 use Rattle.sl_words.proofs.Lists.{find_inside}
 use Rattle.sl_words.proofs.Options.{some_of}
-use Rattle.sl_trace.specs.Deltas.{delta_known, delta_of_session, next_after_free, next_after_renewal, next_free, next_in_joining}
+use Rattle.sl_trace.specs.DeltaDecisions.{delta_known, delta_of_session, next_after_free, next_after_renewal, next_free, next_in_joining}
 use Rattle.sl_trace.specs.Sessions.{calls_of, generation_of, is_joined, is_present, is_survey_purpose, recovery_of, session_numbered}
 use Rattle.sl_trace.specs.declared.session.Session.{Session}
 use Rattle.sl_due_facts.specs.Facts.AllFacts.{Whole}

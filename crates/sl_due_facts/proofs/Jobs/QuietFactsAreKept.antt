@@ -2,10 +2,10 @@
 use Rattle.sl_due_facts.proofs.Acts.LoopsKeep.{for_each_keeps}
 use Rattle.sl_due_facts.specs.Acts.Acts.{Acts}
 use Rattle.sl_due_facts.specs.Acts.TraceSoFar.{entry_of}
-use Rattle.sl_area.specs.Places.{delta_offset}
+use Rattle.sl_area.specs.AreaLayout.{delta_offset}
 use Rattle.sl_due.specs.DueCommands.{carry_decision, decided, reply_at_once}
-use Rattle.sl_due.specs.DueDelta.{begins_by_read}
-use Rattle.sl_due.specs.DueFirst.{signal_and_refuse, signal_holders}
+use Rattle.sl_due.specs.CarriedDelta.{begins_by_read}
+use Rattle.sl_due.specs.DueRecovery.{signal_and_refuse, signal_holders}
 use Rattle.sl_due.specs.Steps.{Step, add_call_of, add_reply, for_each, seen, with_input}
 use Rattle.sl_due.specs.declared.decision.Decision.{Decision}
 use Rattle.sl_due.specs.declared.decision.Decision.TheVariants.{ConvertsTo, GetsValue, GivesUp, Joins, Leaves, ReadsArea, Replies, Requests, SetsValue, Shares, TakesOver}

@@ -2,8 +2,8 @@
 -- the answer brings has had its jobs refused.
 use Rattle.sl_due_facts.specs.Acts.Acts.{Hears}
 use Rattle.sl_due_facts.specs.Acts.TraceSoFar.{entry_of}
-use Rattle.sl_due.specs.DueDelta.{begins_by_read}
-use Rattle.sl_due.specs.DueFirst.{signal_and_refuse}
+use Rattle.sl_due.specs.CarriedDelta.{begins_by_read}
+use Rattle.sl_due.specs.DueRecovery.{signal_and_refuse}
 use Rattle.sl_due.specs.Steps.{Step, seen}
 use Rattle.sl_due_facts.proofs.Jobs.QuietEffects.{is_recovering_parts}
 use Rattle.sl_due_facts.proofs.Jobs.QuietFactsAreKept.{Stopping, job_at_stop, stop_leaves, stop_stopping}

@@ -3,7 +3,7 @@ use Rattle.sl_due_facts.proofs.Acts.AddedAtEnd.{any_last, contains_last}
 use Rattle.sl_due_facts.specs.Acts.Acts.{Expects}
 use Rattle.sl_due_facts.specs.Acts.TraceSoFar.{entry_of}
 use Rattle.sl_due.specs.DueCommands.{reply_at_once}
-use Rattle.sl_due.specs.DueDelta.{begins_by_read}
+use Rattle.sl_due.specs.CarriedDelta.{begins_by_read}
 use Rattle.sl_due.specs.Steps.{Step, add_reply, seen, with_input}
 use Rattle.sl_due.specs.declared.decision.Decision.{Decision}
 use Rattle.sl_due.specs.declared.decision.Decision.TheVariants.{ConvertsTo, GetsValue, GivesUp, Joins, Leaves, ReadsArea, Replies, Requests, SetsValue, Shares, TakesOver}

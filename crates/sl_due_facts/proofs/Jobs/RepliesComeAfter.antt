@@ -4,14 +4,18 @@ use Rattle.sl_sector.specs.declared.sector.Leader.{Leader}
 use Rattle.sl_trace.specs.declared.session.Session.{Session}
 use Rattle.sl_trace.specs.declared.effects.Spot.{Spot}
 use Rattle.sl_due_facts.specs.Acts.Acts.{next_of_settling}
-use Rattle.sl_area.specs.Layouts.{Layout, record_in, sector_with}
+use Rattle.sl_area.specs.AreaSizes.{Layout, record_in, sector_with}
 use Rattle.sl_due_facts.proofs.Acts.Pairs.Decisions.{asked_is, bytes_are, settling_is, within_cases}
-use Rattle.sl_area.specs.Places.{BlocksRead, blocks_of, leader_of, leader_read, read_at}
+use Rattle.sl_area.specs.Pairs.{BlocksRead, blocks_of}
+use Rattle.sl_area.specs.TornLeader.{leader_read}
+use Rattle.sl_area.specs.AreaLayout.{leader_of, read_at}
 use Rattle.sl_due.specs.DueAnswers.{set_reply}
 use Rattle.sl_due.specs.DueRequests.{request_refusal, value_reply}
 use Rattle.sl_due_facts.proofs.Jobs.CallsStay.{is_special}
 use Rattle.sl_trace.specs.Ballots.{is_ahead, moded_block, phase1_block, same_owner, stop_of, value_of}
-use Rattle.sl_trace.specs.LeaseWork.{LeasePlace, after_bytes, after_clearing, after_freeing, after_moding, after_phase1, after_phase2, after_read, after_take, after_write, area_next, begin_next, begin_or_refuse, convert_next, first_step, heard, leader_for, lease_next, lease_place, looks_for_shared, lost_next, named_area_next, phase1_next, phase2_next, read_of_step, refuses, release_next, settle_next, settle_owed, stop_reply, stopped_next, unstopped_next, whole_area_next, within_turn, won_next}
+use Rattle.sl_trace.specs.LeaseDecisions.{LeasePlace, after_bytes, after_clearing, after_freeing, after_moding, after_phase1, after_phase2, after_read, after_take, after_write, area_next, begin_next, begin_or_refuse, first_step, heard, leader_for, lease_next, lease_place, looks_for_shared, lost_next, named_area_next, phase1_next, phase2_next, read_of_step, refuses, settle_next, settle_owed, stop_reply, stopped_next, unstopped_next, whole_area_next, within_turn, won_next}
+use Rattle.sl_trace.specs.Conversions.{convert_next}
+use Rattle.sl_trace.specs.Releases.{release_next}
 use Rattle.sl_trace.specs.Leases.{LeaseKnown, instance_for, is_leader_of, known, mode_gen_of, owed, owed_free, own_known, shared_elsewhere, value_written}
 use Rattle.sl_trace.specs.declared.lease.Aim.{Aim}
 use Rattle.sl_trace.specs.declared.lease.Aim.TheVariants.{Acquires, Converts, Releases, Settles}
@@ -25,13 +29,13 @@ use Rattle.sl_trace.specs.declared.lease.Stop.{Stop}
 use Rattle.sl_trace.specs.declared.lease.Stop.TheVariants.{BlockAhead, BlockRival, BlockTorn}
 use Rattle.sl_request.specs.Requests.{check_request}
 use Rattle.sl_sector.specs.Bitmaps.{no_bits}
-use Rattle.sl_sector.specs.Spelling.{delta_in, request_in, value_in}
+use Rattle.sl_sector.specs.SectorLayouts.{delta_in, request_in, value_in}
 use Rattle.sl_sector.specs.declared.sector.Block.{Block}
 use Rattle.sl_sector.specs.declared.sector.DeltaRec.{DeltaRec}
 use Rattle.sl_sector.specs.declared.sector.DeltaState.TheVariants.{Claimed, Live}
 use Rattle.sl_sector.specs.declared.sector.Owner.{Owner}
 use Rattle.sl_sector.specs.declared.sector.Rec.TheVariants.{DeltaIs}
-use Rattle.sl_trace.specs.Deltas.{DeltaLease, claim_of, claim_on, delta_record, id_held, id_lost, is_watched_out, join_step_of, next_after_claim, next_after_deciding, next_after_first, next_after_join_read, next_after_join_write, next_after_verify, next_after_watch, next_by_time, next_in_joining, next_in_watch, next_on_wake, watched, where_watched}
+use Rattle.sl_trace.specs.DeltaDecisions.{DeltaLease, claim_of, claim_on, delta_record, id_held, id_lost, is_watched_out, join_step_of, next_after_claim, next_after_deciding, next_after_first, next_after_join_read, next_after_join_write, next_after_verify, next_after_watch, next_by_time, next_in_joining, next_in_watch, next_on_wake, watched, where_watched}
 use Rattle.sl_trace.specs.Sessions.{is_join_call}
 use Rattle.sl_trace.specs.Sightings.{is_free_state}
 use Rattle.sl_trace.specs.declared.delta.DeltaNext.{DeltaNext}

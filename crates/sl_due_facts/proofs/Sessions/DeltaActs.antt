@@ -3,7 +3,7 @@ use Rattle.sl_due_facts.proofs.Acts.AddedAtEnd.{contains_at}
 use Rattle.sl_due_facts.proofs.Acts.LoopsKeep.{with_some_keeps}
 use Rattle.sl_due_facts.specs.Acts.Acts.{Has}
 use Rattle.sl_due_facts.specs.Acts.TraceSoFar.{entry_of}
-use Rattle.sl_due.specs.DueDelta.{carry_delta, move_connection, read_own_sector, register, survey, write_own_sector}
+use Rattle.sl_due.specs.CarriedDelta.{carry_delta, move_connection, read_own_sector, register, survey, write_own_sector}
 use Rattle.sl_due.specs.Steps.{Step, add_call_of, add_move, add_reply, seen}
 use Rattle.sl_due_facts.proofs.Jobs.CallsStay.{calls_stay, late_join}
 use Rattle.sl_due_facts.proofs.Jobs.EffectsAreAllowed.{Allows, delta}
@@ -23,7 +23,7 @@ use Rattle.sl_due_facts.proofs.Sessions.HoldingsOfSessions.{HeldBy}
 use Rattle.sl_due_facts.proofs.Sessions.JoinedNumbers.{HasNumbers, JoinsNot}
 use Rattle.sl_due_facts.proofs.Sessions.NamesAtEnd.{running_unjoined}
 use Rattle.sl_due_facts.specs.Sessions.SessionLaws.{HasDeltaFacts}
-use Rattle.sl_trace.specs.Deltas.{own_offset}
+use Rattle.sl_trace.specs.DeltaDecisions.{own_offset}
 use Rattle.sl_trace.specs.Sessions.{calls_of, free_write, generation_in, holdings_of, is_call_of, is_free_purpose, is_join_call, is_join_done, is_joined, joined_after, leaving_job, removed_after, seq_in, session_numbered, sessions}
 use Rattle.sl_trace.specs.declared.delta.DeltaNext.{DeltaNext}
 use Rattle.sl_trace.specs.declared.delta.DeltaNext.TheVariants.{Disconnect, EndLeaving, Join, MoveConnection, Nothing, ReadOwn, RefuseJoin, RegisterAndRead, WriteClaim, WriteFirst, WriteFree, WriteRenewal}

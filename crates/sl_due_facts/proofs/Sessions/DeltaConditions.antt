@@ -1,10 +1,11 @@
 -- What each act decides is allowed of delta records: a session that wrote its free makes no call.
-use Rattle.sl_due.specs.DueLease.{name_on, next_turn}
+use Rattle.sl_due.specs.CarriedLease.{name_on, next_turn}
 use Rattle.sl_due_facts.proofs.Acts.AddedAtEnd.{not_is}
 use Rattle.sl_due_facts.proofs.Acts.InputsKeep.{has_heard}
 use Rattle.sl_due_facts.specs.Acts.Acts.{Has, Hears}
 use Rattle.sl_due_facts.specs.Acts.TraceSoFar.{SoFar, entry_of}
-use Rattle.sl_area.specs.Places.{area_sectors, block_offset, block_place, block_record, block_sectors, leader_offset, leader_record, request_offset}
+use Rattle.sl_area.specs.AreaLayout.{area_sectors, block_offset, block_place, block_sectors, leader_offset, request_offset}
+use Rattle.sl_area.specs.AreaRecords.{block_record, leader_record}
 use Rattle.sl_due.specs.DueRequests.{owner_read}
 use Rattle.sl_due.specs.Steps.{Step, seen}
 use Rattle.sl_due_facts.proofs.Jobs.CallsHaveFacts.{timely}
@@ -24,7 +25,7 @@ use Rattle.sl_sector.specs.declared.sector.DeltaState.TheVariants.{Live}
 use Rattle.sl_sector.specs.declared.sector.Rec.TheVariants.{RequestIs}
 use Rattle.sl_due_facts.proofs.Sessions.DeltaGrow.{DeltaCall, DeltaPart, DeltaReply, FreedBefore, GoodDelta}
 use Rattle.sl_due_facts.proofs.Sessions.NamesAreAllowed.{caller_joined, heard_mine}
-use Rattle.sl_trace.specs.Deltas.{DeltaLease, delta_known, delta_of_session, delta_record, has_seq_left, is_renewal_due, next_after_free, next_after_renewal, next_renewal}
+use Rattle.sl_trace.specs.DeltaDecisions.{DeltaLease, delta_known, delta_of_session, delta_record, has_seq_left, is_renewal_due, next_after_free, next_after_renewal, next_renewal}
 use Rattle.sl_trace.specs.Sessions.{calls_of, delta_of_record, free_write, generation_of, holdings_of, is_active, is_call_of, is_free_purpose, is_join_call, is_join_done, is_joined, joined_after, last_seq, leaves, leaving_in, leaving_job, sessions}
 use Rattle.sl_trace.specs.declared.delta.DeltaKnown.{DeltaKnown}
 use Rattle.sl_trace.specs.declared.delta.DeltaNext.{DeltaNext}

@@ -1,7 +1,7 @@
 -- How an input that is no line changes what is known of delta records, and what the write of a free does.
 use Rattle.sl_due_facts.specs.Acts.Acts.{Has}
 use Rattle.sl_due_facts.specs.Acts.TraceSoFar.{entry_of}
-use Rattle.sl_due.specs.DueDelta.{carry_delta}
+use Rattle.sl_due.specs.CarriedDelta.{carry_delta}
 use Rattle.sl_due.specs.Steps.{Step, add_call_of, add_reply, seen, with_input}
 use Rattle.sl_due_facts.proofs.Jobs.CallsHaveFacts.{sessions_told, timely}
 use Rattle.sl_due_facts.proofs.Jobs.CallsStay.{is_special}
@@ -24,7 +24,7 @@ use Rattle.sl_due_facts.proofs.Sessions.HoldingsOfSessions.{HeldBy, held_itself}
 use Rattle.sl_due_facts.proofs.Sessions.JoinedNumbers.{HasNumbers}
 use Rattle.sl_due_facts.proofs.Sessions.NamesGrow.{calls_of_told}
 use Rattle.sl_due_facts.specs.Sessions.SessionLaws.{HasDeltaFacts}
-use Rattle.sl_trace.specs.Deltas.{delta_known, delta_of_session, delta_record, next_free, own_offset}
+use Rattle.sl_trace.specs.DeltaDecisions.{delta_known, delta_of_session, delta_record, next_free, own_offset}
 use Rattle.sl_trace.specs.Sessions.{calls_of, free_write, generation_in, generation_of, holdings_of, is_call_of, is_joined, last_seq, leaving_job, open_calls_of, seq_in, session_numbered, sessions}
 use Rattle.sl_trace.specs.declared.delta.DeltaNext.{DeltaNext}
 use Rattle.sl_trace.specs.declared.delta.DeltaNext.TheVariants.{Nothing, WriteFree}

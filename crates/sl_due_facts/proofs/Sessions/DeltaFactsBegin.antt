@@ -1,7 +1,7 @@
 -- What is known of delta records holds once a step has begun.
 use Rattle.sl_due_facts.proofs.Acts.LoopsKeep.{for_each_keeps, when_keeps}
 use Rattle.sl_due_facts.specs.Acts.TraceSoFar.{entry_of}
-use Rattle.sl_due.specs.DueFirst.{begin_recoveries, begin_recovery, begins_now, signal_and_refuse}
+use Rattle.sl_due.specs.DueRecovery.{begin_recoveries, begin_recovery, begins_now, signal_and_refuse}
 use Rattle.sl_due.specs.Steps.{Step, begin_step, for_each, seen}
 use Rattle.sl_due_facts.proofs.Jobs.EffectsAreAllowed.{stopped}
 use Rattle.sl_due_facts.proofs.Jobs.JobFactsBegin.{sessions_then}

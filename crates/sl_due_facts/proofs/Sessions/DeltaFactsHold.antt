@@ -6,13 +6,14 @@ use Rattle.sl_due_facts.proofs.Acts.LoopsKeep.{for_each_keeps, when_keeps}
 use Rattle.sl_due_facts.proofs.Acts.PlainActs.{line_has}
 use Rattle.sl_due_facts.specs.Acts.Acts.{Has, Hears, next_of_settling}
 use Rattle.sl_due_facts.specs.Acts.TraceSoFar.{entry_of}
-use Rattle.sl_area.specs.Places.{delta_offset, request_offset}
+use Rattle.sl_area.specs.AreaLayout.{delta_offset, request_offset}
 use Rattle.sl_due.specs.DueAnswers.{set_reply}
 use Rattle.sl_due.specs.DueCommands.{carry_decision, decided, reply_at_once}
-use Rattle.sl_due.specs.DueDelta.{carry_delta, see_request}
-use Rattle.sl_due.specs.DueFirst.{refuse, remove_connection, remove_of_refused, send, signal_and_refuse, signal_holders}
+use Rattle.sl_due.specs.CarriedDelta.{carry_delta, see_request}
+use Rattle.sl_due.specs.DueTimeOuts.{refuse, remove_connection, remove_of_refused}
+use Rattle.sl_due.specs.DueRecovery.{send, signal_and_refuse, signal_holders}
 use Rattle.sl_due.specs.DueInputs.{end_holdings, leave_holdings, refuse_jobs_of, started_reply, when_running}
-use Rattle.sl_due.specs.DueLease.{carry_lease, next_of_lease}
+use Rattle.sl_due.specs.CarriedLease.{carry_lease, next_of_lease}
 use Rattle.sl_due.specs.DueRequests.{after_request_read, after_value_read, bits_due, owner_read, request_refusal, value_reply, write_request}
 use Rattle.sl_due.specs.Steps.{Step, add_call_of, add_move, add_reply, add_signal, add_start, seen, with_input}
 use Rattle.sl_due.specs.declared.decision.Decision.{Decision}
@@ -31,9 +32,9 @@ use Rattle.sl_due_facts.proofs.Jobs.QuietFactsAreKept.{IsLeft, left_or_not}
 use Rattle.sl_due_facts.proofs.Jobs.RepliesComeAfter.{IsLateLease, joining_late, lease_late, set_late, settle_late, value_late, wake_late}
 use Rattle.sl_due_facts.proofs.Jobs.SessionsArePresent.{joined_present, present_inside}
 use Rattle.sl_due_facts.proofs.Jobs.SessionsStand.{joined_then, no_members}
-use Rattle.sl_trace.specs.Counts.{stopper_of}
+use Rattle.sl_trace.specs.KillPrograms.{stopper_of}
 use Rattle.sl_trace.specs.Jobs.{is_job_of_process, job_of_start}
-use Rattle.sl_trace.specs.LeaseWork.{lease_place}
+use Rattle.sl_trace.specs.LeaseDecisions.{lease_place}
 use Rattle.sl_trace.specs.Leases.{holdings_on, known, lver_written, spot_of_call}
 use Rattle.sl_trace.specs.declared.lease.LeaseNext.{LeaseNext}
 use Rattle.sl_due_facts.proofs.AddedEffects.CallsGrow.{mine_more, others_stay}
@@ -50,13 +51,13 @@ use Rattle.sl_due_facts.proofs.Sessions.HoldingsOfSessions.{HeldBy, held_delta, 
 use Rattle.sl_due_facts.proofs.Sessions.JoinedNumbers.{HasNumbers, JoinsNot, joined_numbers, joins_or_not, wake_not}
 use Rattle.sl_due_facts.proofs.Sessions.NamesAtEnd.{running_unjoined}
 use Rattle.sl_due_facts.specs.Sessions.SessionLaws.{DeltaFactsAreKept, HasDeltaFacts}
-use Rattle.sl_trace.specs.Deltas.{delta_known, delta_of_session, next_after_free, next_after_renewal, next_in_joining, next_on_wake, next_renewal}
+use Rattle.sl_trace.specs.DeltaDecisions.{delta_known, delta_of_session, next_after_free, next_after_renewal, next_in_joining, next_on_wake, next_renewal}
 use Rattle.sl_trace.specs.Sessions.{calls_of, free_write, generation_in, generation_of, holders_of, holdings_of, is_active, is_call_of, is_free_purpose, is_joined, is_session_arg, joined_after, joining_session, last_renewal, last_seq, leaving_job, present_sessions, recovery_of, seq_in, session_numbered, sessions}
 use Rattle.sl_trace.specs.declared.delta.DeltaNext.{DeltaNext}
 use Rattle.sl_trace.specs.declared.session.Session.{Session}
 use Rattle.sl_due_facts.specs.Facts.SessionFacts.{DeltaFacts}
 use Rattle.sl_due_facts.specs.Facts.AllFacts.{Whole}
-use Rattle.sl_trace.specs.Connections.{is_registered}
+use Rattle.sl_trace.specs.WatchdogConnections.{is_registered}
 use Rattle.sl_trace.specs.Traces.{Answered, Job, Submitted, is_running, is_shared, job_numbered, job_of, line_in, new_call, next_call, next_child, next_job, running_jobs, submitted, unanswered}
 use Rattle.sl_trace.specs.declared.command.Command.{Command}
 use Rattle.sl_trace.specs.declared.command.Command.TheVariants.{AddLockspace, RemLockspace, Request}

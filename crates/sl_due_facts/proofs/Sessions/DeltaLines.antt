@@ -3,9 +3,9 @@ use Rattle.sl_due_facts.proofs.Jobs.JobsAreNumbered.{next_before}
 use Rattle.sl_due_facts.proofs.Acts.DecisionsAreTheirs.{Of}
 use Rattle.sl_due_facts.specs.Acts.Acts.{Has, next_of_conversion, next_of_release}
 use Rattle.sl_due_facts.specs.Acts.TraceSoFar.{entry_of}
-use Rattle.sl_area.specs.Places.{area_sectors, value_offset}
+use Rattle.sl_area.specs.AreaLayout.{area_sectors, value_offset}
 use Rattle.sl_due.specs.DueCommands.{after_end, carry_decision}
-use Rattle.sl_due.specs.DueLease.{carry_lease, grant_for}
+use Rattle.sl_due.specs.CarriedLease.{carry_lease, grant_for}
 use Rattle.sl_due.specs.Steps.{Step, add_end, add_reply, seen, with_input}
 use Rattle.sl_due.specs.declared.decision.Decision.{Decision}
 use Rattle.sl_due.specs.declared.decision.Decision.TheVariants.{ConvertsTo, GetsValue, GivesUp, Joins, Leaves, ReadsArea, Replies, Requests, SetsValue, Shares, TakesOver}
@@ -20,7 +20,7 @@ use Rattle.sl_due_facts.proofs.Jobs.QuietLines.{answered_leaving, new_leaving}
 use Rattle.sl_due_facts.proofs.Jobs.RepliesComeAfter.{IsLateLease, IsPlainly, convert_late, release_late}
 use Rattle.sl_due_facts.proofs.Jobs.SessionsHaveJobs.{number_taken}
 use Rattle.sl_due_facts.proofs.Jobs.SessionsStand.{joined_then}
-use Rattle.sl_trace.specs.LeaseWork.{lease_place}
+use Rattle.sl_trace.specs.LeaseDecisions.{lease_place}
 use Rattle.sl_trace.specs.Leases.{holdings_on, known, spot_of}
 use Rattle.sl_trace.specs.declared.lease.LeaseNext.{LeaseNext}
 use Rattle.sl_words.proofs.Lists.{got_inside}

@@ -1,5 +1,5 @@
 -- A session that joins has a generation and a seq that records can carry: its first renewal was one.
-use Rattle.sl_area.specs.Layouts.{record_in, sector_with}
+use Rattle.sl_area.specs.AreaSizes.{record_in, sector_with}
 use Rattle.sl_due.specs.Steps.{Step, seen}
 use Rattle.sl_due_facts.proofs.Jobs.RepliesComeAfter.{on_bool, on_option}
 use Rattle.sl_run.specs.Lawful.{Orderly}
@@ -10,14 +10,14 @@ use Rattle.sl_words.proofs.Numbers.{number_itself}
 use Rattle.sl_words.proofs.Options.{then_value}
 use Rattle.sl_sector.specs.Bitmaps.{no_bits}
 use Rattle.sl_sector.specs.Records.{IsDelta, IsRecord}
-use Rattle.sl_sector.specs.Spelling.{delta_in}
+use Rattle.sl_sector.specs.SectorLayouts.{delta_in}
 use Rattle.sl_sector.specs.declared.sector.DeltaRec.{DeltaRec}
 use Rattle.sl_sector.specs.declared.sector.DeltaState.TheVariants.{Claimed, Free, Live}
 use Rattle.sl_sector.specs.declared.sector.Rec.{Rec}
 use Rattle.sl_sector.specs.declared.sector.Rec.TheVariants.{BlockIs, DeltaIs, LeaderIs, PairIs, PairLeaderIs, RequestIs, ValueIs}
 use Rattle.sl_due_facts.proofs.Sessions.DeltaConditions.{nat_low}
 use Rattle.sl_due_facts.proofs.Sessions.JoiningsGoOn.{AtWork, law_of}
-use Rattle.sl_trace.specs.Deltas.{DeltaLease, claim_of, claim_on, delta_of_session, delta_record, id_held, id_lost, is_watched_out, join_step_of, next_after_deciding, next_after_first, next_after_join_read, next_after_verify, next_after_watch, next_by_time, next_in_joining, next_on_wake, watched}
+use Rattle.sl_trace.specs.DeltaDecisions.{DeltaLease, claim_of, claim_on, delta_of_session, delta_record, id_held, id_lost, is_watched_out, join_step_of, next_after_deciding, next_after_first, next_after_join_read, next_after_verify, next_after_watch, next_by_time, next_in_joining, next_on_wake, watched}
 use Rattle.sl_trace.specs.Sessions.{calls_of, delta_of_record, generation_of, given_number, is_call_of, is_join_call, last_delta, last_seq}
 use Rattle.sl_trace.specs.Sightings.{is_free_state}
 use Rattle.sl_trace.specs.declared.delta.DeltaNext.{DeltaNext}

@@ -2,10 +2,10 @@
 use Rattle.sl_due_facts.proofs.Acts.LoopsKeep.{when_keeps, with_some_keeps}
 use Rattle.sl_due_facts.specs.Acts.Acts.{Has}
 use Rattle.sl_due_facts.specs.Acts.TraceSoFar.{SoFar, entry_of}
-use Rattle.sl_area.specs.Layouts.{record_in, sector_with}
-use Rattle.sl_due.specs.Due.{is_waiting_step}
-use Rattle.sl_due.specs.DueDelta.{carry_delta, for_joining, move_connection, survey, write_own_sector}
-use Rattle.sl_due.specs.DueFirst.{refuse, remove_connection, remove_of_refused}
+use Rattle.sl_area.specs.AreaSizes.{record_in, sector_with}
+use Rattle.sl_due.specs.IdleJobs.{is_waiting_step}
+use Rattle.sl_due.specs.CarriedDelta.{carry_delta, for_joining, move_connection, survey, write_own_sector}
+use Rattle.sl_due.specs.DueTimeOuts.{refuse, remove_connection, remove_of_refused}
 use Rattle.sl_due.specs.Steps.{Step, add_call_of, add_move, add_reply, seen, with_some}
 use Rattle.sl_due_facts.proofs.Jobs.AnsweredCallsFit.{record_writes}
 use Rattle.sl_due_facts.proofs.Jobs.RepliesComeAfter.{on_bool}
@@ -17,16 +17,16 @@ use Rattle.sl_words.proofs.Lists.{contains_cases, contains_none, find_fails, fin
 use Rattle.sl_words.proofs.Numbers.{number_itself}
 use Rattle.sl_words.proofs.Options.{then_value}
 use Rattle.sl_sector.specs.Bitmaps.{no_bits}
-use Rattle.sl_sector.specs.Spelling.{delta_in}
+use Rattle.sl_sector.specs.SectorLayouts.{delta_in}
 use Rattle.sl_sector.specs.declared.sector.DeltaRec.{DeltaRec}
 use Rattle.sl_sector.specs.declared.sector.DeltaState.TheVariants.{Claimed, Live}
 use Rattle.sl_sector.specs.declared.sector.Rec.TheVariants.{DeltaIs}
-use Rattle.sl_trace.specs.Deltas.{DeltaLease, claim_of, claim_on, delta_of_session, delta_record, id_held, id_lost, next_after_deciding, next_after_verify, next_in_joining, own_offset, watched}
+use Rattle.sl_trace.specs.DeltaDecisions.{DeltaLease, claim_of, claim_on, delta_of_session, delta_record, id_held, id_lost, next_after_deciding, next_after_verify, next_in_joining, own_offset, watched}
 use Rattle.sl_trace.specs.Sessions.{calls_of, delta_of_record, delta_written, has_open_write, is_call_of, is_join_call, join_call, joined_after, refused_after, session_of_job, stage_after}
 use Rattle.sl_trace.specs.declared.delta.DeltaNext.{DeltaNext}
 use Rattle.sl_trace.specs.declared.delta.DeltaNext.TheVariants.{Join, Nothing, RefuseJoin, WriteClaim, WriteFirst}
 use Rattle.sl_trace.specs.declared.session.Session.{Session}
-use Rattle.sl_trace.specs.Connections.{is_registered}
+use Rattle.sl_trace.specs.WatchdogConnections.{is_registered}
 use Rattle.sl_trace.specs.Traces.{Answered, Submitted, bytes_given, gave, is_answer_for, is_ok_answer, is_running, is_write, new_call, next_call, record_of, submitted}
 use Rattle.sl_trace.specs.declared.effects.Call.{Call}
 use Rattle.sl_trace.specs.declared.effects.JoinStep.{JoinStep}

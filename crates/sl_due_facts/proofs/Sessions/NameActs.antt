@@ -3,10 +3,10 @@ use Rattle.sl_due_facts.proofs.Acts.AddedAtEnd.{contains_at, contains_last}
 use Rattle.sl_due_facts.proofs.Acts.LoopsKeep.{with_some_keeps}
 use Rattle.sl_due_facts.specs.Acts.Acts.{Has}
 use Rattle.sl_due_facts.specs.Acts.TraceSoFar.{entry_of}
-use Rattle.sl_area.specs.Places.{delta_offset}
-use Rattle.sl_due.specs.Due.{is_waiting_step}
+use Rattle.sl_area.specs.AreaLayout.{delta_offset}
+use Rattle.sl_due.specs.IdleJobs.{is_waiting_step}
 use Rattle.sl_due.specs.DueCommands.{carry_decision}
-use Rattle.sl_due.specs.DueDelta.{carry_delta, move_connection, read_own_sector, register, survey, write_own_sector}
+use Rattle.sl_due.specs.CarriedDelta.{carry_delta, move_connection, read_own_sector, register, survey, write_own_sector}
 use Rattle.sl_due.specs.Steps.{Step, add_call_of, add_reply, seen, with_input}
 use Rattle.sl_due.specs.declared.decision.Decision.TheVariants.{Joins}
 use Rattle.sl_due_facts.proofs.Jobs.CallsHaveFacts.{input_kept, more_is_other, sessions_told}
@@ -27,7 +27,7 @@ use Rattle.sl_due_facts.proofs.Sessions.NameEffects.{joined_of, present_by, refu
 use Rattle.sl_due_facts.proofs.Sessions.NamesAreAllowed.{Holds, NameCall, NameReply, begin_at, joined_unrefused, names_allow}
 use Rattle.sl_due_facts.proofs.Sessions.NamesGrow.{call_names, input_names, input_present, move_names, reply_names}
 use Rattle.sl_due_facts.specs.Sessions.SessionLaws.{HasNameFacts}
-use Rattle.sl_trace.specs.Deltas.{own_offset}
+use Rattle.sl_trace.specs.DeltaDecisions.{own_offset}
 use Rattle.sl_trace.specs.Sessions.{calls_of, is_call_of, is_join_done, is_present, joined_after, joining_session, present_sessions, refused_after, removed_after, session_named, session_numbered, sessions}
 use Rattle.sl_trace.specs.declared.delta.DeltaNext.{DeltaNext}
 use Rattle.sl_trace.specs.declared.delta.DeltaNext.TheVariants.{Disconnect, EndLeaving, Join, MoveConnection, Nothing, ReadOwn, RefuseJoin, RegisterAndRead, WriteClaim, WriteFirst, WriteFree, WriteRenewal}

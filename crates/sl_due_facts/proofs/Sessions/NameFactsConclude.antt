@@ -3,12 +3,13 @@ use Rattle.sl_due_facts.proofs.Acts.InputsKeep.{has_heard}
 use Rattle.sl_due_facts.proofs.Acts.LoopsKeep.{when_keeps}
 use Rattle.sl_due_facts.specs.Acts.Acts.{Has, Hears, IsIdle, lone_job}
 use Rattle.sl_due_facts.specs.Acts.TraceSoFar.{entry_of}
-use Rattle.sl_area.specs.Places.{request_offset}
-use Rattle.sl_due.specs.Due.{is_waiting_step}
+use Rattle.sl_area.specs.AreaLayout.{request_offset}
+use Rattle.sl_due.specs.IdleJobs.{is_waiting_step}
 use Rattle.sl_due.specs.DueAnswers.{set_reply}
-use Rattle.sl_due.specs.DueDelta.{carry_delta}
-use Rattle.sl_due.specs.DueFirst.{remove_of_refused, send, signal_and_refuse}
-use Rattle.sl_due.specs.DueLease.{carry_lease, next_of_lease}
+use Rattle.sl_due.specs.CarriedDelta.{carry_delta}
+use Rattle.sl_due.specs.DueTimeOuts.{remove_of_refused}
+use Rattle.sl_due.specs.DueRecovery.{send, signal_and_refuse}
+use Rattle.sl_due.specs.CarriedLease.{carry_lease, next_of_lease}
 use Rattle.sl_due.specs.DueRequests.{after_request_read, after_value_read, value_reply}
 use Rattle.sl_due.specs.Steps.{Step, add_move, add_reply, seen, with_input}
 use Rattle.sl_due_facts.proofs.Jobs.AnsweredCallsFit.{both_of}
@@ -20,7 +21,7 @@ use Rattle.sl_due_facts.proofs.Jobs.NearlyPlainActs.{AnyMove, AnyStart}
 use Rattle.sl_due_facts.proofs.Jobs.RepliesComeAfter.{IsLateDelta, IsLateLease, joining_late, lease_late, on_bool, on_option, set_late, value_late}
 use Rattle.sl_due_facts.proofs.Jobs.SessionsArePresent.{session_has}
 use Rattle.sl_due_facts.proofs.Jobs.SessionsStand.{joined_then}
-use Rattle.sl_trace.specs.LeaseWork.{lease_place}
+use Rattle.sl_trace.specs.LeaseDecisions.{lease_place}
 use Rattle.sl_trace.specs.Leases.{holdings_on, known, lver_written, spot_of_call}
 use Rattle.sl_trace.specs.declared.lease.LeaseNext.{LeaseNext}
 use Rattle.sl_words.proofs.Lists.{any_found, contains_first, contains_map, find_inside, kept_inside}
@@ -37,7 +38,7 @@ use Rattle.sl_due_facts.proofs.Sessions.NamesAreAllowed.{NameCall, NameReply, fr
 use Rattle.sl_due_facts.proofs.Sessions.NamesAtEnd.{Growing, Grown, HeardJoining, below_of, growing_itself, grown, grows, grows_joining, grows_named, heard_is, plain_names, plain_other, running_unjoined}
 use Rattle.sl_due_facts.proofs.Sessions.NamesGrow.{call_names, move_names, reply_names}
 use Rattle.sl_due_facts.specs.Sessions.SessionLaws.{HasNameFacts, HasNamesPlainly, NameFactsConclude}
-use Rattle.sl_trace.specs.Deltas.{delta_known, delta_of_session, delta_record, next_after_free, next_after_renewal, next_free, next_in_joining, own_offset}
+use Rattle.sl_trace.specs.DeltaDecisions.{delta_known, delta_of_session, delta_record, next_after_free, next_after_renewal, next_free, next_in_joining, own_offset}
 use Rattle.sl_trace.specs.Sessions.{calls_of, generation_of, has_open_write, is_call_of, is_join_call, is_joined, is_present, joined_after, last_renewal, recovery_of, refused_after, removed_after, session_numbered}
 use Rattle.sl_trace.specs.declared.delta.DeltaKnown.{DeltaKnown}
 use Rattle.sl_trace.specs.declared.delta.DeltaNext.{DeltaNext}
@@ -45,7 +46,7 @@ use Rattle.sl_trace.specs.declared.delta.DeltaNext.TheVariants.{Nothing, WriteFr
 use Rattle.sl_trace.specs.declared.session.Session.{Session}
 use Rattle.sl_due_facts.specs.Facts.HeardCall.{heard_by}
 use Rattle.sl_due_facts.specs.Facts.AllFacts.{Whole}
-use Rattle.sl_trace.specs.Connections.{is_registered}
+use Rattle.sl_trace.specs.WatchdogConnections.{is_registered}
 use Rattle.sl_trace.specs.Traces.{Answered, Submitted, answer_of, answered_in, call_numbered, is_answer_for, is_expected, is_ok_answer, is_running, is_shared, job_of, outstanding, submitted}
 use Rattle.sl_trace.specs.declared.effects.Call.{Call}
 use Rattle.sl_trace.specs.declared.effects.Grant.{Grant}

@@ -25,7 +25,7 @@ use Rattle.sl_sector.specs.declared.sector.DeltaState.TheVariants.{Free, Live}
 use Rattle.sl_due_facts.proofs.Sessions.NameEffects.{reply_joins_more}
 use Rattle.sl_due_facts.proofs.Sessions.NamesGrow.{call_names, move_names, reply_names}
 use Rattle.sl_due_facts.specs.Sessions.SessionLaws.{HasNameFacts}
-use Rattle.sl_trace.specs.Deltas.{DeltaLease, delta_record, is_renewal_due, next_after_free, next_after_renewal, next_free, next_renewal}
+use Rattle.sl_trace.specs.DeltaDecisions.{DeltaLease, delta_record, is_renewal_due, next_after_free, next_after_renewal, next_free, next_renewal}
 use Rattle.sl_trace.specs.Sessions.{calls_of, is_active, is_call_of, is_join_call, is_joined, joined_after, last_renewal, leaving_job, recovery_of, refused_after, session_numbered}
 use Rattle.sl_trace.specs.declared.delta.DeltaKnown.{DeltaKnown}
 use Rattle.sl_trace.specs.declared.delta.DeltaNext.TheVariants.{Nothing, MoveConnection, WriteFree, WriteRenewal}

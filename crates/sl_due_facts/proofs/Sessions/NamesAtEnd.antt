@@ -1,7 +1,7 @@
 -- Where all that an answer makes due is done, a joining that runs has had no call refused, and where its newest call is answered it waits.
 use Rattle.sl_due_facts.specs.Acts.Acts.{Has, Hears}
 use Rattle.sl_due_facts.specs.Acts.TraceSoFar.{entry_of}
-use Rattle.sl_due.specs.Due.{is_waiting_step}
+use Rattle.sl_due.specs.IdleJobs.{is_waiting_step}
 use Rattle.sl_due.specs.Steps.{Step, add_call_of, seen}
 use Rattle.sl_due_facts.proofs.Jobs.CallsStay.{IsLate, calls_stay, is_special, late_join}
 use Rattle.sl_due_facts.proofs.Jobs.EffectsAreAllowed.{Allows, DeltaAllowed}

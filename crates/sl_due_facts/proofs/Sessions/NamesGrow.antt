@@ -1,7 +1,7 @@
 -- What is known of names and joinings is kept by each allowed effect and by the input.
 use Rattle.sl_due_facts.specs.Acts.Acts.{Has}
 use Rattle.sl_due_facts.specs.Acts.TraceSoFar.{entry_of}
-use Rattle.sl_due.specs.Due.{is_waiting_step}
+use Rattle.sl_due.specs.IdleJobs.{is_waiting_step}
 use Rattle.sl_due.specs.Steps.{Step, add_call_of, add_move, add_reply, seen, with_input}
 use Rattle.sl_due_facts.proofs.Jobs.CallsHaveFacts.{calls_before, calls_told, sessions_told}
 use Rattle.sl_due_facts.proofs.Jobs.CallsStay.{IsLate, calls_stay}

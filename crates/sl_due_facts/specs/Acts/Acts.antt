@@ -1,21 +1,24 @@
 -- The acts of which a step is made, each with what `due` has tested before it. A step keeps whatever each of them keeps.
 use Rattle.sl_due.specs.DueAnswers.{set_reply}
 use Rattle.sl_due.specs.DueCommands.{answer_line, carry_decision, decided, reply_at_once}
-use Rattle.sl_due.specs.DueDelta.{begins_by_read, carry_delta, see_request}
-use Rattle.sl_due.specs.DueFirst.{is_overdue, kills_holders, refuse, remove_connection, remove_of_refused, send, signal_and_refuse, signal_holders}
+use Rattle.sl_due.specs.CarriedDelta.{begins_by_read, carry_delta, see_request}
+use Rattle.sl_due.specs.DueTimeOuts.{is_overdue, refuse, remove_connection, remove_of_refused}
+use Rattle.sl_due.specs.DueRecovery.{kills_holders, send, signal_and_refuse, signal_holders}
 use Rattle.sl_due.specs.DueInputs.{end_holdings, leave_holdings, refuse_jobs_of, started_reply, when_running}
-use Rattle.sl_due.specs.DueLease.{carry_lease, goes_on, next_of_lease}
+use Rattle.sl_due.specs.CarriedLease.{carry_lease, goes_on, next_of_lease}
 use Rattle.sl_due.specs.DueRequests.{after_request_read, after_value_read, bits_due, signal_of_request}
 use Rattle.sl_due.specs.Steps.{Step, add_reply, add_signal, seen, with_input}
 use Rattle.sl_due.specs.declared.decision.Decision.TheVariants.{Replies}
 use Rattle.sl_due.specs.declared.decision.Decision.{Decision}
 use Rattle.sl_trace.specs.Jobs.{aim_of, command_numbered, job_of_start}
-use Rattle.sl_trace.specs.LeaseWork.{convert_next, lease_place, release_next, settle_begin, within_turn}
+use Rattle.sl_trace.specs.Conversions.{convert_next}
+use Rattle.sl_trace.specs.LeaseDecisions.{lease_place, settle_begin, within_turn}
+use Rattle.sl_trace.specs.Releases.{release_next}
 use Rattle.sl_trace.specs.Leases.{exclusive_on, known, open_on, spot_of_call}
 use Rattle.sl_trace.specs.declared.lease.Aim.TheVariants.{Converts, Releases, Settles}
 use Rattle.sl_trace.specs.declared.lease.Aim.{Aim}
 use Rattle.sl_trace.specs.declared.lease.LeaseNext.{LeaseNext}
-use Rattle.sl_trace.specs.Deltas.{delta_known, delta_of_session, next_after_free, next_after_renewal, next_free, next_in_joining, next_on_wake, next_renewal}
+use Rattle.sl_trace.specs.DeltaDecisions.{delta_known, delta_of_session, next_after_free, next_after_renewal, next_free, next_in_joining, next_on_wake, next_renewal}
 use Rattle.sl_trace.specs.Sessions.{calls_of, generation_of, has_open_write, holdings_of, is_active, is_joined, is_present, open_calls_of, recovery_of, session_numbered}
 use Rattle.sl_trace.specs.declared.session.Session.{Session}
 use Rattle.sl_trace.specs.Traces.{Setting, Submitted, Trace, bytes_given, call_numbered, is_expected, is_orphan, is_running, next_job, no_process, stands_for, waiting_call}

@@ -5,7 +5,7 @@ use Rattle.sl_due_facts.specs.AddedEffects.CallIsLawful.{CallIsLawful}
 use Rattle.sl_due_facts.specs.AddedEffects.OneMoreEffect.{JoinedCall, with_end, with_grant, with_move, with_reply, with_start}
 use Rattle.sl_trace.specs.Sessions.{calls_of, is_join_call, sessions}
 use Rattle.sl_trace.specs.declared.session.Session.{Session}
-use Rattle.sl_trace.specs.Connections.{after_move, connections, unregisters}
+use Rattle.sl_trace.specs.WatchdogConnections.{after_move, connections, unregisters}
 use Rattle.sl_trace.specs.TraceLaws.{with_call}
 use Rattle.sl_trace.specs.Traces.{Setting, Submitted, Trace, children, holdings, is_ended_by, is_running, new_call, new_child, next_call, reply_to}
 use Rattle.sl_trace.specs.declared.effects.Call.{Call}

@@ -3,7 +3,7 @@ use Rattle.sl_due_facts.specs.Acts.Acts.{Acts}
 use Rattle.sl_due_facts.specs.Acts.TraceSoFar.{entry_of}
 use Rattle.sl_due.specs.Steps.{Step, seen}
 use Rattle.sl_due_facts.specs.Jobs.JobLaws.{BeginsWith}
-use Rattle.sl_run.specs.LawfulWatchdog.{LawfulWatchdog}
+use Rattle.sl_run.specs.LawfulConnections.{LawfulWatchdog}
 use Rattle.sl_due_facts.specs.Connections.MovedSoFar.{MovedSoFar}
 use Rattle.sl_due_facts.specs.Facts.ConcludingActs.{Concludes}
 use Rattle.sl_due_facts.specs.Facts.HeardCall.{heard_by}

@@ -4,7 +4,7 @@ use Rattle.sl_run.specs.LawfulCalls.{may_submit}
 use Rattle.sl_run.specs.LawfulDelta.{LawfulDeltaCall, is_on_own_sector}
 use Rattle.sl_sector.specs.declared.sector.DeltaRec.{DeltaRec}
 use Rattle.sl_sector.specs.declared.sector.Rec.TheVariants.{DeltaIs}
-use Rattle.sl_trace.specs.Deltas.{own_offset}
+use Rattle.sl_trace.specs.DeltaDecisions.{own_offset}
 use Rattle.sl_trace.specs.Sessions.{has_open_delta, is_delta_purpose, is_survey_purpose, stage_of}
 use Rattle.sl_trace.specs.declared.session.Session.{Session}
 use Rattle.sl_trace.specs.Traces.{Setting, Submitted, Trace, new_call, next_call}

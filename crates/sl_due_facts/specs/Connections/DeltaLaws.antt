@@ -1,8 +1,8 @@
 -- What is shown of calls on delta sectors: each that a delta lease decides on is lawful where it is made; and what a joining has read.
 use Rattle.sl_due_facts.specs.Acts.Acts.{Acts, Has, Hears}
 use Rattle.sl_due.specs.DueCommands.{decided}
-use Rattle.sl_due.specs.DueDelta.{move_connection, register}
-use Rattle.sl_due.specs.Steps.{Step, add_reply, seen, with_input}
+use Rattle.sl_due.specs.CarriedDelta.{move_connection, register}
+use Rattle.sl_due.specs.Steps.{Step, add_reply, seen, with_input, begin_step}
 use Rattle.sl_due.specs.declared.decision.Decision.TheVariants.{Joins}
 use Rattle.sl_due_facts.specs.Jobs.JobLaws.{BeginsWith}
 use Rattle.sl_run.specs.LawfulDelta.{LawfulJoin}
@@ -10,15 +10,14 @@ use Rattle.sl_run.specs.LawForms.{EachSession}
 use Rattle.sl_sector.specs.declared.sector.DeltaRec.{DeltaRec}
 use Rattle.sl_due_facts.specs.Connections.DeltaCalls.{DeltaLawful, own_read, own_write, survey_read}
 use Rattle.sl_due_facts.specs.Connections.WatchFacts.{HasWatchFacts, HasWatchesPlainly, WatchFacts}
-use Rattle.sl_trace.specs.Deltas.{delta_known, delta_of_session, next_after_claim, next_after_deciding, next_after_first, next_after_verify, next_after_watch, next_free, next_renewal}
+use Rattle.sl_trace.specs.DeltaDecisions.{delta_known, delta_of_session, next_after_claim, next_after_deciding, next_after_first, next_after_verify, next_after_watch, next_free, next_renewal}
 use Rattle.sl_trace.specs.Sessions.{calls_of, holdings_of, is_joined, joined_after, joining_session, open_calls_of, recovery_of}
 use Rattle.sl_trace.specs.declared.delta.DeltaNext.TheVariants.{RegisterAndRead, WriteClaim, WriteFirst, WriteFree, WriteRenewal}
 use Rattle.sl_trace.specs.declared.session.Session.{Session}
 use Rattle.sl_due_facts.specs.Facts.ConcludingActs.{Concludes}
 use Rattle.sl_due_facts.specs.Facts.SessionFacts.{ConnectionFacts, NameFacts}
 use Rattle.sl_due_facts.specs.Facts.AllFacts.{Whole}
-use Rattle.sl_due.specs.DueFirst.{begin_recoveries}
-use Rattle.sl_due.specs.Steps.{begin_step}
+use Rattle.sl_due.specs.DueRecovery.{begin_recoveries}
 use Rattle.sl_trace.specs.Traces.{Answered, Setting, Submitted, Trace, is_running, next_job}
 use Rattle.sl_trace.specs.declared.command.Command.{Command}
 use Rattle.sl_trace.specs.declared.command.LockspaceArg.{LockspaceArg}

@@ -1,11 +1,11 @@
 -- What the moves of an entry so far say of the sessions that were there before it.
 use Rattle.sl_due.specs.Steps.{Step, seen}
-use Rattle.sl_run.specs.LawfulWatchdog.{is_covered}
+use Rattle.sl_run.specs.LawfulConnections.{is_covered}
 use Rattle.sl_trace.specs.Sessions.{calls_of, has_open_write, is_present, joined_after, refused_after, sessions, stage_in}
 use Rattle.sl_trace.specs.declared.session.Session.{Session}
 use Rattle.sl_trace.specs.declared.stage.Stage.TheVariants.{Waiting}
 use Rattle.sl_due_facts.specs.Facts.SessionFacts.{NameFacts}
-use Rattle.sl_trace.specs.Connections.{registers, unregisters}
+use Rattle.sl_trace.specs.WatchdogConnections.{registers, unregisters}
 use Rattle.sl_trace.specs.declared.input.Input.TheVariants.{Wake}
 use Rattle.std.specs.List.{list_any}
 use Rattle.std.specs.Prelude.{Contains, None, false, true, ◌≡◌, ◌⊎◌}

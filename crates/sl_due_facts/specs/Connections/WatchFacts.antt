@@ -1,7 +1,7 @@
 -- What a joining that runs has read of the sector that it watches.
-use Rattle.sl_area.specs.Layouts.{record_in}
+use Rattle.sl_area.specs.AreaSizes.{record_in}
 use Rattle.sl_due.specs.Steps.{Step, seen}
-use Rattle.sl_sector.specs.Spelling.{delta_in}
+use Rattle.sl_sector.specs.SectorLayouts.{delta_in}
 use Rattle.sl_sector.specs.declared.sector.DeltaRec.{DeltaRec}
 use Rattle.sl_trace.specs.Sessions.{calls_of, is_join_call, sessions}
 use Rattle.sl_trace.specs.declared.session.Session.{Session}

@@ -2,15 +2,16 @@
 -- its entry.
 use Rattle.sl_due_facts.specs.Acts.Acts.{Has, Hears, IsIdle, lone_job}
 use Rattle.sl_due.specs.DueAnswers.{set_reply}
-use Rattle.sl_due.specs.DueDelta.{begins_by_read, carry_delta, see_request}
-use Rattle.sl_due.specs.DueFirst.{remove_connection, remove_of_refused, send, signal_and_refuse}
-use Rattle.sl_due.specs.DueLease.{carry_lease, goes_on, next_of_lease}
+use Rattle.sl_due.specs.CarriedDelta.{begins_by_read, carry_delta, see_request}
+use Rattle.sl_due.specs.DueTimeOuts.{remove_connection, remove_of_refused}
+use Rattle.sl_due.specs.DueRecovery.{send, signal_and_refuse}
+use Rattle.sl_due.specs.CarriedLease.{carry_lease, goes_on, next_of_lease}
 use Rattle.sl_due.specs.DueRequests.{after_request_read, after_value_read, signal_of_request}
 use Rattle.sl_due.specs.Steps.{Step, add_reply, seen, with_input}
 use Rattle.sl_trace.specs.Jobs.{aim_of, command_numbered}
 use Rattle.sl_trace.specs.Leases.{exclusive_on, spot_of_call}
 use Rattle.sl_trace.specs.declared.lease.Aim.{Aim}
-use Rattle.sl_trace.specs.Deltas.{delta_known, delta_of_session, next_after_free, next_after_renewal, next_free, next_in_joining}
+use Rattle.sl_trace.specs.DeltaDecisions.{delta_known, delta_of_session, next_after_free, next_after_renewal, next_free, next_in_joining}
 use Rattle.sl_trace.specs.Sessions.{calls_of, generation_of, has_open_write, holdings_of, is_joined, is_present, open_calls_of, recovery_of, session_numbered}
 use Rattle.sl_trace.specs.declared.session.Session.{Session}
 use Rattle.sl_trace.specs.Traces.{Submitted, call_numbered, is_orphan, is_running}

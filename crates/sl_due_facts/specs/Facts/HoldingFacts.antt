@@ -1,5 +1,5 @@
 -- What is known of holdings: whose they are, that they stand apart, and what stands behind an exclusive one as long as it is held.
-use Rattle.sl_area.specs.Places.{is_base}
+use Rattle.sl_area.specs.AreaLayout.{is_base}
 use Rattle.sl_run.specs.LawfulGrant.{HasTaken}
 use Rattle.sl_run.specs.LawfulModes.{LawfulExclusiveGrant}
 use Rattle.sl_trace.specs.Leases.{Area_read, Phase1_read, Phase1_write, Phase2_read, Phase2_write, block_submitted, ended_ballots, freed, is_at, lease_calls, open_ballot}

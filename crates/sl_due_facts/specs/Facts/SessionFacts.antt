@@ -1,13 +1,13 @@
 -- What is known of sessions: their jobs, their names, their connections, their delta sectors.
-use Rattle.sl_due.specs.Due.{is_waiting_step}
-use Rattle.sl_due.specs.DueDelta.{begins_by_read}
-use Rattle.sl_run.specs.LawfulWatchdog.{is_covered}
+use Rattle.sl_due.specs.IdleJobs.{is_waiting_step}
+use Rattle.sl_due.specs.CarriedDelta.{begins_by_read}
+use Rattle.sl_run.specs.LawfulConnections.{is_covered}
 use Rattle.sl_trace.specs.Jobs.{jobs_of_session}
 use Rattle.sl_trace.specs.Sessions.{calls_of, free_write, generation_of, holdings_of, is_joined, is_present, is_recovering, joined_after, last_renewal, last_seq, leaving_job, present_sessions, recovery_of, sessions}
 use Rattle.sl_trace.specs.declared.session.Session.{Session}
 use Rattle.sl_due_facts.specs.Facts.HeardCall.{IsOpen}
 use Rattle.sl_time.specs.Times.{fail}
-use Rattle.sl_trace.specs.Connections.{Connection, connection_named, connections, is_registered, last_registering}
+use Rattle.sl_trace.specs.WatchdogConnections.{Connection, connection_named, connections, is_registered, last_registering}
 use Rattle.sl_trace.specs.Traces.{Answered, Job, Setting, Submitted, Trace, is_ok_answer, is_running, is_write, unanswered}
 use Rattle.sl_words.specs.Bounds.{is_number}
 use Rattle.sl_words.specs.Words.{is_empty}

@@ -1,10 +1,12 @@
 -- Why each call of a session's lease was made. A way speaks of the calls before it alone, the newest first: it knows neither what is due
 -- nor how a step goes on.
-use Rattle.sl_area.specs.Layouts.{Layout}
-use Rattle.sl_area.specs.Places.{area_sectors, block_record, block_sectors, leader_record, needs_again}
+use Rattle.sl_area.specs.AreaSizes.{Layout}
+use Rattle.sl_area.specs.AreaLayout.{area_sectors, block_sectors}
+use Rattle.sl_area.specs.AreaRecords.{block_record, leader_record}
+use Rattle.sl_area.specs.Pairs.{needs_again}
 use Rattle.sl_trace.specs.Ballots.{ballot_blocks, moded_block, phase2_block, stop_of}
 use Rattle.sl_trace.specs.Jobs.{aim_of}
-use Rattle.sl_trace.specs.LeaseWork.{first_step, looks_for_shared, step_of_read}
+use Rattle.sl_trace.specs.LeaseDecisions.{first_step, looks_for_shared, step_of_read}
 use Rattle.sl_trace.specs.Leases.{base_turn, block_submitted, blocks_bytes, blocks_given, ended_ballot, ended_ballots, freed, lease_calls, lver_written, open_ballot, own_block, verified_by, verified_name}
 use Rattle.sl_trace.specs.declared.lease.Aim.TheVariants.{Acquires, Converts, Releases, Settles}
 use Rattle.sl_trace.specs.declared.lease.Aim.{Aim}

@@ -1,7 +1,7 @@
 -- What is kept by each act of a step, and true once a step has begun: what is known of calls, of jobs, of sessions in recovery or leaving.
 use Rattle.sl_due_facts.specs.Acts.Acts.{Acts}
 use Rattle.sl_due_facts.specs.Acts.TraceSoFar.{entry_of}
-use Rattle.sl_due.specs.DueFirst.{begin_recoveries}
+use Rattle.sl_due.specs.DueRecovery.{begin_recoveries}
 use Rattle.sl_due.specs.Steps.{Step, begin_step, seen}
 use Rattle.sl_due_facts.specs.Facts.CallFacts.{CallFacts}
 use Rattle.sl_due_facts.specs.Facts.ConcludingActs.{Concludes}

@@ -1,9 +1,10 @@
 -- What an answer makes for the job of its call: calls of the lease, grants, the start of a program, the write of a request.
 use Rattle.sl_due_facts.specs.Acts.Acts.{Hears}
 use Rattle.sl_due_facts.specs.Acts.TraceSoFar.{entry_of}
-use Rattle.sl_area.specs.Layouts.{Layout}
-use Rattle.sl_area.specs.Places.{block_place, block_record, leader_of, leader_offset, leader_record, read_at}
-use Rattle.sl_due.specs.DueLease.{carry_lease, convert_for, convert_holding, grant_for, held_otherwise, name_on, next_of_lease, next_turn, with_command}
+use Rattle.sl_area.specs.AreaSizes.{Layout}
+use Rattle.sl_area.specs.AreaLayout.{block_place, leader_of, leader_offset, read_at}
+use Rattle.sl_area.specs.AreaRecords.{block_record, leader_record}
+use Rattle.sl_due.specs.CarriedLease.{carry_lease, convert_for, convert_holding, grant_for, held_otherwise, name_on, next_of_lease, next_turn, with_command}
 use Rattle.sl_due.specs.DueRequests.{after_request_read, owner_read, request_refusal, write_request}
 use Rattle.sl_due.specs.Steps.{Step, add_call_of, add_reply, seen, with_some}
 use Rattle.sl_due_law.proofs.Causes.LaterSteps.{told_no_line}
@@ -19,7 +20,7 @@ use Rattle.sl_due_facts.specs.Facts.AllFacts.{Whole}
 use Rattle.sl_due_leases.specs.Holdings.Moments.{Known}
 use Rattle.sl_run.specs.Caused.{IsAccepted}
 use Rattle.sl_trace.specs.Jobs.{aim_of, aim_of_command, command_numbered, command_of, process_named}
-use Rattle.sl_trace.specs.LeaseWork.{lease_place}
+use Rattle.sl_trace.specs.LeaseDecisions.{lease_place}
 use Rattle.sl_trace.specs.Leases.{holdings_on, is_leader_of, known, lver_written, spot_of_call}
 use Rattle.sl_trace.specs.declared.lease.Aim.{Aim}
 use Rattle.sl_trace.specs.declared.lease.Aim.TheVariants.{Acquires}
@@ -27,7 +28,7 @@ use Rattle.sl_trace.specs.declared.lease.LeaseNext.{LeaseNext}
 use Rattle.sl_trace.specs.declared.lease.LeaseNext.TheVariants.{AnswerJob, BecomeExclusive, BecomeShared, GrantJob, Nothing as No_lease, ReadFor, WriteBlock, WriteLeader}
 use Rattle.sl_words.proofs.Lists.{find_inside}
 use Rattle.sl_request.specs.Requests.{check_request}
-use Rattle.sl_sector.specs.Spelling.{request_in}
+use Rattle.sl_sector.specs.SectorLayouts.{request_in}
 use Rattle.sl_sector.specs.declared.sector.Leader.{Leader}
 use Rattle.sl_sector.specs.declared.sector.Request.{Request as RequestRec}
 use Rattle.sl_trace.specs.declared.session.Session.{Session}

@@ -6,7 +6,7 @@ use Rattle.sl_due_facts.proofs.Acts.TracesKeep.{due_is_seen}
 use Rattle.sl_due_facts.specs.Acts.Acts.{Acts}
 use Rattle.sl_due_facts.specs.Acts.TraceSoFar.{entry_of}
 use Rattle.sl_due.specs.Due.{IsDue, before_input, due_step}
-use Rattle.sl_due.specs.DueFirst.{begin_recoveries}
+use Rattle.sl_due.specs.DueRecovery.{begin_recoveries}
 use Rattle.sl_due.specs.Steps.{Step, begin_step}
 use Rattle.sl_due_law.proofs.Causes.LimitedAtLines.{at_once_are_caused, limited_at_lines}
 use Rattle.sl_due_law.proofs.Causes.CauseFactsHold.{traces_stand}

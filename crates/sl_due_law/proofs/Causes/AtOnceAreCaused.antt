@@ -12,17 +12,19 @@ use Rattle.sl_due_law.specs.Causes.CausedSoFar.{IsAtOnce}
 use Rattle.sl_due_law.specs.Causes.LineCauses.{IsBeforeInput, at_its_line}
 use Rattle.sl_due.specs.Due.{IsDue, before_input, due_step}
 use Rattle.sl_due.specs.DueCommands.{after_end, answer_line, carry_command, carry_decision, carry_line, decided, on_line, reply_at_once}
-use Rattle.sl_due.specs.DueFirst.{send, signal_and_refuse, signal_holders}
-use Rattle.sl_due.specs.DueLease.{carry_lease, grant_for}
+use Rattle.sl_due.specs.DueRecovery.{send, signal_and_refuse, signal_holders}
+use Rattle.sl_due.specs.CarriedLease.{carry_lease, grant_for}
 use Rattle.sl_due.specs.DueWake.{finish}
 use Rattle.sl_due.specs.Steps.{Step, add_end, add_reply, add_signal, add_start, begin_step, seen, with_input}
 use Rattle.sl_due.specs.declared.decision.Decision.TheVariants.{ConvertsTo, GetsValue, GivesUp, Joins, Leaves, ReadsArea, Replies, Requests, SetsValue, Shares, TakesOver}
 use Rattle.sl_due.specs.declared.decision.Decision.{Decision}
 use Rattle.sl_due_facts.proofs.Jobs.JobsAreNumbered.{next_before}
 use Rattle.sl_run.specs.Caused.{CausedBy}
-use Rattle.sl_trace.specs.Counts.{stopper_of}
+use Rattle.sl_trace.specs.KillPrograms.{stopper_of}
 use Rattle.sl_trace.specs.Jobs.{jobs_of_session}
-use Rattle.sl_trace.specs.LeaseWork.{LeasePlace, convert_next, lease_place, release_next}
+use Rattle.sl_trace.specs.LeaseDecisions.{LeasePlace, lease_place}
+use Rattle.sl_trace.specs.Conversions.{convert_next}
+use Rattle.sl_trace.specs.Releases.{release_next}
 use Rattle.sl_trace.specs.Ballots.{moded_block}
 use Rattle.sl_trace.specs.Leases.{LeaseKnown, holdings_on, known, spot_of}
 use Rattle.sl_trace.specs.declared.lease.LeaseNext.TheVariants.{Nothing, WriteBlock}

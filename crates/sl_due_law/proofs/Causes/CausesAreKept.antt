@@ -16,10 +16,11 @@ use Rattle.sl_due_law.specs.Causes.CausedSoFar.{CausedSoFar, IsConcluded, StaysC
 use Rattle.sl_due_law.specs.Causes.CauseLaws.{CausesAreKept, CausesBegin}
 use Rattle.sl_due.specs.DueAnswers.{set_reply}
 use Rattle.sl_due.specs.DueCommands.{carry_decision}
-use Rattle.sl_due.specs.DueDelta.{begins_by_read, carry_delta, see_request}
-use Rattle.sl_due.specs.DueFirst.{begin_recoveries, begin_recovery, begins_now, refuse, remove_connection, remove_of_refused, send, signal_and_refuse, signal_holders}
+use Rattle.sl_due.specs.CarriedDelta.{begins_by_read, carry_delta, see_request}
+use Rattle.sl_due.specs.DueRecovery.{begin_recoveries, begin_recovery, begins_now, send, signal_and_refuse, signal_holders}
+use Rattle.sl_due.specs.DueTimeOuts.{refuse, remove_connection, remove_of_refused}
 use Rattle.sl_due.specs.DueInputs.{end_holdings, started_reply, when_running}
-use Rattle.sl_due.specs.DueLease.{carry_lease, goes_on, next_of_lease}
+use Rattle.sl_due.specs.CarriedLease.{carry_lease, goes_on, next_of_lease}
 use Rattle.sl_due.specs.DueRequests.{after_request_read, after_value_read, bits_due, value_reply}
 use Rattle.sl_due.specs.Steps.{Step, begin_step, add_reply, add_signal, seen, with_input}
 use Rattle.sl_due_leases.proofs.Holdings.HoldingsByDeltas.{same_session}
@@ -35,7 +36,7 @@ use Rattle.sl_due_facts.proofs.Jobs.SessionsArePresent.{present_is, session_has}
 use Rattle.sl_due_facts.proofs.Jobs.SessionsStand.{recovery_joined}
 use Rattle.sl_due_facts.proofs.Jobs.CallsHaveFacts.{sessions_bare}
 use Rattle.sl_trace.specs.Jobs.{aim_of, command_numbered, job_of_start, resource_named}
-use Rattle.sl_trace.specs.LeaseWork.{lease_place}
+use Rattle.sl_trace.specs.LeaseDecisions.{lease_place}
 use Rattle.sl_trace.specs.Leases.{known, lease_step, lver_written, spot_of_call}
 use Rattle.sl_trace.specs.declared.lease.Aim.{Aim}
 use Rattle.sl_trace.specs.declared.lease.LeaseNext.TheVariants.{AnswerJob, BecomeExclusive, BecomeShared, GrantJob, Nothing as No_lease, ReadFor, WriteBlock, WriteLeader}
@@ -46,7 +47,7 @@ use Rattle.sl_sector.specs.Bitmaps.{no_bits}
 use Rattle.sl_sector.specs.declared.sector.DeltaState.TheVariants.{Free, Live}
 use Rattle.sl_sector.specs.declared.sector.Rec.TheVariants.{DeltaIs}
 use Rattle.sl_sector.specs.declared.sector.DeltaRec.{DeltaRec}
-use Rattle.sl_trace.specs.Deltas.{DeltaLease, delta_record, is_renewal_due, own_offset, delta_known, delta_of_session, next_after_free, next_after_renewal, next_free, next_in_joining, next_on_wake, next_renewal}
+use Rattle.sl_trace.specs.DeltaDecisions.{DeltaLease, delta_record, is_renewal_due, own_offset, delta_known, delta_of_session, next_after_free, next_after_renewal, next_free, next_in_joining, next_on_wake, next_renewal}
 use Rattle.sl_trace.specs.Sessions.{is_joined, is_present, renewed_by, begun_in, calls_of, generation_of, joining_session, last_renewal, last_seq, present_sessions, recovery_of, sessions}
 use Rattle.sl_trace.specs.declared.delta.DeltaNext.TheVariants.{MoveConnection, Nothing, WriteFree, WriteRenewal}
 use Rattle.sl_trace.specs.declared.delta.DeltaKnown.{DeltaKnown}

@@ -1,6 +1,6 @@
 -- What a child holds until its start is told stays so with one more entry; so do that a job has one child, and that no call waits beside it.
 use Rattle.sl_due.specs.Due.{IsDue}
-use Rattle.sl_due.specs.DueLease.{grant_of}
+use Rattle.sl_due.specs.CarriedLease.{grant_of}
 use Rattle.sl_due_law.proofs.Causes.AnsweredJobs.{ran_past}
 use Rattle.sl_due_law.proofs.Causes.CallsBehind.{Came, New_one, Old_call, came}
 use Rattle.sl_due_law.proofs.Causes.EntryMakings.{step_of}

@@ -1,8 +1,8 @@
 -- A command at its line, in the entry that the line brings: its job, the session of its resource, what that holds, and the turn that its
 -- calls have shown it, which what is called in the entry leaves as it was.
 use Rattle.sl_due_facts.specs.Acts.TraceSoFar.{entry_of}
-use Rattle.sl_area.specs.Layouts.{Layout}
-use Rattle.sl_area.specs.Places.{pair_read}
+use Rattle.sl_area.specs.AreaSizes.{Layout}
+use Rattle.sl_area.specs.Pairs.{pair_read}
 use Rattle.sl_due.specs.DueCommands.{carry_decision}
 use Rattle.sl_due.specs.DueWake.{finish}
 use Rattle.sl_due.specs.Steps.{Step, add_end, seen, with_input}

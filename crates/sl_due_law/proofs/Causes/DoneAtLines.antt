@@ -2,8 +2,8 @@
 use Rattle.sl_due_facts.proofs.Acts.AddedAtEnd.{contains_last}
 use Rattle.sl_due.specs.Due.{IsDue, before_input}
 use Rattle.sl_due.specs.DueCommands.{answer_line, carry_decision, carry_line, decided}
-use Rattle.sl_due.specs.DueFirst.{signal_holders}
-use Rattle.sl_due.specs.DueLease.{grant_for, grant_of}
+use Rattle.sl_due.specs.DueRecovery.{signal_holders}
+use Rattle.sl_due.specs.CarriedLease.{grant_for, grant_of}
 use Rattle.sl_due.specs.DueWake.{finish}
 use Rattle.sl_due.specs.Steps.{Step, add_end, add_grant, begin_step, seen, with_input}
 use Rattle.sl_due.specs.declared.decision.Decision.{Decision}

@@ -8,7 +8,7 @@ use Rattle.sl_due_facts.specs.Acts.KeptByEffects.{ByEffects, Plainly}
 use Rattle.sl_due_facts.specs.Acts.TraceSoFar.{entry_of}
 use Rattle.sl_due.specs.Due.{IsDue, due_step}
 use Rattle.sl_due.specs.DueCommands.{carry_decision}
-use Rattle.sl_due.specs.DueFirst.{begin_recoveries}
+use Rattle.sl_due.specs.DueRecovery.{begin_recoveries}
 use Rattle.sl_due.specs.Steps.{Step, begin_step}
 use Rattle.sl_due_law.proofs.Causes.LooksAreKept.{KnowsLooks, looks_are_kept, looks_begin}
 use Rattle.sl_due_law.proofs.Causes.MakingsAreKept.{KnowsCauses, makings_are_kept, makings_begin}

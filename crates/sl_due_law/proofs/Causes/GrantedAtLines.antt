@@ -9,15 +9,15 @@ use Rattle.sl_due_law.proofs.Causes.NamesBefore.{with_session}
 use Rattle.sl_due_law.specs.Causes.LineCauses.{GrantedAtLines, IsBeforeInput, at_its_line}
 use Rattle.sl_due.specs.Due.{before_input}
 use Rattle.sl_due.specs.DueCommands.{answer_line, carry_decision, carry_line, decided, pending_refusal, process_refusal, reply_at_once, serving_orphan, session_refusal, unless_refused, with_session as where_session}
-use Rattle.sl_due.specs.DueFirst.{signal_holders}
-use Rattle.sl_due.specs.DueLease.{grant_for, grant_of}
+use Rattle.sl_due.specs.DueRecovery.{signal_holders}
+use Rattle.sl_due.specs.CarriedLease.{grant_for, grant_of}
 use Rattle.sl_due.specs.DueWake.{finish}
 use Rattle.sl_due.specs.Steps.{Step, add_end, add_grant, add_reply, begin_step, seen, with_input}
 use Rattle.sl_due.specs.declared.decision.Decision.TheVariants.{ConvertsTo, GetsValue, GivesUp, Joins, Leaves, ReadsArea, Replies, Requests, SetsValue, Shares, TakesOver}
 use Rattle.sl_due.specs.declared.decision.Decision.{Decision}
-use Rattle.sl_due_facts.proofs.Jobs.JobsAreNumbered.{next_before}
+use Rattle.sl_due_facts.proofs.Jobs.JobsAreNumbered.{next_before, line_is}
 use Rattle.sl_run.specs.Caused.{Answering, CausedBy, GrantsTo, IsGrantedFor, before_entry, the_session}
-use Rattle.sl_trace.specs.Jobs.{lockspace_named}
+use Rattle.sl_trace.specs.Jobs.{lockspace_named, wants_shared}
 use Rattle.sl_trace.specs.Counts.{holds_already}
 use Rattle.sl_trace.specs.Leases.{holdings_on, orphan_on, spot_of}
 use Rattle.sl_words.proofs.Lists.{contains_first, find_inside}
@@ -45,12 +45,10 @@ use Rattle.std.specs.Option.{option_map_or}
 use Rattle.std.specs.Prelude.{Bool, Contains, Err, IsTrue, List, None, Ok, Option, Result, Some, [], false, is_none, length, option_and_then, option_map, true, ℕ, ◌++◌, ◌∷◌, ◌≡◌, ◌⊎◌}
 use Rattle.sl_due_law.proofs.Causes.LeavingsRefuse.{Refused, Says, ending, line_reads, refusals}
 use Rattle.sl_due_leases.proofs.Holdings.PlainPlaces.{one_place}
-use Rattle.sl_trace.specs.Jobs.{wants_shared}
 use Rattle.sl_due_law.proofs.Causes.AnsweredJobs.{with_command}
 use Rattle.sl_due_leases.specs.Holdings.DecisionGrounds.{AsksLease, HasGrounds, IsReady, SharesGrounds, TakeOverGrounds}
 use Rattle.sl_due_leases.proofs.Holdings.DecisionsHaveGrounds.{decisions_have_grounds}
 use Rattle.sl_due_facts.proofs.Jobs.JobFactsGrow.{contains_right}
-use Rattle.sl_due_facts.proofs.Jobs.JobsAreNumbered.{line_is}
 use Rattle.sl_words.proofs.WordLaws.{same_truth_is}
 
 granted_misread : (n m : ℕ) → Misread n ≡ Granted m → ⊥

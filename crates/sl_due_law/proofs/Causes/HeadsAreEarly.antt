@@ -6,8 +6,9 @@ use Rattle.sl_due_law.proofs.Causes.RepliesRun.{before_it}
 use Rattle.sl_due_law.proofs.Causes.WakeCauses.{sessions_wake}
 use Rattle.sl_due_law.specs.Causes.LineCauses.{HeadsAreEarly, IsBeforeInput, IsSilent, LastIsSilent}
 use Rattle.sl_due.specs.Due.{before_input}
-use Rattle.sl_due.specs.DueDelta.{carry_delta}
-use Rattle.sl_due.specs.DueFirst.{begin_recoveries, begin_recovery, begins_now, is_overdue, kill_holders, kills, kills_holders, refuse, remove_connection, remove_of_refused, send, signal_and_refuse, signal_holders, time_out, time_outs}
+use Rattle.sl_due.specs.CarriedDelta.{carry_delta}
+use Rattle.sl_due.specs.DueRecovery.{begin_recoveries, begin_recovery, begins_now, kill_holders, kills, kills_holders, send, signal_and_refuse, signal_holders}
+use Rattle.sl_due.specs.DueTimeOuts.{is_overdue, refuse, remove_connection, remove_of_refused, time_out, time_outs}
 use Rattle.sl_due.specs.DueWake.{end_if_done, finish, finish_session, free_if_done}
 use Rattle.sl_due.specs.Steps.{Step, add_move, add_reply, add_signal, add_start, begin_step, seen, when}
 use Rattle.sl_due_leases.proofs.Holdings.HoldersSpared.{IsJoining, joined_present, joined_some, joining}
@@ -15,19 +16,19 @@ use Rattle.sl_due_leases.proofs.Holdings.PlainPlaces.{text_is}
 use Rattle.sl_due_facts.proofs.Jobs.JobsAreNumbered.{below, jobs_before}
 use Rattle.sl_due_facts.proofs.Jobs.SessionsArePresent.{present_inside}
 use Rattle.sl_due_facts.proofs.AddedEffects.CallsGrow.{any_more}
-use Rattle.sl_trace.specs.Counts.{stopper_of}
+use Rattle.sl_trace.specs.KillPrograms.{stopper_of}
 use Rattle.sl_trace.specs.Jobs.{jobs_of_session}
 use Rattle.sl_words.proofs.Lists.{contains_none, find_inside, kept_inside}
 use Rattle.sl_sector.specs.Bitmaps.{no_bits}
 use Rattle.sl_sector.specs.declared.sector.DeltaState.TheVariants.{Free}
-use Rattle.sl_trace.specs.Deltas.{delta_known, delta_of_session, delta_record, next_free}
+use Rattle.sl_trace.specs.DeltaDecisions.{delta_known, delta_of_session, delta_record, next_free}
 use Rattle.sl_trace.specs.declared.delta.DeltaKnown.{DeltaKnown}
 use Rattle.sl_trace.specs.declared.delta.DeltaNext.TheVariants.{Nothing, WriteFree}
 use Rattle.sl_trace.specs.declared.delta.DeltaNext.{DeltaNext}
 use Rattle.sl_trace.specs.Sessions.{has_open_write, holders_of, holdings_of, is_joined, last_renewal, open_calls_of, present_sessions, recovery_of, refused_after, session_of_job, sessions}
 use Rattle.sl_trace.specs.declared.session.Session.{Session}
 use Rattle.sl_due_facts.specs.Facts.AllFacts.{WholeTrace}
-use Rattle.sl_trace.specs.Connections.{is_registered, unregisters}
+use Rattle.sl_trace.specs.WatchdogConnections.{is_registered, unregisters}
 use Rattle.sl_trace.specs.Traces.{Job, Setting, Trace, is_before_input, is_running, jobs, next_child, next_job, running_jobs, waiting_call}
 use Rattle.sl_trace.specs.declared.effects.JobReply.{JobReply}
 use Rattle.sl_trace.specs.declared.effects.Move.TheVariants.{Unregister}

@@ -2,10 +2,10 @@
 -- started. What stands behind each stood before the entry.
 use Rattle.sl_due_facts.specs.Acts.Acts.{Hears}
 use Rattle.sl_due_facts.specs.Acts.TraceSoFar.{entry_of}
-use Rattle.sl_area.specs.Places.{is_base}
+use Rattle.sl_area.specs.AreaLayout.{is_base}
 use Rattle.sl_due.specs.DueAnswers.{set_reply}
 use Rattle.sl_due.specs.DueInputs.{started_reply}
-use Rattle.sl_due.specs.DueLease.{next_of_lease}
+use Rattle.sl_due.specs.CarriedLease.{next_of_lease}
 use Rattle.sl_due.specs.Steps.{Step, add_reply, seen, with_effects}
 use Rattle.sl_due_law.proofs.Causes.AnswerMakings.{command_before, told_no_text}
 use Rattle.sl_due_law.proofs.Causes.AnsweredJobs.{AnswersHere, answers_here, its_command, number_is, ran_past, told_not_waking, with_command}
@@ -29,7 +29,7 @@ use Rattle.sl_due_leases.specs.Holdings.Moments.{Known}
 use Rattle.sl_run.specs.Caused.{Answering, AnswersCall, AnswersWrite, CausedBy, IsDoneFor, IsReleased, before_entry}
 use Rattle.sl_run.specs.LawfulEnd.{Converted, EndReason, Exited, Given_up, Not_started, Taken_over}
 use Rattle.sl_trace.specs.Jobs.{aim_of, aim_of_command, command_numbered, command_of, job_of_start, wanted_mode}
-use Rattle.sl_trace.specs.LeaseWork.{lease_place}
+use Rattle.sl_trace.specs.LeaseDecisions.{lease_place}
 use Rattle.sl_trace.specs.Leases.{Leader_freed, Mode_cleared, StepKind, holdings_on, is_at, kind_of_step, known, lease_step, lver_written, same_kind, spot_of, spot_of_call, value_of_record, value_written}
 use Rattle.sl_trace.specs.declared.lease.Aim.{Aim}
 use Rattle.sl_trace.specs.declared.lease.Aim.TheVariants.{Acquires, Converts, Releases, Settles}

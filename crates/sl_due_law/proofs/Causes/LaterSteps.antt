@@ -1,8 +1,8 @@
 -- What comes later in an entry, and whose the replies are that an act adds.
 use Rattle.sl_due_facts.proofs.Acts.AddedAtEnd.{contains_last}
 use Rattle.sl_due_facts.specs.Acts.TraceSoFar.{entry_of}
-use Rattle.sl_area.specs.Layouts.{Layout}
-use Rattle.sl_area.specs.Places.{sector_of}
+use Rattle.sl_area.specs.AreaSizes.{Layout}
+use Rattle.sl_area.specs.AreaLayout.{sector_of}
 use Rattle.sl_due_facts.proofs.Jobs.JobFactsGrow.{contains_left, contains_right}
 use Rattle.sl_due_facts.proofs.Jobs.SessionsStand.{running_before}
 use Rattle.sl_trace.specs.Leases.{is_on, lease_step}

@@ -18,8 +18,8 @@ use Rattle.sl_due_law.specs.Causes.CausedSoFar.{IsLater, is_explained}
 use Rattle.sl_due_law.specs.Causes.LineCauses.{IsBeforeInput, RefusedAtLines, at_its_line}
 use Rattle.sl_due.specs.Due.{before_input}
 use Rattle.sl_due.specs.DueCommands.{after_end, answer_line, carry_decision, carry_line, decided, on_line, reply_at_once}
-use Rattle.sl_due.specs.DueFirst.{send, signal_and_refuse, signal_holders}
-use Rattle.sl_due.specs.DueLease.{carry_lease, grant_for, grant_of}
+use Rattle.sl_due.specs.DueRecovery.{send, signal_and_refuse, signal_holders}
+use Rattle.sl_due.specs.CarriedLease.{carry_lease, grant_for, grant_of}
 use Rattle.sl_due.specs.DueWake.{finish}
 use Rattle.sl_due.specs.Steps.{Step, add_end, add_grant, add_reply, begin_step, seen, with_input}
 use Rattle.sl_due.specs.declared.decision.Decision.TheVariants.{ConvertsTo, GetsValue, GivesUp, Joins, Leaves, ReadsArea, Replies, Requests, SetsValue, Shares, TakesOver}
@@ -30,7 +30,8 @@ use Rattle.sl_due_facts.proofs.Jobs.SessionsArePresent.{present_is}
 use Rattle.sl_run.specs.Caused.{Answering, CausedBy, after_entry, before_entry}
 use Rattle.sl_trace.specs.Ballots.{moded_block}
 use Rattle.sl_trace.specs.Jobs.{is_command_that, jobs_of_session, lockspace_named}
-use Rattle.sl_trace.specs.LeaseWork.{LeasePlace, lease_place, release_next}
+use Rattle.sl_trace.specs.LeaseDecisions.{LeasePlace, lease_place}
+use Rattle.sl_trace.specs.Releases.{release_next}
 use Rattle.sl_trace.specs.Leases.{LeaseKnown, holdings_on, known, spot_of}
 use Rattle.sl_trace.specs.declared.lease.LeaseNext.TheVariants.{Nothing, WriteBlock}
 use Rattle.sl_words.proofs.Lists.{contains_first, contains_more, find_inside, kept_inside}

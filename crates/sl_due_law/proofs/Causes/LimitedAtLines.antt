@@ -4,8 +4,8 @@ use Rattle.sl_due_facts.proofs.Acts.AddedAtEnd.{contains_last}
 use Rattle.sl_due_facts.proofs.Acts.Pairs.Decisions.{conversion_is, writes_own_block}
 use Rattle.sl_due_facts.proofs.Acts.TracesKeep.{due_is_seen}
 use Rattle.sl_due.specs.DueCommands.{answer_line, carry_decision, decided}
-use Rattle.sl_due.specs.DueFirst.{signal_holders}
-use Rattle.sl_due.specs.DueLease.{carry_lease, grant_for, grant_of}
+use Rattle.sl_due.specs.DueRecovery.{signal_holders}
+use Rattle.sl_due.specs.CarriedLease.{carry_lease, grant_for, grant_of}
 use Rattle.sl_due.specs.DueWake.{finish}
 use Rattle.sl_due.specs.Steps.{Step, add_end, add_grant, seen, with_input}
 use Rattle.sl_due.specs.declared.decision.Decision.{Decision}
@@ -31,7 +31,7 @@ use Rattle.sl_words.proofs.Lists.{kept_inside}
 use Rattle.sl_sector.specs.declared.sector.Block.{Block}
 use Rattle.sl_trace.specs.Ballots.{moded_block}
 use Rattle.sl_trace.specs.Jobs.{resource_named, wanted_mode}
-use Rattle.sl_trace.specs.LeaseWork.{convert_next}
+use Rattle.sl_trace.specs.Conversions.{convert_next}
 use Rattle.sl_trace.specs.Leases.{LeaseKnown, holdings_on, known, spot_of}
 use Rattle.sl_trace.specs.Sessions.{holdings_of}
 use Rattle.sl_trace.specs.Traces.{Job, Setting, end_of, is_before_input, is_shared, job_numbered, next_job, same_place, spot_of_grant}

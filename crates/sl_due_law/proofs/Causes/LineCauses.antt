@@ -12,7 +12,8 @@ use Rattle.sl_due.specs.declared.decision.Decision.{Decision}
 use Rattle.sl_due_leases.proofs.Holdings.HoldingFactsBegin.{none_ended}
 use Rattle.sl_due_leases.proofs.Holdings.LeaseConversions.{spot_is}
 use Rattle.sl_run.specs.Caused.{Answering, CausedBy, IsDoneFor, IsGrantedFor, WithSpot, before_entry, is_holders_command, is_joining_command, is_orphan_command, is_taking_over, job_command, lockspace_arg, the_session}
-use Rattle.sl_trace.specs.Counts.{holds_already, is_killpath_limit, may_act, next_value_seq, other_holder}
+use Rattle.sl_trace.specs.Counts.{holds_already, may_act, next_value_seq, other_holder}
+use Rattle.sl_trace.specs.KillPrograms.{is_killpath_limit}
 use Rattle.sl_trace.specs.Jobs.{is_asking_lease, is_program, lockspace_named, process_named, resource_named, wanted_mode, wants_shared}
 use Rattle.sl_trace.specs.Leases.{exclusive_on, holdings_on, orphan_on, shared_on, spot_of}
 use Rattle.sl_words.proofs.Lists.{find_fails, find_inside, kept_inside}
@@ -21,7 +22,7 @@ use Rattle.sl_words.proofs.Options.{mapped_value, then_value}
 use Rattle.sl_trace.specs.Sessions.{generation_of, holdings_of, is_active, is_session_arg, last_seq, present_sessions, session_named, sessions}
 use Rattle.sl_trace.specs.Sightings.{states_seen}
 use Rattle.sl_trace.specs.declared.session.Session.{Session}
-use Rattle.sl_trace.specs.Limits.{most_lockspaces}
+use Rattle.sl_trace.specs.CountLimits.{most_lockspaces}
 use Rattle.sl_trace.specs.Traces.{Trace, holdings, is_ended_by, is_orphan, is_shared, same_place, spot_of_grant}
 use Rattle.sl_trace.specs.declared.command.Command.TheVariants.{Acquire, AddLockspace, Convert, GetLvb, HostStatus, InqLockspace, Release, ReleaseOrphan, RemLockspace, Request, RunProgram, SetKillpath, SetLvb, Status, TakeOver}
 use Rattle.sl_trace.specs.declared.command.Command.{Command}

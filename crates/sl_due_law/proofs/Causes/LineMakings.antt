@@ -1,8 +1,8 @@
 -- What a line makes for its job, and what an answer makes for the job of its call: calls of the lease, grants, the start of a program.
 use Rattle.sl_due_facts.proofs.Acts.AddedAtEnd.{contains_last}
 use Rattle.sl_due.specs.DueCommands.{after_end, carry_decision, decided, holding_of, pending_refusal, process_refusal, reply_at_once, session_refusal, setting_value, unless_refused, with_session}
-use Rattle.sl_due.specs.DueFirst.{signal_and_refuse}
-use Rattle.sl_due.specs.DueLease.{carry_lease, grant_for, grant_of, read_for}
+use Rattle.sl_due.specs.DueRecovery.{signal_and_refuse}
+use Rattle.sl_due.specs.CarriedLease.{carry_lease, grant_for, grant_of, read_for}
 use Rattle.sl_due.specs.Steps.{Step, add_call_of, add_end, add_reply, seen, with_input}
 use Rattle.sl_due.specs.declared.decision.Decision.{Decision}
 use Rattle.sl_due.specs.declared.decision.Decision.TheVariants.{ConvertsTo, GetsValue, GivesUp, Joins, Leaves, ReadsArea, Replies, Requests, SetsValue, Shares, TakesOver}
@@ -18,7 +18,9 @@ use Rattle.sl_due_law.specs.Causes.Makings.{By_line, FromJob, GivenTo, MadeFor, 
 use Rattle.sl_due_leases.specs.Holdings.DecisionGrounds.{HasGrounds}
 use Rattle.sl_trace.specs.Counts.{next_value_seq}
 use Rattle.sl_trace.specs.Jobs.{process_named, wants_shared}
-use Rattle.sl_trace.specs.LeaseWork.{LeasePlace, convert_next, lease_place, refuses, release_next, within_turn}
+use Rattle.sl_trace.specs.LeaseDecisions.{LeasePlace, lease_place, refuses, within_turn}
+use Rattle.sl_trace.specs.Conversions.{convert_next}
+use Rattle.sl_trace.specs.Releases.{release_next}
 use Rattle.sl_trace.specs.Leases.{LeaseKnown, holdings_on, known, spot_of}
 use Rattle.sl_trace.specs.declared.lease.LeaseNext.{LeaseNext}
 use Rattle.sl_trace.specs.declared.lease.LeaseNext.TheVariants.{AnswerJob, BecomeExclusive, BecomeShared, GrantJob, Nothing as No_lease, ReadFor, WriteBlock, WriteLeader}

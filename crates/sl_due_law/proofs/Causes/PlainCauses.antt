@@ -1,7 +1,7 @@
 -- The causes of what calls of requests, values and leavings are answered with, and of faults.
 use Rattle.sl_due_facts.specs.Acts.Acts.{Hears, lone_job}
-use Rattle.sl_area.specs.Layouts.{record_in}
-use Rattle.sl_area.specs.Places.{leader_of, read_at}
+use Rattle.sl_area.specs.AreaSizes.{record_in}
+use Rattle.sl_area.specs.AreaLayout.{leader_of, read_at}
 use Rattle.sl_due_law.proofs.Causes.AnsweredJobs.{AnswersHere, answers_here, number_is, its_command, with_command, with_spot}
 use Rattle.sl_due_law.proofs.Causes.LaterSteps.{AnyMove, MayAnswer, MayCall, by_effects}
 use Rattle.sl_due_law.proofs.Causes.Leases.GivenBlocks.{leader_spelled}
@@ -19,11 +19,11 @@ use Rattle.sl_run.specs.Caused.{Answering, AnswersRead, CausedBy, GivesLeader, I
 use Rattle.sl_trace.specs.Jobs.{command_numbered, job_of_start}
 use Rattle.sl_trace.specs.Leases.{Area_read, is_at, is_leader_of, kind_of_step, lease_step, same_kind}
 use Rattle.sl_request.specs.Requests.{check_request}
-use Rattle.sl_sector.specs.Spelling.{request_in, value_in}
+use Rattle.sl_sector.specs.SectorLayouts.{request_in, value_in}
 use Rattle.sl_sector.specs.declared.sector.Leader.{Leader}
 use Rattle.sl_sector.specs.declared.sector.Request.{Request as RequestRec}
 use Rattle.sl_sector.specs.declared.sector.ValueRec.{ValueRec}
-use Rattle.sl_trace.specs.Deltas.{next_after_free}
+use Rattle.sl_trace.specs.DeltaDecisions.{next_after_free}
 use Rattle.sl_trace.specs.declared.session.Session.{Session}
 use Rattle.sl_due_facts.specs.Facts.JobFacts.{FitsCommand}
 use Rattle.sl_trace.specs.Traces.{Child, Submitted, child_after, child_numbered, children, is_expected, is_starting, job_of, new_child, submitted}

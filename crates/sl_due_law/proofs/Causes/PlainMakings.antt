@@ -1,7 +1,7 @@
 -- What all acts keep of what a step makes for a job, where they make no call of a job's lease, of a request or of a value, start no program
 -- for a job, and grant nothing.
 use Rattle.sl_due_facts.proofs.Acts.AddedAtEnd.{contains_last}
-use Rattle.sl_due.specs.DueLease.{grant_of}
+use Rattle.sl_due.specs.CarriedLease.{grant_of}
 use Rattle.sl_due.specs.Steps.{Step, add_call_of, add_end, add_grant, add_move, add_reply, add_signal, add_start, seen, with_input}
 use Rattle.sl_due_law.proofs.Causes.LaterSteps.{wake_no_line}
 use Rattle.sl_due_facts.proofs.Jobs.EffectsAreAllowed.{Allows, DeltaAllowed, LeaseAllowed, ReadAllowed}

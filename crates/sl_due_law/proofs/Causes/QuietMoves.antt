@@ -13,8 +13,8 @@ use Rattle.sl_words.proofs.Lists.{contains_first, contains_more, find_inside}
 use Rattle.sl_trace.specs.Sessions.{generation_of, has_open_write, is_joined, is_present, is_session_arg, joined_after, last_renewal, leaving_job, present_sessions, recovery_of, refused_after, removed_after, session_named, sessions}
 use Rattle.sl_trace.specs.Sightings.{states_seen}
 use Rattle.sl_trace.specs.declared.session.Session.{Session}
-use Rattle.sl_trace.specs.Connections.{unregisters}
-use Rattle.sl_trace.specs.Limits.{most_children, most_holders, most_lockspaces, most_resources}
+use Rattle.sl_trace.specs.WatchdogConnections.{unregisters}
+use Rattle.sl_trace.specs.CountLimits.{most_children, most_holders, most_lockspaces, most_resources}
 use Rattle.sl_trace.specs.Traces.{Trace, is_shared, same_spot}
 use Rattle.sl_trace.specs.declared.command.Command.TheVariants.{Acquire, AddLockspace, Convert, GetLvb, HostStatus, InqLockspace, Release, ReleaseOrphan, RemLockspace, Request, RunProgram, SetKillpath, SetLvb, Status, TakeOver}
 use Rattle.sl_trace.specs.declared.command.Command.{Command}

@@ -5,8 +5,7 @@ use Rattle.sl_due_law.proofs.Causes.NamesBefore.{session_then, with_session}
 use Rattle.sl_due_law.specs.Causes.CausedSoFar.{IsLater, StaysCaused, answering}
 use Rattle.sl_due.specs.Steps.{Step, seen}
 use Rattle.sl_due_leases.proofs.Holdings.PlainPlaces.{text_is}
-use Rattle.sl_due_facts.proofs.Jobs.JobsAreNumbered.{command_read, found_after, numbered_stays}
-use Rattle.sl_due_facts.proofs.Jobs.JobsAreNumbered.{next_is_new}
+use Rattle.sl_due_facts.proofs.Jobs.JobsAreNumbered.{command_read, found_after, numbered_stays, next_is_new}
 use Rattle.sl_run.specs.Caused.{Answering, CausedBy, after_entry, before_entry}
 use Rattle.sl_trace.specs.Jobs.{command_of, is_command_that, jobs_of_session, lockspace_named}
 use Rattle.sl_words.proofs.Lists.{contains_cases, contains_none, kept_inside}

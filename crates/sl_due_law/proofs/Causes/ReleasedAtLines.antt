@@ -3,7 +3,7 @@ use Rattle.sl_due_facts.proofs.Acts.AddedAtEnd.{any_last}
 use Rattle.sl_due_facts.proofs.Acts.Pairs.Decisions.{release_is, writes_own_block}
 use Rattle.sl_due.specs.Due.{IsDue}
 use Rattle.sl_due.specs.DueCommands.{after_end, answer_line, carry_decision, decided, holding_of, pending_refusal, process_refusal, reply_at_once, serving_orphan, session_refusal, unless_refused, with_session}
-use Rattle.sl_due.specs.DueLease.{carry_lease}
+use Rattle.sl_due.specs.CarriedLease.{carry_lease}
 use Rattle.sl_due.specs.DueWake.{finish}
 use Rattle.sl_due.specs.Steps.{Step, add_end, add_reply, seen, with_input}
 use Rattle.sl_due.specs.declared.decision.Decision.{Decision}
@@ -19,7 +19,8 @@ use Rattle.sl_due_law.specs.Causes.CauseFacts.{EndedAsAsked, HasEnded}
 use Rattle.sl_due_facts.specs.Facts.AllFacts.{WholeTrace}
 use Rattle.sl_due_leases.specs.Holdings.DecisionGrounds.{GiveUpGrounds, HasGrounds, Releases}
 use Rattle.sl_trace.specs.Ballots.{moded_block}
-use Rattle.sl_trace.specs.LeaseWork.{LeasePlace, lease_place, release_next}
+use Rattle.sl_trace.specs.LeaseDecisions.{LeasePlace, lease_place}
+use Rattle.sl_trace.specs.Releases.{release_next}
 use Rattle.sl_trace.specs.Leases.{LeaseKnown, holdings_on, known, spot_of}
 use Rattle.sl_trace.specs.declared.lease.LeaseNext.TheVariants.{Nothing as No_lease, WriteBlock}
 use Rattle.sl_words.proofs.Lists.{contains_first, kept_inside}

@@ -7,13 +7,14 @@ use Rattle.sl_due_leases.proofs.Holdings.DecisionsHaveGrounds.{acts}
 use Rattle.sl_due_facts.proofs.Jobs.CallsHaveFacts.{find_mapped}
 use Rattle.sl_due_facts.proofs.Jobs.JobsAreNumbered.{found_after, found_before}
 use Rattle.sl_due_law.specs.Causes.CauseFacts.{IsTold}
-use Rattle.sl_trace.specs.Counts.{holds_already, is_killpath_limit, may_act, next_value_seq, other_holder}
+use Rattle.sl_trace.specs.Counts.{holds_already, may_act, next_value_seq, other_holder}
+use Rattle.sl_trace.specs.KillPrograms.{is_killpath_limit}
 use Rattle.sl_trace.specs.Jobs.{process_named, wanted_mode}
 use Rattle.sl_trace.specs.Leases.{spot_of}
 use Rattle.sl_words.proofs.Lists.{find_inside, in_map}
 use Rattle.sl_trace.specs.Sessions.{session_named}
 use Rattle.sl_trace.specs.declared.session.Session.{Session}
-use Rattle.sl_trace.specs.Limits.{most_processes}
+use Rattle.sl_trace.specs.CountLimits.{most_processes}
 use Rattle.sl_trace.specs.Traces.{Child, Setting, Trace, child_after, child_numbered, children, first_child, is_child, is_shared, new_child}
 use Rattle.sl_trace.specs.declared.command.Command.{Command}
 use Rattle.sl_trace.specs.declared.command.Command.TheVariants.{Acquire, AddLockspace, Convert, GetLvb, HostStatus, InqLockspace, Release, ReleaseOrphan, RemLockspace, Request, RunProgram, SetKillpath, SetLvb, Status, TakeOver}

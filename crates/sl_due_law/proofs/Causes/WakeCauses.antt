@@ -4,11 +4,11 @@ use Rattle.sl_due_facts.specs.Acts.TraceSoFar.{entry_of}
 use Rattle.sl_due_law.proofs.Causes.AnsweredJobs.{number_is}
 use Rattle.sl_due_law.proofs.Causes.JoinCauses.{IsWellJoin, same_step, session_of_its_job}
 use Rattle.sl_due_law.specs.Causes.CausedSoFar.{StaysCaused}
-use Rattle.sl_due.specs.DueFirst.{is_overdue}
+use Rattle.sl_due.specs.DueTimeOuts.{is_overdue}
 use Rattle.sl_due.specs.Steps.{Step, seen}
 use Rattle.sl_due_facts.proofs.Jobs.CallsHaveFacts.{calls_before}
 use Rattle.sl_words.proofs.Lists.{contains_cases, contains_first, contains_more, contains_none, head_is}
-use Rattle.sl_trace.specs.Deltas.{DeltaLease, delta_of_session, join_step_of, next_by_time, next_on_wake}
+use Rattle.sl_trace.specs.DeltaDecisions.{DeltaLease, delta_of_session, join_step_of, next_by_time, next_on_wake}
 use Rattle.sl_trace.specs.Sessions.{calls_of, is_call_of, is_join_call, join_call, session_of_job, sessions}
 use Rattle.sl_trace.specs.declared.delta.DeltaNext.TheVariants.{Nothing, ReadOwn, RefuseJoin, RegisterAndRead}
 use Rattle.sl_trace.specs.declared.delta.DeltaNext.{DeltaNext}

@@ -9,7 +9,7 @@ use Rattle.sl_trace.specs.Jobs.{child_of_job, command_numbered, command_of, reso
 use Rattle.sl_trace.specs.Leases.{is_lease_call, is_on, lease_calls, lease_step, spot_of, spot_of_call}
 use Rattle.sl_words.proofs.Lists.{find_inside, got_inside, kept}
 use Rattle.sl_words.proofs.Numbers.{number_itself}
-use Rattle.sl_words.proofs.Options.{none_is, some_of}
+use Rattle.sl_words.proofs.Options.{none_is, some_of, then_value}
 use Rattle.sl_trace.specs.Sessions.{calls_of, is_call_of, session_numbered, sessions}
 use Rattle.sl_trace.specs.declared.session.Session.{Session}
 use Rattle.sl_trace.specs.Traces.{Child, Setting, Submitted, Trace, children, is_of_job, is_running, job_numbered, job_of, next_job, reply_to, submitted}
@@ -24,7 +24,6 @@ use Rattle.sl_words.proofs.WordLaws.{some_is_true}
 use Rattle.sl_words.specs.Words.{some_is}
 use Rattle.std.proofs.Common.{ap, arith, inl, inr, refl, subst, sym, ◌∙◌}
 use Rattle.std.proofs.lemmas.Bool.{eqb-true}
-use Rattle.sl_words.proofs.Options.{then_value}
 use Rattle.std.specs.Prelude.{Bool, Contains, IsTrue, None, Option, Some, false, find, is_some, option_map, true, ℕ, ◌&&◌, ◌<◌, ◌==◌, ◌≡◌, ◌≤◌}
 
 never : (a b : ℕ) → a < b → b ≤ a → ⊥

@@ -2,10 +2,11 @@
 use Rattle.sl_due_facts.proofs.Acts.LoopsKeep.{for_each_keeps}
 use Rattle.sl_due_facts.specs.Acts.Acts.{Acts, AnswerActs, OtherActs, next_of_settling}
 use Rattle.sl_due.specs.DueCommands.{answer_line, carry_decision}
-use Rattle.sl_due.specs.DueDelta.{carry_delta}
-use Rattle.sl_due.specs.DueFirst.{refuse, send, signal_holders}
+use Rattle.sl_due.specs.CarriedDelta.{carry_delta}
+use Rattle.sl_due.specs.DueTimeOuts.{refuse}
+use Rattle.sl_due.specs.DueRecovery.{send, signal_holders}
 use Rattle.sl_due.specs.DueInputs.{end_holdings, leave_holdings, refuse_jobs_of, started_reply, when_running}
-use Rattle.sl_due.specs.DueLease.{carry_lease}
+use Rattle.sl_due.specs.CarriedLease.{carry_lease}
 use Rattle.sl_due.specs.DueRequests.{bits_due}
 use Rattle.sl_due.specs.Steps.{Step, add_reply, add_signal, seen, with_input}
 use Rattle.sl_due.specs.declared.decision.Decision.{Decision}
@@ -32,7 +33,7 @@ use Rattle.sl_due_facts.specs.Connections.ConnectionLaws.{HasConnectionsPlainly}
 use Rattle.sl_due_facts.specs.Connections.WatchFacts.{HasRead, HasWatchFacts, HasWatchesPlainly, WatchFacts}
 use Rattle.sl_due_facts.proofs.Sessions.NameFactsConclude.{name_facts_conclude}
 use Rattle.sl_due_facts.specs.Sessions.SessionLaws.{HasNamesPlainly}
-use Rattle.sl_trace.specs.Deltas.{delta_known, delta_of_session, next_on_wake, next_renewal}
+use Rattle.sl_trace.specs.DeltaDecisions.{delta_known, delta_of_session, next_on_wake, next_renewal}
 use Rattle.sl_trace.specs.Sessions.{calls_of, holders_of}
 use Rattle.sl_trace.specs.declared.delta.DeltaNext.{DeltaNext}
 use Rattle.sl_trace.specs.declared.session.Session.{Session}

@@ -4,7 +4,7 @@ use Rattle.sl_due_facts.proofs.Acts.PlainActs.{plain_acts}
 use Rattle.sl_due_facts.specs.Acts.Acts.{Acts}
 use Rattle.sl_due_facts.specs.Acts.KeptByEffects.{ByEffects, Plainly}
 use Rattle.sl_due.specs.DueCommands.{carry_decision}
-use Rattle.sl_due.specs.DueFirst.{begin_recoveries}
+use Rattle.sl_due.specs.DueRecovery.{begin_recoveries}
 use Rattle.sl_due.specs.Steps.{Step, begin_step}
 use Rattle.sl_due_law.proofs.LawfulTraces.CallsAreLawful.{calls_are_lawful}
 use Rattle.sl_due_law.proofs.LawfulTraces.LonesAreKept.{lones_are_kept}

@@ -15,8 +15,9 @@ use Rattle.sl_due_facts.proofs.Acts.Pairs.Decisions.{bytes_are}
 use Rattle.sl_due_facts.proofs.Acts.Pairs.DecodedRecords.{AreBlocks, ArePairs, blocks_are, leader_is}
 use Rattle.sl_due_facts.proofs.Acts.Pairs.GivenByReads.{first_are_pairs, last_are_blocks}
 use Rattle.sl_due_facts.proofs.Acts.Pairs.Records.{block_lver}
-use Rattle.sl_area.specs.Places.{blocks_of, leader_read}
-use Rattle.sl_due.specs.DueLease.{goes_on, next_of_lease}
+use Rattle.sl_area.specs.Pairs.{blocks_of}
+use Rattle.sl_area.specs.TornLeader.{leader_read}
+use Rattle.sl_due.specs.CarriedLease.{goes_on, next_of_lease}
 use Rattle.sl_due.specs.Steps.{Step, seen}
 use Rattle.sl_due_law.proofs.LawfulTraces.AreaWrites.{areas_well}
 use Rattle.sl_due_law.proofs.LawfulTraces.ConversionWrites.{moded}
@@ -25,7 +26,7 @@ use Rattle.sl_due_law.proofs.LawfulTraces.ReleaseWrites.{unmoded}
 use Rattle.sl_due_law.proofs.LawfulTraces.SettleWrites.{MayWrite, OwnWell, begins_well, may_write, own_well, refuses_well, settles_known, submitted_known, within_well}
 use Rattle.sl_due_law.specs.LawfulTraces.Writes.{LeaseWrites}
 use Rattle.sl_due_law.proofs.LawfulTraces.BallotWrites.{phase1_own}
-use Rattle.sl_area.specs.Layouts.{sizes}
+use Rattle.sl_area.specs.AreaSizes.{sizes}
 use Rattle.sl_lease.proofs.RecordFacts.{phase2_begun}
 use Rattle.sl_lease.specs.Bounds.{IsBegun}
 use Rattle.sl_due_leases.proofs.Leases.WorkIsActive.{work_is_active}
@@ -36,7 +37,7 @@ use Rattle.sl_due_leases.proofs.Ways.NewestCall.{block_is, submitted_here}
 use Rattle.sl_due_leases.proofs.Ways.AreasAligned.{spot_aligned}
 use Rattle.sl_due_leases.proofs.Ways.WayNumbers.{EndsBy, ended_below, ends_by, is_verified, lver_of, own_lver}
 use Rattle.sl_trace.specs.Ballots.{ballot_blocks, is_ahead, moded_block, phase2_block, same_owner, stop_of, value_of}
-use Rattle.sl_trace.specs.LeaseWork.{LeasePlace, after_clearing, after_freeing, after_moding, after_phase1, after_phase2, after_read, after_take, begin_next, first_step, heard, leader_for, lease_next, lease_place, looks_for_shared, lost_next, phase2_next, settle_next, stopped_next, unstopped_next, won_next}
+use Rattle.sl_trace.specs.LeaseDecisions.{LeasePlace, after_clearing, after_freeing, after_moding, after_phase1, after_phase2, after_read, after_take, begin_next, first_step, heard, leader_for, lease_next, lease_place, looks_for_shared, lost_next, phase2_next, settle_next, stopped_next, unstopped_next, won_next}
 use Rattle.sl_trace.specs.Leases.{LeaseKnown, base_turn, block_submitted, ended_ballot, ended_ballots, exclusive_on, holdings_on, known, lease_calls, lease_step, lver_written, mode_gen_of, owed_free, shared_elsewhere, spot_of_call, verified_name}
 use Rattle.sl_trace.specs.declared.lease.Aim.TheVariants.{Acquires, Converts, Releases, Settles}
 use Rattle.sl_trace.specs.declared.lease.Aim.{Aim}

@@ -3,7 +3,7 @@ use Rattle.sl_due_facts.proofs.Acts.Pairs.DecodedRecords.{AreBlocks}
 use Rattle.sl_due_facts.proofs.Acts.Pairs.GivenByReads.{host_is_block}
 use Rattle.sl_due_law.proofs.LawfulTraces.SettleWrites.{MayWrite, OwnWell, begins_well}
 use Rattle.sl_due_law.specs.LawfulTraces.Writes.{LeaseWrites}
-use Rattle.sl_trace.specs.LeaseWork.{LeasePlace, area_next, begin_or_refuse, named_area_next, whole_area_next}
+use Rattle.sl_trace.specs.LeaseDecisions.{LeasePlace, area_next, begin_or_refuse, named_area_next, whole_area_next}
 use Rattle.sl_trace.specs.Leases.{LeaseKnown, instance_for, is_leader_of, is_over_owner, own_known, own_or_read, top_lver}
 use Rattle.sl_trace.specs.declared.lease.Aim.{Aim}
 use Rattle.sl_trace.specs.declared.lease.Instance.TheVariants.{Begins, HeldAlready}

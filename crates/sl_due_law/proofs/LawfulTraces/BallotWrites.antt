@@ -20,7 +20,7 @@ use Rattle.sl_due_facts.specs.Facts.WayFacts.{Phase1ReadWay, Phase1Way, WayConte
 use Rattle.sl_due_facts.specs.Facts.AllFacts.{Whole}
 use Rattle.sl_trace.proofs.TraceFacts.{each_entry-front}
 use Rattle.sl_trace.specs.Traces.{EachEntry, Setting, Submitted, Trace, new_call, submitted}
-use Rattle.sl_trace.specs.LeaseWork.{first_step}
+use Rattle.sl_trace.specs.LeaseDecisions.{first_step}
 use Rattle.sl_trace.specs.declared.effects.LeaseRead.TheVariants.{OfPhase1}
 use Rattle.sl_trace.specs.declared.effects.LeaseStep.TheVariants.{Phase1Read, Phase1Write}
 use Rattle.sl_trace.specs.declared.effects.LeaseStep.{LeaseStep}

@@ -7,14 +7,15 @@ use Rattle.sl_due_facts.proofs.Acts.StepsKeep.{Fixed, due_is_of}
 use Rattle.sl_due_facts.proofs.Acts.TracesKeep.{due_is_seen}
 use Rattle.sl_due_facts.specs.Acts.Acts.{Acts, AnswerActs, Hears, OtherActs, next_of_settling}
 use Rattle.sl_due_facts.specs.Acts.TraceSoFar.{entry_of}
-use Rattle.sl_area.specs.Places.{delta_offset, request_offset}
+use Rattle.sl_area.specs.AreaLayout.{delta_offset, request_offset}
 use Rattle.sl_due.specs.Due.{IsDue, IsHostTrace, due_step}
 use Rattle.sl_due.specs.DueAnswers.{set_reply}
 use Rattle.sl_due.specs.DueCommands.{carry_decision, decided, reply_at_once}
-use Rattle.sl_due.specs.DueDelta.{carry_delta, end_leaving, see_request}
-use Rattle.sl_due.specs.DueFirst.{begin_recoveries, refuse, remove_connection, remove_of_refused, send, signal_and_refuse, signal_holders}
+use Rattle.sl_due.specs.CarriedDelta.{carry_delta, end_leaving, see_request}
+use Rattle.sl_due.specs.DueRecovery.{begin_recoveries, send, signal_and_refuse, signal_holders}
+use Rattle.sl_due.specs.DueTimeOuts.{refuse, remove_connection, remove_of_refused}
 use Rattle.sl_due.specs.DueInputs.{end_holdings, leave_holdings, refuse_jobs_of, started_reply, when_running}
-use Rattle.sl_due.specs.DueLease.{carry_lease, next_of_lease}
+use Rattle.sl_due.specs.CarriedLease.{carry_lease, next_of_lease}
 use Rattle.sl_due.specs.DueRequests.{after_request_read, after_value_read, bits_due, value_reply}
 use Rattle.sl_due.specs.Steps.{Step, add_call_of, add_move, add_reply, add_signal, begin_step, seen, when, with_input}
 use Rattle.sl_due.specs.declared.decision.Decision.{Decision}
@@ -62,14 +63,14 @@ use Rattle.sl_words.proofs.Options.{some_of}
 use Rattle.sl_due_law.proofs.Recovery.FreesConclude.{free_written}
 use Rattle.sl_due_law.proofs.Recovery.StopsBegin.{IsDenial, Says, begun_says, with_said}
 use Rattle.sl_due_law.proofs.Recovery.StopsConclude.{old_session}
-use Rattle.sl_trace.specs.Deltas.{delta_known, delta_of_session, next_after_free, next_after_renewal, next_free, next_in_joining, next_on_wake, next_renewal}
+use Rattle.sl_trace.specs.DeltaDecisions.{delta_known, delta_of_session, next_after_free, next_after_renewal, next_free, next_in_joining, next_on_wake, next_renewal}
 use Rattle.sl_trace.specs.Sessions.{calls_of, generation_of, is_present, recovery_of, session_numbered, sessions}
 use Rattle.sl_trace.specs.declared.delta.DeltaNext.{DeltaNext}
 use Rattle.sl_trace.specs.declared.session.Session.{Session}
 use Rattle.sl_due_facts.specs.Facts.HeardCall.{heard_by}
 use Rattle.sl_due_facts.specs.Facts.JobFacts.{FitsCommand}
 use Rattle.sl_due_facts.specs.Facts.AllFacts.{Whole}
-use Rattle.sl_trace.specs.Connections.{is_registered}
+use Rattle.sl_trace.specs.WatchdogConnections.{is_registered}
 use Rattle.sl_trace.specs.Traces.{FollowsTrace, Job, Replied, Setting, Submitted, Trace, call_numbered, child_after, children, is_running, job_of, jobs, new_child, next_job, reply_in, reply_to, submitted, work_job}
 use Rattle.sl_trace.specs.declared.command.Command.{Command}
 use Rattle.sl_trace.specs.declared.command.LockspaceArg.{LockspaceArg}

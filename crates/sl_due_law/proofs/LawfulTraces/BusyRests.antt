@@ -1,7 +1,7 @@
 -- Each act leaves every running job waiting: those that are left alone by what the act does, and the act's own.
 use Rattle.sl_due_facts.specs.Acts.Acts.{Has, Hears}
 use Rattle.sl_due_facts.specs.Acts.TraceSoFar.{entry_of}
-use Rattle.sl_area.specs.Places.{request_offset}
+use Rattle.sl_area.specs.AreaLayout.{request_offset}
 use Rattle.sl_due.specs.DueRequests.{after_request_read, owner_read, request_refusal, write_request}
 use Rattle.sl_due.specs.Steps.{Step, add_call_of, add_reply, seen}
 use Rattle.sl_due_law.proofs.LawfulTraces.BusyActs.{Busy, BusyHeard, all_of}

@@ -22,8 +22,7 @@ use Rattle.sl_trace.specs.Jobs.{command_numbered, lockspace_named}
 use Rattle.sl_words.proofs.Lists.{contains_none, find_fails, got_inside, in_map, kept}
 use Rattle.sl_words.proofs.Numbers.{number_itself}
 use Rattle.sl_words.proofs.Options.{some_of}
-use Rattle.sl_trace.specs.Sessions.{calls_of, is_call_of, is_joined, is_present, joined_after, recovery_of, refused_after, removed_after, renewing, renewing_after, session_numbered, sessions, stage_in, stage_of}
-use Rattle.sl_trace.specs.Sessions.{free_write, has_open_write, recovers, renewed_by, shows_other}
+use Rattle.sl_trace.specs.Sessions.{calls_of, is_call_of, is_joined, is_present, joined_after, recovery_of, refused_after, removed_after, renewing, renewing_after, session_numbered, sessions, stage_in, stage_of, free_write, has_open_write, recovers, renewed_by, shows_other}
 use Rattle.sl_trace.specs.declared.session.Begun.{Begun}
 use Rattle.sl_trace.specs.declared.session.Renewing.{Renewing}
 use Rattle.sl_trace.specs.declared.session.Session.{Session}

@@ -1,12 +1,13 @@
 -- Each call of a step suits what it is for.
 use Rattle.sl_due_facts.proofs.Acts.AddedAtEnd.{contains_last}
 use Rattle.sl_due_facts.specs.Acts.Acts.{Acts, Hears, next_of_conversion, next_of_release, next_of_settling}
-use Rattle.sl_area.specs.Places.{area_sectors, block_sectors, delta_offset, leader_record, request_offset}
+use Rattle.sl_area.specs.AreaLayout.{area_sectors, block_sectors, delta_offset, request_offset}
+use Rattle.sl_area.specs.AreaRecords.{leader_record}
 use Rattle.sl_due.specs.DueAnswers.{set_reply}
 use Rattle.sl_due.specs.DueCommands.{carry_decision, decided}
-use Rattle.sl_due.specs.DueFirst.{begin_recoveries}
+use Rattle.sl_due.specs.DueRecovery.{begin_recoveries}
 use Rattle.sl_due.specs.DueInputs.{end_holdings, leave_holdings, started_reply}
-use Rattle.sl_due.specs.DueLease.{next_of_lease}
+use Rattle.sl_due.specs.CarriedLease.{next_of_lease}
 use Rattle.sl_due.specs.DueRequests.{after_value_read, bits_due, owner_read, value_reply}
 use Rattle.sl_due.specs.Steps.{Step, add_end, add_reply, begin_step, seen, with_input}
 use Rattle.sl_due.specs.declared.decision.Decision.TheVariants.{ConvertsTo, GetsValue, GivesUp, Joins, Leaves, ReadsArea, Replies, Requests, SetsValue, Shares, TakesOver}
@@ -23,14 +24,14 @@ use Rattle.sl_due_leases.specs.Holdings.DecisionGrounds.{AsksLease, HasGrounds, 
 use Rattle.sl_due_law.specs.LawfulTraces.JobLore.{AllSuit, CallSuits, NewSuit, OpFits, suits}
 use Rattle.sl_due_law.specs.LawfulTraces.CarriedFacts.{Kept}
 use Rattle.sl_trace.specs.Jobs.{aim_of, aim_of_command, command_numbered, command_of, job_of_start, wanted_mode}
-use Rattle.sl_trace.specs.LeaseWork.{lease_place}
+use Rattle.sl_trace.specs.LeaseDecisions.{lease_place}
 use Rattle.sl_trace.specs.Leases.{known, lver_written, spot_of, spot_of_call}
 use Rattle.sl_trace.specs.declared.lease.Aim.TheVariants.{Acquires, Converts, Releases}
 use Rattle.sl_trace.specs.declared.lease.Aim.{Aim}
 use Rattle.sl_trace.specs.declared.lease.LeaseNext.TheVariants.{AnswerJob, BecomeExclusive, BecomeShared, GrantJob, Nothing as No_lease, ReadFor, WriteBlock, WriteLeader}
 use Rattle.sl_trace.specs.declared.lease.LeaseNext.{LeaseNext}
 use Rattle.sl_words.proofs.Lists.{contains_none, got_inside, in_map}
-use Rattle.sl_trace.specs.Deltas.{delta_known, delta_of_session, next_after_free, next_after_renewal, next_free, next_in_joining, next_on_wake, next_renewal}
+use Rattle.sl_trace.specs.DeltaDecisions.{delta_known, delta_of_session, next_after_free, next_after_renewal, next_free, next_in_joining, next_on_wake, next_renewal}
 use Rattle.sl_trace.specs.Sessions.{calls_of, generation_of, recovery_of}
 use Rattle.sl_trace.specs.declared.delta.DeltaNext.TheVariants.{Disconnect, EndLeaving, Join, MoveConnection, Nothing, ReadOwn, RefuseJoin, RegisterAndRead, WriteClaim, WriteFirst, WriteFree, WriteRenewal}
 use Rattle.sl_trace.specs.declared.delta.DeltaNext.{DeltaNext}

@@ -10,7 +10,7 @@ use Rattle.sl_due_leases.proofs.Holdings.LeaseConversions.{spot_is}
 use Rattle.sl_due_leases.specs.Holdings.DecisionGrounds.{ConvertGrounds, HasGrounds}
 use Rattle.sl_due_facts.proofs.Jobs.SessionsArePresent.{present_is, session_has}
 use Rattle.sl_trace.specs.Ballots.{moded_block}
-use Rattle.sl_trace.specs.LeaseWork.{convert_next}
+use Rattle.sl_trace.specs.Conversions.{convert_next}
 use Rattle.sl_trace.specs.Leases.{block_submitted, holdings_on, is_lease_call, is_on, known, lease_calls, spot_of}
 use Rattle.sl_trace.specs.declared.lease.LeaseNext.TheVariants.{Nothing, WriteBlock}
 use Rattle.sl_words.proofs.Lists.{find_inside, kept_inside}

@@ -2,21 +2,22 @@
 use Rattle.sl_due_facts.proofs.Acts.DecisionsAreTheirs.{Of}
 use Rattle.sl_due_facts.proofs.Acts.InputsKeep.{has_heard}
 use Rattle.sl_due_facts.proofs.Acts.PlainActs.{line_has}
-use Rattle.sl_due_facts.specs.Acts.Acts.{Has, next_of_conversion, next_of_release, next_of_settling}
+use Rattle.sl_due_facts.specs.Acts.Acts.{Has, next_of_conversion, next_of_release, next_of_settling, Acts}
 use Rattle.sl_due_facts.specs.Acts.TraceSoFar.{entry_of}
-use Rattle.sl_area.specs.Places.{area_sectors, block_offset, block_sectors, delta_offset, leader_offset, leader_record, request_offset, value_offset}
+use Rattle.sl_area.specs.AreaLayout.{area_sectors, block_offset, block_sectors, delta_offset, leader_offset, request_offset, value_offset}
+use Rattle.sl_area.specs.AreaRecords.{leader_record}
 use Rattle.sl_due.specs.DueAnswers.{set_reply}
 use Rattle.sl_due.specs.DueCommands.{after_end, carry_decision, decided}
-use Rattle.sl_due.specs.DueDelta.{carry_delta}
+use Rattle.sl_due.specs.CarriedDelta.{carry_delta}
 use Rattle.sl_due.specs.DueInputs.{end_holdings, started_reply}
-use Rattle.sl_due.specs.DueLease.{carry_lease, lease_call, read_for, convert_for, convert_holding, for_work, grant_for, held_otherwise, next_of_lease, next_turn, with_command}
+use Rattle.sl_due.specs.CarriedLease.{carry_lease, lease_call, read_for, convert_for, convert_holding, for_work, grant_for, held_otherwise, next_of_lease, next_turn, with_command}
 use Rattle.sl_due.specs.DueRequests.{after_request_read, after_value_read, bits_due, owner_read, request_refusal, value_reply, write_request}
-use Rattle.sl_due.specs.Steps.{Step, add_reply, seen, with_input, add_end, add_grant, with_some}
+use Rattle.sl_due.specs.Steps.{Step, add_reply, seen, with_input, add_end, add_grant, with_some, begin_step}
 use Rattle.sl_due.specs.declared.decision.Decision.{Decision}
 use Rattle.sl_due.specs.declared.decision.Decision.TheVariants.{ConvertsTo, GetsValue, GivesUp, Joins, Leaves, ReadsArea, Replies, Requests, SetsValue, Shares, TakesOver}
 use Rattle.sl_due_leases.proofs.Grants.DeltasKeep.{free_keeps, renewal_keeps}
-use Rattle.sl_due_leases.proofs.Grants.OthersGoOn.{fits_begin, refusal_on, removal_of_refused_on, removal_on, said_on, sent_on, signalled_on, stopped_on}
-use Rattle.sl_due_leases.proofs.Grants.WorksByAnswers.{settling_no_job, new_spot, one_job}
+use Rattle.sl_due_leases.proofs.Grants.OthersGoOn.{fits_begin, refusal_on, removal_of_refused_on, removal_on, said_on, sent_on, signalled_on, stopped_on, delta_on, granted_on}
+use Rattle.sl_due_leases.proofs.Grants.WorksByAnswers.{settling_no_job, new_spot, one_job, nobody_there}
 use Rattle.sl_due_leases.proofs.Grants.WorksByInputs.{input_works}
 use Rattle.sl_due_leases.proofs.Holdings.DecisionsHaveGrounds.{decisions_have_grounds}
 use Rattle.sl_due_leases.proofs.Holdings.HoldingFactsAreKept.{plainly_late, surveys_no_job}
@@ -38,7 +39,9 @@ use Rattle.sl_due_leases.specs.Holdings.DecisionGrounds.{AsksLease, ConvertGroun
 use Rattle.sl_trace.specs.Ballots.{moded_block}
 use Rattle.sl_trace.specs.Counts.{may_act}
 use Rattle.sl_trace.specs.Jobs.{job_of_start, command_numbered, process_named, resource_named}
-use Rattle.sl_trace.specs.LeaseWork.{lease_place, convert_next, release_next}
+use Rattle.sl_trace.specs.LeaseDecisions.{lease_place}
+use Rattle.sl_trace.specs.Conversions.{convert_next}
+use Rattle.sl_trace.specs.Releases.{release_next}
 use Rattle.sl_trace.specs.Leases.{known, is_on, lver_written, spot_of, spot_of_call, holdings_on}
 use Rattle.sl_trace.specs.declared.lease.Aim.{Aim}
 use Rattle.sl_trace.specs.declared.lease.LeaseNext.{LeaseNext}
@@ -46,12 +49,12 @@ use Rattle.sl_trace.specs.declared.lease.LeaseNext.TheVariants.{AnswerJob, Becom
 use Rattle.sl_words.proofs.Lists.{got_inside, find_inside, kept_inside}
 use Rattle.sl_sector.specs.declared.sector.Block.{Block}
 use Rattle.sl_sector.specs.declared.sector.Rec.TheVariants.{DeltaIs, RequestIs, ValueIs}
-use Rattle.sl_trace.specs.Deltas.{delta_known, delta_of_session, next_after_free, next_after_renewal, next_in_joining, next_on_wake, own_offset}
+use Rattle.sl_trace.specs.DeltaDecisions.{delta_known, delta_of_session, next_after_free, next_after_renewal, next_in_joining, next_on_wake, own_offset}
 use Rattle.sl_trace.specs.Sessions.{calls_of, generation_of, recovery_of, sessions, holdings_of}
 use Rattle.sl_trace.specs.declared.delta.DeltaNext.{DeltaNext}
 use Rattle.sl_trace.specs.declared.session.Session.{Session}
-use Rattle.sl_trace.specs.Commands.{IsCommand}
-use Rattle.sl_trace.specs.Traces.{is_before_input, next_job, Setting, Submitted, Trace, end_of, job_of, new_call, same_place, spot_of_grant, holdings}
+use Rattle.sl_trace.specs.CommandForms.{IsCommand}
+use Rattle.sl_trace.specs.Traces.{is_before_input, next_job, Setting, Submitted, Trace, end_of, job_of, new_call, same_place, spot_of_grant, holdings, Child, child_numbered, first_child, is_child, is_orphan}
 use Rattle.sl_trace.specs.declared.command.Command.{Command}
 use Rattle.sl_trace.specs.declared.command.Command.TheVariants.{Acquire, AddLockspace, Convert, GetLvb, HostStatus, InqLockspace, Release, ReleaseOrphan, RemLockspace, Request, RunProgram, SetKillpath, SetLvb, Status, TakeOver}
 use Rattle.sl_trace.specs.declared.command.ResourceArg.{ResourceArg}
@@ -77,36 +80,20 @@ use Rattle.sl_trace.specs.declared.reply.Reply.{Reply}
 use Rattle.sl_trace.specs.declared.reply.Reply.TheVariants.{BadCommand as Misread, Done, Granted, IoFault, IoTimeout, Limit as LimitReached, SpawnFault}
 use Rattle.sl_trace.specs.declared.reply.Limited.TheVariants.{Turn as TurnLimit}
 use Rattle.sl_words.proofs.CaseLaws.{some_value, true_is_false}
-use Rattle.sl_words.proofs.WordLaws.{and_true}
+use Rattle.sl_words.proofs.WordLaws.{and_true, some_is_true}
 use Rattle.std.proofs.Common.{refl, subst, ap, inl, sym, ◌∙◌, arith, inr}
 use Rattle.std.proofs.lemmas.Bool.{leb-true, eqb-true}
 use Rattle.std.specs.Option.{option_map_or}
 use Rattle.std.specs.Prelude.{List, None, Option, Some, false, if◌then◌else◌, is_some, ℕ, ◌==◌, ◌≡◌, Bool, Contains, [], length, nat_le, true, ◌%◌, ◌&&◌, ◌||◌, ◌∷◌, ◌≤◌, Ok, not, ◌<◌, ◌⊎◌}
-use Rattle.sl_due_leases.proofs.Grants.WorksByAnswers.{new_spot, nobody_there, one_job, settling_no_job}
-use Rattle.sl_due_leases.proofs.Grants.WorksByLines.{Lined, nobody_waits}
+use Rattle.sl_due_leases.proofs.Grants.WorksByLines.{Lined, nobody_waits, held_before}
 use Rattle.sl_due_leases.proofs.Grants.WorksByDeltas.{is_lease_purpose}
-use Rattle.sl_due_leases.proofs.Grants.WorksByLines.{held_before}
-use Rattle.sl_trace.specs.Counts.{may_act}
-use Rattle.sl_trace.specs.Ballots.{moded_block}
-use Rattle.sl_trace.specs.Limits.{most_processes}
-use Rattle.sl_trace.specs.Traces.{Child, child_numbered, first_child, is_child}
-use Rattle.sl_due_leases.proofs.Grants.OthersGoOn.{delta_on, granted_on}
-use Rattle.sl_due_facts.specs.Acts.Acts.{Acts}
-use Rattle.std.proofs.lemmas.Bool.{leb-true}
-use Rattle.sl_due.specs.DueCommands.{carry_decision, decided}
-use Rattle.sl_trace.specs.Traces.{is_orphan}
-use Rattle.sl_trace.specs.Leases.{holdings_on}
-use Rattle.sl_sector.specs.declared.sector.Rec.TheVariants.{ValueIs, RequestIs, DeltaIs}
-use Rattle.sl_sector.specs.declared.sector.Block.{Block}
-use Rattle.sl_words.proofs.WordLaws.{some_is_true}
+use Rattle.sl_trace.specs.CountLimits.{most_processes}
 use Rattle.sl_words.specs.Words.{some_is}
 use Rattle.sl_due_law.proofs.LawfulTraces.CallsSuit.{line_reads}
 use Rattle.sl_due_law.proofs.LawfulTraces.ConvertsHold.{ConvertsNow, answer_converting, call_converting, converting_go_on, end_converting, exit_converting, failed_converting, grant_converting, holds_as, holds_on, holds_seen, input_converting, other_call_converting, plain_call_converting, reply_converting}
 use Rattle.sl_due_law.proofs.LawfulTraces.HeardBefore.{HeardBefore, command_past, heard_before, ran_past}
 use Rattle.sl_due_law.proofs.Recovery.StopsBegin.{Says, IsDenial, begun_says, with_said}
-use Rattle.sl_due.specs.DueFirst.{begin_recoveries}
-use Rattle.sl_due.specs.Steps.{begin_step}
-use Rattle.sl_due.specs.DueCommands.{after_end}
+use Rattle.sl_due.specs.DueRecovery.{begin_recoveries}
 use Rattle.sl_due_law.specs.LawfulTraces.JobLore.{Converting, HoldsThere, JobLore}
 use Rattle.sl_due_law.specs.LawfulTraces.CarriedFacts.{Holds, Kept}
 use Rattle.sl_due_facts.proofs.Acts.Pairs.Decisions.{conversion_is, release_is}

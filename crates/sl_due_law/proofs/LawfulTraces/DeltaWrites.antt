@@ -1,6 +1,6 @@
 -- What a delta lease decides to write is a record.
 use Rattle.sl_due_facts.specs.Acts.Acts.{Has}
-use Rattle.sl_area.specs.Layouts.{record_in, sector_with}
+use Rattle.sl_area.specs.AreaSizes.{record_in, sector_with}
 use Rattle.sl_due.specs.DueRequests.{bits_due}
 use Rattle.sl_due.specs.Steps.{Step, seen}
 use Rattle.sl_due_law.proofs.LawfulTraces.OwnRecords.{bits_of_hosts, delta_is, fits_it, no_bits_bytes}
@@ -9,15 +9,14 @@ use Rattle.sl_words.proofs.Lists.{find_inside, got_inside, kept_inside}
 use Rattle.sl_words.proofs.Options.{not_some, then_value}
 use Rattle.sl_sector.specs.Bitmaps.{no_bits}
 use Rattle.sl_sector.specs.Records.{AreBytes, Fits, IsDelta, IsRecord}
-use Rattle.sl_sector.specs.Spelling.{delta_in}
+use Rattle.sl_sector.specs.SectorLayouts.{delta_in}
 use Rattle.sl_sector.specs.declared.sector.DeltaRec.{DeltaRec}
 use Rattle.sl_sector.specs.declared.sector.DeltaState.{DeltaState}
 use Rattle.sl_sector.specs.declared.sector.DeltaState.TheVariants.{Claimed, Free, Live}
 use Rattle.sl_sector.specs.declared.sector.Rec.TheVariants.{BlockIs, DeltaIs, LeaderIs, PairIs, PairLeaderIs, RequestIs, ValueIs}
 use Rattle.sl_sector.specs.declared.sector.Rec.{Rec}
 use Rattle.sl_due_facts.proofs.Sessions.JoinedNumbers.{HasNumbers, spelled_of}
-use Rattle.sl_trace.specs.Deltas.{claim_of, claim_on, delta_known, delta_of_session, delta_record, has_seq_left, id_held, id_lost, is_renewal_due, is_watched_out, join_step_of, next_after_deciding, next_after_first, next_after_join_read, next_after_verify, next_after_watch, next_by_time, next_free, next_in_joining, next_on_wake, next_renewal, watched}
-use Rattle.sl_trace.specs.Deltas.{DeltaLease}
+use Rattle.sl_trace.specs.DeltaDecisions.{claim_of, claim_on, delta_known, delta_of_session, delta_record, has_seq_left, id_held, id_lost, is_renewal_due, is_watched_out, join_step_of, next_after_deciding, next_after_first, next_after_join_read, next_after_verify, next_after_watch, next_by_time, next_free, next_in_joining, next_on_wake, next_renewal, watched, DeltaLease}
 use Rattle.sl_trace.specs.Sessions.{calls_of, delta_of_record, delta_written, free_write, generation_of, is_call_of, is_join_call, is_joined, join_call, last_seq, leaving_job, sessions}
 use Rattle.sl_trace.specs.Sightings.{is_free_state}
 use Rattle.sl_trace.specs.declared.delta.DeltaKnown.{DeltaKnown}

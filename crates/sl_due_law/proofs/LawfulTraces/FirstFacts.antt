@@ -2,7 +2,7 @@
 use Rattle.sl_due_law.specs.LawfulTraces.TraceLaws.{FactsAtFirst}
 use Rattle.sl_due_facts.proofs.Jobs.SessionsArePresent.{present_is}
 use Rattle.sl_run.specs.Lawful.{IsSetting}
-use Rattle.sl_run.specs.LawfulWatchdog.{is_covered}
+use Rattle.sl_run.specs.LawfulConnections.{is_covered}
 use Rattle.sl_due_leases.proofs.Ways.NumbersFollow.{numbers_follow}
 use Rattle.sl_words.proofs.Lists.{contains_cases, contains_first, contains_map, contains_more, contains_none, find_fails, find_inside, in_map}
 use Rattle.sl_words.proofs.Options.{some_there}
@@ -12,7 +12,7 @@ use Rattle.sl_due_facts.specs.Facts.GrantGrounds.{GrantGrounds, IsDoneWork}
 use Rattle.sl_due_facts.specs.Facts.SessionFacts.{ConnectionFacts, DeltaFacts, IsHeardWriter, NameFacts}
 use Rattle.sl_due_facts.specs.Facts.WayFacts.{WayFacts}
 use Rattle.sl_time.specs.Times.{fail}
-use Rattle.sl_trace.specs.Connections.{Connection, connection_named, connections, given_connection, is_registered}
+use Rattle.sl_trace.specs.WatchdogConnections.{Connection, connection_named, connections, given_connection, is_registered}
 use Rattle.sl_trace.specs.Traces.{Setting, Submitted, Trace}
 use Rattle.sl_trace.specs.declared.command.Command.{Command}
 use Rattle.sl_trace.specs.declared.effects.LeaseStep.{LeaseStep}

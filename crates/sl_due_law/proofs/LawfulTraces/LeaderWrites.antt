@@ -1,14 +1,14 @@
 -- A leader that a lease writes is a record: its name was read, and its numbers are the session's.
 use Rattle.sl_due_facts.proofs.Acts.Pairs.DecodedRecords.{spelled_leader}
 use Rattle.sl_due_facts.proofs.Acts.Pairs.GivenByReads.{given_is_leader}
-use Rattle.sl_area.specs.Layouts.{Layout}
-use Rattle.sl_area.specs.Places.{leader_of}
+use Rattle.sl_area.specs.AreaSizes.{Layout}
+use Rattle.sl_area.specs.AreaLayout.{leader_of}
 use Rattle.sl_due_law.proofs.LawfulTraces.OwnRecords.{few_hosts, fits_it, session_named_well}
 use Rattle.sl_run.specs.Lawful.{IsSetting}
 use Rattle.sl_run.specs.LawfulArea.{HasVerified, IsLeaderGiven, is_leader_read, leaders_read}
 use Rattle.sl_due_leases.proofs.Leases.NamesVerified.{has_verified}
 use Rattle.sl_due_leases.proofs.Ways.WayFactsHeld.PlacesStand.{id_in_range}
-use Rattle.sl_trace.specs.LeaseWork.{leader_for, lease_place}
+use Rattle.sl_trace.specs.LeaseDecisions.{leader_for, lease_place}
 use Rattle.sl_trace.specs.Leases.{is_on, known, leader_given, leaders_given, lease_calls}
 use Rattle.sl_words.proofs.Lists.{contains_cases, contains_none}
 use Rattle.sl_words.proofs.Options.{then_value}

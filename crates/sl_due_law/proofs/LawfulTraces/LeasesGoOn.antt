@@ -1,9 +1,10 @@
 -- After an answer a job's lease does something: it calls, answers the job, grants or converts.
 use Rattle.sl_due_facts.proofs.Acts.Pairs.Decisions.{bytes_are}
-use Rattle.sl_area.specs.Places.{blocks_of, leader_read}
+use Rattle.sl_area.specs.Pairs.{blocks_of}
+use Rattle.sl_area.specs.TornLeader.{leader_read}
 use Rattle.sl_due_law.specs.LawfulTraces.JobLore.{suits}
 use Rattle.sl_trace.specs.Ballots.{moded_block, phase1_block, same_owner, stop_of, value_of}
-use Rattle.sl_trace.specs.LeaseWork.{LeasePlace, after_moding, after_phase1, after_phase2, after_read, after_take, area_next, asked_again, begin_next, begin_or_refuse, first_step, heard, leader_for, lease_next, looks_for_shared, lost_next, named_area_next, phase1_next, phase2_next, refuses, stopped_next, whole_area_next, won_next}
+use Rattle.sl_trace.specs.LeaseDecisions.{LeasePlace, after_moding, after_phase1, after_phase2, after_read, after_take, area_next, asked_again, begin_next, begin_or_refuse, first_step, heard, leader_for, lease_next, looks_for_shared, lost_next, named_area_next, phase1_next, phase2_next, refuses, stopped_next, whole_area_next, won_next}
 use Rattle.sl_trace.specs.Leases.{LeaseKnown, instance_for, is_leader_of, mode_gen_of, own_known, own_or_read, shared_elsewhere}
 use Rattle.sl_trace.specs.declared.lease.Aim.TheVariants.{Acquires, Converts, Releases, Settles}
 use Rattle.sl_trace.specs.declared.lease.Aim.{Aim}

@@ -2,7 +2,7 @@
 use Rattle.sl_due_facts.proofs.Acts.Pairs.Decisions.{next_is}
 use Rattle.sl_due_facts.specs.Acts.Acts.{Hears}
 use Rattle.sl_due_facts.specs.Acts.TraceSoFar.{entry_of}
-use Rattle.sl_due.specs.DueLease.{carry_lease, convert_holding, goes_on, grant_for, grant_of, next_of_lease, read_for, write_block, write_leader}
+use Rattle.sl_due.specs.CarriedLease.{carry_lease, convert_holding, goes_on, grant_for, grant_of, next_of_lease, read_for, write_block, write_leader, held_otherwise}
 use Rattle.sl_due.specs.Steps.{Step, add_call_of, add_end, add_grant, add_reply, add_start, seen, with_some}
 use Rattle.sl_due_leases.proofs.Holdings.HoldingsByAnswers.{JobLed, Led, beside_job, job_led}
 use Rattle.sl_due_leases.proofs.Holdings.LeaseConversions.{after_converting, by_found}
@@ -11,7 +11,7 @@ use Rattle.sl_due_leases.proofs.Grants.Values.ReadsByInputs.{has_number}
 use Rattle.sl_due_facts.proofs.Jobs.JobsAreNumbered.{finds_none, found_after}
 use Rattle.sl_due_facts.proofs.Jobs.SessionsStand.{reply_stops}
 use Rattle.sl_due_facts.proofs.AddedEffects.EffectsAreTold.{effects_are_told}
-use Rattle.sl_area.specs.Places.{BlocksRead, blocks_of}
+use Rattle.sl_area.specs.Pairs.{BlocksRead, blocks_of}
 use Rattle.sl_due_leases.proofs.Ways.GivenReads.{heard_by_lease}
 use Rattle.sl_due_leases.proofs.Ways.WayFactsHeld.HeardStands.{HeardCall, heard_call}
 use Rattle.sl_due_law.proofs.Causes.Leases.NewestWays.{NewestWays, newest_told, newest_ways}
@@ -27,13 +27,12 @@ use Rattle.sl_due_law.specs.LawfulTraces.CarriedFacts.{Kept}
 use Rattle.sl_due_law.specs.LawfulTraces.TraceLaws.{MayRest}
 use Rattle.sl_trace.specs.Jobs.{aim_of, aim_of_command, process_named}
 use Rattle.sl_sector.specs.declared.sector.PairBlock.{PairBlock}
-use Rattle.sl_trace.specs.LeaseWork.{first_step, heard, lease_place, part_read, read_of_step}
+use Rattle.sl_trace.specs.LeaseDecisions.{first_step, heard, lease_place, part_read, read_of_step}
 use Rattle.sl_trace.specs.Leases.{exclusive_on, first_kept, holdings_on, known, lver_written, spot_of_call}
 use Rattle.sl_trace.specs.declared.lease.Aim.TheVariants.{Acquires, Converts, Settles}
 use Rattle.sl_trace.specs.declared.lease.Aim.{Aim}
 use Rattle.sl_trace.specs.declared.lease.LeaseNext.TheVariants.{AnswerJob, BecomeExclusive, BecomeShared, GrantJob, Nothing, ReadFor, WriteBlock, WriteLeader}
 use Rattle.sl_trace.specs.declared.lease.LeaseNext.{LeaseNext}
-use Rattle.sl_due.specs.DueLease.{held_otherwise}
 use Rattle.sl_words.proofs.Lists.{contains_first, find_fails, kept}
 use Rattle.sl_words.proofs.Numbers.{number_itself}
 use Rattle.sl_sector.specs.declared.sector.Block.{Block}

@@ -3,13 +3,14 @@
 use Rattle.sl_due_facts.proofs.Acts.AddedAtEnd.{contains_last}
 use Rattle.sl_due_facts.proofs.Acts.LoopsKeep.{for_each_keeps, when_keeps}
 use Rattle.sl_due_facts.specs.Acts.Acts.{Acts, next_of_conversion, next_of_release, next_of_settling}
-use Rattle.sl_area.specs.Places.{delta_offset, request_offset}
+use Rattle.sl_area.specs.AreaLayout.{delta_offset, request_offset}
 use Rattle.sl_due.specs.DueAnswers.{set_reply}
 use Rattle.sl_due.specs.DueCommands.{answer_line, carry_decision}
-use Rattle.sl_due.specs.DueDelta.{carry_delta, see_request}
-use Rattle.sl_due.specs.DueFirst.{remove_connection, send, signal_holders}
+use Rattle.sl_due.specs.CarriedDelta.{carry_delta, see_request}
+use Rattle.sl_due.specs.DueTimeOuts.{remove_connection}
+use Rattle.sl_due.specs.DueRecovery.{send, signal_holders}
 use Rattle.sl_due.specs.DueInputs.{end_holdings, leave_holdings, started_reply}
-use Rattle.sl_due.specs.DueLease.{next_of_lease}
+use Rattle.sl_due.specs.CarriedLease.{next_of_lease}
 use Rattle.sl_due.specs.DueRequests.{after_value_read, bits_due, value_reply}
 use Rattle.sl_due.specs.Steps.{Step, add_call_of, add_end, add_move, add_signal, seen, with_input}
 use Rattle.sl_due.specs.declared.decision.Decision.{Decision}
@@ -29,7 +30,7 @@ use Rattle.sl_words.proofs.Options.{some_of}
 use Rattle.sl_sector.specs.Bitmaps.{no_bits}
 use Rattle.sl_sector.specs.declared.sector.DeltaState.TheVariants.{Free, Live}
 use Rattle.sl_sector.specs.declared.sector.Rec.TheVariants.{DeltaIs}
-use Rattle.sl_trace.specs.Deltas.{DeltaLease, delta_known, delta_of_session, delta_record, is_renewal_due, next_after_free, next_after_renewal, next_free, next_in_joining, next_on_wake, next_renewal, own_offset}
+use Rattle.sl_trace.specs.DeltaDecisions.{DeltaLease, delta_known, delta_of_session, delta_record, is_renewal_due, next_after_free, next_after_renewal, next_free, next_in_joining, next_on_wake, next_renewal, own_offset}
 use Rattle.sl_trace.specs.Sessions.{calls_of, generation_of, holders_of, holdings_of, is_join_call, recovery_of}
 use Rattle.sl_trace.specs.declared.delta.DeltaKnown.{DeltaKnown}
 use Rattle.sl_trace.specs.declared.delta.DeltaNext.{DeltaNext}
@@ -37,7 +38,7 @@ use Rattle.sl_trace.specs.declared.delta.DeltaNext.TheVariants.{Disconnect, EndL
 use Rattle.sl_trace.specs.declared.session.Session.{Session}
 use Rattle.sl_due_facts.specs.Facts.HeardCall.{heard_by}
 use Rattle.sl_due_facts.specs.Facts.AllFacts.{Whole}
-use Rattle.sl_trace.specs.Connections.{is_registered}
+use Rattle.sl_trace.specs.WatchdogConnections.{is_registered}
 use Rattle.sl_trace.specs.Traces.{end_of, holdings, is_running, is_shared, job_numbered, line_in, next_call, next_job, same_place, spot_of_grant}
 use Rattle.sl_trace.specs.declared.command.Command.{Command}
 use Rattle.sl_trace.specs.declared.command.Command.TheVariants.{Acquire, AddLockspace, Convert, GetLvb, HostStatus, InqLockspace, Release, ReleaseOrphan, RemLockspace, Request, RunProgram, SetKillpath, SetLvb, Status, TakeOver}

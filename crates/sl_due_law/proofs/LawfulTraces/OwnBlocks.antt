@@ -1,6 +1,7 @@
 -- Which block of its own a lease knows when an answer to its call was heard.
 use Rattle.sl_due_facts.specs.Acts.Acts.{Hears}
-use Rattle.sl_area.specs.Places.{BlocksRead, blocks_in, blocks_of, pairs_of}
+use Rattle.sl_area.specs.Pairs.{BlocksRead, blocks_of, pairs_of}
+use Rattle.sl_area.specs.AreaLayout.{blocks_in}
 use Rattle.sl_due.specs.Steps.{Step, seen}
 use Rattle.sl_due_leases.proofs.Leases.NamesVerified.{ended_wrote}
 use Rattle.sl_due_leases.proofs.Ways.WayFactsHeld.EffectsLeave.{there_has}
@@ -17,10 +18,10 @@ use Rattle.sl_due_facts.specs.Facts.AllFacts.{Whole}
 use Rattle.sl_trace.specs.Leases.{block_of_host, block_submitted, blocks_given, known, last_blocks, lease_calls, own_known, own_or_read, read_given, spot_of_call}
 use Rattle.sl_words.proofs.Lists.{there_is}
 use Rattle.sl_words.proofs.Places.{position_none}
-use Rattle.sl_area.specs.Layouts.{Layout}
+use Rattle.sl_area.specs.AreaSizes.{Layout}
 use Rattle.sl_sector.specs.declared.sector.Block.{Block}
 use Rattle.sl_sector.specs.declared.sector.PairBlock.{PairBlock}
-use Rattle.sl_trace.specs.LeaseWork.{first_step}
+use Rattle.sl_trace.specs.LeaseDecisions.{first_step}
 use Rattle.sl_trace.specs.declared.session.Session.{Session}
 use Rattle.sl_trace.specs.Traces.{Submitted}
 use Rattle.sl_trace.specs.declared.effects.LeaseRead.TheVariants.{OfArea, OfBlock, OfFree, OfPhase1, OfPhase2}

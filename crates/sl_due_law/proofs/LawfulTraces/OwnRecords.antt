@@ -1,5 +1,5 @@
 -- What a session writes on its id's sector, of a request and of a value is a record.
-use Rattle.sl_area.specs.Layouts.{IsGeometry, Sizes}
+use Rattle.sl_area.specs.AreaSizes.{IsGeometry, Sizes}
 use Rattle.sl_due_facts.proofs.Jobs.JobsAreNumbered.{command_is_read}
 use Rattle.sl_due_facts.proofs.Jobs.SessionsHaveJobs.{given_one, joined_by}
 use Rattle.sl_run.specs.Lawful.{IsGiven, IsSetting}
@@ -9,11 +9,11 @@ use Rattle.sl_request.proofs.BitmapFacts.{listed_are_set, none_is_set}
 use Rattle.sl_sector.specs.Bitmaps.{bitmap_of, no_bits}
 use Rattle.sl_sector.specs.Records.{AreBytes, Fits, IsDelta, IsRequest}
 use Rattle.sl_sector.specs.declared.sector.DeltaState.{DeltaState}
-use Rattle.sl_trace.specs.Deltas.{delta_of_session, delta_record}
+use Rattle.sl_trace.specs.DeltaDecisions.{delta_of_session, delta_record}
 use Rattle.sl_trace.specs.Sessions.{sessions}
 use Rattle.sl_trace.specs.declared.session.Session.{Session}
 use Rattle.sl_text.specs.Names.{is_name}
-use Rattle.sl_trace.specs.Commands.{IsLockspaceArg, IsRequestArg}
+use Rattle.sl_trace.specs.CommandForms.{IsLockspaceArg, IsRequestArg}
 use Rattle.sl_trace.specs.Traces.{Setting, Trace}
 use Rattle.sl_trace.specs.declared.command.Command.TheVariants.{AddLockspace}
 use Rattle.sl_words.specs.Bounds.{is_number, moments, most_hosts}

@@ -3,8 +3,8 @@
 use Rattle.sl_due_facts.proofs.Acts.Pairs.Decisions.{TurnFits, within_cases, writes_own_block}
 use Rattle.sl_due_facts.proofs.Acts.Pairs.Records.{block_recorded, block_spelled, leader_no_block}
 use Rattle.sl_due_facts.specs.Acts.Acts.{Hears, next_of_conversion, next_of_release, next_of_settling}
-use Rattle.sl_area.specs.Places.{leader_record}
-use Rattle.sl_due.specs.DueLease.{goes_on, name_on, next_of_lease, next_turn}
+use Rattle.sl_area.specs.AreaRecords.{leader_record}
+use Rattle.sl_due.specs.CarriedLease.{goes_on, name_on, next_of_lease, next_turn}
 use Rattle.sl_due.specs.Steps.{Step, add_end, seen, with_input}
 use Rattle.sl_due_facts.proofs.Jobs.SessionsArePresent.{present_is}
 use Rattle.sl_due_facts.proofs.Sessions.DeltaLines.{calls_lined}
@@ -31,7 +31,9 @@ use Rattle.sl_sector.specs.declared.sector.Block.{Block}
 use Rattle.sl_sector.specs.declared.sector.Leader.{Leader}
 use Rattle.sl_text.specs.Names.{is_name}
 use Rattle.sl_trace.specs.Jobs.{aim_of}
-use Rattle.sl_trace.specs.LeaseWork.{LeasePlace, convert_next, lease_place, refuses, release_next, within_turn}
+use Rattle.sl_trace.specs.LeaseDecisions.{LeasePlace, lease_place, refuses, within_turn}
+use Rattle.sl_trace.specs.Conversions.{convert_next}
+use Rattle.sl_trace.specs.Releases.{release_next}
 use Rattle.sl_trace.specs.Leases.{LeaseKnown, base_turn, block_of_record, block_submitted, holdings_on, is_lease_call, is_on, known, lease_calls, spot_of, spot_of_call, verified_name}
 use Rattle.sl_trace.specs.Sessions.{holdings_of, is_call_of, present_sessions, sessions}
 use Rattle.sl_trace.specs.Traces.{Setting, Submitted, Trace, end_of, holdings, record_of, same_place, spot_of_grant, submitted}

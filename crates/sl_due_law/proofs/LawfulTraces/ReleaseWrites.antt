@@ -16,7 +16,8 @@ use Rattle.sl_due.specs.Steps.{Step, add_end, seen, with_input}
 use Rattle.sl_due_law.proofs.LawfulTraces.ValueWrites.{held_lver, own_is_record}
 use Rattle.sl_due_law.specs.LawfulTraces.Writes.{LeaseWrites}
 use Rattle.sl_trace.specs.Ballots.{moded_block}
-use Rattle.sl_trace.specs.LeaseWork.{leader_for, lease_place, release_next}
+use Rattle.sl_trace.specs.LeaseDecisions.{leader_for, lease_place}
+use Rattle.sl_trace.specs.Releases.{release_next}
 use Rattle.sl_trace.specs.Leases.{block_submitted, is_lease_call, is_on, known, lease_calls, spot_of, verified_name}
 use Rattle.sl_trace.specs.declared.lease.LeaseNext.TheVariants.{Nothing, WriteBlock}
 use Rattle.sl_sector.specs.Records.{IsBlock, IsLeader}

@@ -10,7 +10,7 @@ use Rattle.sl_due_law.specs.LawfulTraces.Writes.{LeaseWrites}
 use Rattle.sl_due_leases.proofs.Ways.WayFactsHeld.EffectsLeave.{there_has}
 use Rattle.sl_due_leases.proofs.Ways.WayFactsHeld.PlacesStand.{id_in_range}
 use Rattle.sl_trace.specs.Ballots.{moded_block, phase1_block}
-use Rattle.sl_trace.specs.LeaseWork.{LeasePlace, begin_next, lease_place, phase1_next, refuses, settle_next, settle_owed, within_turn}
+use Rattle.sl_trace.specs.LeaseDecisions.{LeasePlace, begin_next, lease_place, phase1_next, refuses, settle_next, settle_owed, within_turn}
 use Rattle.sl_trace.specs.Leases.{LeaseKnown, known, mode_gen_of, owed_free, own_known, own_or_read}
 use Rattle.sl_trace.specs.declared.lease.Aim.TheVariants.{Acquires, Converts, Releases, Settles}
 use Rattle.sl_trace.specs.declared.lease.Aim.{Aim}

@@ -6,11 +6,11 @@ use Rattle.sl_trace.specs.declared.effects.Mode.{Mode}
 use Rattle.sl_due_law.proofs.LawfulTraces.ReleaseWrites.{releases_well}
 use Rattle.sl_due_law.proofs.LawfulTraces.SettleWrites.{settles_well}
 use Rattle.sl_trace.specs.declared.effects.Grant.{Grant}
-use Rattle.sl_trace.specs.declared.input.Input.TheVariants.{Wake}
-use Rattle.std.specs.Prelude.{[], ◌≡◌}
-use Rattle.sl_due.specs.DueCommands.{decided}
+use Rattle.sl_trace.specs.declared.input.Input.TheVariants.{Wake, Exit, Line}
+use Rattle.std.specs.Prelude.{[], ◌≡◌, Bool, Contains, List, None, Option, Some, filter, is_some, ℕ, ◌&&◌, ◌+◌, ◌==◌, ◌⊎◌, Ok, false, if◌then◌else◌, true, ◌≤◌}
+use Rattle.sl_due.specs.DueCommands.{decided, carry_decision}
 use Rattle.sl_due_law.proofs.LawfulTraces.ValueWrites.{values_well}
-use Rattle.sl_sector.specs.Records.{IsValue}
+use Rattle.sl_sector.specs.Records.{IsValue, IsRecord}
 use Rattle.sl_sector.specs.declared.sector.ValueRec.{ValueRec}
 use Rattle.sl_due_facts.proofs.Acts.AddedAtEnd.{contains_last}
 use Rattle.sl_due_facts.proofs.Acts.LoopsKeep.{with_some_keeps}
@@ -23,33 +23,35 @@ use Rattle.sl_due_leases.proofs.Ways.WayFactsHeld.EffectsLeave.{there_has}
 use Rattle.sl_due_leases.specs.Holdings.DecisionGrounds.{HasGrounds}
 use Rattle.sl_due_leases.specs.Ways.Nexts.{next_place, next_record}
 use Rattle.sl_trace.specs.Ballots.{moded_block}
-use Rattle.sl_trace.specs.LeaseWork.{convert_next, lease_place, release_next}
+use Rattle.sl_trace.specs.Conversions.{convert_next}
+use Rattle.sl_trace.specs.LeaseDecisions.{lease_place}
+use Rattle.sl_trace.specs.Releases.{release_next}
 use Rattle.sl_trace.specs.declared.effects.Mode.TheVariants.{Exclusive, Shared}
 use Rattle.std.specs.Option.{option_map_or}
 use Rattle.sl_due_facts.specs.Acts.Acts.{Acts, next_of_conversion, next_of_release, next_of_settling}
-use Rattle.sl_area.specs.Places.{area_sectors, block_record, block_sectors, delta_offset, leader_record, request_offset}
+use Rattle.sl_area.specs.AreaLayout.{area_sectors, block_sectors, delta_offset, request_offset}
+use Rattle.sl_area.specs.AreaRecords.{block_record, leader_record}
 use Rattle.sl_due.specs.DueAnswers.{set_reply}
-use Rattle.sl_due.specs.DueCommands.{carry_decision}
 use Rattle.sl_due.specs.DueInputs.{end_holdings, leave_holdings, started_reply}
-use Rattle.sl_due.specs.DueLease.{carry_lease, convert_for, convert_holding, for_work, held_otherwise, next_of_lease, with_command}
+use Rattle.sl_due.specs.CarriedLease.{carry_lease, convert_for, convert_holding, for_work, held_otherwise, next_of_lease, with_command}
 use Rattle.sl_due.specs.DueRequests.{after_value_read, bits_due, value_reply}
 use Rattle.sl_due.specs.Steps.{Step, add_end, add_grant, seen, with_input, with_some}
 use Rattle.sl_due.specs.declared.decision.Decision.{Decision}
 use Rattle.sl_due.specs.declared.decision.Decision.TheVariants.{ConvertsTo, GetsValue, GivesUp, Joins, Leaves, ReadsArea, Replies, Requests, SetsValue, Shares, TakesOver}
-use Rattle.sl_due_facts.proofs.Jobs.EffectsAreAllowed.{Allows, DecisionAllowed, DeltaAllowed, GrantAllowed, LeaseAllowed, ReadAllowed, RequestAllowed, decision, delta, ended, exited, lease, left, refusal, removal_of_refused, requested, said, sent, stopped}
+use Rattle.sl_due_facts.proofs.Jobs.EffectsAreAllowed.{Allows, DecisionAllowed, DeltaAllowed, GrantAllowed, LeaseAllowed, ReadAllowed, RequestAllowed, decision, delta, ended, exited, lease, left, refusal, removal_of_refused, requested, said, sent, stopped, removal, signalled}
 use Rattle.sl_due_facts.proofs.Jobs.NearlyPlainActs.{AnyMove, AnyStart, Anything}
 use Rattle.sl_due_facts.proofs.Jobs.RepliesComeAfter.{on_bool}
 use Rattle.sl_trace.specs.Jobs.{command_numbered, job_of_start, process_named}
 use Rattle.sl_trace.specs.Leases.{LeaseKnown, base_turn, is_lease_call, is_on, known, spot_of, spot_of_call, verified_name}
 use Rattle.sl_trace.specs.declared.lease.LeaseNext.{LeaseNext}
 use Rattle.sl_trace.specs.declared.lease.LeaseNext.TheVariants.{AnswerJob, BecomeExclusive, BecomeShared, GrantJob, Nothing as No_lease, ReadFor, WriteBlock, WriteLeader}
-use Rattle.sl_sector.specs.declared.sector.Rec.TheVariants.{DeltaIs}
-use Rattle.sl_trace.specs.Deltas.{delta_known, delta_of_session, next_after_free, next_after_renewal, next_free, next_in_joining, next_on_wake, next_renewal}
-use Rattle.sl_trace.specs.Sessions.{calls_of, generation_of, is_call_of, recovery_of}
+use Rattle.sl_sector.specs.declared.sector.Rec.TheVariants.{DeltaIs, RequestIs, ValueIs}
+use Rattle.sl_trace.specs.DeltaDecisions.{delta_known, delta_of_session, next_after_free, next_after_renewal, next_free, next_in_joining, next_on_wake, next_renewal}
+use Rattle.sl_trace.specs.Sessions.{calls_of, generation_of, is_call_of, recovery_of, sessions}
 use Rattle.sl_trace.specs.declared.delta.DeltaNext.{DeltaNext}
 use Rattle.sl_trace.specs.declared.delta.DeltaNext.TheVariants.{Disconnect, EndLeaving, Join, MoveConnection, Nothing, ReadOwn, RefuseJoin, RegisterAndRead, WriteClaim, WriteFirst, WriteFree, WriteRenewal}
 use Rattle.sl_trace.specs.declared.session.Session.{Session}
-use Rattle.sl_trace.specs.Traces.{Setting, Submitted, Trace, end_of, next_call, next_job, spot_of_grant, submitted, work_job}
+use Rattle.sl_trace.specs.Traces.{Setting, Submitted, Trace, end_of, next_call, next_job, spot_of_grant, submitted, work_job, record_of}
 use Rattle.sl_trace.specs.declared.command.Command.{Command}
 use Rattle.sl_trace.specs.declared.command.Command.TheVariants.{Acquire, AddLockspace, Convert, GetLvb, HostStatus, InqLockspace, Release, ReleaseOrphan, RemLockspace, Request, RunProgram, SetKillpath, SetLvb, Status, TakeOver}
 use Rattle.sl_trace.specs.declared.effects.Call.{Call}
@@ -66,11 +68,9 @@ use Rattle.sl_trace.specs.declared.effects.Work.{Work}
 use Rattle.sl_trace.specs.declared.effects.Work.TheVariants.{ForJob, Settling}
 use Rattle.sl_trace.specs.declared.input.Answer.{Answer}
 use Rattle.sl_trace.specs.declared.input.Answer.TheVariants.{Failed, Read, Written}
-use Rattle.sl_trace.specs.declared.input.Input.TheVariants.{Exit, Line}
 use Rattle.sl_trace.specs.declared.reply.Reply.TheVariants.{Done, Granted, IoFault, IoTimeout, SpawnFault}
-use Rattle.sl_words.proofs.CaseLaws.{none_some}
+use Rattle.sl_words.proofs.CaseLaws.{none_some, some_value, true_is_false}
 use Rattle.std.proofs.Common.{ap, inl, inr, refl, subst, sym, ◌∙◌}
-use Rattle.std.specs.Prelude.{Bool, Contains, List, None, Option, Some, filter, is_some, ℕ, ◌&&◌, ◌+◌, ◌==◌, ◌≡◌, ◌⊎◌}
 use Rattle.sl_due_facts.proofs.Acts.InputsKeep.{has_heard}
 use Rattle.sl_due_law.proofs.LawfulTraces.DeltaWrites.{WritesRecord, frees_well, joins_well, renews_well, wakes_well}
 use Rattle.sl_due_law.proofs.LawfulTraces.OwnRecords.{request_is, session_id}
@@ -78,20 +78,13 @@ use Rattle.sl_due_law.specs.LawfulTraces.CarriedFacts.{Kept}
 use Rattle.sl_due_law.specs.LawfulTraces.TraceLaws.{SpelledSoFar}
 use Rattle.sl_due_law.specs.LawfulTraces.Writes.{LeaseWrites}
 use Rattle.sl_due_leases.proofs.Holdings.LeaseCallers.{commands_fit}
-use Rattle.sl_due_facts.proofs.Jobs.EffectsAreAllowed.{removal, signalled}
 use Rattle.sl_words.proofs.Lists.{got_inside}
-use Rattle.sl_sector.specs.Records.{IsRecord}
-use Rattle.sl_sector.specs.declared.sector.Rec.TheVariants.{RequestIs, ValueIs}
 use Rattle.sl_sector.specs.declared.sector.Rec.{Rec}
-use Rattle.sl_trace.specs.Sessions.{sessions}
-use Rattle.sl_trace.specs.Commands.{IsCommand}
-use Rattle.sl_trace.specs.Traces.{record_of}
+use Rattle.sl_trace.specs.CommandForms.{IsCommand}
 use Rattle.sl_trace.specs.declared.command.LockspaceArg.{LockspaceArg}
-use Rattle.sl_words.proofs.CaseLaws.{some_value, true_is_false}
 use Rattle.sl_words.specs.Bounds.{most_hosts}
 use Rattle.sl_sector.specs.declared.sector.Block.{Block}
 use Rattle.sl_trace.specs.declared.effects.LeaseRead.TheVariants.{OfArea, OfBlock, OfFree, OfPhase1, OfPhase2}
-use Rattle.std.specs.Prelude.{Ok, false, if◌then◌else◌, true, ◌≤◌}
 
 -- ---- calls that write records
 

@@ -4,8 +4,8 @@ use Rattle.sl_due_facts.proofs.Acts.StepsKeep.{Fixed, due_is_of}
 use Rattle.sl_due_facts.proofs.Acts.TracesKeep.{due_is_seen}
 use Rattle.sl_due_facts.specs.Acts.TraceSoFar.{entry_of}
 use Rattle.sl_due.specs.Due.{IsDue, after_input, before_input, due_step}
-use Rattle.sl_due.specs.DueDelta.{carry_delta}
-use Rattle.sl_due.specs.DueFirst.{remove_connection}
+use Rattle.sl_due.specs.CarriedDelta.{carry_delta}
+use Rattle.sl_due.specs.DueTimeOuts.{remove_connection}
 use Rattle.sl_due.specs.DueInputs.{end_holdings, on_spawned, started_reply, take_input, when_running}
 use Rattle.sl_due.specs.DueWake.{end_if_done, finish, finish_session, free_if_done}
 use Rattle.sl_due.specs.Steps.{Step, add_reply, add_signal, begin_step, seen, when, with_input, with_some}
@@ -19,7 +19,7 @@ use Rattle.sl_due_law.specs.LawfulTraces.Busy.{told_by}
 use Rattle.sl_due_law.specs.LawfulTraces.CarriedFacts.{Holds}
 use Rattle.sl_trace.specs.Jobs.{job_of_start}
 use Rattle.sl_words.proofs.Lists.{head_is}
-use Rattle.sl_trace.specs.Deltas.{delta_known, delta_of_session, next_free}
+use Rattle.sl_trace.specs.DeltaDecisions.{delta_known, delta_of_session, next_free}
 use Rattle.sl_trace.specs.Sessions.{has_open_write, holdings_of, is_joined, open_calls_of, present_sessions, recovery_of}
 use Rattle.sl_trace.specs.declared.session.Session.{Session}
 use Rattle.sl_trace.specs.Traces.{Child, FollowsTrace, Setting, Trace, child_after, child_numbered, children, is_expected, is_running, new_child, stands_for}

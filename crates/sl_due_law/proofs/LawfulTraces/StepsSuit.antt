@@ -3,7 +3,9 @@ use Rattle.sl_due_facts.proofs.Acts.Pairs.Decisions.{within_cases}
 use Rattle.sl_due_law.proofs.Causes.Leases.ReadNexts.{again_same, bytes_by, first_same}
 use Rattle.sl_due_law.specs.LawfulTraces.JobLore.{acquires_by, converts_by, suits}
 use Rattle.sl_trace.specs.Ballots.{moded_block, phase1_block, same_owner, stop_of, value_of}
-use Rattle.sl_trace.specs.LeaseWork.{LeasePlace, area_next, after_freeing, after_moding, after_phase1, after_phase2, after_read, after_take, begin_next, begin_or_refuse, convert_next, first_step, leader_for, lease_next, looks_for_shared, lost_next, named_area_next, phase1_next, phase2_next, refuses, release_next, step_of_read, stopped_next, whole_area_next, within_turn, won_next}
+use Rattle.sl_trace.specs.LeaseDecisions.{LeasePlace, area_next, after_freeing, after_moding, after_phase1, after_phase2, after_read, after_take, begin_next, begin_or_refuse, first_step, leader_for, lease_next, looks_for_shared, lost_next, named_area_next, phase1_next, phase2_next, refuses, step_of_read, stopped_next, whole_area_next, within_turn, won_next}
+use Rattle.sl_trace.specs.Conversions.{convert_next}
+use Rattle.sl_trace.specs.Releases.{release_next}
 use Rattle.sl_trace.specs.Leases.{LeaseKnown, instance_for, is_leader_of, mode_gen_of, own_known, shared_elsewhere}
 use Rattle.sl_trace.specs.declared.lease.Aim.TheVariants.{Acquires, Converts, Releases, Settles}
 use Rattle.sl_trace.specs.declared.lease.Aim.{Aim}

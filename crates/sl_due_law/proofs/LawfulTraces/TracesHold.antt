@@ -4,7 +4,7 @@ use Rattle.sl_due_facts.proofs.Acts.StepsKeep.{Fixed, due_is_of}
 use Rattle.sl_due_facts.proofs.Acts.TracesKeep.{due_is_seen}
 use Rattle.sl_due_facts.specs.Acts.TraceSoFar.{entry_of}
 use Rattle.sl_due.specs.Due.{IsDue, due_step}
-use Rattle.sl_due.specs.DueFirst.{begin_recoveries}
+use Rattle.sl_due.specs.DueRecovery.{begin_recoveries}
 use Rattle.sl_due.specs.Steps.{Step, begin_step, seen}
 use Rattle.sl_due_law.proofs.LawfulTraces.ActsRest.{Heard, Rested, answer_acts_rest, other_acts_rest, rested}
 use Rattle.sl_due_law.proofs.LawfulTraces.AllIsKept.{all_begins}

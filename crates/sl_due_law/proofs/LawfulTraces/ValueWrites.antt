@@ -19,7 +19,7 @@ use Rattle.sl_due_facts.proofs.Sessions.JoinedNumbers.{spelled_of}
 use Rattle.sl_trace.specs.Sessions.{calls_of, holdings_of, is_call_of, present_sessions, session_named, sessions}
 use Rattle.sl_trace.specs.declared.session.Session.{Session}
 use Rattle.sl_due_facts.specs.Facts.AllFacts.{Whole}
-use Rattle.sl_trace.specs.Commands.{IsCommand, IsValueArg}
+use Rattle.sl_trace.specs.CommandForms.{IsCommand, IsValueArg}
 use Rattle.sl_trace.specs.Traces.{Submitted, holdings, is_shared, record_of, same_place, spot_of_grant, submitted}
 use Rattle.sl_trace.specs.declared.command.Command.TheVariants.{SetLvb}
 use Rattle.sl_trace.specs.declared.command.Command.{Command}

@@ -1,5 +1,5 @@
 -- A job that waits at an entry's end is busy.
-use Rattle.sl_due.specs.Due.{IsBusy, NoIdleJob, has_open_start, is_leaving_job, is_waiting_call, is_waiting_joining}
+use Rattle.sl_due.specs.IdleJobs.{IsBusy, NoIdleJob, has_open_start, is_leaving_job, is_waiting_call, is_waiting_joining}
 use Rattle.sl_due_law.specs.LawfulTraces.Busy.{AllWait, For_call, For_child, For_leaving, For_session, Waits}
 use Rattle.sl_due_leases.proofs.Holdings.HoldersSpared.{joining}
 use Rattle.sl_due_facts.proofs.Jobs.SessionsArePresent.{session_has}

@@ -2,7 +2,7 @@
 use Rattle.sl_due_facts.proofs.Acts.AddedAtEnd.{contains_last}
 use Rattle.sl_due_facts.specs.Acts.Acts.{Acts, next_of_settling}
 use Rattle.sl_due.specs.DueCommands.{carry_decision}
-use Rattle.sl_due.specs.DueFirst.{begin_recoveries}
+use Rattle.sl_due.specs.DueRecovery.{begin_recoveries}
 use Rattle.sl_due.specs.DueInputs.{end_holdings, leave_holdings, refuse_jobs_of, started_reply, when_running}
 use Rattle.sl_due.specs.DueRequests.{bits_due}
 use Rattle.sl_due.specs.Steps.{Step, add_reply, add_signal, begin_step, seen, with_input}
@@ -20,7 +20,7 @@ use Rattle.sl_due_law.proofs.Recovery.StopsBegin.{IsDenial, Says, begun_says}
 use Rattle.sl_due_law.specs.Recovery.Stops.{Denies}
 use Rattle.sl_sector.specs.Bitmaps.{no_bits}
 use Rattle.sl_sector.specs.declared.sector.DeltaState.TheVariants.{Free, Live}
-use Rattle.sl_trace.specs.Deltas.{DeltaLease, delta_known, delta_of_session, delta_record, is_renewal_due, join_step_of, next_after_claim, next_by_time, next_free, next_in_watch, next_on_wake, next_renewal}
+use Rattle.sl_trace.specs.DeltaDecisions.{DeltaLease, delta_known, delta_of_session, delta_record, is_renewal_due, join_step_of, next_after_claim, next_by_time, next_free, next_in_watch, next_on_wake, next_renewal}
 use Rattle.sl_trace.specs.Sessions.{calls_of}
 use Rattle.sl_trace.specs.declared.delta.DeltaKnown.{DeltaKnown}
 use Rattle.sl_trace.specs.declared.delta.DeltaNext.{DeltaNext}

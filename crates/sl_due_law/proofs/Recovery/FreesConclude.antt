@@ -4,11 +4,12 @@ use Rattle.sl_due_facts.proofs.Acts.InputsKeep.{has_heard}
 use Rattle.sl_due_facts.proofs.Acts.LoopsKeep.{when_keeps}
 use Rattle.sl_due_facts.specs.Acts.Acts.{Hears, IsIdle, lone_job}
 use Rattle.sl_due_facts.specs.Acts.TraceSoFar.{entry_of}
-use Rattle.sl_area.specs.Places.{request_offset}
+use Rattle.sl_area.specs.AreaLayout.{request_offset}
 use Rattle.sl_due.specs.DueAnswers.{set_reply}
-use Rattle.sl_due.specs.DueDelta.{carry_delta, end_leaving}
-use Rattle.sl_due.specs.DueFirst.{remove_connection, remove_of_refused, send, signal_and_refuse}
-use Rattle.sl_due.specs.DueLease.{carry_lease, next_of_lease}
+use Rattle.sl_due.specs.CarriedDelta.{carry_delta, end_leaving}
+use Rattle.sl_due.specs.DueTimeOuts.{remove_connection, remove_of_refused}
+use Rattle.sl_due.specs.DueRecovery.{send, signal_and_refuse}
+use Rattle.sl_due.specs.CarriedLease.{carry_lease, next_of_lease}
 use Rattle.sl_due.specs.DueRequests.{after_request_read, after_value_read, value_reply}
 use Rattle.sl_due.specs.Steps.{Step, add_call_of, add_end, add_grant, add_move, add_reply, add_signal, add_start, seen, when, with_input}
 use Rattle.sl_due_facts.proofs.Jobs.EffectsAreAllowed.{delta, lease, removal, removal_of_refused, requested, sent, stopped}
@@ -30,14 +31,14 @@ use Rattle.sl_due_law.specs.Recovery.Stops.{FreeTold, FreesEnd}
 use Rattle.sl_sector.specs.Bitmaps.{no_bits}
 use Rattle.sl_sector.specs.declared.sector.DeltaState.TheVariants.{Free}
 use Rattle.sl_sector.specs.declared.sector.Rec.{Rec}
-use Rattle.sl_trace.specs.Deltas.{delta_known, delta_of_session, delta_record, next_after_free, next_after_renewal, next_free, next_in_joining}
+use Rattle.sl_trace.specs.DeltaDecisions.{delta_known, delta_of_session, delta_record, next_after_free, next_after_renewal, next_free, next_in_joining}
 use Rattle.sl_trace.specs.Sessions.{calls_of, delta_of_record, generation_of, is_call_of, is_free_purpose, is_joined, is_present, last_seq, recovery_of, session_numbered, sessions}
 use Rattle.sl_trace.specs.declared.delta.DeltaNext.{DeltaNext}
 use Rattle.sl_trace.specs.declared.session.Session.{Session}
 use Rattle.sl_due_facts.specs.Facts.ConcludingActs.{Concludes}
 use Rattle.sl_due_facts.specs.Facts.HeardCall.{heard_by}
 use Rattle.sl_due_facts.specs.Facts.AllFacts.{Whole}
-use Rattle.sl_trace.specs.Connections.{is_registered, unregisters}
+use Rattle.sl_trace.specs.WatchdogConnections.{is_registered, unregisters}
 use Rattle.sl_trace.specs.Traces.{Setting, Submitted, answered_in, call_numbered, is_answer_for, is_expected, is_running, mark, outstanding, record_of, submitted}
 use Rattle.sl_trace.specs.declared.effects.Call.{Call}
 use Rattle.sl_trace.specs.declared.effects.Move.TheVariants.{Unregister}

@@ -1,6 +1,6 @@
 -- What a step must be for a stop to do all that is asked: nothing has ended, no job was answered ok, no kill program was set.
 use Rattle.sl_due_facts.specs.Acts.TraceSoFar.{entry_of}
-use Rattle.sl_due.specs.DueFirst.{signal_and_refuse}
+use Rattle.sl_due.specs.DueRecovery.{signal_and_refuse}
 use Rattle.sl_due.specs.Steps.{Step, seen}
 use Rattle.sl_due_facts.proofs.Jobs.JobFactsGrow.{contains_left}
 use Rattle.sl_due_facts.proofs.Jobs.QuietEffects.{names_it}
@@ -12,7 +12,8 @@ use Rattle.sl_due_law.proofs.Recovery.HoldersAre.{holders_stay}
 use Rattle.sl_due_law.proofs.Recovery.StopsDone.{IsRefusedIn, KeepsPrograms, stopped_session}
 use Rattle.sl_trace.specs.declared.session.Session.{Session}
 use Rattle.sl_trace.specs.EffectTexts.{is_ok_reply}
-use Rattle.sl_trace.specs.Traces.{Job, KillProgram, Replied, exited_by, holdings, is_done, is_ended_by, is_running, job_in, jobs, kill_program_in, kill_programs, next_job, program_set_in, reply_in, reply_to, running_jobs, with_program, without_program}
+use Rattle.sl_trace.specs.Traces.{Job, Replied, exited_by, holdings, is_ended_by, is_running, job_in, jobs, next_job, reply_in, reply_to, running_jobs}
+use Rattle.sl_trace.specs.KillPrograms.{KillProgram, is_done, kill_program_in, kill_programs, program_set_in, with_program, without_program}
 use Rattle.sl_trace.specs.declared.command.Command.TheVariants.{RemLockspace}
 use Rattle.sl_trace.specs.declared.command.LockspaceArg.{LockspaceArg}
 use Rattle.sl_trace.specs.declared.effects.End.{End}

@@ -11,7 +11,7 @@ use Rattle.sl_due_facts.proofs.Jobs.SessionsStand.{joined_then}
 use Rattle.sl_run.specs.LawfulArea.{LawfulArea, is_area_work, is_delta_record}
 use Rattle.sl_run.specs.LawfulDelta.{LawfulDelta, LawfulDeltaCall, LawfulJoinStep}
 use Rattle.sl_run.specs.LawfulParting.{LawfulParting, MayPart, is_leaving_write}
-use Rattle.sl_run.specs.LawfulWatchdog.{LawfulWatchdog}
+use Rattle.sl_run.specs.LawfulConnections.{LawfulWatchdog}
 use Rattle.sl_run.specs.LawForms.{IsAnsweredAt, cut_at}
 use Rattle.sl_words.proofs.Lists.{any_found, contains_first, contains_map, contains_more, find_inside, kept_inside}
 use Rattle.sl_words.proofs.Options.{none_is, some_there}
@@ -25,7 +25,7 @@ use Rattle.sl_trace.specs.declared.session.Session.{Session}
 use Rattle.sl_trace.specs.declared.stage.Stage.{Stage}
 use Rattle.sl_trace.specs.declared.stage.Stage.TheVariants.{Ended, Freeing, Refused, Standing}
 use Rattle.sl_due_facts.specs.Facts.CallFacts.{CallFacts}
-use Rattle.sl_trace.specs.Connections.{unregisters}
+use Rattle.sl_trace.specs.WatchdogConnections.{unregisters}
 use Rattle.sl_trace.specs.Traces.{FollowsTrace, Setting, Submitted, Trace, answer_of, answered_in, call_numbered, is_answer_for, is_expected, is_write, mark, new_call, outstanding, record_of, submitted}
 use Rattle.sl_trace.specs.declared.effects.Call.{Call}
 use Rattle.sl_trace.specs.declared.effects.JoinStep.{JoinStep}

@@ -10,7 +10,7 @@ use Rattle.sl_due_facts.specs.Acts.Acts.{OtherActs}
 use Rattle.sl_due_facts.specs.Acts.KeptByEffects.{Plainly}
 use Rattle.sl_due.specs.Due.{after_input, before_input, due_step}
 use Rattle.sl_due.specs.DueCommands.{carry_decision}
-use Rattle.sl_due.specs.DueFirst.{begin_recoveries, kill_holders, kills, kills_holders, send, signal_holders}
+use Rattle.sl_due.specs.DueRecovery.{begin_recoveries, kill_holders, kills, kills_holders, send, signal_holders}
 use Rattle.sl_due.specs.DueInputs.{end_holdings, on_spawned, take_input, when_running}
 use Rattle.sl_due.specs.DueWake.{is_wake, on_wake}
 use Rattle.sl_due.specs.Steps.{Step, add_end, add_reply, add_signal, begin_step, for_each, seen, when, with_input, with_some}

@@ -7,7 +7,7 @@ use Rattle.sl_due_facts.specs.Acts.KeptByEffects.{Plainly}
 use Rattle.sl_due_facts.specs.Acts.TraceSoFar.{entry_of}
 use Rattle.sl_due.specs.Due.{IsDue, after_input, before_input, due, due_step}
 use Rattle.sl_due.specs.DueCommands.{carry_decision}
-use Rattle.sl_due.specs.DueFirst.{begin_recoveries, is_kill_due, kills}
+use Rattle.sl_due.specs.DueRecovery.{begin_recoveries, is_kill_due, kills}
 use Rattle.sl_due.specs.Steps.{Step, begin_step, seen}
 use Rattle.sl_due_facts.proofs.Jobs.CallsHaveFacts.{find_mapped, timely}
 use Rattle.sl_due_facts.proofs.Jobs.EffectsAreAllowed.{sent}
@@ -37,7 +37,7 @@ use Rattle.sl_trace.specs.declared.session.Begun.{Begun}
 use Rattle.sl_trace.specs.declared.session.Session.{Session}
 use Rattle.sl_due_facts.specs.Facts.HoldingFacts.{HoldingFacts}
 use Rattle.sl_due_facts.specs.Facts.AllFacts.{WholeTrace}
-use Rattle.sl_trace.specs.Connections.{is_registered}
+use Rattle.sl_trace.specs.WatchdogConnections.{is_registered}
 use Rattle.sl_trace.specs.Traces.{Answered, Job, Setting, Submitted, Trace, answer_of, answered_in, holdings, is_ended_by, last_reading, mark, new_call, stands_for, submitted}
 use Rattle.sl_trace.specs.declared.effects.Call.{Call}
 use Rattle.sl_trace.specs.declared.effects.Effects.{Effects}

@@ -2,7 +2,7 @@
 use Rattle.sl_due_facts.proofs.Acts.AddedAtEnd.{contains_last}
 use Rattle.sl_due_facts.proofs.Acts.LoopsKeep.{for_each_keeps, when_keeps}
 use Rattle.sl_due_facts.specs.Acts.TraceSoFar.{entry_of}
-use Rattle.sl_due.specs.DueFirst.{begin_recoveries, begin_recovery, begins_now, send, signal_and_refuse, signal_holders}
+use Rattle.sl_due.specs.DueRecovery.{begin_recoveries, begin_recovery, begins_now, send, signal_and_refuse, signal_holders}
 use Rattle.sl_due.specs.Steps.{Step, add_call_of, add_end, add_grant, add_move, add_reply, add_signal, add_start, begin_step, for_each, seen, when}
 use Rattle.sl_due_facts.proofs.Jobs.EffectsAreAllowed.{stopped}
 use Rattle.sl_due_facts.proofs.Jobs.JobFactsBegin.{sessions_then}
@@ -11,7 +11,7 @@ use Rattle.sl_due_facts.proofs.Jobs.QuietFactsBegin.{leaving_wake}
 use Rattle.sl_due_facts.proofs.Jobs.SessionsArePresent.{joined_present, present_inside}
 use Rattle.sl_due_facts.specs.Jobs.JobLaws.{BeginsWith}
 use Rattle.sl_run.specs.LawfulRecovery.{StopsSession}
-use Rattle.sl_trace.specs.Counts.{stopper_of}
+use Rattle.sl_trace.specs.KillPrograms.{stopper_of}
 use Rattle.sl_trace.specs.Jobs.{jobs_of_session}
 use Rattle.sl_words.proofs.Lists.{contains_cases, contains_none}
 use Rattle.sl_words.proofs.Numbers.{number_itself}

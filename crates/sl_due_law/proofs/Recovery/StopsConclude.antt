@@ -1,11 +1,11 @@
 -- Where all that an answer makes due is done, each session whose recovery or leaving began in the step has been stopped.
 use Rattle.sl_due_facts.specs.Acts.Acts.{Hears, IsIdle, lone_job}
 use Rattle.sl_due_facts.specs.Acts.TraceSoFar.{entry_of}
-use Rattle.sl_area.specs.Places.{request_offset}
+use Rattle.sl_area.specs.AreaLayout.{request_offset}
 use Rattle.sl_due.specs.DueAnswers.{set_reply}
-use Rattle.sl_due.specs.DueDelta.{begins_by_read}
-use Rattle.sl_due.specs.DueFirst.{signal_and_refuse}
-use Rattle.sl_due.specs.DueLease.{next_of_lease}
+use Rattle.sl_due.specs.CarriedDelta.{begins_by_read}
+use Rattle.sl_due.specs.DueRecovery.{signal_and_refuse}
+use Rattle.sl_due.specs.CarriedLease.{next_of_lease}
 use Rattle.sl_due.specs.DueRequests.{after_value_read, value_reply}
 use Rattle.sl_due.specs.Steps.{Step, seen, with_input}
 use Rattle.sl_due_facts.proofs.Jobs.EffectsAreAllowed.{delta, lease, removal, removal_of_refused, requested, sent, stopped}
@@ -26,7 +26,7 @@ use Rattle.sl_due_law.proofs.Recovery.StopsAreKept.{HasStops, WithStops}
 use Rattle.sl_due_law.proofs.Recovery.StopsBegin.{Says, stop_only_says, stopped_nearly, with_said}
 use Rattle.sl_due_law.proofs.Recovery.StopsGrow.{stops_effects}
 use Rattle.sl_due_law.specs.Recovery.Stops.{Denies, FreeTold, JustHeard, Partings, Stops}
-use Rattle.sl_trace.specs.Deltas.{delta_known, delta_of_session, next_after_free, next_after_renewal, next_free, next_in_joining}
+use Rattle.sl_trace.specs.DeltaDecisions.{delta_known, delta_of_session, next_after_free, next_after_renewal, next_free, next_in_joining}
 use Rattle.sl_trace.specs.Sessions.{begun_in, calls_of, generation_of, is_joined, is_present, is_survey_purpose, leaving_job, recovers, recovery_of, renewed_by, renewing, renewing_after, session_numbered, sessions, shows_other}
 use Rattle.sl_trace.specs.declared.session.Begun.{Begun}
 use Rattle.sl_trace.specs.declared.session.Renewing.{Renewing}
@@ -34,7 +34,7 @@ use Rattle.sl_trace.specs.declared.session.Session.{Session}
 use Rattle.sl_due_facts.specs.Facts.ConcludingActs.{Concludes}
 use Rattle.sl_due_facts.specs.Facts.HeardCall.{heard_by}
 use Rattle.sl_time.specs.Times.{fail}
-use Rattle.sl_trace.specs.Connections.{unregisters}
+use Rattle.sl_trace.specs.WatchdogConnections.{unregisters}
 use Rattle.sl_trace.specs.Traces.{Job, Setting, Submitted, Trace, bytes_given, call_numbered, submitted}
 use Rattle.sl_trace.specs.declared.effects.Effects.{Effects}
 use Rattle.sl_trace.specs.declared.effects.Entry.{Entry}

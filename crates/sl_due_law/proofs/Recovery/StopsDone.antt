@@ -1,20 +1,21 @@
 -- A stop tells each holder of its session to stop, and refuses its jobs.
 use Rattle.sl_due_facts.proofs.Acts.LoopsKeep.{for_each_keeps}
 use Rattle.sl_due_facts.specs.Acts.TraceSoFar.{entry_of}
-use Rattle.sl_due.specs.DueFirst.{send, signal_and_refuse, signal_holders}
+use Rattle.sl_due.specs.DueRecovery.{send, signal_and_refuse, signal_holders}
 use Rattle.sl_due.specs.Steps.{Step, add_reply, add_signal, add_start, for_each, seen}
 use Rattle.sl_due_facts.proofs.Jobs.EffectsAreAllowed.{stopped}
 use Rattle.sl_due_facts.proofs.Jobs.JobFactsGrow.{contains_left, contains_right}
 use Rattle.sl_run.specs.LawfulRecovery.{IsToldToStop, StopsSession}
-use Rattle.sl_trace.specs.Counts.{child_count, stopper_of}
+use Rattle.sl_trace.specs.Counts.{child_count}
+use Rattle.sl_trace.specs.KillPrograms.{stopper_of, kill_program_of}
 use Rattle.sl_trace.specs.Jobs.{jobs_of_session}
 use Rattle.sl_words.proofs.Lists.{contains_cases, contains_first, contains_none, kept}
 use Rattle.sl_words.proofs.Options.{then_value}
 use Rattle.sl_trace.specs.Sessions.{holders_of, last_renewal}
 use Rattle.sl_trace.specs.declared.session.Session.{Session}
 use Rattle.sl_trace.specs.EffectTexts.{is_ok_reply}
-use Rattle.sl_trace.specs.Limits.{most_children}
-use Rattle.sl_trace.specs.Traces.{Job, Setting, Trace, kill_program_of, next_child}
+use Rattle.sl_trace.specs.CountLimits.{most_children}
+use Rattle.sl_trace.specs.Traces.{Job, Setting, Trace, next_child}
 use Rattle.sl_trace.specs.declared.effects.Effects.{Effects}
 use Rattle.sl_trace.specs.declared.effects.Sent.{Sent}
 use Rattle.sl_trace.specs.declared.effects.Signal.{Signal}

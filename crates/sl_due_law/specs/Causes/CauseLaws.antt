@@ -2,7 +2,7 @@
 use Rattle.sl_due_facts.specs.Acts.Acts.{Acts, Hears}
 use Rattle.sl_due_law.specs.Causes.CausedSoFar.{CausedSoFar, RepliedSoFar, StaysCaused}
 use Rattle.sl_due.specs.Due.{IsHostTrace}
-use Rattle.sl_due.specs.DueFirst.{begin_recoveries}
+use Rattle.sl_due.specs.DueRecovery.{begin_recoveries}
 use Rattle.sl_run.specs.Caused.{IsCaused}
 use Rattle.sl_run.specs.Lawful.{IsSetting}
 use Rattle.sl_due.specs.Steps.{Step, begin_step}

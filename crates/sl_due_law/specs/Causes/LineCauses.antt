@@ -10,7 +10,7 @@ use Rattle.sl_run.specs.Caused.{Answering, CausedBy, IsAtCommand, before_entry}
 use Rattle.sl_trace.specs.Sessions.{is_joined, sessions}
 use Rattle.sl_trace.specs.declared.session.Session.{Session}
 use Rattle.sl_due_facts.specs.Facts.AllFacts.{WholeTrace}
-use Rattle.sl_trace.specs.Connections.{unregisters}
+use Rattle.sl_trace.specs.WatchdogConnections.{unregisters}
 use Rattle.sl_trace.specs.Traces.{Job, Setting, Trace, is_before_input, job_numbered, next_job, no_effects}
 use Rattle.sl_trace.specs.declared.command.Command.{Command}
 use Rattle.sl_trace.specs.declared.effects.Entry.{Entry}

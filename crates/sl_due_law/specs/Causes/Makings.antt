@@ -1,6 +1,6 @@
 -- What a step so far has made for a job: what stands behind its calls on leases, requests and values, behind the start of a program, and to
 -- whom it has given what is held. All is said by what came before the step, by its input and by what it has granted.
-use Rattle.sl_due.specs.DueLease.{grant_of}
+use Rattle.sl_due.specs.CarriedLease.{grant_of}
 use Rattle.sl_due.specs.Steps.{Step, seen}
 use Rattle.sl_due_law.specs.Causes.CauseFacts.{IsTold, WaitsFor}
 use Rattle.sl_due_facts.specs.Facts.HeardCall.{heard_by}

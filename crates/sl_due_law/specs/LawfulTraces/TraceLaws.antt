@@ -1,6 +1,7 @@
 -- What is shown of each trace of a daemon that does what is due, and from what.
 use Rattle.sl_due_facts.specs.Acts.TraceSoFar.{entry_of}
-use Rattle.sl_due.specs.Due.{IsDue, IsHostTrace, NoIdleJob}
+use Rattle.sl_due.specs.Due.{IsDue, IsHostTrace}
+use Rattle.sl_due.specs.IdleJobs.{NoIdleJob}
 use Rattle.sl_due.specs.Steps.{Step, seen}
 use Rattle.sl_due_law.specs.LawfulTraces.Busy.{Waits}
 use Rattle.sl_due_law.specs.LawfulTraces.CarriedFacts.{Holds}

@@ -10,7 +10,7 @@ use Rattle.sl_run.specs.LawfulDelta.{LawfulDelta}
 use Rattle.sl_run.specs.LawfulGrant.{LawfulGrant}
 use Rattle.sl_run.specs.LawfulParting.{LawfulParting}
 use Rattle.sl_run.specs.LawfulRecovery.{LawfulRecovery}
-use Rattle.sl_run.specs.LawfulWatchdog.{LawfulWatchdog}
+use Rattle.sl_run.specs.LawfulConnections.{LawfulWatchdog}
 use Rattle.sl_due_law.specs.Recovery.KillFacts.{KillFacts}
 use Rattle.sl_due_law.specs.Recovery.Stops.{Denies, FreesEnd, JustHeard, Partings, Stops}
 use Rattle.sl_due_facts.specs.Facts.CallFacts.{CallFacts}

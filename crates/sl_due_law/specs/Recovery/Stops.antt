@@ -1,12 +1,12 @@
 -- What a step has done so far of what a recovery or a leaving asks, and how joined sessions ended in it.
 use Rattle.sl_due_facts.specs.Acts.TraceSoFar.{entry_of}
-use Rattle.sl_due.specs.DueDelta.{begins_by_read}
+use Rattle.sl_due.specs.CarriedDelta.{begins_by_read}
 use Rattle.sl_due.specs.Steps.{Step, seen}
 use Rattle.sl_run.specs.LawfulRecovery.{StopsSession}
 use Rattle.sl_trace.specs.Sessions.{is_call_of, is_free_purpose, is_joined, leaving_job, recovery_of, sessions}
 use Rattle.sl_trace.specs.declared.session.Begun.{Begun}
 use Rattle.sl_trace.specs.declared.session.Session.{Session}
-use Rattle.sl_trace.specs.Connections.{unregisters}
+use Rattle.sl_trace.specs.WatchdogConnections.{unregisters}
 use Rattle.sl_trace.specs.EffectTexts.{is_ok_reply}
 use Rattle.sl_trace.specs.Traces.{Job, Submitted, submitted}
 use Rattle.sl_trace.specs.declared.effects.JobReply.{JobReply}

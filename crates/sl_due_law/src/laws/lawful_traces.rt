@@ -4,7 +4,7 @@
 //! only where all that an answer makes due is done. By induction over the entries each trace of such steps is whole: lawful, with its facts.
 
 ghost use Rattle.sl_due_facts.specs.Jobs.Acquires.{AcquiresKeepToTheirs};
-ghost use Rattle.sl_due_law.specs.LawfulTraces.TraceLaws.{DueIsWellWith, FactsAtFirst, NoneIsIdle, TracesAreLawful, TracesHold};
+ghost use Rattle.sl_due_law.specs.LawfulTraces.TraceLaws.{DueIsWellWith, FactsAtFirst, TracesAreLawful, TracesHold};
 
 /// Before the first entry all facts hold.
 pub fn facts_at_first()
@@ -19,11 +19,6 @@ pub fn traces_hold()
 /// So it is lawful.
 pub fn traces_are_lawful()
     ensures { TracesAreLawful }
-{}
-
-/// No job is idle at the end of an entry: each has a call or a start of its own unanswered, waits in a joining, or is a leaving.
-pub fn none_is_idle()
-    ensures { NoneIsIdle }
 {}
 
 /// An acquire's job keeps to its lease, starts no child, and has neither call nor reply before its line.

@@ -6,11 +6,13 @@ use Rattle.sl_due_facts.proofs.Acts.LoopsKeep.{for_each_keeps}
 use Rattle.sl_due_facts.proofs.Acts.PlainActs.{line_has}
 use Rattle.sl_due_facts.specs.Acts.Acts.{Has, Hears}
 use Rattle.sl_due_facts.specs.Acts.TraceSoFar.{entry_of}
-use Rattle.sl_area.specs.Places.{block_place, block_record, leader_offset, leader_record, request_offset}
+use Rattle.sl_area.specs.AreaLayout.{block_place, leader_offset, request_offset}
+use Rattle.sl_area.specs.AreaRecords.{block_record, leader_record}
 use Rattle.sl_due.specs.DueCommands.{after_end, carry_decision}
-use Rattle.sl_due.specs.DueFirst.{begin_recoveries, remove_connection, send, signal_and_refuse}
+use Rattle.sl_due.specs.DueRecovery.{begin_recoveries, send, signal_and_refuse}
+use Rattle.sl_due.specs.DueTimeOuts.{remove_connection}
 use Rattle.sl_due.specs.DueInputs.{leave_holdings, refuse_jobs_of}
-use Rattle.sl_due.specs.DueLease.{carry_lease, convert_for, convert_holding, for_work, goes_on, grant_for, grant_of, name_on, next_of_lease, next_turn, with_command}
+use Rattle.sl_due.specs.CarriedLease.{carry_lease, convert_for, convert_holding, for_work, goes_on, grant_for, grant_of, name_on, next_of_lease, next_turn, with_command}
 use Rattle.sl_due.specs.Steps.{Step, add_call_at, add_end, add_move, add_reply, begin_step, seen, when, with_input, with_some}
 use Rattle.sl_due.specs.declared.decision.Decision.{Decision}
 use Rattle.sl_due.specs.declared.decision.Decision.TheVariants.{ConvertsTo, GetsValue, GivesUp, Joins, Leaves, ReadsArea, Replies, Requests, SetsValue, Shares, TakesOver}
@@ -47,10 +49,10 @@ use Rattle.sl_due_facts.proofs.AddedEffects.CallsGrow.{same_sessions}
 use Rattle.sl_due_facts.specs.AddedEffects.OneMoreEffect.{with_reply}
 use Rattle.sl_words.proofs.Lists.{contains_none}
 use Rattle.sl_sector.specs.declared.sector.Rec.TheVariants.{DeltaIs}
-use Rattle.sl_trace.specs.Deltas.{own_offset}
+use Rattle.sl_trace.specs.DeltaDecisions.{own_offset}
 use Rattle.sl_trace.specs.Sessions.{holders_of, is_active, is_join_call, is_joined, joined_after, leaves, leaving_job, recovery_of, removed_after, session_numbered, sessions}
 use Rattle.sl_trace.specs.declared.session.Session.{Session}
-use Rattle.sl_trace.specs.Connections.{is_registered, unregisters}
+use Rattle.sl_trace.specs.WatchdogConnections.{is_registered, unregisters}
 use Rattle.sl_trace.specs.Traces.{Job, Setting, Submitted, Trace, end_of, holdings, is_orphan, job_of, leaves_orphan, next_child, next_job, orphan_of, spot_of_grant, work_job}
 use Rattle.sl_trace.specs.declared.command.Command.{Command}
 use Rattle.sl_trace.specs.declared.command.Command.TheVariants.{Acquire, AddLockspace, Convert, GetLvb, HostStatus, InqLockspace, Release, ReleaseOrphan, RemLockspace, Request, RunProgram, SetKillpath, SetLvb, Status, TakeOver}

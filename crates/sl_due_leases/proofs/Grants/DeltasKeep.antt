@@ -1,10 +1,10 @@
 -- What a delta lease decides by time keeps, by its cases.
-use Rattle.sl_due.specs.DueDelta.{carry_delta, write_own_sector}
+use Rattle.sl_due.specs.CarriedDelta.{carry_delta, write_own_sector}
 use Rattle.sl_due.specs.Steps.{Step, seen}
 use Rattle.sl_sector.specs.Bitmaps.{no_bits}
 use Rattle.sl_sector.specs.declared.sector.DeltaRec.{DeltaRec}
 use Rattle.sl_sector.specs.declared.sector.DeltaState.TheVariants.{Free, Live}
-use Rattle.sl_trace.specs.Deltas.{DeltaLease, delta_known, delta_of_session, delta_record, is_renewal_due, next_free, next_renewal}
+use Rattle.sl_trace.specs.DeltaDecisions.{DeltaLease, delta_known, delta_of_session, delta_record, is_renewal_due, next_free, next_renewal}
 use Rattle.sl_trace.specs.Sessions.{calls_of, free_write, generation_of, last_seq, leaving_job}
 use Rattle.sl_trace.specs.declared.delta.DeltaKnown.{DeltaKnown}
 use Rattle.sl_trace.specs.declared.delta.DeltaNext.{DeltaNext}

@@ -8,10 +8,11 @@ use Rattle.sl_due_facts.specs.Acts.KeptByEffects.{ByEffects}
 use Rattle.sl_due_facts.specs.Acts.TraceSoFar.{entry_of}
 use Rattle.sl_due.specs.DueAnswers.{set_reply}
 use Rattle.sl_due.specs.DueCommands.{after_end, answer_line, carry_decision, decided}
-use Rattle.sl_due.specs.DueDelta.{carry_delta, see_request}
-use Rattle.sl_due.specs.DueFirst.{begin_recoveries, begin_recovery, begins_now, refuse, remove_connection, remove_of_refused, send, signal_and_refuse, signal_holders}
+use Rattle.sl_due.specs.CarriedDelta.{carry_delta, see_request}
+use Rattle.sl_due.specs.DueRecovery.{begin_recoveries, begin_recovery, begins_now, send, signal_and_refuse, signal_holders}
+use Rattle.sl_due.specs.DueTimeOuts.{refuse, remove_connection, remove_of_refused}
 use Rattle.sl_due.specs.DueInputs.{end_holdings, leave_holdings, refuse_jobs_of, when_running}
-use Rattle.sl_due.specs.DueLease.{carry_lease, convert_for, convert_holding, for_work, grant_for, grant_of, held_otherwise, next_of_lease, with_command}
+use Rattle.sl_due.specs.CarriedLease.{carry_lease, convert_for, convert_holding, for_work, grant_for, grant_of, held_otherwise, next_of_lease, with_command}
 use Rattle.sl_due.specs.DueRequests.{after_request_read, after_value_read, bits_due, owner_read, request_refusal, write_request}
 use Rattle.sl_due.specs.Steps.{Step, add_end, add_grant, add_reply, add_signal, begin_step, seen, when, with_input, with_some}
 use Rattle.sl_due.specs.declared.decision.Decision.TheVariants.{ConvertsTo, GetsValue, GivesUp, Joins, Leaves, ReadsArea, Replies, Requests, SetsValue, Shares, TakesOver}
@@ -26,14 +27,15 @@ use Rattle.sl_due_leases.specs.Holdings.Moments.{Known}
 use Rattle.sl_run.specs.LawfulEnd.{Converted, EndReason, Exited, Given_up, LawfulEnding, Not_started, Taken_over, gives_up, takes_over}
 use Rattle.sl_trace.specs.Ballots.{moded_block}
 use Rattle.sl_trace.specs.Jobs.{command_numbered, is_job_of_process, job_of_start, jobs_of_session, process_named}
-use Rattle.sl_trace.specs.LeaseWork.{lease_place, release_next}
+use Rattle.sl_trace.specs.LeaseDecisions.{lease_place}
+use Rattle.sl_trace.specs.Releases.{release_next}
 use Rattle.sl_trace.specs.Leases.{holdings_on, known, spot_of, spot_of_call}
 use Rattle.sl_trace.specs.declared.lease.LeaseNext.TheVariants.{AnswerJob, BecomeExclusive, BecomeShared, GrantJob, Nothing, ReadFor, WriteBlock, WriteLeader}
 use Rattle.sl_trace.specs.declared.lease.LeaseNext.{LeaseNext}
 use Rattle.sl_words.proofs.Lists.{contains_cases, contains_first, contains_none, find_inside, kept_inside}
 use Rattle.sl_words.proofs.Numbers.{number_itself}
 use Rattle.sl_sector.specs.declared.sector.Block.{Block}
-use Rattle.sl_trace.specs.Deltas.{delta_known, delta_of_session, next_after_free, next_after_renewal, next_free, next_in_joining, next_on_wake, next_renewal}
+use Rattle.sl_trace.specs.DeltaDecisions.{delta_known, delta_of_session, next_after_free, next_after_renewal, next_free, next_in_joining, next_on_wake, next_renewal}
 use Rattle.sl_trace.specs.Sessions.{calls_of, generation_of, holdings_of, last_renewal, present_sessions, recovery_of, refused_after, has_open_write}
 use Rattle.sl_trace.specs.declared.delta.DeltaNext.{DeltaNext}
 use Rattle.sl_trace.specs.declared.reply.Limited.TheVariants.{Turn as TurnLimit}

@@ -5,14 +5,14 @@ use Rattle.sl_due_facts.proofs.Acts.PlainActs.{ended, line_has}
 use Rattle.sl_due_facts.proofs.Acts.DecisionsAreTheirs.{Of}
 use Rattle.sl_due_facts.specs.Acts.Acts.{Has, next_of_settling}
 use Rattle.sl_due.specs.DueAnswers.{set_reply}
-use Rattle.sl_due.specs.DueCommands.{answer_line}
-use Rattle.sl_due.specs.DueDelta.{carry_delta, see_request}
-use Rattle.sl_due.specs.DueFirst.{begin_recoveries, begin_recovery, begins_now, refuse, remove_connection, remove_of_refused, send, signal_and_refuse, signal_holders}
+use Rattle.sl_due.specs.DueCommands.{answer_line, carry_decision}
+use Rattle.sl_due.specs.CarriedDelta.{carry_delta, see_request}
+use Rattle.sl_due.specs.DueRecovery.{begin_recoveries, begin_recovery, begins_now, send, signal_and_refuse, signal_holders}
+use Rattle.sl_due.specs.DueTimeOuts.{refuse, remove_connection, remove_of_refused}
 use Rattle.sl_due.specs.DueInputs.{end_holdings, leave_holdings, refuse_jobs_of, started_reply, when_running}
 use Rattle.sl_due.specs.DueRequests.{after_request_read, after_value_read, bits_due}
-use Rattle.sl_due.specs.DueCommands.{carry_decision}
 use Rattle.sl_due.specs.Steps.{Step, add_end, add_grant, add_reply, add_signal, begin_step, for_each, seen, with_input}
-use Rattle.sl_due.specs.DueLease.{carry_lease, next_of_lease}
+use Rattle.sl_due.specs.CarriedLease.{carry_lease, next_of_lease}
 use Rattle.sl_due_leases.proofs.Grants.EndsAreLawful.{Ending, Going, StandsAt, last_there, left_ending, more_granted, stand_effects, stands}
 use Rattle.sl_due_leases.proofs.Grants.WorksByLines.{held_before}
 use Rattle.sl_due_leases.specs.Grants.GrantLaws.{ExitsAreLawful, ExitsBegin, ExitsSoFar}
@@ -22,7 +22,7 @@ use Rattle.sl_trace.specs.Jobs.{is_job_of_process, job_of_start}
 use Rattle.sl_trace.specs.Leases.{spot_of_call}
 use Rattle.sl_words.proofs.Lists.{any_found, any_of, contains_cases, contains_map, contains_none, kept}
 use Rattle.sl_words.proofs.Numbers.{number_itself}
-use Rattle.sl_trace.specs.Deltas.{delta_known, delta_of_session, next_after_free, next_after_renewal, next_free, next_in_joining, next_on_wake, next_renewal}
+use Rattle.sl_trace.specs.DeltaDecisions.{delta_known, delta_of_session, next_after_free, next_after_renewal, next_free, next_in_joining, next_on_wake, next_renewal}
 use Rattle.sl_trace.specs.Sessions.{calls_of, generation_of, present_sessions, recovery_of}
 use Rattle.sl_trace.specs.declared.delta.DeltaNext.{DeltaNext}
 use Rattle.sl_trace.specs.Traces.{end_of, has_orphan_of, holdings, is_ended_by, is_orphan, leaves_orphan, next_job, no_process, orphan_of, orphans_left, running_jobs, same_place}

@@ -1,10 +1,12 @@
 -- What a release and the beginning of a conversion grant: nothing.
 use Rattle.sl_due_facts.specs.Acts.Acts.{next_of_conversion, next_of_release}
 use Rattle.sl_due.specs.DueCommands.{after_end}
-use Rattle.sl_due.specs.DueLease.{carry_lease}
+use Rattle.sl_due.specs.CarriedLease.{carry_lease}
 use Rattle.sl_due.specs.Steps.{Step, add_reply, seen}
 use Rattle.sl_trace.specs.Ballots.{moded_block}
-use Rattle.sl_trace.specs.LeaseWork.{LeasePlace, convert_next, lease_place, refuses, refuses_block, release_next, within_turn}
+use Rattle.sl_trace.specs.LeaseDecisions.{LeasePlace, lease_place, refuses, refuses_block, within_turn}
+use Rattle.sl_trace.specs.Conversions.{convert_next}
+use Rattle.sl_trace.specs.Releases.{release_next}
 use Rattle.sl_trace.specs.Leases.{LeaseKnown, holdings_on, known}
 use Rattle.sl_trace.specs.declared.lease.Aim.TheVariants.{Acquires, Converts, Releases, Settles}
 use Rattle.sl_trace.specs.declared.lease.Aim.{Aim}

@@ -3,10 +3,11 @@ use Rattle.sl_due_facts.proofs.Acts.LoopsKeep.{for_each_keeps, when_keeps}
 use Rattle.sl_due_facts.specs.Acts.Acts.{Acts, Has, Hears, next_of_settling}
 use Rattle.sl_due.specs.DueAnswers.{set_reply}
 use Rattle.sl_due.specs.DueCommands.{answer_line, carry_decision, decided, reply_at_once}
-use Rattle.sl_due.specs.DueDelta.{carry_delta, see_request}
-use Rattle.sl_due.specs.DueFirst.{begin_recoveries, begin_recovery, begins_now, kills_holders, refuse, remove_connection, remove_of_refused, send, signal_and_refuse, signal_holders}
+use Rattle.sl_due.specs.CarriedDelta.{carry_delta, see_request}
+use Rattle.sl_due.specs.DueRecovery.{begin_recoveries, begin_recovery, begins_now, kills_holders, send, signal_and_refuse, signal_holders}
+use Rattle.sl_due.specs.DueTimeOuts.{refuse, remove_connection, remove_of_refused}
 use Rattle.sl_due.specs.DueInputs.{end_holdings, leave_holdings, refuse_jobs_of, started_reply, when_running}
-use Rattle.sl_due.specs.DueLease.{carry_lease, goes_on, next_of_lease}
+use Rattle.sl_due.specs.CarriedLease.{carry_lease, goes_on, next_of_lease}
 use Rattle.sl_due.specs.DueRequests.{after_request_read, after_value_read, bits_due, owner_read, request_refusal, write_request}
 use Rattle.sl_due.specs.Steps.{Step, add_reply, add_signal, begin_step, seen, when, with_input}
 use Rattle.sl_due.specs.declared.decision.Decision.{Decision}
@@ -15,12 +16,12 @@ use Rattle.sl_due_leases.proofs.Holdings.MomentsAreKept.{delta_ungranting, no_gr
 use Rattle.sl_due_leases.specs.Holdings.Moments.{Known}
 use Rattle.sl_due_leases.specs.Holdings.HoldingLaws.{Begins}
 use Rattle.sl_trace.specs.Jobs.{aim_of, job_of_start, jobs_of_session}
-use Rattle.sl_trace.specs.LeaseWork.{lease_place}
+use Rattle.sl_trace.specs.LeaseDecisions.{lease_place}
 use Rattle.sl_trace.specs.Leases.{exclusive_on, known, spot_of_call}
 use Rattle.sl_trace.specs.declared.lease.Aim.{Aim}
 use Rattle.sl_trace.specs.declared.lease.LeaseNext.{LeaseNext}
 use Rattle.sl_words.proofs.Lists.{kept}
-use Rattle.sl_trace.specs.Deltas.{delta_known, delta_of_session, next_after_free, next_after_renewal, next_free, next_in_joining, next_on_wake, next_renewal}
+use Rattle.sl_trace.specs.DeltaDecisions.{delta_known, delta_of_session, next_after_free, next_after_renewal, next_free, next_in_joining, next_on_wake, next_renewal}
 use Rattle.sl_trace.specs.Sessions.{calls_of, generation_of, has_open_write, holdings_of, is_joined, last_renewal, open_calls_of, present_sessions, recovery_of, refused_after}
 use Rattle.sl_trace.specs.declared.delta.DeltaNext.{DeltaNext}
 use Rattle.sl_trace.specs.declared.session.Session.{Session}

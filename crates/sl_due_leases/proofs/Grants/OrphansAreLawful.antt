@@ -6,10 +6,11 @@ use Rattle.sl_due_facts.proofs.Acts.EffectsKeep.{delta, removal, signalled}
 use Rattle.sl_due_facts.proofs.Acts.LoopsKeep.{for_each_keeps}
 use Rattle.sl_due_facts.specs.Acts.TraceSoFar.{entry_of}
 use Rattle.sl_due.specs.DueCommands.{after_end, carry_decision}
-use Rattle.sl_due.specs.DueDelta.{carry_delta, see_request}
-use Rattle.sl_due.specs.DueFirst.{remove_connection, signal_and_refuse, signal_holders}
+use Rattle.sl_due.specs.CarriedDelta.{carry_delta, see_request}
+use Rattle.sl_due.specs.DueTimeOuts.{remove_connection}
+use Rattle.sl_due.specs.DueRecovery.{signal_and_refuse, signal_holders}
 use Rattle.sl_due.specs.DueInputs.{end_holdings, leave_holdings, refuse_jobs_of}
-use Rattle.sl_due.specs.DueLease.{carry_lease, convert_for, convert_holding, for_work, grant_for, grant_of, held_otherwise, next_of_lease, with_command}
+use Rattle.sl_due.specs.CarriedLease.{carry_lease, convert_for, convert_holding, for_work, grant_for, grant_of, held_otherwise, next_of_lease, with_command}
 use Rattle.sl_due.specs.Steps.{Step, add_end, add_grant, add_reply, seen, with_input, with_some}
 use Rattle.sl_due.specs.declared.decision.Decision.TheVariants.{ConvertsTo, GetsValue, GivesUp, Joins, Leaves, ReadsArea, Replies, Requests, SetsValue, Shares, TakesOver}
 use Rattle.sl_due.specs.declared.decision.Decision.{Decision}
@@ -29,11 +30,11 @@ use Rattle.sl_trace.specs.declared.lease.LeaseNext.TheVariants.{AnswerJob, Becom
 use Rattle.sl_trace.specs.declared.lease.LeaseNext.{LeaseNext}
 use Rattle.sl_words.proofs.Lists.{contains_none, in_map, kept_inside}
 use Rattle.sl_sector.proofs.RuleLaws.{in_range}
-use Rattle.sl_trace.specs.Deltas.{delta_known, delta_of_session, next_free}
+use Rattle.sl_trace.specs.DeltaDecisions.{delta_known, delta_of_session, next_free}
 use Rattle.sl_trace.specs.declared.delta.DeltaNext.{DeltaNext}
 use Rattle.sl_trace.specs.declared.session.Session.{Session}
-use Rattle.sl_trace.specs.Commands.{IsCommand}
-use Rattle.sl_trace.specs.Limits.{most_children, most_processes}
+use Rattle.sl_trace.specs.CommandForms.{IsCommand}
+use Rattle.sl_trace.specs.CountLimits.{most_children, most_processes}
 use Rattle.sl_trace.specs.Traces.{children, end_of, first_child, has_orphan_of, holdings, is_orphan, leaves_orphan, next_child, next_job, no_process, orphan_of, orphans_left, running_jobs, spot_of_grant}
 use Rattle.sl_trace.specs.declared.command.Command.TheVariants.{Acquire, AddLockspace, Convert, GetLvb, HostStatus, InqLockspace, Release, ReleaseOrphan, RemLockspace, Request, RunProgram, SetKillpath, SetLvb, Status, TakeOver}
 use Rattle.sl_trace.specs.declared.command.Command.{Command}

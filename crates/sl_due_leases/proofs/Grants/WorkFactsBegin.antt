@@ -1,7 +1,7 @@
 -- The facts of a job's work hold once a step has begun: where one works its session has held nothing shared up to the step.
 use Rattle.sl_due_facts.proofs.Acts.EffectsKeep.{stopped}
 use Rattle.sl_due_facts.proofs.Acts.LoopsKeep.{for_each_keeps, when_keeps}
-use Rattle.sl_due.specs.DueFirst.{begin_recoveries, begin_recovery, begins_now, signal_and_refuse}
+use Rattle.sl_due.specs.DueRecovery.{begin_recoveries, begin_recovery, begins_now, signal_and_refuse}
 use Rattle.sl_due.specs.Steps.{begin_step, seen}
 use Rattle.sl_due_leases.proofs.Grants.OthersGoOn.{stopped_on}
 use Rattle.sl_due_leases.proofs.Grants.WorksByDeltas.{works_go_on}

@@ -3,8 +3,9 @@
 use Rattle.sl_due_facts.proofs.Acts.InputsKeep.{has_heard}
 use Rattle.sl_due_facts.proofs.Acts.Pairs.Decisions.{asked_is, bytes_are, next_is}
 use Rattle.sl_due_facts.specs.Acts.TraceSoFar.{entry_of}
-use Rattle.sl_area.specs.Places.{area_sectors, block_offset, block_place, block_record, block_sectors, leader_offset, leader_record}
-use Rattle.sl_due.specs.DueLease.{carry_lease, convert_for, convert_holding, for_work, grant_for, grant_of, held_otherwise, lease_call, name_on, next_of_lease, next_turn, read_for, with_command}
+use Rattle.sl_area.specs.AreaLayout.{area_sectors, block_offset, block_place, block_sectors, leader_offset}
+use Rattle.sl_area.specs.AreaRecords.{block_record, leader_record}
+use Rattle.sl_due.specs.CarriedLease.{carry_lease, convert_for, convert_holding, for_work, grant_for, grant_of, held_otherwise, lease_call, name_on, next_of_lease, next_turn, read_for, with_command}
 use Rattle.sl_due.specs.Steps.{Step, add_end, add_grant, add_reply, seen, with_some}
 use Rattle.sl_due_leases.proofs.Grants.WorksByEffects.{CallsOwned, IsNewWork, WorksAt, call_works, end_works, not_work, reply_works, start_works}
 use Rattle.sl_due_leases.proofs.Grants.WorksByGrants.{NobodyWorksAt, grant_works}
@@ -20,7 +21,7 @@ use Rattle.sl_run.specs.Lawful.{IsSetting}
 use Rattle.sl_run.specs.LawfulArea.{is_area_work}
 use Rattle.sl_run.specs.LawfulModes.{shared_since}
 use Rattle.sl_trace.specs.Jobs.{aim_of_command, command_numbered, process_named, resource_named}
-use Rattle.sl_trace.specs.LeaseWork.{LeasePlace, leader_for, lease_next, lease_place}
+use Rattle.sl_trace.specs.LeaseDecisions.{LeasePlace, leader_for, lease_next, lease_place}
 use Rattle.sl_trace.specs.Leases.{LeaseKnown, has_shared_on, is_on, known, lver_written, spot_of, spot_of_call}
 use Rattle.sl_trace.specs.declared.lease.Aim.TheVariants.{Acquires, Converts, Releases, Settles}
 use Rattle.sl_trace.specs.declared.lease.Aim.{Aim}

@@ -1,7 +1,7 @@
 -- What is done for delta leases, and all that makes no call of a lease, keeps the facts of a job's work.
 use Rattle.sl_due_facts.proofs.Acts.LoopsKeep.{for_each_keeps}
 use Rattle.sl_due_facts.specs.Acts.TraceSoFar.{entry_of}
-use Rattle.sl_due.specs.DueDelta.{carry_delta}
+use Rattle.sl_due.specs.CarriedDelta.{carry_delta}
 use Rattle.sl_due.specs.DueInputs.{end_holdings}
 use Rattle.sl_due.specs.Steps.{Step, add_call_of, add_end, seen}
 use Rattle.sl_due_leases.proofs.Grants.OthersGoOn.{BeginsNone, CallsOn, GoesOn, delta_on, next_start}

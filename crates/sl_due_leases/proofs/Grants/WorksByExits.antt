@@ -22,8 +22,8 @@ use Rattle.sl_trace.specs.Sessions.{session_numbered}
 use Rattle.sl_trace.specs.declared.session.Session.{Session}
 use Rattle.sl_due_facts.specs.Facts.HeardCall.{heard_by}
 use Rattle.sl_due_facts.specs.Facts.WorkFacts.{IsAtWork, IsWaiting, MayBeHeld, WorkFacts}
-use Rattle.sl_trace.specs.Commands.{IsCommand}
-use Rattle.sl_trace.specs.Limits.{most_children, most_processes}
+use Rattle.sl_trace.specs.CommandForms.{IsCommand}
+use Rattle.sl_trace.specs.CountLimits.{most_children, most_processes}
 use Rattle.sl_trace.specs.Traces.{Job, Setting, Submitted, end_of, holdings, is_running, job_numbered, jobs, leaves_orphan, next_child, no_process, orphan_of, orphans_left, running_jobs, same_place, submitted}
 use Rattle.sl_trace.specs.declared.command.Command.TheVariants.{Acquire, AddLockspace, Convert, GetLvb, HostStatus, InqLockspace, Release, ReleaseOrphan, RemLockspace, Request, RunProgram, SetKillpath, SetLvb, Status, TakeOver}
 use Rattle.sl_trace.specs.declared.command.Command.{Command}

@@ -4,9 +4,10 @@ use Rattle.sl_due_facts.proofs.Acts.Pairs.Decisions.{conversion_is, release_is}
 use Rattle.sl_due_facts.proofs.Acts.PlainActs.{line_has}
 use Rattle.sl_due_facts.specs.Acts.Acts.{Has, next_of_conversion, next_of_release}
 use Rattle.sl_due_facts.specs.Acts.TraceSoFar.{entry_of}
-use Rattle.sl_area.specs.Places.{area_sectors, block_place, block_record, delta_offset, leader_offset, leader_record, value_offset}
+use Rattle.sl_area.specs.AreaLayout.{area_sectors, block_place, delta_offset, leader_offset, value_offset}
+use Rattle.sl_area.specs.AreaRecords.{block_record, leader_record}
 use Rattle.sl_due.specs.DueCommands.{after_end, carry_decision, decided}
-use Rattle.sl_due.specs.DueLease.{carry_lease, grant_of, name_on, next_turn}
+use Rattle.sl_due.specs.CarriedLease.{carry_lease, grant_of, name_on, next_turn}
 use Rattle.sl_due.specs.Steps.{Step, add_call_of, add_end, add_reply, seen, with_input}
 use Rattle.sl_due.specs.declared.decision.Decision.TheVariants.{ConvertsTo, GetsValue, GivesUp, Joins, Leaves, ReadsArea, Replies, Requests, SetsValue, Shares, TakesOver}
 use Rattle.sl_due.specs.declared.decision.Decision.{Decision}
@@ -36,7 +37,9 @@ use Rattle.sl_run.specs.LawfulModes.{shared_since}
 use Rattle.sl_trace.specs.Ballots.{moded_block}
 use Rattle.sl_trace.specs.Counts.{held_here, may_act}
 use Rattle.sl_trace.specs.Jobs.{aim_of_command, command_numbered, command_of, process_named, resource_named, wanted_mode, wants_shared}
-use Rattle.sl_trace.specs.LeaseWork.{convert_next, leader_for, lease_place, release_next}
+use Rattle.sl_trace.specs.Conversions.{convert_next}
+use Rattle.sl_trace.specs.LeaseDecisions.{leader_for, lease_place}
+use Rattle.sl_trace.specs.Releases.{release_next}
 use Rattle.sl_trace.specs.Leases.{has_shared_on, holdings_on, is_on, known, shared_on, spot_of, spot_of_call}
 use Rattle.sl_trace.specs.declared.lease.Aim.TheVariants.{Acquires, Converts, Releases}
 use Rattle.sl_trace.specs.declared.lease.Aim.{Aim}
@@ -52,7 +55,7 @@ use Rattle.sl_trace.specs.declared.session.Session.{Session}
 use Rattle.sl_due_facts.specs.Facts.HeardCall.{heard_by}
 use Rattle.sl_due_facts.specs.Facts.JobFacts.{JobFacts}
 use Rattle.sl_due_facts.specs.Facts.WorkFacts.{MayBeHeld}
-use Rattle.sl_trace.specs.Commands.{IsCommand}
+use Rattle.sl_trace.specs.CommandForms.{IsCommand}
 use Rattle.sl_trace.specs.Traces.{Setting, Submitted, Trace, end_of, held_by, holdings, is_ended_by, is_shared, job_numbered, job_of, new_call, next_child, next_job, outstanding, same_place, spot_of_grant, submitted}
 use Rattle.sl_trace.specs.declared.command.Command.{Command}
 use Rattle.sl_trace.specs.declared.command.ResourceArg.{ResourceArg}

@@ -3,7 +3,8 @@ use Rattle.sl_due.specs.DueCommands.{acquiring, busy_refusal, converting, decide
 use Rattle.sl_due.specs.declared.decision.Decision.TheVariants.{ConvertsTo, GetsValue, GivesUp, Joins, Leaves, ReadsArea, Replies, Requests, SetsValue, Shares, TakesOver}
 use Rattle.sl_due.specs.declared.decision.Decision.{Decision}
 use Rattle.sl_due_leases.specs.Holdings.DecisionGrounds.{AcquireGrounds, AsksLease, DecisionsHaveGrounds, HasGrounds, IsFreeFor, IsReady}
-use Rattle.sl_trace.specs.Counts.{busy_process, held_here, holds_already, is_killpath_limit, may_act, next_value_seq, other_holder, pending_call}
+use Rattle.sl_trace.specs.Counts.{busy_process, held_here, holds_already, may_act, next_value_seq, other_holder, pending_call}
+use Rattle.sl_trace.specs.KillPrograms.{is_killpath_limit}
 use Rattle.sl_trace.specs.Jobs.{process_named, wanted_mode, wants_shared}
 use Rattle.sl_trace.specs.Leases.{holdings_on, open_on, orphan_on, shared_on, spot_of}
 use Rattle.sl_words.proofs.Lists.{any_of, contains_none, find_inside, kept}
@@ -12,7 +13,7 @@ use Rattle.sl_words.proofs.Options.{then_value}
 use Rattle.sl_trace.specs.Sessions.{generation_of, holdings_of, is_active, is_joined, last_renewal, present_sessions, session_named, sessions}
 use Rattle.sl_trace.specs.Sightings.{states_seen}
 use Rattle.sl_trace.specs.declared.session.Session.{Session}
-use Rattle.sl_trace.specs.Limits.{most_lockspaces}
+use Rattle.sl_trace.specs.CountLimits.{most_lockspaces}
 use Rattle.sl_trace.specs.Traces.{Setting, Submitted, Trace, is_orphan, is_shared}
 use Rattle.sl_trace.specs.declared.command.Command.TheVariants.{Acquire, AddLockspace, Convert, GetLvb, HostStatus, InqLockspace, Release, ReleaseOrphan, RemLockspace, Request, RunProgram, SetKillpath, SetLvb, Status, TakeOver}
 use Rattle.sl_trace.specs.declared.command.Command.{Command}

@@ -1,6 +1,6 @@
 -- A removal of a connection is no holder's: it is of a session that isn't joined, or holds nothing.
 use Rattle.sl_due.specs.Steps.{Step, add_move, seen}
-use Rattle.sl_due.specs.DueFirst.{remove_connection}
+use Rattle.sl_due.specs.DueTimeOuts.{remove_connection}
 use Rattle.sl_due_leases.proofs.Holdings.HoldingsByEffects.{HoldsAt, SparesHolders, move_held}
 use Rattle.sl_due_leases.proofs.Holdings.PlainPlaces.{text_is}
 use Rattle.sl_words.proofs.Lists.{contains_cases, contains_first, contains_more, contains_none, got_inside, kept}
@@ -10,7 +10,7 @@ use Rattle.sl_trace.specs.Sessions.{calls_of, ended_after, has_open_write, holdi
 use Rattle.sl_trace.specs.declared.session.Session.{Session}
 use Rattle.sl_due_facts.specs.Facts.HeardCall.{IsOpen, heard_by}
 use Rattle.sl_due_facts.specs.Facts.SessionFacts.{ConnectionFacts, NameFacts}
-use Rattle.sl_trace.specs.Connections.{is_registered}
+use Rattle.sl_trace.specs.WatchdogConnections.{is_registered}
 use Rattle.sl_trace.specs.Traces.{Setting, Submitted, Trace, holdings, is_running, is_write, reply_to, submitted}
 use Rattle.sl_trace.specs.declared.effects.Grant.{Grant}
 use Rattle.sl_trace.specs.declared.effects.Move.TheVariants.{Unregister}

@@ -3,12 +3,12 @@ use Rattle.sl_due_facts.proofs.Acts.InputsKeep.{has_heard}
 use Rattle.sl_due_facts.proofs.Acts.Pairs.Decisions.{settling_is}
 use Rattle.sl_due_facts.specs.Acts.Acts.{Has, Hears, next_of_settling}
 use Rattle.sl_due_facts.specs.Acts.TraceSoFar.{entry_of}
-use Rattle.sl_area.specs.Places.{request_offset}
+use Rattle.sl_area.specs.AreaLayout.{request_offset}
 use Rattle.sl_due.specs.DueAnswers.{set_reply}
-use Rattle.sl_due.specs.DueDelta.{carry_delta, see_request}
-use Rattle.sl_due.specs.DueFirst.{remove_connection, remove_of_refused}
+use Rattle.sl_due.specs.CarriedDelta.{carry_delta, see_request}
+use Rattle.sl_due.specs.DueTimeOuts.{remove_connection, remove_of_refused}
 use Rattle.sl_due.specs.DueInputs.{end_holdings, leave_holdings, started_reply}
-use Rattle.sl_due.specs.DueLease.{carry_lease}
+use Rattle.sl_due.specs.CarriedLease.{carry_lease}
 use Rattle.sl_due.specs.DueRequests.{after_request_read, bits_due, after_value_read, owner_read, request_refusal, value_reply, write_request}
 use Rattle.sl_due.specs.Steps.{Step, add_reply, seen, when, with_input}
 use Rattle.sl_due_leases.proofs.Holdings.HoldersSpared.{NoneHeldOf, none_of_empty, none_of_writer, removal_held}
@@ -30,7 +30,7 @@ use Rattle.sl_due_facts.proofs.Jobs.CallsStay.{is_special}
 use Rattle.sl_due_facts.proofs.Jobs.RepliesComeAfter.{IsLateDelta, joining_late, request_late, set_late, value_late, wake_late}
 use Rattle.sl_run.specs.Lawful.{Orderly}
 use Rattle.sl_trace.specs.Jobs.{command_numbered, job_of_start}
-use Rattle.sl_trace.specs.LeaseWork.{lease_place, settle_next}
+use Rattle.sl_trace.specs.LeaseDecisions.{lease_place, settle_next}
 use Rattle.sl_trace.specs.Leases.{known}
 use Rattle.sl_trace.specs.declared.lease.LeaseNext.TheVariants.{AnswerJob, BecomeExclusive, BecomeShared, GrantJob, Nothing, ReadFor, WriteBlock, WriteLeader}
 use Rattle.sl_trace.specs.declared.lease.LeaseNext.{LeaseNext}
@@ -39,7 +39,7 @@ use Rattle.sl_words.proofs.Numbers.{number_itself}
 use Rattle.sl_words.proofs.Options.{none_is, some_of}
 use Rattle.sl_words.proofs.Truth.{left_is_false, or_false}
 use Rattle.sl_sector.specs.declared.sector.Rec.TheVariants.{RequestIs}
-use Rattle.sl_trace.specs.Deltas.{delta_of_session, next_after_free, next_in_joining, next_on_wake}
+use Rattle.sl_trace.specs.DeltaDecisions.{delta_of_session, next_after_free, next_in_joining, next_on_wake}
 use Rattle.sl_trace.specs.Sessions.{calls_of, free_write, generation_of, has_open_write, holdings_of, is_call_of, is_free_purpose, is_join_done, is_joined, joined_after, open_calls_of, recovery_of, refused_after, removed_after, sessions}
 use Rattle.sl_trace.specs.declared.delta.DeltaNext.TheVariants.{RefuseJoin}
 use Rattle.sl_trace.specs.declared.delta.DeltaNext.{DeltaNext}

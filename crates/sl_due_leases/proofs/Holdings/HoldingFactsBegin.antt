@@ -2,7 +2,7 @@
 use Rattle.sl_due_facts.proofs.Acts.EffectsKeep.{stopped}
 use Rattle.sl_due_facts.proofs.Acts.LoopsKeep.{for_each_keeps, when_keeps}
 use Rattle.sl_due_facts.specs.Acts.KeptByEffects.{ByEffects}
-use Rattle.sl_due.specs.DueFirst.{begin_recoveries, begin_recovery, begins_now, signal_and_refuse}
+use Rattle.sl_due.specs.DueRecovery.{begin_recoveries, begin_recovery, begins_now, signal_and_refuse}
 use Rattle.sl_due.specs.Steps.{begin_step, seen}
 use Rattle.sl_due_leases.proofs.Holdings.HoldingsByEffects.{HoldsAt, upheld}
 use Rattle.sl_due_leases.proofs.Holdings.HoldingsByLoops.{AnswersNoJob, stopped_held}

@@ -2,8 +2,8 @@
 use Rattle.sl_due_facts.proofs.Acts.InputsKeep.{has_heard}
 use Rattle.sl_due_facts.proofs.Acts.Pairs.Decisions.{asked_is, bytes_are, next_is}
 use Rattle.sl_due_facts.specs.Acts.Acts.{Has, Hears}
-use Rattle.sl_area.specs.Places.{is_base}
-use Rattle.sl_due.specs.DueLease.{carry_lease, goes_on, grant_for, next_of_lease}
+use Rattle.sl_area.specs.AreaLayout.{is_base}
+use Rattle.sl_due.specs.CarriedLease.{carry_lease, goes_on, grant_for, next_of_lease}
 use Rattle.sl_due.specs.Steps.{Step, seen, with_some}
 use Rattle.sl_due_leases.proofs.Holdings.HoldingsByEffects.{HoldsAt}
 use Rattle.sl_due_leases.proofs.Holdings.HoldingsByLeases.{IsNoGrant, OfExclusive, ballot_is, carried_held}
@@ -16,7 +16,7 @@ use Rattle.sl_due_leases.proofs.Holdings.PlainPlaces.{one_place}
 use Rattle.sl_due_leases.specs.Holdings.Moments.{Known}
 use Rattle.sl_trace.specs.Ballots.{moded_block}
 use Rattle.sl_trace.specs.Jobs.{aim_of, aim_of_command, command_numbered, process_named, resource_named}
-use Rattle.sl_trace.specs.LeaseWork.{LeasePlace, leader_for, lease_next, lease_place}
+use Rattle.sl_trace.specs.LeaseDecisions.{LeasePlace, leader_for, lease_next, lease_place}
 use Rattle.sl_trace.specs.Leases.{LeaseKnown, block_submitted, exclusive_on, holdings_on, known, lease_calls, lver_written, spot_of, spot_of_call}
 use Rattle.sl_trace.specs.declared.lease.Aim.TheVariants.{Acquires, Converts, Releases, Settles}
 use Rattle.sl_trace.specs.declared.lease.Aim.{Aim}
@@ -33,7 +33,7 @@ use Rattle.sl_due_facts.specs.Facts.HeardCall.{heard_by}
 use Rattle.sl_due_facts.specs.Facts.HoldingFacts.{StandsExclusive}
 use Rattle.sl_due_facts.specs.Facts.JobFacts.{FitsCommand}
 use Rattle.sl_due_facts.specs.Facts.WorkFacts.{IsAtWork, MayBeHeld}
-use Rattle.sl_trace.specs.Commands.{IsCommand}
+use Rattle.sl_trace.specs.CommandForms.{IsCommand}
 use Rattle.sl_trace.specs.Traces.{Setting, Submitted, holdings, is_shared, job_of, same_place, spot_of_grant}
 use Rattle.sl_trace.specs.declared.command.Command.TheVariants.{Acquire, AddLockspace, Convert, GetLvb, HostStatus, InqLockspace, Release, ReleaseOrphan, RemLockspace, Request, RunProgram, SetKillpath, SetLvb, Status, TakeOver}
 use Rattle.sl_trace.specs.declared.command.Command.{Command}

@@ -1,7 +1,7 @@
 -- What a call leaves of the facts of holdings: all, where it keeps the generation of a holder, and does nothing beside an exclusive
 -- holding that could take away what stands behind it.
-use Rattle.sl_area.specs.Layouts.{Layout}
-use Rattle.sl_area.specs.Places.{sector_of}
+use Rattle.sl_area.specs.AreaSizes.{Layout}
+use Rattle.sl_area.specs.AreaLayout.{sector_of}
 use Rattle.sl_due_facts.proofs.Acts.SessionsStay.{numbered_more}
 use Rattle.sl_due_facts.specs.Acts.TraceSoFar.{entry_of}
 use Rattle.sl_due.specs.Steps.{Step, add_call_of, seen}

@@ -2,8 +2,8 @@
 -- and who leaves holds nothing any more.
 use Rattle.sl_due_facts.specs.Acts.Acts.{Has}
 use Rattle.sl_due_facts.specs.Acts.TraceSoFar.{entry_of}
-use Rattle.sl_due.specs.DueDelta.{carry_delta, for_joining, move_connection, read_own_sector, register, survey, write_own_sector}
-use Rattle.sl_due.specs.DueFirst.{refuse, remove_connection, remove_of_refused}
+use Rattle.sl_due.specs.CarriedDelta.{carry_delta, for_joining, move_connection, read_own_sector, register, survey, write_own_sector}
+use Rattle.sl_due.specs.DueTimeOuts.{refuse, remove_connection, remove_of_refused}
 use Rattle.sl_due.specs.Steps.{Step, add_move, add_reply, seen, when, with_some}
 use Rattle.sl_due_leases.proofs.Holdings.HoldersSpared.{IsJoining, NoneHeldOf, joined_some, joining, none_of_joining, removal_held}
 use Rattle.sl_due_leases.proofs.Holdings.HoldingsByCalls.{CallSpares, call_added, call_held}
@@ -15,7 +15,7 @@ use Rattle.sl_sector.specs.Bitmaps.{no_bits}
 use Rattle.sl_sector.specs.declared.sector.DeltaRec.{DeltaRec}
 use Rattle.sl_sector.specs.declared.sector.DeltaState.TheVariants.{Free, Live}
 use Rattle.sl_sector.specs.declared.sector.Rec.TheVariants.{DeltaIs}
-use Rattle.sl_trace.specs.Deltas.{delta_known, delta_of_session, delta_record, is_renewal_due, next_after_free, next_after_renewal, next_free, next_renewal, own_offset}
+use Rattle.sl_trace.specs.DeltaDecisions.{delta_known, delta_of_session, delta_record, is_renewal_due, next_after_free, next_after_renewal, next_free, next_renewal, own_offset}
 use Rattle.sl_trace.specs.Sessions.{calls_of, delta_written, free_write, generation_of, given_number, has_open_write, is_joined, last_delta, last_seq, leaving_job, refused_after, session_numbered, session_of_job, sessions}
 use Rattle.sl_trace.specs.declared.delta.DeltaNext.TheVariants.{Disconnect, EndLeaving, Join, MoveConnection, Nothing, ReadOwn, RefuseJoin, RegisterAndRead, WriteClaim, WriteFirst, WriteFree, WriteRenewal}
 use Rattle.sl_trace.specs.declared.delta.DeltaNext.{DeltaNext}

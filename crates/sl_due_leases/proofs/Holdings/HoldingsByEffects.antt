@@ -15,7 +15,7 @@ use Rattle.sl_trace.specs.Sightings.{counted_over, counts_over, evidence_in}
 use Rattle.sl_trace.specs.declared.session.Session.{Session}
 use Rattle.sl_due_facts.specs.Facts.HeardCall.{heard_by}
 use Rattle.sl_due_facts.specs.Facts.HoldingFacts.{HoldingFacts, StandsExclusive}
-use Rattle.sl_trace.specs.Connections.{unregisters}
+use Rattle.sl_trace.specs.WatchdogConnections.{unregisters}
 use Rattle.sl_trace.specs.Traces.{Child, Replied, Setting, Submitted, Trace, answered_in, children, first_child, held_by, holdings, is_before_input, is_ended_by, is_going_on, is_running, is_shared, job_of, mark, new_call, new_child, next_child, reply_to, same_place, spot_of_grant, submitted}
 use Rattle.sl_trace.specs.declared.effects.End.{End}
 use Rattle.sl_trace.specs.declared.effects.Entry.{Entry}

@@ -1,7 +1,7 @@
 -- The exit of a process keeps the facts of holdings: its own end, and the orphans that are left of them stand where they stood.
 use Rattle.sl_due_facts.proofs.Acts.LoopsKeep.{each_in_turn, for_each_keeps}
 use Rattle.sl_due_facts.specs.Acts.TraceSoFar.{entry_of}
-use Rattle.sl_area.specs.Places.{is_base}
+use Rattle.sl_area.specs.AreaLayout.{is_base}
 use Rattle.sl_due.specs.DueInputs.{end_holdings, leave_holdings}
 use Rattle.sl_due.specs.Steps.{Step, add_end, add_grant, seen}
 use Rattle.sl_due_leases.proofs.Holdings.HoldingsByEffects.{HoldsAt, end_inside}

@@ -3,9 +3,10 @@
 use Rattle.sl_due_facts.specs.Acts.Acts.{Has}
 use Rattle.sl_due_facts.specs.Acts.TraceSoFar.{entry_of}
 use Rattle.sl_due_facts.proofs.Acts.Pairs.Records.{written_block, written_leader, written_no_block, written_no_leader}
-use Rattle.sl_area.specs.Layouts.{Layout}
-use Rattle.sl_area.specs.Places.{area_sectors, block_offset, block_place, block_record, block_sectors, is_base, leader_offset, leader_record}
-use Rattle.sl_due.specs.DueLease.{carry_lease, lease_call, name_on, next_turn}
+use Rattle.sl_area.specs.AreaSizes.{Layout}
+use Rattle.sl_area.specs.AreaLayout.{area_sectors, block_offset, block_place, block_sectors, is_base, leader_offset}
+use Rattle.sl_area.specs.AreaRecords.{block_record, leader_record}
+use Rattle.sl_due.specs.CarriedLease.{carry_lease, lease_call, name_on, next_turn}
 use Rattle.sl_due.specs.Steps.{Step, add_reply, seen, with_some}
 use Rattle.sl_due_leases.proofs.Holdings.HoldingsByCalls.{CallSpares, call_added, call_held}
 use Rattle.sl_due_leases.proofs.Holdings.HoldingsByDeltas.{same_session}

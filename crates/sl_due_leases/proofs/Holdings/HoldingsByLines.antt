@@ -5,9 +5,9 @@ use Rattle.sl_due_facts.proofs.Acts.PlainActs.{line_has}
 use Rattle.sl_due_facts.specs.Acts.Acts.{Has, next_of_conversion, next_of_release}
 use Rattle.sl_due_facts.specs.Acts.DueDaemons.{IsDecidedFor}
 use Rattle.sl_due_facts.specs.Acts.TraceSoFar.{entry_of}
-use Rattle.sl_area.specs.Places.{delta_offset, is_base, value_offset}
+use Rattle.sl_area.specs.AreaLayout.{delta_offset, is_base, value_offset}
 use Rattle.sl_due.specs.DueCommands.{after_end, carry_decision, decided}
-use Rattle.sl_due.specs.DueLease.{carry_lease, grant_for}
+use Rattle.sl_due.specs.CarriedLease.{carry_lease, grant_for}
 use Rattle.sl_due.specs.Steps.{Step, add_call_of, add_end, add_reply, seen, with_input}
 use Rattle.sl_due.specs.declared.decision.Decision.TheVariants.{ConvertsTo, GetsValue, GivesUp, Joins, Leaves, ReadsArea, Replies, Requests, SetsValue, Shares, TakesOver}
 use Rattle.sl_due.specs.declared.decision.Decision.{Decision}
@@ -29,7 +29,9 @@ use Rattle.sl_run.specs.Lawful.{IsSetting}
 use Rattle.sl_trace.specs.Ballots.{moded_block}
 use Rattle.sl_trace.specs.Counts.{held_here, may_act}
 use Rattle.sl_trace.specs.Jobs.{process_named, resource_named, wants_shared}
-use Rattle.sl_trace.specs.LeaseWork.{LeasePlace, convert_next, lease_place, release_next}
+use Rattle.sl_trace.specs.LeaseDecisions.{LeasePlace, lease_place}
+use Rattle.sl_trace.specs.Conversions.{convert_next}
+use Rattle.sl_trace.specs.Releases.{release_next}
 use Rattle.sl_trace.specs.Leases.{LeaseKnown, block_submitted, holdings_on, known, lease_calls, spot_of}
 use Rattle.sl_trace.specs.declared.lease.LeaseNext.TheVariants.{Nothing, ReadFor, WriteBlock}
 use Rattle.sl_words.proofs.Lists.{any_of, contains_none, find_inside, kept, kept_inside}
@@ -40,8 +42,8 @@ use Rattle.sl_trace.specs.Sessions.{holdings_of, is_active, is_joined, leaving_j
 use Rattle.sl_trace.specs.declared.session.Session.{Session}
 use Rattle.sl_due_facts.specs.Facts.HeardCall.{heard_by}
 use Rattle.sl_due_facts.specs.Facts.HoldingFacts.{StandsExclusive}
-use Rattle.sl_trace.specs.Commands.{IsCommand, IsResourceArg}
-use Rattle.sl_trace.specs.Limits.{most_children, most_processes}
+use Rattle.sl_trace.specs.CommandForms.{IsCommand, IsResourceArg}
+use Rattle.sl_trace.specs.CountLimits.{most_children, most_processes}
 use Rattle.sl_trace.specs.Traces.{Child, Setting, Trace, child_numbered, children, end_of, holdings, is_child, is_ended_by, is_orphan, is_shared, next_child, same_place, spot_of_grant}
 use Rattle.sl_trace.specs.declared.command.Command.{Command}
 use Rattle.sl_trace.specs.declared.command.LockspaceArg.{LockspaceArg}

@@ -1,11 +1,11 @@
 -- Signals and refusals of many keep the facts of holdings, and so does the exit of a process.
 use Rattle.sl_due_facts.proofs.Acts.LoopsKeep.{for_each_keeps, when_keeps}
 use Rattle.sl_due_facts.specs.Acts.TraceSoFar.{entry_of}
-use Rattle.sl_due.specs.DueFirst.{send, signal_and_refuse, signal_holders}
+use Rattle.sl_due.specs.DueRecovery.{send, signal_and_refuse, signal_holders}
 use Rattle.sl_due.specs.DueInputs.{end_holdings, refuse_jobs_of, when_running}
 use Rattle.sl_due.specs.Steps.{Step, add_end, add_reply, add_signal, add_start, seen}
 use Rattle.sl_due_leases.proofs.Holdings.HoldingsByEffects.{HoldsAt, SameCalls, end_held, later_same, reply_held, signal_held, start_held}
-use Rattle.sl_trace.specs.Counts.{stopper_of}
+use Rattle.sl_trace.specs.KillPrograms.{stopper_of}
 use Rattle.sl_trace.specs.Jobs.{is_job_of_process, jobs_of_session}
 use Rattle.sl_due_facts.specs.AddedEffects.OneMoreEffect.{with_reply}
 use Rattle.sl_words.proofs.Lists.{contains_first, contains_more}

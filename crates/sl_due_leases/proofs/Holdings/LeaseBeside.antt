@@ -1,12 +1,13 @@
 -- What a settling does beside an exclusive holding: it clears a mode, or frees an instance below.
 use Rattle.sl_due_facts.proofs.Acts.Pairs.Decisions.{asked_is, bytes_are}
-use Rattle.sl_area.specs.Layouts.{Layout}
-use Rattle.sl_area.specs.Places.{blocks_of, leader_read}
+use Rattle.sl_area.specs.AreaSizes.{Layout}
+use Rattle.sl_area.specs.Pairs.{blocks_of}
+use Rattle.sl_area.specs.TornLeader.{leader_read}
 use Rattle.sl_due_leases.proofs.Holdings.HoldingsByEffects.{HoldsAt}
 use Rattle.sl_due_leases.proofs.Holdings.PlainPlaces.{one_place}
 use Rattle.sl_due_leases.proofs.Ways.WayStages.{read_step}
 use Rattle.sl_trace.specs.Ballots.{moded_block, same_owner}
-use Rattle.sl_trace.specs.LeaseWork.{LeasePlace, after_read, after_write, first_step, heard, leader_for, lease_next, settle_next, settle_owed, step_of_read}
+use Rattle.sl_trace.specs.LeaseDecisions.{LeasePlace, after_read, after_write, first_step, heard, leader_for, lease_next, settle_next, settle_owed, step_of_read}
 use Rattle.sl_trace.specs.Leases.{LeaseKnown, ended_ballot, ended_ballots, exclusive_on, free_left, holdings_on, known, lease_calls, owed_free, settles_free, won_by}
 use Rattle.sl_trace.specs.declared.lease.Aim.TheVariants.{Settles}
 use Rattle.sl_trace.specs.declared.lease.LeaseNext.TheVariants.{BecomeExclusive, BecomeShared, GrantJob, Nothing, ReadFor, WriteBlock, WriteLeader}

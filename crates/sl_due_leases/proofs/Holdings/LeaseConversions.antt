@@ -1,7 +1,7 @@
 -- A conversion keeps the facts of holdings: what ends and what begins are one process's, at one place.
 use Rattle.sl_due_facts.specs.Acts.Acts.{Has}
 use Rattle.sl_due_facts.specs.Acts.TraceSoFar.{entry_of}
-use Rattle.sl_due.specs.DueLease.{carry_lease, convert_for, convert_holding, for_work, held_otherwise, with_command}
+use Rattle.sl_due.specs.CarriedLease.{carry_lease, convert_for, convert_holding, for_work, held_otherwise, with_command}
 use Rattle.sl_due.specs.Steps.{Step, add_end, add_grant, seen, with_some}
 use Rattle.sl_due_leases.proofs.Holdings.HoldingsByEffects.{HoldsAt, end_held, end_inside, later_same, reply_held}
 use Rattle.sl_due_leases.proofs.Holdings.HoldingsByExits.{not_ended}

@@ -1,8 +1,8 @@
 -- Where the answer of a lease's call grants a job, or converts its holding, the facts of holdings are kept.
 use Rattle.sl_due_facts.specs.Acts.Acts.{Has}
 use Rattle.sl_due_facts.specs.Acts.TraceSoFar.{entry_of}
-use Rattle.sl_area.specs.Places.{is_base}
-use Rattle.sl_due.specs.DueLease.{grant_for, grant_of}
+use Rattle.sl_area.specs.AreaLayout.{is_base}
+use Rattle.sl_due.specs.CarriedLease.{grant_for, grant_of}
 use Rattle.sl_due.specs.Steps.{Step, add_grant, add_reply, add_start, seen}
 use Rattle.sl_due_leases.proofs.Holdings.HoldingsByEffects.{HoldsAt, later_same, next_less, reply_held, start_held}
 use Rattle.sl_due_leases.proofs.Holdings.HoldingsByGrants.{MayGrant, grant_held}

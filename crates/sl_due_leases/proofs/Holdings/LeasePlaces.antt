@@ -1,7 +1,7 @@
 -- Where a lease's calls stand: in the area of its spot, and in no other's.
 use Rattle.sl_area.proofs.SizeLaws.{HasRoom, has_room}
-use Rattle.sl_area.specs.Layouts.{Layout}
-use Rattle.sl_area.specs.Places.{block_offset, block_place, in_area}
+use Rattle.sl_area.specs.AreaSizes.{Layout}
+use Rattle.sl_area.specs.AreaLayout.{block_offset, block_place, in_area}
 use Rattle.sl_area.specs.Roles.{leader}
 use Rattle.sl_due_leases.proofs.Ways.WayFactsHeld.PlacesStand.{block_is_on, first_is_on, place_is_on, placed_on}
 use Rattle.sl_run.specs.Lawful.{IsSetting}

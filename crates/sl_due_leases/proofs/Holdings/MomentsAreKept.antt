@@ -6,11 +6,12 @@ use Rattle.sl_due_facts.proofs.Acts.PlainActs.{decision_kept, ended, exited, lef
 use Rattle.sl_due_facts.specs.Acts.Acts.{Acts, Has, next_of_settling}
 use Rattle.sl_due_facts.specs.Acts.KeptByEffects.{ByEffects}
 use Rattle.sl_due.specs.DueCommands.{answer_line, carry_decision}
-use Rattle.sl_due.specs.DueDelta.{carry_delta, for_joining}
-use Rattle.sl_due.specs.DueFirst.{refuse, remove_connection, remove_of_refused, send, signal_holders}
+use Rattle.sl_due.specs.CarriedDelta.{carry_delta, for_joining}
+use Rattle.sl_due.specs.DueTimeOuts.{refuse, remove_connection, remove_of_refused}
+use Rattle.sl_due.specs.DueRecovery.{send, signal_holders}
 use Rattle.sl_due.specs.DueInputs.{end_holdings, leave_holdings, refuse_jobs_of, started_reply, when_running}
 use Rattle.sl_due.specs.DueRequests.{after_value_read, bits_due}
-use Rattle.sl_due.specs.DueLease.{carry_lease}
+use Rattle.sl_due.specs.CarriedLease.{carry_lease}
 use Rattle.sl_due.specs.Steps.{Step, add_end, add_move, add_reply, add_signal, add_start, seen, when, with_input, with_some}
 use Rattle.sl_due.specs.declared.decision.Decision.{Decision}
 use Rattle.sl_due_facts.proofs.Acts.DecisionsAreTheirs.{Of}
@@ -18,9 +19,9 @@ use Rattle.sl_due_leases.proofs.Holdings.HoldingsByCalls.{call_added}
 use Rattle.sl_due_leases.proofs.Holdings.LeaseNexts.{IsPlainNext, settling_fits}
 use Rattle.sl_due_leases.specs.Holdings.Moments.{Moment}
 use Rattle.sl_due_leases.specs.Holdings.HoldingLaws.{MomentsAreKept}
-use Rattle.sl_trace.specs.Counts.{stopper_of}
+use Rattle.sl_trace.specs.KillPrograms.{stopper_of}
 use Rattle.sl_trace.specs.Jobs.{job_of_start}
-use Rattle.sl_trace.specs.LeaseWork.{lease_place}
+use Rattle.sl_trace.specs.LeaseDecisions.{lease_place}
 use Rattle.sl_trace.specs.Leases.{LeaseKnown, known}
 use Rattle.sl_trace.specs.declared.lease.LeaseNext.TheVariants.{AnswerJob, BecomeExclusive, BecomeShared, GrantJob, Nothing as No_lease, ReadFor, WriteBlock, WriteLeader}
 use Rattle.sl_trace.specs.declared.lease.LeaseNext.{LeaseNext}
@@ -29,12 +30,12 @@ use Rattle.sl_sector.specs.Bitmaps.{no_bits}
 use Rattle.sl_sector.specs.declared.sector.DeltaRec.{DeltaRec}
 use Rattle.sl_sector.specs.declared.sector.DeltaState.TheVariants.{Free}
 use Rattle.sl_sector.specs.declared.sector.Rec.TheVariants.{DeltaIs}
-use Rattle.sl_trace.specs.Deltas.{delta_known, delta_of_session, delta_record, next_free, next_on_wake, next_renewal, own_offset}
+use Rattle.sl_trace.specs.DeltaDecisions.{delta_known, delta_of_session, delta_record, next_free, next_on_wake, next_renewal, own_offset}
 use Rattle.sl_trace.specs.Sessions.{calls_of, free_write, generation_of, has_open_write, holders_of, last_seq, leaving_job, refused_after, session_of_job}
 use Rattle.sl_trace.specs.declared.delta.DeltaNext.TheVariants.{Disconnect, EndLeaving, Join, MoveConnection, Nothing, ReadOwn, RefuseJoin, RegisterAndRead, WriteClaim, WriteFirst, WriteFree, WriteRenewal}
 use Rattle.sl_trace.specs.declared.delta.DeltaNext.{DeltaNext}
 use Rattle.sl_trace.specs.declared.session.Session.{Session}
-use Rattle.sl_trace.specs.Connections.{is_registered}
+use Rattle.sl_trace.specs.WatchdogConnections.{is_registered}
 use Rattle.sl_trace.specs.Traces.{Job, end_of, holdings, is_running, next_child, next_job}
 use Rattle.sl_trace.specs.declared.command.Command.{Command}
 use Rattle.sl_trace.specs.declared.effects.Call.{Call}

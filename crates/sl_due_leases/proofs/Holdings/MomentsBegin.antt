@@ -1,6 +1,6 @@
 -- A step has granted and ended nothing when it has begun.
 use Rattle.sl_due_facts.proofs.Acts.LoopsKeep.{for_each_keeps, when_keeps}
-use Rattle.sl_due.specs.DueFirst.{begin_recoveries, begin_recovery, begins_now, signal_and_refuse, signal_holders}
+use Rattle.sl_due.specs.DueRecovery.{begin_recoveries, begin_recovery, begins_now, signal_and_refuse, signal_holders}
 use Rattle.sl_due.specs.Steps.{Step, add_reply, begin_step, seen}
 use Rattle.sl_due_leases.proofs.Holdings.MomentsAreKept.{alike, signalled_alike}
 use Rattle.sl_due_leases.specs.Holdings.Moments.{Moment}

@@ -1,5 +1,5 @@
 -- How a lease's calls change: not at all, by an answer, by one more call. What stands behind an exclusive holding goes on by each of them.
-use Rattle.sl_area.specs.Layouts.{Layout}
+use Rattle.sl_area.specs.AreaSizes.{Layout}
 use Rattle.sl_due_leases.proofs.Holdings.StandsCarried.{WasWritten, stands_on}
 use Rattle.sl_trace.specs.Ballots.{is_ahead, stop_of}
 use Rattle.sl_trace.specs.declared.lease.Stop.{Stop}

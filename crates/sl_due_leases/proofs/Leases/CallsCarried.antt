@@ -1,6 +1,6 @@
 -- What the laws of areas, blocks and leaders ask of a call stands where its session has the same calls, is as active as it was, and holds
 -- and counts no less.
-use Rattle.sl_area.specs.Places.{leader_of}
+use Rattle.sl_area.specs.AreaLayout.{leader_of}
 use Rattle.sl_run.specs.LawfulBlock.{AreaRead, BeginReason, Block_above, Freed_before, LawfulBlockStep, LawfulTurn, Leader_before, Leader_own, Lost_before, Own_block}
 use Rattle.sl_run.specs.LawfulLeader.{LawfulFreeLeader, LawfulTake, holds_under}
 use Rattle.sl_due_leases.specs.Leases.LeaseLawful.{LeaseLawful}

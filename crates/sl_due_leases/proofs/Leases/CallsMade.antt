@@ -1,7 +1,8 @@
 -- Each call that a lease makes keeps the laws of areas, blocks and leaders where it is made.
 use Rattle.sl_due_facts.proofs.Acts.Pairs.Records.{IsPairOf, leader_no_turn, pair_recorded, written_no_turn}
-use Rattle.sl_area.specs.Places.{area_sectors, block_offset, block_sectors, leader_offset, leader_record, pair_offset}
-use Rattle.sl_due.specs.DueLease.{name_on, next_turn}
+use Rattle.sl_area.specs.AreaLayout.{area_sectors, block_offset, block_sectors, leader_offset, pair_offset}
+use Rattle.sl_area.specs.AreaRecords.{leader_record}
+use Rattle.sl_due.specs.CarriedLease.{name_on, next_turn}
 use Rattle.sl_run.specs.LawfulArea.{HasVerified, IsAreaRead, IsBlockRead, IsRightRead, LawfulAgain, LawfulAreaWrite, is_area_work, is_same_read, open_block_work, record_offset}
 use Rattle.sl_run.specs.LawfulBlock.{LawfulBlockStep, LawfulBlockWrite, LawfulPhase1, LawfulPhase2Read, LawfulTurn}
 use Rattle.sl_run.specs.LawfulLeader.{LawfulFreeLeader, LawfulLeaderWrite, LawfulTake, holds_under}
@@ -16,12 +17,12 @@ use Rattle.sl_due_leases.proofs.Ways.WayStages.{ReadBehind, again_behind, asked2
 use Rattle.sl_due_leases.proofs.Ways.WrittenRecords.{block_format, leader_format}
 use Rattle.sl_due_leases.specs.Ways.Nexts.{BlockIsNext, LeaderIsOwn, Moment, NextIs, StepIs, calls_at, context_at, next_place, read_op, record_at}
 use Rattle.sl_trace.specs.Ballots.{owner_of, same_owner}
-use Rattle.sl_trace.specs.LeaseWork.{step_of_read}
+use Rattle.sl_trace.specs.LeaseDecisions.{step_of_read}
 use Rattle.sl_trace.specs.Leases.{Leader_freed, Leader_taken, Phase2_read, Phase2_write, base_turn, block_submitted, block_written, ended_ballots, freed, is_again, is_at, kind_of_read, kind_of_step, known, leader_written, lease_calls, lease_step, own_block, same_kind, spot_of_call, turn_of_record, verified_name}
 use Rattle.sl_trace.specs.declared.lease.LeaseNext.TheVariants.{ReadFor, WriteBlock, WriteLeader}
 use Rattle.sl_sector.specs.declared.sector.Block.{Block}
 use Rattle.sl_sector.specs.declared.sector.Leader.{Leader}
-use Rattle.sl_sector.specs.Spelling.{is_first_turn}
+use Rattle.sl_sector.specs.SectorLayouts.{is_first_turn}
 use Rattle.sl_sector.specs.declared.sector.PairBlock.{PairBlock}
 use Rattle.sl_sector.specs.declared.sector.Rec.TheVariants.{BlockIs, LeaderIs, PairIs, PairLeaderIs}
 use Rattle.sl_sector.specs.declared.sector.Rec.{Rec}

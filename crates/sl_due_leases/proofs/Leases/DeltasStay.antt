@@ -3,8 +3,8 @@ use Rattle.sl_due_facts.proofs.Acts.AddedAtEnd.{contains_at}
 use Rattle.sl_due_facts.proofs.Acts.LoopsKeep.{when_keeps, with_some_keeps}
 use Rattle.sl_due_facts.specs.Acts.Acts.{Has}
 use Rattle.sl_due_facts.specs.Acts.TraceSoFar.{entry_of}
-use Rattle.sl_due.specs.DueDelta.{carry_delta, for_joining, move_connection, read_own_sector, register, survey, write_own_sector}
-use Rattle.sl_due.specs.DueFirst.{refuse, remove_connection, remove_of_refused}
+use Rattle.sl_due.specs.CarriedDelta.{carry_delta, for_joining, move_connection, read_own_sector, register, survey, write_own_sector}
+use Rattle.sl_due.specs.DueTimeOuts.{refuse, remove_connection, remove_of_refused}
 use Rattle.sl_due.specs.Steps.{Step, add_call_of, add_move, add_reply, seen}
 use Rattle.sl_run.specs.LawfulArea.{is_area_work, is_delta_record}
 use Rattle.sl_run.specs.LawForms.{cut_at}
@@ -17,7 +17,7 @@ use Rattle.sl_due_facts.proofs.AddedEffects.CallsGrow.{same_sessions}
 use Rattle.sl_sector.specs.declared.sector.DeltaRec.{DeltaRec}
 use Rattle.sl_sector.specs.declared.sector.Rec.TheVariants.{DeltaIs}
 use Rattle.sl_sector.specs.declared.sector.Rec.{Rec}
-use Rattle.sl_trace.specs.Deltas.{DeltaLease, delta_record, is_renewal_due, next_free, next_renewal, own_offset}
+use Rattle.sl_trace.specs.DeltaDecisions.{DeltaLease, delta_record, is_renewal_due, next_free, next_renewal, own_offset}
 use Rattle.sl_trace.specs.Sessions.{has_open_write, is_join_call, is_join_done, leaving_job, is_joined, is_present, joined_after, present_sessions, recovery_of, refused_after, removed_after, session_numbered, session_of_job, sessions}
 use Rattle.sl_trace.specs.declared.delta.DeltaNext.TheVariants.{Disconnect, EndLeaving, Join, MoveConnection, Nothing, ReadOwn, RefuseJoin, RegisterAndRead, WriteClaim, WriteFirst, WriteFree, WriteRenewal}
 use Rattle.sl_trace.specs.declared.delta.DeltaNext.{DeltaNext}
@@ -28,7 +28,7 @@ use Rattle.sl_trace.specs.declared.delta.DeltaKnown.{DeltaKnown}
 use Rattle.sl_due_facts.specs.Facts.SessionFacts.{NameFacts}
 use Rattle.sl_due_facts.specs.Facts.HeardCall.{heard_by}
 use Rattle.sl_time.specs.Times.{fail}
-use Rattle.sl_trace.specs.Connections.{is_registered, unregisters}
+use Rattle.sl_trace.specs.WatchdogConnections.{is_registered, unregisters}
 use Rattle.sl_trace.specs.Traces.{Replied, Setting, Trace, is_running, reply_to}
 use Rattle.sl_trace.specs.declared.effects.Call.{Call}
 use Rattle.sl_trace.specs.declared.effects.JoinStep.TheVariants.{ClaimWrite, FirstRead, FirstRenewal}

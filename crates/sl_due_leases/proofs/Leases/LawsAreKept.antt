@@ -2,9 +2,9 @@
 use Rattle.sl_due_facts.proofs.Acts.LoopsKeep.{for_each_keeps}
 use Rattle.sl_due_facts.specs.Acts.Acts.{Acts, Has, Hears}
 use Rattle.sl_due.specs.DueAnswers.{set_reply}
-use Rattle.sl_due.specs.DueDelta.{see_request}
+use Rattle.sl_due.specs.CarriedDelta.{see_request}
 use Rattle.sl_due.specs.DueInputs.{end_holdings, leave_holdings, started_reply}
-use Rattle.sl_due.specs.DueLease.{carry_lease, goes_on, next_of_lease}
+use Rattle.sl_due.specs.CarriedLease.{carry_lease, goes_on, next_of_lease}
 use Rattle.sl_due.specs.DueRequests.{after_value_read, value_reply}
 use Rattle.sl_due.specs.Steps.{Step, add_end, add_reply, seen, with_input}
 use Rattle.sl_run.specs.LawfulArea.{is_area_work}
@@ -27,13 +27,13 @@ use Rattle.sl_due_facts.proofs.Acts.Pairs.Decisions.{next_is}
 use Rattle.sl_due_leases.proofs.Ways.WayFactsHeld.DecidedFits.{heard_fits}
 use Rattle.sl_due_leases.specs.Ways.Nexts.{NextIs}
 use Rattle.sl_trace.specs.Jobs.{aim_of, aim_of_command, command_numbered, job_of_start, process_named}
-use Rattle.sl_trace.specs.LeaseWork.{lease_place}
+use Rattle.sl_trace.specs.LeaseDecisions.{lease_place}
 use Rattle.sl_trace.specs.Leases.{exclusive_on, holdings_on, known, lver_written, spot_of_call}
 use Rattle.sl_trace.specs.declared.lease.Aim.TheVariants.{Acquires, Converts, Releases, Settles}
 use Rattle.sl_trace.specs.declared.lease.Aim.{Aim}
 use Rattle.sl_trace.specs.declared.lease.LeaseNext.TheVariants.{AnswerJob, BecomeExclusive, BecomeShared, GrantJob, Nothing, ReadFor, WriteBlock, WriteLeader}
 use Rattle.sl_trace.specs.declared.lease.LeaseNext.{LeaseNext}
-use Rattle.sl_trace.specs.Deltas.{delta_known, delta_of_session}
+use Rattle.sl_trace.specs.DeltaDecisions.{delta_known, delta_of_session}
 use Rattle.sl_trace.specs.Sessions.{calls_of, generation_of, holdings_of, is_active, is_joined, joined_after, recovery_of, removed_after, session_numbered}
 use Rattle.sl_trace.specs.declared.session.Session.{Session}
 use Rattle.sl_due_facts.specs.Facts.AllFacts.{Whole}

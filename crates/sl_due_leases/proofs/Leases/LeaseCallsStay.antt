@@ -1,6 +1,7 @@
 -- What a lease decides keeps the laws of areas, blocks and leaders, where its session is active and its area clear.
-use Rattle.sl_area.specs.Places.{block_offset, in_area, leader_offset, leader_record}
-use Rattle.sl_due.specs.DueLease.{next_turn, read_for, write_block, write_leader}
+use Rattle.sl_area.specs.AreaLayout.{block_offset, in_area, leader_offset}
+use Rattle.sl_area.specs.AreaRecords.{leader_record}
+use Rattle.sl_due.specs.CarriedLease.{next_turn, read_for, write_block, write_leader}
 use Rattle.sl_due.specs.Steps.{Step, add_call_of, seen}
 use Rattle.sl_run.specs.LawfulArea.{is_area_work, is_block_work, open_block_work}
 use Rattle.sl_run.specs.LawfulLeader.{holds_under, open_writes_on}

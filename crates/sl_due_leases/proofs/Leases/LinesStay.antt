@@ -4,10 +4,10 @@ use Rattle.sl_due_facts.proofs.Acts.PlainActs.{line_has}
 use Rattle.sl_due_facts.specs.Acts.Acts.{Has, Hears, next_of_conversion, next_of_release}
 use Rattle.sl_due_facts.specs.Acts.DueDaemons.{IsDecidedFor}
 use Rattle.sl_due_facts.specs.Acts.TraceSoFar.{entry_of}
-use Rattle.sl_area.specs.Places.{in_area, leader_of, read_at, request_offset, value_offset}
+use Rattle.sl_area.specs.AreaLayout.{in_area, leader_of, read_at, request_offset, value_offset}
 use Rattle.sl_area.specs.Roles.{leader, request, value}
 use Rattle.sl_due.specs.DueCommands.{after_end, carry_decision, decided, reply_at_once}
-use Rattle.sl_due.specs.DueLease.{carry_lease, read_area}
+use Rattle.sl_due.specs.CarriedLease.{carry_lease, read_area}
 use Rattle.sl_due.specs.DueRequests.{after_request_read, owner_read, request_refusal, write_request}
 use Rattle.sl_due.specs.Steps.{Step, add_call_of, add_end, add_reply, seen, with_input}
 use Rattle.sl_due.specs.declared.decision.Decision.TheVariants.{ConvertsTo, GetsValue, GivesUp, Joins, Leaves, ReadsArea, Replies, Requests, SetsValue, Shares, TakesOver}
@@ -21,7 +21,7 @@ use Rattle.sl_due_leases.proofs.Leases.NextsStay.{bare_lawful, held_there, is_le
 use Rattle.sl_due_leases.proofs.Leases.OthersKeep.{Any, LawfulSoFar, Others, by_others, no_others, other_more, others_are_lawful}
 use Rattle.sl_due_leases.proofs.Ways.WayFactsHeld.ActsKeep.{asked_of, stand}
 use Rattle.sl_request.specs.Requests.{check_request}
-use Rattle.sl_sector.specs.Spelling.{request_in}
+use Rattle.sl_sector.specs.SectorLayouts.{request_in}
 use Rattle.sl_due_leases.proofs.Ways.WayFactsHeld.DecisionsAreClear.{DecidedOn, IsAsked, decisions_are_clear}
 use Rattle.sl_due_leases.proofs.Ways.WayFactsHeld.EffectsLeave.{made_call, there_has}
 use Rattle.sl_due_leases.proofs.Ways.WayFactsHeld.HeardStands.{HeardCall, heard_call, lease_ready, spot_same}
@@ -37,7 +37,9 @@ use Rattle.sl_due_leases.proofs.Ways.WayNumbers.{is_verified}
 use Rattle.sl_due_leases.proofs.Ways.WayStages.{is_at_in}
 use Rattle.sl_trace.specs.Ballots.{moded_block}
 use Rattle.sl_trace.specs.Jobs.{aim_of, aim_of_command, command_numbered, resource_named}
-use Rattle.sl_trace.specs.LeaseWork.{convert_next, lease_place, release_next}
+use Rattle.sl_trace.specs.Conversions.{convert_next}
+use Rattle.sl_trace.specs.LeaseDecisions.{lease_place}
+use Rattle.sl_trace.specs.Releases.{release_next}
 use Rattle.sl_trace.specs.Leases.{Phase2_read, block_of_record, block_submitted, holdings_on, is_lease_call, is_leader_of, is_on, is_second, kind_of_step, same_kind, known, lease_calls, lease_step, leader_of_record, spot_of, spot_of_call, turn_of_record, verified_name}
 use Rattle.sl_trace.specs.declared.lease.Aim.TheVariants.{Converts, Releases}
 use Rattle.sl_trace.specs.declared.lease.LeaseNext.TheVariants.{Nothing, WriteBlock}

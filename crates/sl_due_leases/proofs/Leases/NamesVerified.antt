@@ -1,6 +1,6 @@
 -- The name that a lease writes is one that the session has read on the area.
-use Rattle.sl_area.specs.Layouts.{Layout}
-use Rattle.sl_area.specs.Places.{leader_of}
+use Rattle.sl_area.specs.AreaSizes.{Layout}
+use Rattle.sl_area.specs.AreaLayout.{leader_of}
 use Rattle.sl_run.specs.LawfulArea.{HasVerified, is_leader_read}
 use Rattle.sl_due_leases.proofs.Ways.GivenReads.{leader_spells, none_again}
 use Rattle.sl_due_leases.proofs.Ways.NewestCall.{submitted_here, submitted_passed}

@@ -1,8 +1,9 @@
 -- What a lease decides keeps the laws: where a leader is freed, its session doesn't hold under the instance.
 use Rattle.sl_due_facts.proofs.Acts.LoopsKeep.{with_some_keeps}
 use Rattle.sl_due_facts.specs.Acts.Acts.{Has, Hears, next_of_settling}
-use Rattle.sl_area.specs.Places.{blocks_of, leader_read}
-use Rattle.sl_due.specs.DueLease.{carry_lease, goes_on, next_of_lease}
+use Rattle.sl_area.specs.Pairs.{blocks_of}
+use Rattle.sl_area.specs.TornLeader.{leader_read}
+use Rattle.sl_due.specs.CarriedLease.{carry_lease, goes_on, next_of_lease}
 use Rattle.sl_due.specs.Steps.{Step, add_reply, seen}
 use Rattle.sl_run.specs.LawfulArea.{is_area_work}
 use Rattle.sl_run.specs.LawfulLeader.{holds_under}
@@ -18,7 +19,7 @@ use Rattle.sl_due_leases.proofs.Ways.WayFactsHeld.DecidedFits.{heard_fits, settl
 use Rattle.sl_due_leases.specs.Ways.Nexts.{NextIs}
 use Rattle.sl_trace.specs.Ballots.{is_ahead, moded_block, phase1_block, same_owner, stop_of, value_of}
 use Rattle.sl_trace.specs.Jobs.{aim_of, aim_of_command, command_numbered}
-use Rattle.sl_trace.specs.LeaseWork.{LeasePlace, begin_or_refuse, leader_for, looks_for_shared, named_area_next, phase1_next, phase2_next, after_bytes, after_phase1, after_phase2, after_read, after_write, area_next, asked_again, begin_next, first_step, heard, lease_next, lease_place, refuses, settle_next, settle_owed, stopped_next, whole_area_next}
+use Rattle.sl_trace.specs.LeaseDecisions.{LeasePlace, begin_or_refuse, leader_for, looks_for_shared, named_area_next, phase1_next, phase2_next, after_bytes, after_phase1, after_phase2, after_read, after_write, area_next, asked_again, begin_next, first_step, heard, lease_next, lease_place, refuses, settle_next, settle_owed, stopped_next, whole_area_next}
 use Rattle.sl_trace.specs.Leases.{LeaseKnown, Phase2_read, exclusive_on, holdings_on, instance_for, Area_read, Phase1_read, Phase1_write, Phase2_write, free_left, is_leader_of, kind_of_step, known, lease_calls, lease_step, lver_written, mode_gen_of, open_on, owed, owed_free, own_known, same_kind, shared_elsewhere, spot_of_call}
 use Rattle.sl_trace.specs.declared.lease.Aim.TheVariants.{Acquires, Converts, Releases, Settles}
 use Rattle.sl_trace.specs.declared.lease.Aim.{Aim}

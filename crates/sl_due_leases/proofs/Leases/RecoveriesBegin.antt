@@ -1,7 +1,7 @@
 -- No recovery begins by an answer to work on an area..
 use Rattle.sl_due_facts.specs.Acts.Acts.{Hears}
 use Rattle.sl_due_facts.specs.Acts.TraceSoFar.{entry_of}
-use Rattle.sl_due.specs.DueDelta.{begins_by_read}
+use Rattle.sl_due.specs.CarriedDelta.{begins_by_read}
 use Rattle.sl_due.specs.Steps.{Step, seen}
 use Rattle.sl_due_leases.proofs.Ways.WayFactsHeld.HeardStands.{heard_calls}
 use Rattle.sl_due_leases.proofs.Ways.WayFactsHeld.InputsLeave.{same_call}

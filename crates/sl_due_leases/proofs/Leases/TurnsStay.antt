@@ -1,6 +1,6 @@
 -- A conversion that has come to its end keeps the laws: what it frees is no longer held exclusive.
 use Rattle.sl_due_facts.specs.Acts.TraceSoFar.{entry_of}
-use Rattle.sl_due.specs.DueLease.{carry_lease, convert_for, convert_holding, for_work, held_otherwise, with_command, write_block, write_leader}
+use Rattle.sl_due.specs.CarriedLease.{carry_lease, convert_for, convert_holding, for_work, held_otherwise, with_command, write_block, write_leader}
 use Rattle.sl_due.specs.Steps.{Step, add_end, add_grant, seen, with_some}
 use Rattle.sl_run.specs.LawfulLeader.{holds_under}
 use Rattle.sl_due_leases.proofs.Leases.LawsStay.{joined_more, three}

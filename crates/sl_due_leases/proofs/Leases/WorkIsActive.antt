@@ -2,7 +2,7 @@
 use Rattle.sl_due_facts.specs.Acts.Acts.{Hears}
 use Rattle.sl_due.specs.Steps.{Step, seen, with_input}
 use Rattle.sl_run.specs.LawfulArea.{is_area_work}
-use Rattle.sl_due.specs.DueDelta.{begins_by_read}
+use Rattle.sl_due.specs.CarriedDelta.{begins_by_read}
 use Rattle.sl_due_leases.proofs.Leases.RecoveriesBegin.{not_by_read}
 use Rattle.sl_due_facts.specs.Facts.HeardCall.{heard_by}
 use Rattle.sl_due_leases.proofs.Ways.WayFactsHeld.EffectsLeave.{there_has}

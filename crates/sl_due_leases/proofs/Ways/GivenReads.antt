@@ -1,14 +1,16 @@
 -- What a read of a lease gives: what its bytes spell, with pairs beside what is kept of the first answer where it is the second.
 use Rattle.sl_due_facts.proofs.Acts.Pairs.GivenByReads.{bytes_at}
-use Rattle.sl_area.specs.Layouts.{Layout}
-use Rattle.sl_area.specs.Places.{BlocksRead, blocks_of, blocks_part, leader_of, leader_read, needs_again, pairs_kept, read_once}
+use Rattle.sl_area.specs.AreaSizes.{Layout}
+use Rattle.sl_area.specs.Pairs.{BlocksRead, blocks_of, needs_again, pairs_kept, read_once}
+use Rattle.sl_area.specs.TornLeader.{leader_read}
+use Rattle.sl_area.specs.AreaLayout.{blocks_part, leader_of}
 use Rattle.sl_due_facts.specs.Facts.WayFacts.{AgainWay, CallWay, PurposeWay, StepWay, WayContext, Ways}
 use Rattle.sl_due_leases.proofs.Ways.WayStages.{is_at_in, is_first, step_way}
 use Rattle.sl_words.proofs.Lists.{contains_cases, contains_none}
 use Rattle.sl_sector.specs.declared.sector.Leader.{Leader}
 use Rattle.sl_sector.specs.declared.sector.PairBlock.{PairBlock}
 use Rattle.sl_trace.proofs.PlainReads.{leader_plain}
-use Rattle.sl_trace.specs.LeaseWork.{asked_again, first_step, part_read, read_of_step}
+use Rattle.sl_trace.specs.LeaseDecisions.{asked_again, first_step, part_read, read_of_step}
 use Rattle.sl_trace.specs.Leases.{Area_read, Read_before_free, blocks_bytes, blocks_given, first_kept, given_with, is_again, is_area_read, is_second, kept_before, leader_given, lease_step, read_given}
 use Rattle.sl_trace.specs.Traces.{Submitted, gave}
 use Rattle.sl_trace.specs.declared.effects.LeaseRead.TheVariants.{OfArea, OfBlock, OfFree, OfPhase1, OfPhase2}

@@ -1,6 +1,6 @@
 -- What the newest call adds to what is asked of a lease's calls.
 use Rattle.sl_due_facts.proofs.Acts.Pairs.Records.{leader_lver, written_block, written_leader, written_no_block, written_no_leader}
-use Rattle.sl_area.specs.Layouts.{Layout}
+use Rattle.sl_area.specs.AreaSizes.{Layout}
 use Rattle.sl_due_facts.specs.Facts.WayFacts.{WayContext, WritesBlock, WritesLeader}
 use Rattle.sl_words.proofs.Lists.{contains_first, contains_more}
 use Rattle.sl_trace.specs.Leases.{base_turn, block_of_record, block_submitted, block_written, ended_ballot, ended_ballots, freed, leader_of_record, leader_written, lver_written, verified_name}

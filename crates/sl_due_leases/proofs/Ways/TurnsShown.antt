@@ -1,8 +1,9 @@
 -- Turns of an area with pairs: whoever knows the own block was shown a turn, so the turn that a session writes is one above it.
 use Rattle.sl_due_facts.proofs.Acts.Pairs.DecodedRecords.{pair_is_record}
 use Rattle.sl_due_facts.proofs.Acts.Pairs.Records.{read_no_turn, written_no_turn, written_turn}
-use Rattle.sl_area.specs.Layouts.{Layout}
-use Rattle.sl_area.specs.Places.{BlocksRead, blocks_in, blocks_of, blocks_part, later_pair, needs_again, pair_back, pair_kept, pair_merged, pair_read, pairs_kept, pairs_of, read_once}
+use Rattle.sl_area.specs.AreaSizes.{Layout}
+use Rattle.sl_area.specs.Pairs.{BlocksRead, blocks_of, later_pair, needs_again, pair_back, pair_kept, pair_merged, pair_read, pairs_kept, pairs_of, read_once}
+use Rattle.sl_area.specs.AreaLayout.{blocks_in, blocks_part}
 use Rattle.sl_due_facts.specs.Facts.WayFacts.{WayContext, Ways, WritesBlock}
 use Rattle.sl_due_leases.proofs.Ways.NewestCall.{leader_is_no_block, read_writes_no_block, submitted_passed}
 use Rattle.sl_due_leases.proofs.Ways.WayNumbers.{Doing, Frees, Reads, Takes, Writes_ballot, Writes_mode, doing}

@@ -1,7 +1,7 @@
 -- What follows from the ways of the numbers of a lease: the own block never falls, no free and no ended ballot is above it, and an open
 -- ballot is in its instance, above each free.
-use Rattle.sl_area.specs.Layouts.{Layout}
-use Rattle.sl_area.specs.Places.{area_sectors, block_sectors}
+use Rattle.sl_area.specs.AreaSizes.{Layout}
+use Rattle.sl_area.specs.AreaLayout.{area_sectors, block_sectors}
 use Rattle.sl_due_leases.proofs.Ways.NewestCall.{block_is, block_is_no_leader, freed_held, freed_passed, leader_is, leader_is_no_block, read_writes_no_block, read_writes_no_leader, submitted_here, submitted_passed}
 use Rattle.sl_due_leases.proofs.Ways.WayStages.{again_behind, clear_freed, clear_own, is_at_in, proposed, proposed_lver}
 use Rattle.sl_trace.specs.Leases.{Phase1_read, Phase2_read, Phase2_write, block_submitted, block_written, blocks_given, concludes, ended_ballot, ended_ballots, freed, is_at, is_phase_read, leader_written, open_ballot, own_block, stop_in, value_in_end}

@@ -4,7 +4,7 @@ use Rattle.sl_due_leases.proofs.Ways.NewestCall.{block_is, block_is_no_leader, f
 use Rattle.sl_words.proofs.Lists.{contains_first, contains_more}
 use Rattle.sl_sector.specs.declared.sector.Block.{Block}
 use Rattle.sl_trace.specs.Ballots.{ballot_blocks, moded_block, phase2_block}
-use Rattle.sl_trace.specs.LeaseWork.{first_step, read_of_step, step_of_read}
+use Rattle.sl_trace.specs.LeaseDecisions.{first_step, read_of_step, step_of_read}
 use Rattle.sl_trace.specs.Leases.{StepKind, block_submitted, freed, is_again, is_at, is_second, kind_of_read, kind_of_step, lease_step, same_kind}
 use Rattle.sl_trace.specs.Traces.{Submitted}
 use Rattle.sl_trace.specs.declared.effects.Call.{Call}

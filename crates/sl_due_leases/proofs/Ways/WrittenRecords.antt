@@ -1,6 +1,6 @@
 -- The records of blocks and leaders are no delta records, and they are of the kind of their areas.
-use Rattle.sl_area.specs.Layouts.{Layout}
-use Rattle.sl_area.specs.Places.{block_record, leader_record}
+use Rattle.sl_area.specs.AreaSizes.{Layout}
+use Rattle.sl_area.specs.AreaRecords.{block_record, leader_record}
 use Rattle.sl_run.specs.LawfulArea.{is_of_format}
 use Rattle.sl_sector.specs.declared.sector.Block.{Block}
 use Rattle.sl_sector.specs.declared.sector.Leader.{Leader}

@@ -1,6 +1,6 @@
 -- What is kept by each act of a step, and true once a step has begun: what is known of holdings.
 use Rattle.sl_due_facts.specs.Acts.Acts.{Acts}
-use Rattle.sl_due.specs.DueFirst.{begin_recoveries}
+use Rattle.sl_due.specs.DueRecovery.{begin_recoveries}
 use Rattle.sl_due.specs.Steps.{Step, begin_step, seen}
 use Rattle.sl_due_leases.specs.Holdings.Moments.{Known, Moment}
 use Rattle.sl_due_facts.specs.Facts.HeardCall.{heard_by}

@@ -1,5 +1,5 @@
 -- Where a lease makes a call, and what the call is.
-use Rattle.sl_area.specs.Places.{block_offset}
+use Rattle.sl_area.specs.AreaLayout.{block_offset}
 use Rattle.sl_run.specs.LawfulArea.{open_block_work}
 use Rattle.sl_run.specs.LawfulLeader.{open_writes_on}
 use Rattle.sl_due_leases.specs.Ways.Nexts.{Moment, calls_at, context_at}

@@ -1,6 +1,7 @@
 -- What is shown of the laws of areas, blocks and leaders: each call that a lease makes keeps them, and so does each act.
 use Rattle.sl_due_facts.specs.Acts.Acts.{Acts}
-use Rattle.sl_area.specs.Places.{leader_offset, leader_record}
+use Rattle.sl_area.specs.AreaLayout.{leader_offset}
+use Rattle.sl_area.specs.AreaRecords.{leader_record}
 use Rattle.sl_run.specs.LawfulLeader.{holds_under}
 use Rattle.sl_due_leases.specs.Leases.LeaseLawful.{LeaseLawful, LeaseLaws}
 use Rattle.sl_due_leases.specs.Leases.LeaseCalls.{IsCallAt, MayCall, read_place}

@@ -1,9 +1,10 @@
 -- What a lease decides fits the calls before it: the call that it makes has its way, and its block or leader is the one that the laws ask.
-use Rattle.sl_area.specs.Places.{area_sectors, block_place, block_record, block_sectors, leader_record}
-use Rattle.sl_due.specs.DueLease.{name_on, next_turn}
+use Rattle.sl_area.specs.AreaLayout.{area_sectors, block_place, block_sectors}
+use Rattle.sl_area.specs.AreaRecords.{block_record, leader_record}
+use Rattle.sl_due.specs.CarriedLease.{name_on, next_turn}
 use Rattle.sl_run.specs.LawfulBlock.{LawfulPhase1}
 use Rattle.sl_trace.specs.Ballots.{moded_block}
-use Rattle.sl_trace.specs.LeaseWork.{LeasePlace, leader_for, lease_place}
+use Rattle.sl_trace.specs.LeaseDecisions.{LeasePlace, leader_for, lease_place}
 use Rattle.sl_trace.specs.Leases.{LeaseKnown, block_submitted, exclusive_on, has_shared_on, known, lease_calls}
 use Rattle.sl_trace.specs.Jobs.{aim_of}
 use Rattle.sl_trace.specs.declared.lease.Aim.{Aim}

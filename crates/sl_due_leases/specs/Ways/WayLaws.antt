@@ -1,13 +1,15 @@
 -- What is shown of the ways of leases.
 use Rattle.sl_due_facts.specs.Acts.Acts.{Acts}
-use Rattle.sl_due.specs.DueFirst.{begin_recoveries}
+use Rattle.sl_due.specs.DueRecovery.{begin_recoveries}
 use Rattle.sl_due.specs.Steps.{begin_step}
 use Rattle.sl_run.specs.LawfulBlock.{LawfulModeWrite, LawfulPhase2, LawfulPhase2Read}
 use Rattle.sl_run.specs.LawfulLeader.{HasWon}
 use Rattle.sl_due_leases.specs.Ways.WayFactsHeld.{HasGrantGrounds, HasNumberFacts, HasTurnFacts, HasWayFacts}
 use Rattle.sl_due_leases.specs.Ways.Nexts.{IsHeard, Moment, NextIs, calls_at, context_at, known_at, place_at}
 use Rattle.sl_trace.specs.Jobs.{aim_of}
-use Rattle.sl_trace.specs.LeaseWork.{convert_next, lease_next, release_next, settle_next}
+use Rattle.sl_trace.specs.Conversions.{convert_next}
+use Rattle.sl_trace.specs.LeaseDecisions.{lease_next, settle_next}
+use Rattle.sl_trace.specs.Releases.{release_next}
 use Rattle.sl_trace.specs.Leases.{block_written, ended_ballots, freed, leader_written, lease_calls, lver_written, open_ballot}
 use Rattle.sl_trace.specs.declared.lease.Aim.TheVariants.{Converts, Releases, Settles}
 use Rattle.sl_trace.specs.declared.lease.Aim.{Aim}

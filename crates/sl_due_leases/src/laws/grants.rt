@@ -20,7 +20,7 @@
 //! an exit would refuse its job, and its start was told (`Grants::Values::ReadsBack`). So the value that is told then is the last
 //! (`Grants::Values::ValuesAreTold`); nothing else tells one (`Grants::Values::NothingIsTold`).
 
-ghost use Rattle.sl_due_leases.specs.Grants.GrantLaws.{ActivesAreKept, ActivesBegin, EndsAreLawful, EndsBegin, ExitsAreLawful, ExitsBegin, GrantingBegins, GrantingIsLawful, GrantsAreLawful, GrantsStand, OrphansAreLawful, OrphansBegin, WorkFactsAreKept, WorkFactsBegin};
+ghost use Rattle.sl_due_leases.specs.Grants.GrantLaws.{ActivesAreKept, ActivesBegin, EndsAreLawful, ExitsAreLawful, ExitsBegin, GrantingBegins, GrantingIsLawful, GrantsAreLawful, GrantsStand, OrphansAreLawful, OrphansBegin, WorkFactsAreKept, WorkFactsBegin};
 ghost use Rattle.sl_due_leases.specs.Grants.ModeLaws.{ModesAreLawful, ModesBegin};
 ghost use Rattle.sl_due_leases.specs.Grants.ValueLaws.{ValueFactsAreKept, ValueFactsBegin, ValuesAreLawful, ValuesBegin};
 
@@ -32,15 +32,6 @@ pub fn work_facts_are_kept()
 /// It holds once a step has begun.
 pub fn work_facts_begin()
     ensures { WorkFactsBegin }
-{}
-
-/// Each act leaves only lawful ends: of what was held before, for its reason.
-pub fn ends_are_lawful()
-    ensures { EndsAreLawful }
-{}
-
-pub fn ends_begin()
-    ensures { EndsBegin }
 {}
 
 /// What an exit leaves is lawful at each act.

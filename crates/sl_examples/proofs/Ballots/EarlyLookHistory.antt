@@ -1,8 +1,8 @@
 -- Host 2 looks before host 1 marks its block, and is granted exclusive by this look after.
-use Rattle.sl_ballots.specs.Ballots.{BallotEnded, Freed_before, GoesUp, IsFoundBlock, IsLastWrite, IsLawful, IsPhase1, IsPhase2, KeepsBallot, KeepsBallots, OpensBallot, LeaderSubmitted, Mode_only, Never_led, NumbersArePositive, Phase, Phase_1, Phase_2}
-use Rattle.sl_ballots.specs.Grants.{ExclusiveGranted, FreesAfterMark, KeepsGrants, SharedGranted}
-use Rattle.sl_ballots.specs.History.{Owner}
-use Rattle.sl_ballots.specs.Instances.{KeepsInstances}
+use Rattle.sl_ballot_law.specs.Ballots.{BallotEnded, Freed_before, GoesUp, IsFoundBlock, IsLastWrite, IsLawful, IsPhase1, IsPhase2, KeepsBallot, KeepsBallots, OpensBallot, LeaderSubmitted, Mode_only, Never_led, NumbersArePositive, Phase, Phase_1, Phase_2}
+use Rattle.sl_ballot_law.specs.Grants.{ExclusiveGranted, FreesAfterMark, KeepsGrants, SharedGranted}
+use Rattle.sl_ballot_law.specs.History.{Owner}
+use Rattle.sl_ballot_law.specs.Instances.{KeepsInstances}
 use Rattle.sl_words.proofs.CaseLaws.{false_is_true, some_value}
 use Rattle.sl_examples.proofs.Ballots.HistoryRows.{earlier_over, begins, ended, found, in_order, itself, last, newest, one_is_not_two, accepts, register, unmarked}
 use Rattle.sl_examples.specs.Ballots.MadeHistories.{lasting, one, two}

@@ -1,9 +1,9 @@
 -- Host 2 has evidence against host 1's session, which is alive, and both hold exclusive.
-use Rattle.sl_ballots.specs.Ballots.{BallotEnded, GoesUp, IsFoundBlock, IsLastWrite, IsLawful, IsPhase1, IsPhase2, KeepsBallots, OpensBallot, LeaderSubmitted, Never_led, NumbersArePositive, Owner_over, Phase, Phase_1, Phase_2}
-use Rattle.sl_ballots.specs.Grants.{ExclusiveGranted, KeepsGrants, LooksAfterBegun}
-use Rattle.sl_ballots.specs.History.{Owner}
-use Rattle.sl_ballots.specs.Instances.{LeadersHaveWon}
-use Rattle.sl_ballots.specs.Sessions.{EarlierAreOver, SessionsInOrder}
+use Rattle.sl_ballot_law.specs.Ballots.{BallotEnded, GoesUp, IsFoundBlock, IsLastWrite, IsLawful, IsPhase1, IsPhase2, KeepsBallots, OpensBallot, LeaderSubmitted, Never_led, NumbersArePositive, Owner_over, Phase, Phase_1, Phase_2}
+use Rattle.sl_ballot_law.specs.Grants.{ExclusiveGranted, KeepsGrants, LooksAfterBegun}
+use Rattle.sl_ballot_law.specs.History.{Owner}
+use Rattle.sl_ballot_law.specs.Instances.{LeadersHaveWon}
+use Rattle.sl_ballot_law.specs.Sessions.{EarlierAreOver, SessionsInOrder}
 use Rattle.sl_words.proofs.CaseLaws.{false_is_true, true_is_false}
 use Rattle.sl_examples.proofs.Ballots.HistoryRows.{begins, ended, found, itself, joins_is, last, newest, one_is_not_two, owner_same, accepts, readers, register, unmarked, writers}
 use Rattle.sl_examples.specs.Ballots.MadeHistories.{one, two}

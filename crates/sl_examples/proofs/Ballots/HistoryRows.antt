@@ -1,8 +1,8 @@
 -- What is asked of a made history, row by row. Where the rows are written out, a test of them computes: so a fact of all steps is one `refl`.
-use Rattle.sl_ballots.specs.Ballots.{BallotEnded, IsClean, IsFoundBlock, IsLastWrite, IsPhase1, IsPhase2, ProposesItself, ProposesSeen}
-use Rattle.sl_ballots.specs.Disk.{IsRegister, ShowsNewest, Wrote}
-use Rattle.sl_ballots.specs.History.{History, Leader, Owner}
-use Rattle.sl_ballots.specs.Sessions.{EarlierAreOver, SessionsInOrder}
+use Rattle.sl_ballot_law.specs.Ballots.{BallotEnded, IsClean, IsFoundBlock, IsLastWrite, IsPhase1, IsPhase2, ProposesItself, ProposesSeen}
+use Rattle.sl_ballot_law.specs.Disk.{IsRegister, ShowsNewest, Wrote}
+use Rattle.sl_ballot_law.specs.History.{History, Leader, Owner}
+use Rattle.sl_ballot_law.specs.Sessions.{EarlierAreOver, SessionsInOrder}
 use Rattle.sl_examples.specs.Ballots.MadeHistories.{Lives, Read, Write, joins, lasting, made, no_read, of_host, one, two}
 use Rattle.sl_words.proofs.CaseLaws.{false_is_true, some_value}
 use Rattle.sl_words.proofs.TableLaws.{EachRow, each_row, each_tested}

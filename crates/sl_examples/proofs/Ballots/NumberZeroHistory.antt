@@ -1,6 +1,6 @@
 -- Host 2 runs a ballot of number 0: what it accepts counts as nothing accepted, and host 1 wins the instance too.
-use Rattle.sl_ballots.specs.Ballots.{BallotEnded, GoesUp, IsFoundBlock, IsLastWrite, IsPhase1, IsPhase2, KeepsBallots, OpensBallot, Never_led, Phase, Phase_1, Phase_2}
-use Rattle.sl_ballots.specs.Instances.{KeepsInstances}
+use Rattle.sl_ballot_law.specs.Ballots.{BallotEnded, GoesUp, IsFoundBlock, IsLastWrite, IsPhase1, IsPhase2, KeepsBallots, OpensBallot, Never_led, Phase, Phase_1, Phase_2}
+use Rattle.sl_ballot_law.specs.Instances.{KeepsInstances}
 use Rattle.sl_words.proofs.CaseLaws.{false_is_true}
 use Rattle.sl_examples.proofs.Ballots.HistoryRows.{earlier_over, begins, ended, found, in_order, itself, last, newest, one_is_not_two, accepts, register}
 use Rattle.sl_examples.specs.Ballots.MadeHistories.{lasting, one, two}

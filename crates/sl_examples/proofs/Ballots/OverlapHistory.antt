@@ -1,6 +1,6 @@
 -- A write of host 1 that was left in flight lands over its later one, and two ballots of instance 1 end with two sessions.
-use Rattle.sl_ballots.specs.Ballots.{BallotEnded, GoesUp, IsFoundBlock, IsLastWrite, IsPhase1, IsPhase2, KeepsBallots, OpensBallot, Never_led, NumbersArePositive, Phase, Phase_1, Phase_2}
-use Rattle.sl_ballots.specs.Instances.{KeepsInstances}
+use Rattle.sl_ballot_law.specs.Ballots.{BallotEnded, GoesUp, IsFoundBlock, IsLastWrite, IsPhase1, IsPhase2, KeepsBallots, OpensBallot, Never_led, NumbersArePositive, Phase, Phase_1, Phase_2}
+use Rattle.sl_ballot_law.specs.Instances.{KeepsInstances}
 use Rattle.sl_words.proofs.CaseLaws.{false_is_true}
 use Rattle.sl_examples.proofs.Ballots.HistoryRows.{earlier_over, begins, ended, found, in_order, itself, last, one_is_not_two, accepts, register}
 use Rattle.sl_examples.specs.Ballots.MadeHistories.{lasting, one, two}

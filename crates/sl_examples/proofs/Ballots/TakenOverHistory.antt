@@ -1,9 +1,9 @@
 -- Host 1 holds exclusive and is reset; host 2 takes over; a second session of host 1 joins and settles for host 2's session.
-use Rattle.sl_ballots.specs.Ballots.{BallotEnded, Begun, GoesUp, IsFoundBlock, IsLastWrite, IsLawful, IsPhase1, IsPhase2, KeepsBallots, OpensBallot, LeaderSubmitted, Never_led, NumbersArePositive, Owner_over, Phase, Phase_1, Phase_2, ProposesSeen}
-use Rattle.sl_ballots.specs.Grants.{ExclusiveGranted, KeepsGrants, LooksAfterBegun}
-use Rattle.sl_ballots.specs.History.{Owner}
-use Rattle.sl_ballots.specs.Instances.{KeepsInstances}
-use Rattle.sl_ballots.specs.Sessions.{EarlierAreOver, EvidenceMeansOver, SessionsInOrder}
+use Rattle.sl_ballot_law.specs.Ballots.{BallotEnded, Begun, GoesUp, IsFoundBlock, IsLastWrite, IsLawful, IsPhase1, IsPhase2, KeepsBallots, OpensBallot, LeaderSubmitted, Never_led, NumbersArePositive, Owner_over, Phase, Phase_1, Phase_2, ProposesSeen}
+use Rattle.sl_ballot_law.specs.Grants.{ExclusiveGranted, KeepsGrants, LooksAfterBegun}
+use Rattle.sl_ballot_law.specs.History.{Owner}
+use Rattle.sl_ballot_law.specs.Instances.{KeepsInstances}
+use Rattle.sl_ballot_law.specs.Sessions.{EarlierAreOver, EvidenceMeansOver, SessionsInOrder}
 use Rattle.sl_words.proofs.CaseLaws.{false_is_true, some_value, true_is_false}
 use Rattle.sl_examples.proofs.Ballots.HistoryRows.{each_host, begins, ended, found, itself, joins_is, last, newest, owner_same, accepts, readers, register, unmarked, writers}
 use Rattle.sl_examples.specs.Ballots.MadeHistories.{joins, one, two}

@@ -1,6 +1,6 @@
 -- Host 1 won instance 1, and a host that passes over its torn block wins the instance too.
-use Rattle.sl_ballots.specs.Ballots.{BallotEnded, GoesUp, IsFoundBlock, IsLastWrite, IsPhase1, IsPhase2, KeepsBallot, KeepsBallots, OpensBallot, Mode_only, Never_led, NumbersArePositive, Phase, Phase_1, Phase_2}
-use Rattle.sl_ballots.specs.Instances.{KeepsInstances}
+use Rattle.sl_ballot_law.specs.Ballots.{BallotEnded, GoesUp, IsFoundBlock, IsLastWrite, IsPhase1, IsPhase2, KeepsBallot, KeepsBallots, OpensBallot, Mode_only, Never_led, NumbersArePositive, Phase, Phase_1, Phase_2}
+use Rattle.sl_ballot_law.specs.Instances.{KeepsInstances}
 use Rattle.sl_words.proofs.CaseLaws.{false_is_true}
 use Rattle.sl_examples.proofs.Ballots.HistoryRows.{earlier_over, begins, ended, found, in_order, itself, last, one_is_not_two, accepts, register}
 use Rattle.sl_examples.specs.Ballots.MadeHistories.{lasting, one, two}

@@ -1,8 +1,8 @@
 -- Two sessions of host 1 are alive at once, share its block, and both win instance 1.
-use Rattle.sl_ballots.specs.Ballots.{BallotEnded, GoesUp, IsFoundBlock, IsLastWrite, IsPhase1, IsPhase2, KeepsBallots, OpensBallot, Never_led, NumbersArePositive, Phase, Phase_1, Phase_2}
-use Rattle.sl_ballots.specs.Instances.{KeepsInstances}
-use Rattle.sl_ballots.specs.History.{Owner}
-use Rattle.sl_ballots.specs.Sessions.{SessionsInOrder}
+use Rattle.sl_ballot_law.specs.Ballots.{BallotEnded, GoesUp, IsFoundBlock, IsLastWrite, IsPhase1, IsPhase2, KeepsBallots, OpensBallot, Never_led, NumbersArePositive, Phase, Phase_1, Phase_2}
+use Rattle.sl_ballot_law.specs.Instances.{KeepsInstances}
+use Rattle.sl_ballot_law.specs.History.{Owner}
+use Rattle.sl_ballot_law.specs.Sessions.{SessionsInOrder}
 use Rattle.sl_words.proofs.CaseLaws.{false_is_true, some_value}
 use Rattle.sl_examples.proofs.Ballots.HistoryRows.{begins, ended, found, itself, joins_is, last, newest, owner_same, accepts, readers, register, writers}
 use Rattle.sl_examples.specs.Ballots.MadeHistories.{joins, one}

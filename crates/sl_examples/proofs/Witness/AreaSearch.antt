@@ -1,5 +1,5 @@
 -- A search for the law of work on areas, in a run without pairs, requests and values.
-use Rattle.sl_area.specs.Places.{area_sectors, block_offset, block_sectors}
+use Rattle.sl_area.specs.AreaLayout.{area_sectors, block_offset, block_sectors}
 use Rattle.sl_run.specs.LawfulArea.{HasVerified, IsAreaRead, IsBlockRead, IsLeaseRead, IsRightRead, LawfulAgain, LawfulArea, LawfulAreaWrite, LawfulLeaseRead, is_area_work, is_block_work, is_delta_record, is_of_format, leaders_read, open_block_work, record_offset}
 use Rattle.sl_trace.specs.Leases.{is_again, is_leader_of, spot_of_call, turn_of_record}
 use Rattle.sl_sector.specs.declared.sector.Leader.{Leader}

@@ -1,7 +1,7 @@
 -- A search for the law of delta writing, in a run without a joining or a leaving: renewals and reads of all ids.
 use Rattle.sl_run.specs.LawfulDelta.{LawfulDelta, LawfulDeltaCall, LawfulJoin, LawfulRenewal, LawfulSurvey, is_on_own_sector}
 use Rattle.sl_sector.specs.declared.sector.DeltaState.TheVariants.{Live}
-use Rattle.sl_trace.specs.Deltas.{delta_of_session, delta_record}
+use Rattle.sl_trace.specs.DeltaDecisions.{delta_of_session, delta_record}
 use Rattle.sl_trace.specs.Sessions.{delta_written, generation_of, has_open_delta, is_delta_purpose, is_survey_purpose, joined_after, last_seq, recovery_of, stage_of}
 use Rattle.sl_trace.specs.declared.session.Session.{Session}
 use Rattle.sl_trace.specs.Traces.{Setting, Submitted, Trace}

@@ -1,5 +1,5 @@
 -- Searches for the rules of a header.
-use Rattle.sl_area.specs.Layouts.{is_geometry}
+use Rattle.sl_area.specs.AreaSizes.{is_geometry}
 use Rattle.sl_run.specs.Headers.{GoTogether, IsArea, IsHeader, IsMember, areas_of}
 use Rattle.sl_run.specs.Worlds.{mebibyte}
 use Rattle.sl_run.specs.declared.header.Disk.{Disk}

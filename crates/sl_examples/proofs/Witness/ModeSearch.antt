@@ -1,5 +1,5 @@
 -- A search for the laws of modes and of grants.
-use Rattle.sl_area.specs.Places.{is_base}
+use Rattle.sl_area.specs.AreaLayout.{is_base}
 use Rattle.sl_run.specs.LawfulBlock.{ReadAfter}
 use Rattle.sl_run.specs.LawfulGrant.{HasTaken, LawfulGrant, LawfulGrantTo, LawfulOrphan}
 use Rattle.sl_run.specs.LawfulLeader.{HasWon}

@@ -3,7 +3,8 @@ use Rattle.sl_trace.specs.Ballots.{in_instance, next_mbal}
 use Rattle.sl_trace.specs.Counts.{held_here, limit_met, may_act}
 use Rattle.sl_trace.specs.Leases.{is_leader_of, is_on, known, open_on, owed, spot_of}
 use Rattle.sl_words.proofs.Lists.{got_inside}
-use Rattle.sl_run.specs.Events.{happens, machine_of}
+use Rattle.sl_run.specs.EventChanges.{happens}
+use Rattle.sl_run.specs.Inputs.{machine_of}
 use Rattle.sl_run.specs.Quiet.{AnsweredInTime, QuietStart, QuietStep, StaysQuiet, before_command, job_calls, leader_there, request_there}
 use Rattle.sl_run.specs.Runs.{Happening}
 use Rattle.sl_run.specs.Safety.{block_there}

@@ -1,13 +1,14 @@
 -- A search for a run of events, each daemon doing what is due; and the digest of examples is one.
 use Rattle.sl_examples.specs.CheapDigest.{cheap_digest}
 use Rattle.sl_sound.proofs.Reports.ReportsAreRuns.{has_steps}
-use Rattle.sl_report.specs.Replay.{due_run, effects_of}
-use Rattle.sl_run.specs.Events.{happens, may_happen}
+use Rattle.sl_report.specs.DueRuns.{due_run, effects_of}
+use Rattle.sl_run.specs.EventChanges.{happens}
+use Rattle.sl_run.specs.Refusals.{may_happen}
 use Rattle.sl_run.specs.Runs.{IsRun, world_after}
 use Rattle.sl_run.specs.Worlds.{World}
 use Rattle.sl_run.specs.declared.event.Event.{Event}
-use Rattle.sl_sector.specs.Fields.{u32_bytes}
-use Rattle.sl_sector.specs.Spelling.{IsDigest}
+use Rattle.sl_sector.specs.FieldBytes.{u32_bytes}
+use Rattle.sl_sector.specs.SectorLayouts.{IsDigest}
 use Rattle.sl_examples.proofs.Witness.ProofSearch.{seek_true, ◌>>=◌}
 use Rattle.std.proofs.Common.{ap, arith, lt-ltb, mod-lt, refl}
 use Rattle.std.specs.List.{list_all}

@@ -12,7 +12,7 @@ use Rattle.sl_run.specs.LawfulModes.{LawfulModes}
 use Rattle.sl_run.specs.LawfulParting.{LawfulParting}
 use Rattle.sl_run.specs.LawfulRecovery.{LawfulRecovery}
 use Rattle.sl_run.specs.LawfulValue.{LawfulValue}
-use Rattle.sl_run.specs.LawfulWatchdog.{LawfulWatchdog}
+use Rattle.sl_run.specs.LawfulConnections.{LawfulWatchdog}
 use Rattle.sl_run.specs.Runs.{EachDaemon, daemons_of}
 use Rattle.sl_run.specs.Worlds.{World}
 use Rattle.sl_trace.specs.Traces.{FollowsTrace, Setting, Trace}

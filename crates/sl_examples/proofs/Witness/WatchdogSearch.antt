@@ -5,14 +5,14 @@ use Rattle.sl_run.specs.LawfulExit.{LawfulExit}
 use Rattle.sl_run.specs.LawfulParting.{LawfulParting, MayPart, is_leaving_write}
 use Rattle.sl_run.specs.LawfulRecovery.{LawfulRecovery}
 use Rattle.sl_run.specs.LawfulValue.{LawfulSetReply, LawfulValue, LawfulValueRead, LawfulValueReply, LawfulValueWrite}
-use Rattle.sl_run.specs.LawfulWatchdog.{CoveredBy, LawfulWatchdog, acts_until, is_covered}
+use Rattle.sl_run.specs.LawfulConnections.{CoveredBy, LawfulWatchdog, acts_until, is_covered}
 use Rattle.sl_run.specs.LawForms.{EachCall, EachSession}
 use Rattle.sl_trace.specs.Leases.{spot_of_call, value_written}
 use Rattle.sl_words.proofs.Lists.{contains_none}
 use Rattle.sl_sector.specs.declared.sector.ValueRec.{ValueRec}
 use Rattle.sl_trace.specs.Sessions.{calls_of, free_write, has_open_write, holdings_of, is_joined, is_leaving, is_present, is_recovering, leaving_job, leaving_of, recovery_of}
 use Rattle.sl_trace.specs.declared.session.Session.{Session}
-use Rattle.sl_trace.specs.Connections.{connection_named, connections, registers, unregisters}
+use Rattle.sl_trace.specs.WatchdogConnections.{connection_named, connections, registers, unregisters}
 use Rattle.sl_trace.specs.Traces.{Setting, Submitted, Trace, is_write}
 use Rattle.sl_trace.specs.declared.effects.Entry.{Entry}
 use Rattle.sl_trace.specs.declared.effects.JobReply.{JobReply}

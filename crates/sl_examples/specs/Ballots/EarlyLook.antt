@@ -1,9 +1,9 @@
 -- Host 2 looks at the blocks before host 1 marks its own and frees instance 1; then it begins instance 2, wins it, and is granted
 -- exclusive by its early look, beside host 1, which holds shared.
-use Rattle.sl_ballots.specs.Ballots.{IsLawful}
-use Rattle.sl_ballots.specs.Grants.{FreesAfterMark, Grants, KeepsGrants}
-use Rattle.sl_ballots.specs.History.{History, Leader}
-use Rattle.sl_ballots.specs.Instances.{KeepsInstances}
+use Rattle.sl_ballot_law.specs.Ballots.{IsLawful}
+use Rattle.sl_ballot_law.specs.Grants.{FreesAfterMark, Grants, KeepsGrants}
+use Rattle.sl_ballot_law.specs.History.{History, Leader}
+use Rattle.sl_ballot_law.specs.Instances.{KeepsInstances}
 use Rattle.sl_examples.specs.Ballots.MadeHistories.{Read, Write, give_up, lasting, made, marked, one, plain, read, two, write}
 use Rattle.sl_words.specs.Tables.{Row}
 use Rattle.std.specs.Prelude.{List, nat_le, true, [], ◌&&◌, ◌==◌, ◌∷◌, ◌≡◌}

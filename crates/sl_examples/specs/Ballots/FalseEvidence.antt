@@ -1,9 +1,9 @@
 -- Host 2 has evidence against host 1's session, which is alive and holds exclusive under instance 1: so host 2 begins instance 2, wins
 -- it, and holds exclusive too.
-use Rattle.sl_ballots.specs.Ballots.{IsLawful}
-use Rattle.sl_ballots.specs.Grants.{Grants, IsGranted}
-use Rattle.sl_ballots.specs.History.{History, Leader}
-use Rattle.sl_ballots.specs.Instances.{LeadersHaveWon}
+use Rattle.sl_ballot_law.specs.Ballots.{IsLawful}
+use Rattle.sl_ballot_law.specs.Grants.{Grants, IsGranted}
+use Rattle.sl_ballot_law.specs.History.{History, Leader}
+use Rattle.sl_ballot_law.specs.Instances.{LeadersHaveWon}
 use Rattle.sl_examples.specs.Ballots.MadeHistories.{Lives, Read, Write, joins, made, one, plain, read, take, two, write}
 use Rattle.sl_words.specs.Tables.{Row}
 use Rattle.std.specs.Prelude.{List, false, if◌then◌else◌, nat_le, true, [], ◌&&◌, ◌==◌, ◌||◌, ◌∷◌, ◌≡◌}

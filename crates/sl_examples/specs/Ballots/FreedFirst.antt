@@ -1,8 +1,8 @@
 -- Host 1 frees instance 1 and only then marks its block: host 2 is granted exclusive under instance 2 before, and host 1 shared after.
-use Rattle.sl_ballots.specs.Ballots.{IsLawful}
-use Rattle.sl_ballots.specs.Grants.{Grants, KeepsGrants, LooksAfterBegun}
-use Rattle.sl_ballots.specs.History.{History, Leader}
-use Rattle.sl_ballots.specs.Instances.{KeepsInstances}
+use Rattle.sl_ballot_law.specs.Ballots.{IsLawful}
+use Rattle.sl_ballot_law.specs.Grants.{Grants, KeepsGrants, LooksAfterBegun}
+use Rattle.sl_ballot_law.specs.History.{History, Leader}
+use Rattle.sl_ballot_law.specs.Instances.{KeepsInstances}
 use Rattle.sl_examples.specs.Ballots.MadeHistories.{Read, Write, give_up, lasting, made, marked, one, plain, read, two, write}
 use Rattle.sl_words.specs.Tables.{Row}
 use Rattle.std.specs.Prelude.{List, nat_le, true, [], ◌&&◌, ◌==◌, ◌∷◌, ◌≡◌}

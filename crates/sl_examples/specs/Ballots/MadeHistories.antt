@@ -1,5 +1,5 @@
 -- Histories of two hosts, written out row by row.
-use Rattle.sl_ballots.specs.History.{Block, History, Leader, Owner}
+use Rattle.sl_ballot_law.specs.History.{Block, History, Leader, Owner}
 use Rattle.sl_words.specs.Tables.{Row, entry_of, has_row}
 use Rattle.sl_words.specs.Words.{some_is}
 use Rattle.std.specs.Prelude.{Bool, List, None, Option, Some, false, if◌then◌else◌, not, true, ℕ, ◌%◌, ◌&&◌, ◌==◌, ◌||◌}

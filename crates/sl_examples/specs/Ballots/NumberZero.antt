@@ -1,9 +1,9 @@
 -- Host 2 runs a ballot of number 0: what it accepts counts as nothing accepted, and host 1 wins the instance too.
-use Rattle.sl_ballots.specs.Ballots.{GoesUp, KeepsBallots}
-use Rattle.sl_ballots.specs.Disk.{IsRegister, ShowsNewest}
-use Rattle.sl_ballots.specs.History.{History, Leader}
-use Rattle.sl_ballots.specs.Instances.{KeepsInstances}
-use Rattle.sl_ballots.specs.Sessions.{EarlierAreOver, SessionsInOrder}
+use Rattle.sl_ballot_law.specs.Ballots.{GoesUp, KeepsBallots}
+use Rattle.sl_ballot_law.specs.Disk.{IsRegister, ShowsNewest}
+use Rattle.sl_ballot_law.specs.History.{History, Leader}
+use Rattle.sl_ballot_law.specs.Instances.{KeepsInstances}
+use Rattle.sl_ballot_law.specs.Sessions.{EarlierAreOver, SessionsInOrder}
 use Rattle.sl_examples.specs.Ballots.TwoWinners.{TwoWin}
 use Rattle.sl_examples.specs.Ballots.MadeHistories.{Read, Write, lasting, made, one, plain, read, two, write}
 use Rattle.sl_words.specs.Tables.{Row}

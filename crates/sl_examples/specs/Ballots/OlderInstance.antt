@@ -1,10 +1,10 @@
 -- Host 2 won instance 2, and then, by a leader that it read long ago, begins instance 1 and writes over its block of instance 2: host 1
 -- sees no value in instance 2, and wins it too.
-use Rattle.sl_ballots.specs.Ballots.{KeepsBallots, NumbersArePositive}
-use Rattle.sl_ballots.specs.Disk.{IsRegister, ShowsNewest}
-use Rattle.sl_ballots.specs.History.{History, Leader}
-use Rattle.sl_ballots.specs.Instances.{KeepsInstances}
-use Rattle.sl_ballots.specs.Sessions.{EarlierAreOver, SessionsInOrder}
+use Rattle.sl_ballot_law.specs.Ballots.{KeepsBallots, NumbersArePositive}
+use Rattle.sl_ballot_law.specs.Disk.{IsRegister, ShowsNewest}
+use Rattle.sl_ballot_law.specs.History.{History, Leader}
+use Rattle.sl_ballot_law.specs.Instances.{KeepsInstances}
+use Rattle.sl_ballot_law.specs.Sessions.{EarlierAreOver, SessionsInOrder}
 use Rattle.sl_examples.specs.Ballots.TwoWinners.{TwoWin}
 use Rattle.sl_examples.specs.Ballots.MadeHistories.{Read, Write, give_up, lasting, made, one, plain, read, two, write}
 use Rattle.sl_words.specs.Tables.{Row}

@@ -1,10 +1,10 @@
 -- A write of host 1 that was left in flight lands over its later one: reads show the older block, and two ballots of instance 1 end with
 -- two sessions.
-use Rattle.sl_ballots.specs.Ballots.{GoesUp, KeepsBallots, NumbersArePositive}
-use Rattle.sl_ballots.specs.Disk.{IsRegister}
-use Rattle.sl_ballots.specs.History.{History, Leader}
-use Rattle.sl_ballots.specs.Instances.{KeepsInstances}
-use Rattle.sl_ballots.specs.Sessions.{EarlierAreOver, SessionsInOrder}
+use Rattle.sl_ballot_law.specs.Ballots.{GoesUp, KeepsBallots, NumbersArePositive}
+use Rattle.sl_ballot_law.specs.Disk.{IsRegister}
+use Rattle.sl_ballot_law.specs.History.{History, Leader}
+use Rattle.sl_ballot_law.specs.Instances.{KeepsInstances}
+use Rattle.sl_ballot_law.specs.Sessions.{EarlierAreOver, SessionsInOrder}
 use Rattle.sl_examples.specs.Ballots.TwoWinners.{TwoWin}
 use Rattle.sl_examples.specs.Ballots.MadeHistories.{Read, Write, lasting, lost_write, made, one, plain, read, two, write}
 use Rattle.sl_words.specs.Tables.{Row}

@@ -1,9 +1,9 @@
 -- Host 1 holds exclusive and is reset; host 2 has evidence, wins instance 2 and holds exclusive; then a second session of host 1 joins,
 -- goes on from the block that a read shows of its host, and its ballot of instance 2 ends with host 2's session.
-use Rattle.sl_ballots.specs.Ballots.{BallotEnded, IsLawful}
-use Rattle.sl_ballots.specs.Grants.{Grants, IsGranted}
-use Rattle.sl_ballots.specs.History.{History, Leader, Owner}
-use Rattle.sl_ballots.specs.Instances.{KeepsInstances}
+use Rattle.sl_ballot_law.specs.Ballots.{BallotEnded, IsLawful}
+use Rattle.sl_ballot_law.specs.Grants.{Grants, IsGranted}
+use Rattle.sl_ballot_law.specs.History.{History, Leader, Owner}
+use Rattle.sl_ballot_law.specs.Instances.{KeepsInstances}
 use Rattle.sl_examples.specs.Ballots.MadeHistories.{Lives, Read, Write, joins, made, one, plain, read, take, two, write}
 use Rattle.sl_words.specs.Tables.{Row}
 use Rattle.std.specs.Prelude.{List, Some, false, if◌then◌else◌, nat_le, nat_lt, true, [], ◌&&◌, ◌==◌, ◌||◌, ◌∷◌, ◌≡◌}

@@ -1,10 +1,10 @@
 -- Host 1 won instance 1, and a later write of its block was torn: a host that passes over the torn block, as if it were that of a host
 -- that never wrote, sees nothing of what it accepted, and wins the instance too.
-use Rattle.sl_ballots.specs.Ballots.{GoesUp, KeepsBallots, NumbersArePositive}
-use Rattle.sl_ballots.specs.Disk.{IsRegister}
-use Rattle.sl_ballots.specs.History.{History, Leader}
-use Rattle.sl_ballots.specs.Instances.{KeepsInstances}
-use Rattle.sl_ballots.specs.Sessions.{EarlierAreOver, SessionsInOrder}
+use Rattle.sl_ballot_law.specs.Ballots.{GoesUp, KeepsBallots, NumbersArePositive}
+use Rattle.sl_ballot_law.specs.Disk.{IsRegister}
+use Rattle.sl_ballot_law.specs.History.{History, Leader}
+use Rattle.sl_ballot_law.specs.Instances.{KeepsInstances}
+use Rattle.sl_ballot_law.specs.Sessions.{EarlierAreOver, SessionsInOrder}
 use Rattle.sl_examples.specs.Ballots.TwoWinners.{TwoWin}
 use Rattle.sl_examples.specs.Ballots.MadeHistories.{Read, Write, lasting, lost_write, made, marked, one, plain, read, two, write}
 use Rattle.sl_words.specs.Tables.{Row}

@@ -1,10 +1,10 @@
 -- Two sessions of host 1 are alive at once, and share its block: the second, which read the blocks before the first wrote, writes over what
 -- the first accepted, and both win instance 1.
-use Rattle.sl_ballots.specs.Ballots.{GoesUp, KeepsBallots, NumbersArePositive}
-use Rattle.sl_ballots.specs.Disk.{IsRegister, ShowsNewest}
-use Rattle.sl_ballots.specs.History.{History, Leader, Owner}
-use Rattle.sl_ballots.specs.Instances.{KeepsInstances}
-use Rattle.sl_ballots.specs.Sessions.{SessionsInOrder}
+use Rattle.sl_ballot_law.specs.Ballots.{GoesUp, KeepsBallots, NumbersArePositive}
+use Rattle.sl_ballot_law.specs.Disk.{IsRegister, ShowsNewest}
+use Rattle.sl_ballot_law.specs.History.{History, Leader, Owner}
+use Rattle.sl_ballot_law.specs.Instances.{KeepsInstances}
+use Rattle.sl_ballot_law.specs.Sessions.{SessionsInOrder}
 use Rattle.sl_examples.specs.Ballots.TwoWinners.{TwoWin}
 use Rattle.sl_examples.specs.Ballots.MadeHistories.{Lives, Read, Write, joins, made, one, plain, read, write}
 use Rattle.sl_words.specs.Tables.{Row}

@@ -1,9 +1,9 @@
 -- Host 1 wins instance 1, holds exclusive and frees it; then host 2 wins instance 2 and holds shared. Host 2's first read, in which it
 -- finds its own block, shows the block of host 1 torn.
-use Rattle.sl_ballots.specs.Ballots.{IsLawful}
-use Rattle.sl_ballots.specs.Grants.{Grants, IsGranted}
-use Rattle.sl_ballots.specs.History.{History, Leader}
-use Rattle.sl_ballots.specs.Instances.{KeepsInstances}
+use Rattle.sl_ballot_law.specs.Ballots.{IsLawful}
+use Rattle.sl_ballot_law.specs.Grants.{Grants, IsGranted}
+use Rattle.sl_ballot_law.specs.History.{History, Leader}
+use Rattle.sl_ballot_law.specs.Instances.{KeepsInstances}
 use Rattle.sl_examples.specs.Ballots.MadeHistories.{Read, Write, give_up, lasting, made, marked, one, plain, read, take, torn_read, two, write}
 use Rattle.sl_words.specs.Tables.{Row}
 use Rattle.std.specs.Prelude.{List, nat_le, nat_lt, true, [], ◌&&◌, ◌==◌, ◌∷◌, ◌≡◌}

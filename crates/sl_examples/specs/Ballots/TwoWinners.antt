@@ -1,6 +1,6 @@
 -- What two sessions that win one instance break: agreement.
-use Rattle.sl_ballots.specs.Ballots.{BallotEnded}
-use Rattle.sl_ballots.specs.History.{History, Owner}
+use Rattle.sl_ballot_law.specs.Ballots.{BallotEnded}
+use Rattle.sl_ballot_law.specs.History.{History, Owner}
 use Rattle.std.specs.Prelude.{ℕ, ◌≡◌}
 
 -- By step t ballots of instance n have ended with two sessions.

@@ -1,6 +1,6 @@
 -- A run in which an acquire has all that it needs to be granted, and is: so what is proved of such acquires is proved of something.
 use Rattle.sl_examples.specs.CheapDigest.{cheap_program}
-use Rattle.sl_report.specs.Replay.{due_run}
+use Rattle.sl_report.specs.DueRuns.{due_run}
 use Rattle.sl_run.specs.Quiet.{QuietStart, StaysQuiet, job_calls}
 use Rattle.sl_run.specs.Runs.{EachDaemon}
 use Rattle.sl_run.specs.Safety.{LawfulRun, world_at}

@@ -4,7 +4,7 @@
 use Rattle.sl_examples.specs.CheapDigest.{cheap_language, cheap_program}
 use Rattle.sl_examples.specs.WorkedSchedules.{owner_reset_then_taken_over}
 use Rattle.sl_run.specs.Lawful.{Lawful}
-use Rattle.sl_report.specs.Replay.{due_run}
+use Rattle.sl_report.specs.DueRuns.{due_run}
 use Rattle.sl_report.specs.Schedules.{Header_read, NumberedLine, event_lines_of, numbered_lines, read_header}
 use Rattle.sl_run.specs.Conflicts.{world_holdings}
 use Rattle.sl_run.specs.Runs.{EachDaemon, Happening}

@@ -1,10 +1,12 @@
 -- The ask that has no reply yet is a job of the daemon, whose line is the text of the ask.
-use Rattle.sl_area.specs.Layouts.{layout_with}
+use Rattle.sl_area.specs.AreaSizes.{layout_with}
 use Rattle.sl_run.specs.Lvm.{Course, Lvm}
 use Rattle.sl_run.specs.declared.turn.LvmOut.{LvmOut}
 use Rattle.sl_run.specs.LvmLines.{LvmLine}
 use Rattle.sl_words.proofs.Options.{mapped_value, then_value}
-use Rattle.sl_run.specs.Events.{after_step, event_tests, first_change, if_running, input_at, input_of, machine_of, may_happen, next_step, number_of_step, ok_input, rest_sampled, sectors_left, with_entry}
+use Rattle.sl_run.specs.EventChanges.{after_step, first_change, next_step, number_of_step, with_entry}
+use Rattle.sl_run.specs.Refusals.{event_tests, may_happen, sectors_left}
+use Rattle.sl_run.specs.Inputs.{if_running, input_at, input_of, machine_of, ok_input, rest_sampled}
 use Rattle.sl_run.specs.Locks.{Locks, Told, after_turn, locks_after, numbered_locks}
 use Rattle.sl_run.specs.Runs.{Happening}
 use Rattle.sl_run.specs.Safety.{LawfulRun, world_at}

@@ -14,7 +14,7 @@ use Rattle.sl_run_law.proofs.MachineWalk.{index}
 use Rattle.sl_run_law.specs.DaemonsGoOn.{DaemonGoes}
 use Rattle.sl_run_law.specs.FatesStay.{Every}
 use Rattle.sl_trace.proofs.TraceFacts.{each_entry-front}
-use Rattle.sl_trace.specs.Commands.{command_in}
+use Rattle.sl_trace.specs.CommandForms.{command_in}
 use Rattle.sl_trace.specs.Traces.{Setting, Trace}
 use Rattle.sl_headline.specs.Volumes.FittingRuns.{AnsweredRun}
 use Rattle.std.proofs.Common.{ap, refl, subst, ◌∙◌}

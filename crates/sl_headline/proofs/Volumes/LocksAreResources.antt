@@ -1,5 +1,5 @@
 -- A lock that a line names is a resource that a command may name.
-use Rattle.sl_area.specs.Layouts.{IsGeometry, Sizes, roomy}
+use Rattle.sl_area.specs.AreaSizes.{IsGeometry, Sizes, roomy}
 use Rattle.sl_run.specs.LockNames.{Lock, doubled, group_lockspace, group_path, is_group_name, is_volume_name}
 use Rattle.sl_run.specs.LvmLines.{Deactivates, Gives, Gives_writing, Informs, LvmLine, Starts, Stops, Takes, Takes_comparing, is_area_word, is_volume_word, lvm_forms, lvm_line_in}
 use Rattle.sl_text.specs.Forms.{Form, bad_column, exactly, fits_whole, fitting, made_by, pieces, word_at, words_of}

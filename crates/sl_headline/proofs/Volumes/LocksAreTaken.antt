@@ -1,5 +1,5 @@
 -- A lock that a line takes is held: it is taken by an ok reply to an acquire, whose cause is the grant.
-use Rattle.sl_area.specs.Layouts.{Layout}
+use Rattle.sl_area.specs.AreaSizes.{Layout}
 use Rattle.sl_run.specs.Caused.{Answering, AnswersWell, CausedBy, IsCaused}
 use Rattle.sl_run.specs.LockNames.{Lock, group_path, resource_of, same_lock}
 use Rattle.sl_run.specs.Lvm.{Acquiring, Course, HeldLock, Lvm, lock_process}
@@ -7,9 +7,10 @@ use Rattle.sl_run.specs.LvmLines.{LvmLine}
 use Rattle.sl_run.specs.declared.turn.LvmOut.TheVariants.{Ask, Quiet, Reply as LineReply}
 use Rattle.sl_run.specs.declared.turn.LvmOut.{LvmOut}
 use Rattle.sl_words.proofs.Lists.{contains_cases, contains_first, contains_none, find_inside, kept_inside, next_before}
-use Rattle.sl_run.specs.Events.{after_step, first_change, happens, input_of, machine_of, next_step, number_of_step, with_entry}
+use Rattle.sl_run.specs.EventChanges.{after_step, first_change, happens, next_step, number_of_step, with_entry}
+use Rattle.sl_run.specs.Inputs.{input_of, machine_of}
 use Rattle.sl_run.specs.Locks.{Locks, Told, after_turn, locks_after, numbered_locks}
-use Rattle.sl_run.specs.HeldOverTime.{IsActiveVolume}
+use Rattle.sl_run.specs.Volumes.{IsActiveVolume}
 use Rattle.sl_run.specs.Runs.{Happening}
 use Rattle.sl_run.specs.Safety.{world_at}
 use Rattle.sl_run.specs.Worlds.{Daemon, Machine, Program, Stamp, World, daemons_on, machine_at, stamp_now, world_with}
@@ -22,7 +23,7 @@ use Rattle.sl_run_law.proofs.Front.RunsFromFronts.{run_after}
 use Rattle.sl_run_law.proofs.Front.JoinedLists.{contains_append, contains_right}
 use Rattle.sl_run_law.proofs.Place.TracesOnMachines.{layout_is}
 use Rattle.sl_text.specs.Forms.{spaced}
-use Rattle.sl_trace.specs.Commands.{command_in, command_words}
+use Rattle.sl_trace.specs.CommandForms.{command_in, command_words}
 use Rattle.sl_trace.specs.EffectTexts.{is_ok_reply}
 use Rattle.sl_trace.specs.Traces.{Job, Setting, Trace, held_after, is_shared, job_numbered, jobs, next_job, same_place}
 use Rattle.sl_trace.specs.declared.command.Command.TheVariants.{Acquire}
@@ -43,7 +44,7 @@ use Rattle.sl_headline.proofs.Volumes.MachineLocks.{LocksTurn, MachineHolds, New
 use Rattle.sl_headline.proofs.Volumes.LocksHold.{Line_given, LocksHold, LocksStep, None_given, Reply_given, emptied, locks_step, numbered_hold, numbered_lvm}
 use Rattle.sl_headline.proofs.Volumes.LockTurns.{Asks_again, Gave_up, HostTurn, Kept_on, LineTurn, Line_compares, Line_gives, Line_moves, Line_takes, Line_told, Line_writes, Moved, Read_none, Read_torn, Read_value, Took_lock, Took_to_read, Wrote_none, Wrote_value}
 use Rattle.sl_headline.specs.Volumes.FittingRuns.{AnsweredRun, ReadsAsks, ValueCallsFit}
-use Rattle.sl_headline.specs.Volumes.LocksAreTaken.{LocksAreTakenInRuns}
+use Rattle.sl_headline.specs.Volumes.LocksTakenInRuns.{LocksAreTakenInRuns}
 use Rattle.sl_words.proofs.CaseLaws.{one_value}
 use Rattle.std.proofs.Common.{ap, inl, inr, refl, subst, sym, ◌∙◌}
 use Rattle.std.proofs.lemmas.Bool.{eqb-true}

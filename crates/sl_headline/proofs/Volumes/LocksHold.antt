@@ -6,7 +6,7 @@ use Rattle.sl_run.specs.declared.turn.LvmIn.TheVariants.{Ended, Line as TextLine
 use Rattle.sl_run.specs.declared.turn.LvmOut.{LvmOut}
 use Rattle.sl_run.specs.Locks.{Locks, Told, after_turn, is_lock_exit, locks_after, numbered_locks, replied_locks, turned_locks}
 use Rattle.sl_text.specs.Forms.{spaced}
-use Rattle.sl_trace.specs.Commands.{command_words}
+use Rattle.sl_trace.specs.CommandForms.{command_words}
 use Rattle.sl_trace.specs.EffectTexts.{reply_text}
 use Rattle.sl_trace.specs.Traces.{is_shared}
 use Rattle.sl_trace.specs.declared.command.Command.TheVariants.{Acquire, GetLvb, Release, SetLvb}

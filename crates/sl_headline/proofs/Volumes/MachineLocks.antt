@@ -1,6 +1,6 @@
 -- What holds of the locks of each machine after each lawful run.
-use Rattle.sl_area.specs.Layouts.{layout_with}
-use Rattle.sl_run.specs.Events.{after_step, first_change, next_step, number_of_step}
+use Rattle.sl_area.specs.AreaSizes.{layout_with}
+use Rattle.sl_run.specs.EventChanges.{after_step, first_change, next_step, number_of_step}
 use Rattle.sl_run.specs.Locks.{fresh_locks, locks_after}
 use Rattle.sl_run.specs.Runs.{Happening}
 use Rattle.sl_run.specs.Safety.{LawfulRun, world_at}

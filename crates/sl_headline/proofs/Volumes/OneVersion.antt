@@ -1,9 +1,9 @@
 -- A version takes the place of any other of its group.
-use Rattle.sl_area.specs.Layouts.{layout_with}
+use Rattle.sl_area.specs.AreaSizes.{layout_with}
 use Rattle.sl_run.specs.Lvm.{Course, Lvm, SeenValue}
 use Rattle.sl_run.specs.declared.turn.LvmOut.{LvmOut}
 use Rattle.sl_words.proofs.Lists.{contains_cases, contains_none, kept_inside}
-use Rattle.sl_run.specs.Events.{first_change, next_step, number_of_step}
+use Rattle.sl_run.specs.EventChanges.{first_change, next_step, number_of_step}
 use Rattle.sl_run.specs.Locks.{Locks, Told, locks_after, numbered_locks}
 use Rattle.sl_run.specs.Runs.{Happening}
 use Rattle.sl_run.specs.Safety.{world_at}

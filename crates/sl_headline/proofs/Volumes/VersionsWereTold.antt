@@ -5,7 +5,8 @@ use Rattle.sl_run.specs.LvmLines.{LvmLine}
 use Rattle.sl_run.specs.declared.turn.LvmOut.TheVariants.{Ask, Quiet, Reply as LineReply}
 use Rattle.sl_run.specs.declared.turn.LvmOut.{LvmOut}
 use Rattle.sl_words.proofs.Lists.{contains_cases, contains_first, contains_none, find_inside, kept_inside, next_before}
-use Rattle.sl_run.specs.Events.{after_step, first_change, input_of, machine_of, next_step, number_of_step, with_entry}
+use Rattle.sl_run.specs.EventChanges.{after_step, first_change, next_step, number_of_step, with_entry}
+use Rattle.sl_run.specs.Inputs.{input_of, machine_of}
 use Rattle.sl_run.specs.Locks.{Locks, Told, after_turn, locks_after, numbered_locks}
 use Rattle.sl_run.specs.Runs.{Happening}
 use Rattle.sl_run.specs.Safety.{world_at}
@@ -15,8 +16,8 @@ use Rattle.sl_run_law.proofs.Course.Daemons.{daemons_are, entry_of, step_daemon}
 use Rattle.sl_run_law.proofs.Course.MachinesKeep.{Goes_on, header_machine, was_before}
 use Rattle.sl_run_law.proofs.Course.DaemonRuns.{daemon_stays, runs_then}
 use Rattle.sl_run_law.proofs.Course.MachineTurns.{Alone, Elsewhere, Stepped, Took}
-use Rattle.sl_area.specs.Layouts.{layout_with}
-use Rattle.sl_trace.specs.Commands.{command_in}
+use Rattle.sl_area.specs.AreaSizes.{layout_with}
+use Rattle.sl_trace.specs.CommandForms.{command_in}
 use Rattle.sl_trace.specs.Traces.{Setting, Trace, next_job}
 use Rattle.sl_trace.specs.declared.command.Command.TheVariants.{GetLvb, SetLvb}
 use Rattle.sl_trace.specs.declared.command.Command.{Command}

@@ -1,5 +1,5 @@
 -- The whole program reads each ask as the command that it spells: the text of a command is read as the command.
-use Rattle.sl_area.specs.Layouts.{layout_of}
+use Rattle.sl_area.specs.AreaSizes.{layout_of}
 use Rattle.sl_command.proofs.WrittenCommands.{command_of_text}
 use Rattle.sl_run.specs.LockNames.{resource_of}
 use Rattle.sl_run.specs.Lvm.{Acquiring, Course, Moving, Reading, Releasing, Writing, lock_process}
@@ -7,7 +7,7 @@ use Rattle.sl_run.specs.Headers.{IsHeader}
 use Rattle.sl_run.specs.Worlds.{whole_program}
 use Rattle.sl_run.specs.declared.header.Header.{Header}
 use Rattle.sl_run_law.proofs.Place.Sizes.{sized}
-use Rattle.sl_trace.specs.Commands.{IsCommand}
+use Rattle.sl_trace.specs.CommandForms.{IsCommand}
 use Rattle.sl_trace.specs.Traces.{is_shared}
 use Rattle.sl_trace.specs.declared.command.Command.TheVariants.{Acquire, GetLvb, SetLvb}
 use Rattle.sl_trace.specs.declared.command.Command.{Command}

@@ -1,5 +1,5 @@
 -- How often one line asks.
-use Rattle.sl_run.specs.HeldOverTime.{AsksAreFew}
+use Rattle.sl_run.specs.LvmPromises.{AsksAreFew}
 use Rattle.sl_run.specs.Runs.{Happening}
 use Rattle.sl_run.specs.Safety.{LawfulRun, world_at}
 use Rattle.sl_run.specs.Worlds.{Program}

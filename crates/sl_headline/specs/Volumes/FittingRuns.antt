@@ -8,7 +8,7 @@ use Rattle.sl_run.specs.Safety.{LawfulRun, world_at}
 use Rattle.sl_run.specs.Worlds.{Program}
 use Rattle.sl_run.specs.declared.header.Header.{Header}
 use Rattle.sl_text.specs.Forms.{spaced}
-use Rattle.sl_trace.specs.Commands.{command_in, command_words}
+use Rattle.sl_trace.specs.CommandForms.{command_in, command_words}
 use Rattle.sl_trace.specs.Traces.{Job, Setting, Submitted, Trace, job_numbered, submitted}
 use Rattle.sl_trace.specs.declared.command.Command.TheVariants.{GetLvb, SetLvb}
 use Rattle.sl_trace.specs.declared.command.Command.{Command}

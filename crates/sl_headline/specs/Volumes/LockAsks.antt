@@ -3,7 +3,7 @@ use Rattle.sl_run.specs.LockNames.{Lock, group_lock, resource_of}
 use Rattle.sl_run.specs.Lvm.{Acquiring, Course, Moving, Reading, Releasing, Writing, lock_process}
 use Rattle.sl_run.specs.LvmLines.{Gives_writing, LvmLine, Takes, Takes_comparing, lvm_line_in}
 use Rattle.sl_text.specs.Forms.{spaced}
-use Rattle.sl_trace.specs.Commands.{command_words}
+use Rattle.sl_trace.specs.CommandForms.{command_words}
 use Rattle.sl_trace.specs.Traces.{is_shared}
 use Rattle.sl_trace.specs.declared.command.Command.TheVariants.{Acquire, GetLvb, SetLvb}
 use Rattle.sl_trace.specs.declared.command.Command.{Command}

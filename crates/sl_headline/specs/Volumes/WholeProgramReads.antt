@@ -2,7 +2,7 @@
 use Rattle.sl_due.specs.Due.{IsHostTrace}
 use Rattle.sl_run.specs.Lawful.{IsSetting}
 use Rattle.sl_run.specs.Headers.{IsHeader}
-use Rattle.sl_run.specs.HeldOverTime.{LocksAreTaken}
+use Rattle.sl_run.specs.LvmPromises.{LocksAreTaken}
 use Rattle.sl_run.specs.Runs.{EachDaemon, Happening}
 use Rattle.sl_run.specs.Safety.{LawfulRun, world_at}
 use Rattle.sl_run.specs.Worlds.{whole_program}

@@ -5,9 +5,9 @@ ghost use Rattle.sl_headline.specs.Volumes.FewAsks.{AsksAreFewInRuns};
 ghost use Rattle.sl_headline.specs.Volumes.LockNames.{LocksAreResources};
 ghost use Rattle.sl_headline.specs.Volumes.OneVersion.{VersionsAreKnownOnce};
 ghost use Rattle.sl_headline.specs.Volumes.WholeProgramReads.{LocksAreTakenWhenDue, WholeProgramReads};
-ghost use Rattle.sl_headline.specs.Volumes.SameIsUnchanged.{SameIsUnchangedInRuns, VolumesAreSafeInRuns, VolumesAreSafeWhenDue};
+ghost use Rattle.sl_headline.specs.Volumes.SameInRuns.{SameIsUnchangedInRuns, VolumesAreSafeInRuns, VolumesAreSafeWhenDue};
 ghost use Rattle.sl_headline.specs.Volumes.VersionsWereTold.{VersionsWereTold};
-ghost use Rattle.sl_headline.specs.Volumes.LocksAreTaken.{LocksAreTakenInRuns};
+ghost use Rattle.sl_headline.specs.Volumes.LocksTakenInRuns.{LocksAreTakenInRuns};
 
 /// An acquire is asked again for one line at most so often as the header has it.
 pub fn asks_are_few()

@@ -26,7 +26,7 @@ use Rattle.sl_host_law.proofs.Replies.PlainNumbers.{same_number}
 use Rattle.sl_host_law.specs.Replies.Moves.{EndsBegun}
 use Rattle.sl_host_law.specs.Replies.RepliesAreTaken.{MayReply}
 use Rattle.sl_time.specs.Times.{fail}
-use Rattle.sl_trace.specs.Deltas.{next_after_free, next_after_renewal}
+use Rattle.sl_trace.specs.DeltaDecisions.{next_after_free, next_after_renewal}
 use Rattle.sl_trace.specs.Sessions.{is_delta_purpose, is_present}
 use Rattle.sl_trace.specs.Traces.{Submitted, is_before_input, is_running, job_of, submitted}
 use Rattle.sl_trace.specs.declared.effects.Move.TheVariants.{Renew, Unregister}

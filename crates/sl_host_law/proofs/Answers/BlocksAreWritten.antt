@@ -5,8 +5,8 @@ use Rattle.sl_host_law.proofs.Steps.LeasesAreKnown.{stands}
 use Rattle.sl_host_law.specs.Answers.LeaseDecisions.{turn_next}
 use Rattle.sl_host_law.specs.Questions.Members.{IsMemberAt, me_in}
 use Rattle.sl_host_law.specs.Steps.Leases.{lease_at}
-use Rattle.sl_area.specs.Layouts.{Layout}
-use Rattle.sl_due.specs.DueLease.{name_on, next_turn}
+use Rattle.sl_area.specs.AreaSizes.{Layout}
+use Rattle.sl_due.specs.CarriedLease.{name_on, next_turn}
 use Rattle.sl_due.specs.Steps.{Step, seen}
 use Rattle.sl_host_state.proofs.StepsAreOver.{new_lease_stands}
 use Rattle.sl_host_state.specs.KeptState.{Config, HostState, LeaseState, MemberState}

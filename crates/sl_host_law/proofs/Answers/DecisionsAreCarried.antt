@@ -4,12 +4,12 @@ use Rattle.sl_host_law.specs.Answers.CarriedDecisions.{DecisionsAreCarried, MayC
 use Rattle.sl_host_law.specs.Answers.RefusalsFollow.{refusing}
 use Rattle.sl_host_law.proofs.StepParts.EndsAreTaken.{ends_are_taken}
 use Rattle.sl_host_law.specs.StepParts.Ends.{removing}
-use Rattle.sl_area.specs.Layouts.{Layout}
-use Rattle.sl_area.specs.Places.{delta_offset}
+use Rattle.sl_area.specs.AreaSizes.{Layout}
+use Rattle.sl_area.specs.AreaLayout.{delta_offset}
 use Rattle.sl_host_law.proofs.Calls.CallsAreTaken.{calls_are_taken}
 use Rattle.sl_host_law.specs.Calls.MemberCalls.{CallFits}
-use Rattle.sl_due.specs.DueDelta.{carry_delta, end_leaving, move_connection, read_own_sector, register, survey, write_own_sector}
-use Rattle.sl_due.specs.DueFirst.{refuse, remove_connection}
+use Rattle.sl_due.specs.CarriedDelta.{carry_delta, end_leaving, move_connection, read_own_sector, register, survey, write_own_sector}
+use Rattle.sl_due.specs.DueTimeOuts.{refuse, remove_connection}
 use Rattle.sl_due.specs.Steps.{Step, add_call_of, add_move, add_reply, seen, when, with_some}
 use Rattle.sl_host_state.specs.KeptState.{Config, HostState}
 use Rattle.sl_host_state.specs.MadeEffects.{next_submitted, with_call, with_move, with_reply}
@@ -24,7 +24,7 @@ use Rattle.sl_sector.specs.declared.sector.Rec.TheVariants.{DeltaIs}
 use Rattle.sl_trace.specs.declared.delta.DeltaNext.TheVariants.{Disconnect, Join, EndLeaving, MoveConnection, ReadOwn, RegisterAndRead, RefuseJoin, Nothing, WriteClaim, WriteFirst, WriteFree, WriteRenewal}
 use Rattle.sl_trace.specs.declared.session.Session.{Session}
 use Rattle.sl_time.specs.Times.{fail}
-use Rattle.sl_trace.specs.Connections.{is_registered}
+use Rattle.sl_trace.specs.WatchdogConnections.{is_registered}
 use Rattle.sl_trace.specs.Traces.{is_running}
 use Rattle.sl_trace.specs.declared.effects.JoinStep.TheVariants.{ClaimWrite, FirstRenewal}
 use Rattle.sl_trace.specs.declared.effects.Move.TheVariants.{Register, Renew, Unregister}

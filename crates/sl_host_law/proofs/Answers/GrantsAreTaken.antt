@@ -3,7 +3,7 @@ use Rattle.sl_host_law.proofs.Answers.LeasesAreCarried.{leases_are_carried}
 use Rattle.sl_host_law.specs.Answers.LeaseDecisions.{MayCarryLease, carrying_lease, granting_for}
 use Rattle.sl_host_law.specs.Decisions.CommandDecisions.{held_on}
 use Rattle.sl_due.specs.DueCommands.{after_end, carry_decision, on_line}
-use Rattle.sl_due.specs.DueLease.{carry_lease, grant_for}
+use Rattle.sl_due.specs.CarriedLease.{carry_lease, grant_for}
 use Rattle.sl_due.specs.Steps.{Step, add_reply, seen, with_input, with_some}
 use Rattle.sl_due.specs.declared.decision.Decision.TheVariants.{ConvertsTo, GivesUp, Shares, TakesOver}
 use Rattle.sl_due.specs.declared.decision.Decision.{Decision}
@@ -15,7 +15,9 @@ use Rattle.sl_host_state.specs.KeptState.{Config, HostState, MemberState}
 use Rattle.sl_host_state.specs.MadeEffects.{with_reply}
 use Rattle.sl_host_state.specs.HostStands.{Stands}
 use Rattle.sl_host_state.specs.declared.kept_parts.JobState.{JobState}
-use Rattle.sl_trace.specs.LeaseWork.{LeasePlace, convert_next, lease_place, release_next, within_turn}
+use Rattle.sl_trace.specs.LeaseDecisions.{LeasePlace, lease_place, within_turn}
+use Rattle.sl_trace.specs.Conversions.{convert_next}
+use Rattle.sl_trace.specs.Releases.{release_next}
 use Rattle.sl_trace.specs.Leases.{LeaseKnown, holdings_on, known, spot_of}
 use Rattle.sl_trace.specs.declared.lease.LeaseNext.TheVariants.{GrantJob}
 use Rattle.sl_trace.specs.declared.lease.LeaseNext.{LeaseNext}

@@ -1,10 +1,10 @@
 -- What a joining decides after an answer: it refuses with a reply of that step, registers and reads another time than at first, writes its
 -- claim or first renewal, disconnects or is joined.
-use Rattle.sl_sector.specs.Spelling.{delta_in}
-use Rattle.sl_area.specs.Layouts.{record_in, sector_with}
+use Rattle.sl_sector.specs.SectorLayouts.{delta_in}
+use Rattle.sl_area.specs.AreaSizes.{record_in, sector_with}
 use Rattle.sl_sector.specs.declared.sector.DeltaRec.{DeltaRec}
 use Rattle.sl_sector.specs.declared.sector.Rec.TheVariants.{DeltaIs}
-use Rattle.sl_trace.specs.Deltas.{DeltaLease, claim_of, claim_on, delta_record, id_held, id_lost, is_watched_out, next_after_deciding, next_after_first, next_after_join_read, next_after_join_write, next_after_verify, next_after_watch, next_in_joining, watched, where_watched}
+use Rattle.sl_trace.specs.DeltaDecisions.{DeltaLease, claim_of, claim_on, delta_record, id_held, id_lost, is_watched_out, next_after_deciding, next_after_first, next_after_join_read, next_after_join_write, next_after_verify, next_after_watch, next_in_joining, watched, where_watched}
 use Rattle.sl_trace.specs.Sessions.{is_join_done, same_join_step}
 use Rattle.sl_trace.specs.Sightings.{is_free_state}
 use Rattle.sl_trace.specs.declared.delta.DeltaNext.TheVariants.{Disconnect, Join, EndLeaving, MoveConnection, ReadOwn, RegisterAndRead, RefuseJoin, Nothing, WriteClaim, WriteFirst, WriteFree, WriteRenewal}

@@ -10,8 +10,8 @@ use Rattle.sl_host_law.specs.Answers.RefusalsFollow.{IsAlone}
 use Rattle.sl_host_law.specs.Answers.Requests.{Follows}
 use Rattle.sl_host_law.specs.Calls.MemberCalls.{is_idle_job, is_leaving_alone}
 use Rattle.sl_due.specs.DueAnswers.{after_answer_of}
-use Rattle.sl_due.specs.DueDelta.{after_join_answer, carry_delta}
-use Rattle.sl_due.specs.DueFirst.{remove_connection, remove_of_refused}
+use Rattle.sl_due.specs.CarriedDelta.{after_join_answer, carry_delta}
+use Rattle.sl_due.specs.DueTimeOuts.{remove_connection, remove_of_refused}
 use Rattle.sl_due.specs.Steps.{Step, seen, when, with_input}
 use Rattle.sl_host_law.proofs.SharedFacts.PlainLists.{at_some, flat_has}
 use Rattle.sl_host_state.specs.HeardInputs.{heard_answer, is_heeded_by, lease_told, member_hearing}
@@ -33,7 +33,7 @@ use Rattle.sl_host_law.proofs.Replies.PlainNumbers.{same_number}
 use Rattle.sl_host_law.specs.Replies.Moves.{EndsBegun}
 use Rattle.sl_host_law.specs.Replies.RepliesAreTaken.{MayReply}
 use Rattle.sl_sector.specs.declared.sector.DeltaRec.{DeltaRec}
-use Rattle.sl_trace.specs.Deltas.{delta_of_session, next_in_joining}
+use Rattle.sl_trace.specs.DeltaDecisions.{delta_of_session, next_in_joining}
 use Rattle.sl_trace.specs.Sessions.{calls_of, generation_of, is_delta_purpose, is_join_done, same_join_step}
 use Rattle.sl_trace.specs.declared.delta.DeltaNext.TheVariants.{Disconnect, Join, EndLeaving, MoveConnection, ReadOwn, RegisterAndRead, RefuseJoin, Nothing, WriteClaim, WriteFirst, WriteFree, WriteRenewal}
 use Rattle.sl_trace.specs.declared.delta.DeltaNext.{DeltaNext}

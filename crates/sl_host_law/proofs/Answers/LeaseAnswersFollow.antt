@@ -7,7 +7,7 @@ use Rattle.sl_host_law.specs.Answers.LeaseAnswers.{LeaseAnswersFollow, area_of}
 use Rattle.sl_host_law.specs.Answers.LeaseDecisions.{MayCarryLease, carrying_lease}
 use Rattle.sl_host_law.specs.Answers.Requests.{Follows}
 use Rattle.sl_due.specs.DueAnswers.{after_answer_of}
-use Rattle.sl_due.specs.DueLease.{after_lease_answer, carry_lease}
+use Rattle.sl_due.specs.CarriedLease.{after_lease_answer, carry_lease}
 use Rattle.sl_due.specs.Steps.{Step, with_input, with_some}
 use Rattle.sl_host_state.specs.HeardInputs.{heard_answer, member_hearing}
 use Rattle.sl_host_state.specs.KeptState.{HostState, MemberState}

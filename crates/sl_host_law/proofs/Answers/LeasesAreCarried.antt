@@ -1,10 +1,11 @@
 -- The state after what a lease decided stands for the step with it.
 use Rattle.sl_host_law.proofs.Answers.DecisionsAreCarried.{called, layout_is}
 use Rattle.sl_host_law.specs.Answers.LeaseDecisions.{BeginsArea, LeasesAreCarried, MayAnswer, MayWork, block_at, converted, converting, converting_for, for_command_of, for_work_of, granting_for, read_from, reading, record_at, sectors_read, starting, turn_next, writing_block, writing_leader}
-use Rattle.sl_area.specs.Layouts.{Layout}
-use Rattle.sl_area.specs.Places.{area_sectors, block_offset, block_sectors, leader_offset, leader_record, pair_offset}
+use Rattle.sl_area.specs.AreaSizes.{Layout}
+use Rattle.sl_area.specs.AreaLayout.{area_sectors, block_offset, block_sectors, leader_offset, pair_offset}
+use Rattle.sl_area.specs.AreaRecords.{leader_record}
 use Rattle.sl_host_law.proofs.Calls.StartsAreTaken.{starts_are_taken}
-use Rattle.sl_due.specs.DueLease.{carry_lease, convert_for, convert_holding, for_work, grant_for, grant_of, held_otherwise, name_on, next_turn, read_area, read_blocks, read_for, start_for, with_command, write_block, write_leader}
+use Rattle.sl_due.specs.CarriedLease.{carry_lease, convert_for, convert_holding, for_work, grant_for, grant_of, held_otherwise, name_on, next_turn, read_area, read_blocks, read_for, start_for, with_command, write_block, write_leader}
 use Rattle.sl_due.specs.Steps.{Step, add_call_of, add_end, add_grant, add_reply, seen, with_some}
 use Rattle.sl_host_state.proofs.EffectsAreTaken.{effects_are_taken}
 use Rattle.sl_host_state.specs.KeptState.{Config, HostState, MemberState}
@@ -19,7 +20,7 @@ use Rattle.sl_host_law.specs.Questions.Members.{IsMemberAt, otherwise_at}
 use Rattle.sl_host_law.proofs.Replies.RepliesAreTaken.RepliesKeepHosts.{replies_are_taken}
 use Rattle.sl_host_law.specs.Replies.RepliesAreTaken.{LeavesLine, MayReply}
 use Rattle.sl_sector.specs.declared.sector.Block.{Block}
-use Rattle.sl_sector.specs.Spelling.{is_first_turn}
+use Rattle.sl_sector.specs.SectorLayouts.{is_first_turn}
 use Rattle.sl_sector.specs.declared.sector.Leader.{Leader}
 use Rattle.sl_sector.specs.declared.sector.Rec.TheVariants.{BlockIs, PairIs}
 use Rattle.sl_sector.specs.declared.sector.Rec.{Rec}

@@ -11,8 +11,9 @@ use Rattle.sl_host_law.specs.Answers.LeaseDecisions.{MayAnswer, MayCarryLease, b
 use Rattle.sl_host_law.specs.Answers.LeasesGoOn.{IfConverted, IsPlaced, LeasesGoOn}
 use Rattle.sl_host_law.specs.Answers.LeasesSetFree.{GoesOn, is_lease_op}
 use Rattle.sl_host_law.specs.Answers.PhaseTwo.{IsAfterRead, IsOnceFor}
-use Rattle.sl_area.specs.Layouts.{Layout}
-use Rattle.sl_area.specs.Places.{leader_offset, leader_record}
+use Rattle.sl_area.specs.AreaSizes.{Layout}
+use Rattle.sl_area.specs.AreaLayout.{leader_offset}
+use Rattle.sl_area.specs.AreaRecords.{leader_record}
 use Rattle.sl_host_law.proofs.Calls.MemberCalls.SpotsMore.{one_spot}
 use Rattle.sl_host_law.specs.Calls.MemberCalls.{follows_read}
 use Rattle.sl_due.specs.Steps.{Step, seen, with_input}
@@ -22,7 +23,7 @@ use Rattle.sl_host_state.specs.KeptState.{HostState, LeaseState, MemberState}
 use Rattle.sl_host_state.specs.MadeEffects.{is_lease_on, next_submitted}
 use Rattle.sl_host_state.specs.HostStands.{LeaseStands}
 use Rattle.sl_host_state.specs.declared.kept_parts.OpenCall.{OpenCall}
-use Rattle.sl_trace.specs.LeaseWork.{LeasePlace, asked_again, lease_next, within_turn}
+use Rattle.sl_trace.specs.LeaseDecisions.{LeasePlace, asked_again, lease_next, within_turn}
 use Rattle.sl_trace.specs.Leases.{LeaseKnown, Phase2_write, block_of_record, block_submitted, block_written, is_at, is_second, lease_calls, spot_of_call}
 use Rattle.sl_trace.specs.declared.lease.Aim.{Aim}
 use Rattle.sl_trace.specs.declared.lease.LeaseNext.TheVariants.{AnswerJob, BecomeExclusive, BecomeShared, GrantJob, Nothing, ReadFor, WriteBlock, WriteLeader}

@@ -6,8 +6,8 @@ use Rattle.sl_host_law.specs.Answers.AnswersFollow.{IsAnswerTo}
 use Rattle.sl_host_law.specs.Answers.LeaseAnswers.{area_of}
 use Rattle.sl_host_law.specs.Answers.LeaseDecisions.{MayWork}
 use Rattle.sl_host_law.specs.Answers.LeasesSetFree.{GoesOn, LeasesSetFree, is_lease_op}
-use Rattle.sl_area.specs.Layouts.{Layout}
-use Rattle.sl_area.specs.Places.{blocks_of, needs_again, pairs_kept, read_once}
+use Rattle.sl_area.specs.AreaSizes.{Layout}
+use Rattle.sl_area.specs.Pairs.{blocks_of, needs_again, pairs_kept, read_once}
 use Rattle.sl_host_law.proofs.Calls.MemberCalls.SpotsMore.{on_own, one_spot, spot_there}
 use Rattle.sl_host_law.specs.Calls.MemberCalls.{fits_again, fits_generation, fits_lease, fits_value, follows_read, is_idle_job, is_leaving_alone}
 use Rattle.sl_due.specs.Steps.{Step, seen, with_input}
@@ -44,7 +44,7 @@ use Rattle.sl_trace.specs.declared.input.Answer.{Answer}
 use Rattle.sl_trace.specs.declared.input.Input.TheVariants.{Answer as Told}
 use Rattle.sl_words.proofs.CaseLaws.{false_is_true, none_some, some_value, true_is_false}
 use Rattle.sl_words.specs.Words.{choose, some_is}
-use Rattle.sl_trace.specs.LeaseWork.{asked_again, first_step}
+use Rattle.sl_trace.specs.LeaseDecisions.{asked_again, first_step}
 use Rattle.sl_trace.specs.declared.effects.LeaseRead.TheVariants.{OfArea, OfBlock, OfFree, OfPhase1, OfPhase2}
 use Rattle.sl_trace.specs.declared.effects.LeaseRead.{LeaseRead}
 use Rattle.std.proofs.Common.{ap, arith, inl, inr, refl, subst, sym, ◌∙◌}

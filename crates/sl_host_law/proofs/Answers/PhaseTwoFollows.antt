@@ -1,10 +1,12 @@
 -- Of all that a lease may decide, only what comes of the first phase's read is the second phase.
 use Rattle.sl_host_law.specs.Answers.PhaseTwo.{IsAfterRead, IsOnceFor, PhaseTwoFollows}
-use Rattle.sl_area.specs.Layouts.{Layout}
-use Rattle.sl_area.specs.Places.{blocks_of, blocks_part, leader_read, needs_again, pairs_kept}
+use Rattle.sl_area.specs.AreaSizes.{Layout}
+use Rattle.sl_area.specs.Pairs.{blocks_of, needs_again, pairs_kept}
+use Rattle.sl_area.specs.TornLeader.{leader_read}
+use Rattle.sl_area.specs.AreaLayout.{blocks_part}
 use Rattle.sl_host_state.specs.HeardInputs.{kept_heard}
 use Rattle.sl_trace.specs.Ballots.{ballot_blocks, is_ahead, moded_block, phase1_block, phase2_block, same_owner, stop_of, value_of}
-use Rattle.sl_trace.specs.LeaseWork.{LeasePlace, after_bytes, after_clearing, after_freeing, after_moding, after_phase1, after_phase2, after_read, after_take, after_write, area_next, asked_again, begin_next, begin_or_refuse, first_step, heard, leader_for, lease_next, looks_for_shared, lost_next, named_area_next, part_read, phase1_next, phase2_next, refuses, refuses_block, settle_next, settle_owed, stop_reply, stopped_next, whole_area_next, within_turn, won_next}
+use Rattle.sl_trace.specs.LeaseDecisions.{LeasePlace, after_bytes, after_clearing, after_freeing, after_moding, after_phase1, after_phase2, after_read, after_take, after_write, area_next, asked_again, begin_next, begin_or_refuse, first_step, heard, leader_for, lease_next, looks_for_shared, lost_next, named_area_next, part_read, phase1_next, phase2_next, refuses, refuses_block, settle_next, settle_owed, stop_reply, stopped_next, whole_area_next, within_turn, won_next}
 use Rattle.sl_trace.specs.Leases.{LeaseKnown, instance_for, is_leader_of, is_second, mode_gen_of, owed, owed_free, own_known, shared_elsewhere}
 use Rattle.sl_trace.specs.declared.lease.Aim.TheVariants.{Acquires, Converts, Releases, Settles}
 use Rattle.sl_trace.specs.declared.lease.Aim.{Aim}

@@ -2,7 +2,7 @@
 use Rattle.sl_host_law.specs.Answers.RefusalsFollow.{IsAlone, RefusalsFollow, refusing, timing_out}
 use Rattle.sl_host_law.proofs.StepParts.EndsAreTaken.{ends_are_taken}
 use Rattle.sl_host_law.specs.StepParts.Ends.{removing}
-use Rattle.sl_due.specs.DueFirst.{refuse, remove_connection}
+use Rattle.sl_due.specs.DueTimeOuts.{refuse, remove_connection}
 use Rattle.sl_due.specs.Steps.{Step, add_reply, when, with_some}
 use Rattle.sl_host_law.proofs.SharedFacts.PlainLists.{at_some, in_flat}
 use Rattle.sl_host_state.specs.KeptState.{HostState, MemberState}

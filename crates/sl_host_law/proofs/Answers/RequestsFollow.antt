@@ -3,12 +3,12 @@ use Rattle.sl_host_law.proofs.Answers.AnswersFollow.{call, idle_job, place, stan
 use Rattle.sl_host_law.proofs.Answers.DecisionsAreCarried.{called, layout_is}
 use Rattle.sl_host_law.specs.Answers.AnswersFollow.{IsAnswerTo}
 use Rattle.sl_host_law.specs.Answers.Requests.{Follows, RequestsFollow, answering_job, on_given, requesting, requesting_for, seeing_request, writing_request}
-use Rattle.sl_area.specs.Layouts.{Layout, record_in}
-use Rattle.sl_area.specs.Places.{leader_of, read_at, request_offset}
+use Rattle.sl_area.specs.AreaSizes.{Layout, record_in}
+use Rattle.sl_area.specs.AreaLayout.{leader_of, read_at, request_offset}
 use Rattle.sl_host_law.specs.Calls.MemberCalls.{is_leaving_alone}
 use Rattle.sl_due.specs.DueAnswers.{after_answer_of}
 use Rattle.sl_due.specs.DueRequests.{after_request_read, after_see_request, after_value_read, owner_read, request_refusal, signal_of_request, value_reply, write_request}
-use Rattle.sl_due.specs.DueFirst.{send}
+use Rattle.sl_due.specs.DueRecovery.{send}
 use Rattle.sl_due.specs.Steps.{Step, add_call_of, add_reply, when, with_input, with_some}
 use Rattle.sl_host_state.specs.HeardInputs.{heard_answer, member_hearing}
 use Rattle.sl_host_state.specs.KeptState.{HostState, MemberState}
@@ -27,7 +27,7 @@ use Rattle.sl_host_law.specs.Questions.Members.{exclusive_at}
 use Rattle.sl_host_law.proofs.Replies.RepliesAreTaken.RepliesKeepHosts.{replies_are_taken}
 use Rattle.sl_host_law.specs.Replies.RepliesAreTaken.{MayReply}
 use Rattle.sl_request.specs.Requests.{check_request}
-use Rattle.sl_sector.specs.Spelling.{request_in, value_in}
+use Rattle.sl_sector.specs.SectorLayouts.{request_in, value_in}
 use Rattle.sl_sector.specs.declared.sector.Leader.{Leader}
 use Rattle.sl_sector.specs.declared.sector.Rec.TheVariants.{RequestIs}
 use Rattle.sl_sector.specs.declared.sector.Request.{Request as RequestRec}

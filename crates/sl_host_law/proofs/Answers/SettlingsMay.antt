@@ -12,7 +12,7 @@ use Rattle.sl_host_state.specs.KeptState.{HostState, LeaseState, MemberState}
 use Rattle.sl_host_state.specs.MadeEffects.{is_lease_on, next_submitted}
 use Rattle.sl_host_state.specs.declared.kept_parts.OpenCall.{OpenCall}
 use Rattle.sl_trace.specs.Ballots.{moded_block, phase1_block}
-use Rattle.sl_trace.specs.LeaseWork.{LeasePlace, begin_next, owes_block, phase1_next, settle_begin, settle_next, settle_owed, within_turn}
+use Rattle.sl_trace.specs.LeaseDecisions.{LeasePlace, begin_next, owes_block, phase1_next, settle_begin, settle_next, settle_owed, within_turn}
 use Rattle.sl_trace.specs.Leases.{LeaseKnown, Phase2_write, is_at, mode_gen_of, owed, own_known, value_of_record}
 use Rattle.sl_trace.specs.declared.lease.Aim.TheVariants.{Settles}
 use Rattle.sl_trace.specs.declared.lease.LeaseNext.TheVariants.{Nothing, ReadFor, WriteBlock}

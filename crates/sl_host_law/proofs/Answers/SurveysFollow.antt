@@ -1,17 +1,16 @@
 -- The whole of an answer to a read of all ids is followed by the state that it makes.
-use Rattle.sl_host_law.proofs.Answers.AnswersFollow.{place}
-use Rattle.sl_host_law.proofs.Answers.AnswersFollow.{call, stands, theirs}
+use Rattle.sl_host_law.proofs.Answers.AnswersFollow.{place, call, stands, theirs}
 use Rattle.sl_host_law.proofs.Answers.DecisionsAreCarried.{layout_is}
 use Rattle.sl_host_law.proofs.Answers.RequestsFollow.{follows}
 use Rattle.sl_host_law.specs.Answers.AnswersFollow.{IsAnswerTo}
 use Rattle.sl_host_law.specs.Answers.Requests.{Follows, on_given}
 use Rattle.sl_host_law.specs.Answers.Surveys.{SurveysFollow, exclusive_of, is_asked_by, reading_request, reading_request_on, reading_requests, recovering_by_read, surveyed_in}
-use Rattle.sl_area.specs.Layouts.{Layout}
-use Rattle.sl_area.specs.Places.{request_offset}
+use Rattle.sl_area.specs.AreaSizes.{Layout}
+use Rattle.sl_area.specs.AreaLayout.{request_offset}
 use Rattle.sl_host_law.proofs.Calls.CallsAreTaken.{calls_are_taken}
 use Rattle.sl_due.specs.DueAnswers.{after_answer_of}
-use Rattle.sl_due.specs.DueDelta.{after_survey, see_request, see_request_on, see_requests}
-use Rattle.sl_due.specs.DueFirst.{signal_and_refuse}
+use Rattle.sl_due.specs.CarriedDelta.{after_survey, see_request, see_request_on, see_requests}
+use Rattle.sl_due.specs.DueRecovery.{signal_and_refuse}
 use Rattle.sl_due.specs.Steps.{Step, add_call_of, for_each, when, with_input, with_some}
 use Rattle.sl_host_law.proofs.SharedFacts.PlainLists.{at_some, flat_has, mapped_at}
 use Rattle.sl_host_state.specs.HeardInputs.{heard_answer, member_hearing}

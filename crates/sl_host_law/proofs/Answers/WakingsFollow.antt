@@ -6,8 +6,8 @@ use Rattle.sl_host_law.specs.Answers.LeaseDecisions.{MayCarryLease, carrying_lea
 use Rattle.sl_host_law.specs.Answers.RefusalsFollow.{IsAlone}
 use Rattle.sl_host_law.specs.Answers.WakingsFollow.{IsIdle, MayGoOn, WakingsFollow, joining_by_time, settling_at}
 use Rattle.sl_host_law.specs.Calls.MemberCalls.{is_leaving_alone}
-use Rattle.sl_due.specs.DueDelta.{carry_delta}
-use Rattle.sl_due.specs.DueLease.{carry_lease}
+use Rattle.sl_due.specs.CarriedDelta.{carry_delta}
+use Rattle.sl_due.specs.CarriedLease.{carry_lease}
 use Rattle.sl_due.specs.DueWake.{join_on_wake, settle_on_wake}
 use Rattle.sl_due.specs.Steps.{Step, when, with_some}
 use Rattle.sl_host_law.proofs.SharedFacts.PlainLists.{at_some}
@@ -23,7 +23,7 @@ use Rattle.sl_host_law.specs.Questions.Answers.{settling_in}
 use Rattle.sl_host_law.specs.Questions.Jobs.{running_in}
 use Rattle.sl_host_law.specs.Questions.Members.{IsMemberAt}
 use Rattle.sl_host_law.specs.Replies.RepliesAreTaken.{MayReply}
-use Rattle.sl_trace.specs.Deltas.{DeltaLease, next_by_time}
+use Rattle.sl_trace.specs.DeltaDecisions.{DeltaLease, next_by_time}
 use Rattle.sl_trace.specs.Sessions.{is_join_done, same_join_step}
 use Rattle.sl_trace.specs.declared.delta.DeltaNext.TheVariants.{Disconnect, Join, EndLeaving, MoveConnection, ReadOwn, RegisterAndRead, RefuseJoin, Nothing, WriteClaim, WriteFirst, WriteFree, WriteRenewal}
 use Rattle.sl_trace.specs.declared.delta.DeltaNext.{DeltaNext}

@@ -1,5 +1,5 @@
 -- A call that a member may make is taken.
-use Rattle.sl_area.specs.Layouts.{Layout}
+use Rattle.sl_area.specs.AreaSizes.{Layout}
 use Rattle.sl_host_law.proofs.Calls.MemberCalls.KeepsMore.{is_alone, keeps_more}
 use Rattle.sl_host_law.proofs.Calls.MemberCalls.MemberMore.{MemberFits, called, more, newest, own_stands, stays_by_calls, others_stay}
 use Rattle.sl_host_law.proofs.Calls.MemberCalls.PresentMore.{present_stay, sessions_stay}

@@ -14,7 +14,8 @@ use Rattle.sl_host_state.specs.HostStands.{Keeps, Stands, is_there, kept_waiting
 use Rattle.sl_host_state.specs.declared.kept_parts.JobState.{JobState}
 use Rattle.sl_trace.specs.Jobs.{command_of}
 use Rattle.sl_words.proofs.Numbers.{refl_le}
-use Rattle.sl_trace.specs.Traces.{Child, Job, KillProgram, Setting, Trace, child_after, children, first_child, is_before_input, kill_programs, new_child, next_job, numbers_taken, running_jobs, waiting_call, without_program}
+use Rattle.sl_trace.specs.Traces.{Child, Job, Setting, Trace, child_after, children, first_child, is_before_input, new_child, next_job, numbers_taken, running_jobs, waiting_call}
+use Rattle.sl_trace.specs.KillPrograms.{KillProgram, kill_programs, without_program}
 use Rattle.sl_trace.specs.declared.command.Command.{Command}
 use Rattle.sl_trace.specs.declared.effects.Effects.{Effects}
 use Rattle.sl_trace.specs.declared.effects.Start.{Start}

@@ -1,5 +1,5 @@
 -- The first read of a joining is taken: its session begins with it.
-use Rattle.sl_area.specs.Layouts.{Layout}
+use Rattle.sl_area.specs.AreaSizes.{Layout}
 use Rattle.sl_host_law.proofs.Calls.MemberCalls.KeepsMore.{keeps_more}
 use Rattle.sl_host_law.proofs.Calls.MemberCalls.MemberMore.{MemberFits, called, more, newest, others_stay, own_stands, stays_by_calls}
 use Rattle.sl_host_law.proofs.Calls.MemberCalls.PresentMore.{others_present}

@@ -16,8 +16,9 @@ use Rattle.sl_trace.specs.Sessions.{generation_of, present_sessions, sessions}
 use Rattle.sl_trace.specs.Sightings.{states_seen}
 use Rattle.sl_trace.specs.declared.delta.DeltaKnown.{DeltaKnown}
 use Rattle.sl_trace.specs.declared.session.Session.{Session}
-use Rattle.sl_trace.specs.Limits.{most_killpaths, most_lockspaces}
-use Rattle.sl_trace.specs.Traces.{KillProgram, Trace, is_orphan, is_shared, kill_programs, no_process, same_place}
+use Rattle.sl_trace.specs.CountLimits.{most_killpaths, most_lockspaces}
+use Rattle.sl_trace.specs.KillPrograms.{KillProgram, kill_programs}
+use Rattle.sl_trace.specs.Traces.{Trace, is_orphan, is_shared, no_process, same_place}
 use Rattle.sl_trace.specs.declared.command.Command.TheVariants.{Acquire, AddLockspace, Convert, GetLvb, HostStatus, InqLockspace, Release, ReleaseOrphan, RemLockspace, Request, RunProgram, SetKillpath, SetLvb, Status, TakeOver}
 use Rattle.sl_trace.specs.declared.command.Command.{Command}
 use Rattle.sl_trace.specs.declared.command.LockspaceArg.{LockspaceArg}

@@ -23,7 +23,7 @@ use Rattle.sl_trace.specs.declared.delta.DeltaKnown.{DeltaKnown}
 use Rattle.sl_trace.specs.declared.session.Begun.{Begun}
 use Rattle.sl_trace.specs.declared.session.Renewing.{Renewing}
 use Rattle.sl_trace.specs.declared.session.Session.{Session}
-use Rattle.sl_trace.specs.Limits.{most_children, most_holders, most_processes, most_resources}
+use Rattle.sl_trace.specs.CountLimits.{most_children, most_holders, most_processes, most_resources}
 use Rattle.sl_trace.specs.Traces.{Child, Job, Setting, Submitted, Trace, children, first_child, outstanding, same_spot}
 use Rattle.sl_trace.specs.declared.command.LockspaceArg.{LockspaceArg}
 use Rattle.sl_trace.specs.declared.effects.Spot.{Spot}
@@ -38,7 +38,7 @@ use Rattle.sl_words.proofs.CaseLaws.{true_is_false}
 use Rattle.sl_words.proofs.WordLaws.{choose_some}
 use Rattle.sl_words.specs.Orders.{is_text_before}
 use Rattle.sl_words.specs.Words.{choose, least, some_is}
-use Rattle.sl_area.specs.Layouts.{Layout}
+use Rattle.sl_area.specs.AreaSizes.{Layout}
 use Rattle.sl_watch.proofs.SummaryLaws.{state_read}
 use Rattle.sl_watch.specs.Summaries.{bare, state_by}
 use Rattle.sl_watch.specs.Watches.{kept_at}

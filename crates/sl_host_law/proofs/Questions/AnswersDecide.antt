@@ -1,16 +1,17 @@
 -- What an answer makes due is told by what is kept.
-use Rattle.sl_area.specs.Layouts.{Layout}
+use Rattle.sl_area.specs.AreaSizes.{Layout}
 use Rattle.sl_due.specs.DueAnswers.{for_job, set_reply}
-use Rattle.sl_due.specs.DueDelta.{after_free, after_join_answer, after_renewal, after_survey, begins_by_read, carry_delta, is_session_asked, see_requests}
-use Rattle.sl_due.specs.DueFirst.{remove_of_refused, send, signal_and_refuse}
-use Rattle.sl_due.specs.DueLease.{after_lease_answer, carry_lease, next_of_lease, with_command}
+use Rattle.sl_due.specs.CarriedDelta.{after_free, after_join_answer, after_renewal, after_survey, begins_by_read, carry_delta, is_session_asked, see_requests}
+use Rattle.sl_due.specs.DueTimeOuts.{remove_of_refused}
+use Rattle.sl_due.specs.DueRecovery.{send, signal_and_refuse}
+use Rattle.sl_due.specs.CarriedLease.{after_lease_answer, carry_lease, next_of_lease, with_command}
 use Rattle.sl_due.specs.DueRequests.{after_request_read, after_see_request, after_value_read, signal_of_request}
 use Rattle.sl_due.specs.Steps.{Step, add_reply, seen, when, with_some}
 use Rattle.sl_host_state.specs.KeptState.{Config, HostState, MemberState}
 use Rattle.sl_host_state.specs.HostStands.{config_of, kept_call, pair_of}
 use Rattle.sl_host_state.specs.declared.kept_parts.OpenCall.{OpenCall}
 use Rattle.sl_trace.specs.Jobs.{aim_of}
-use Rattle.sl_trace.specs.LeaseWork.{LeasePlace, lease_next, within_turn}
+use Rattle.sl_trace.specs.LeaseDecisions.{LeasePlace, lease_next, within_turn}
 use Rattle.sl_trace.specs.Leases.{LeaseKnown, exclusive_on, known, lease_step, lver_written, spot_of_call, value_written}
 use Rattle.sl_trace.specs.declared.lease.Aim.{Aim}
 use Rattle.sl_host_law.proofs.Questions.JobsAnswer.{jobs_answer, work_goes_on}
@@ -19,7 +20,7 @@ use Rattle.sl_host_law.specs.Questions.Answers.{AnswerDecides, AnswersDecide, Is
 use Rattle.sl_host_law.specs.Questions.Jobs.{JobAnswers, aim_in, command_in, goes_on_in, running_in}
 use Rattle.sl_host_law.specs.Questions.Members.{MemberAnswers, begins_by_read_in, exclusive_at}
 use Rattle.sl_sector.specs.declared.sector.ValueRec.{ValueRec}
-use Rattle.sl_trace.specs.Deltas.{delta_of_session, next_after_free, next_after_renewal, next_in_joining}
+use Rattle.sl_trace.specs.DeltaDecisions.{delta_of_session, next_after_free, next_after_renewal, next_in_joining}
 use Rattle.sl_trace.specs.Sessions.{calls_of, generation_of, recovery_of}
 use Rattle.sl_sector.specs.declared.sector.Owner.{Owner}
 use Rattle.sl_trace.specs.declared.session.Begun.{Begun}

@@ -1,5 +1,5 @@
 -- What a step asks of jobs is answered by those that are kept.
-use Rattle.sl_due.specs.DueFirst.{refuse, time_out}
+use Rattle.sl_due.specs.DueTimeOuts.{refuse, time_out}
 use Rattle.sl_due.specs.Steps.{Step, seen, when, with_some}
 use Rattle.sl_host_law.proofs.SharedFacts.KeptJobs.{kept_is_running, running_there}
 use Rattle.sl_host_law.proofs.SharedFacts.MembersAreSessions.{member_inside}

@@ -1,5 +1,5 @@
 -- What a step asks of a session is answered by its member.
-use Rattle.sl_due.specs.DueDelta.{begins_by_read}
+use Rattle.sl_due.specs.CarriedDelta.{begins_by_read}
 use Rattle.sl_due.specs.DueRequests.{bits_due, is_asked}
 use Rattle.sl_due.specs.Steps.{Step, seen}
 use Rattle.sl_host_law.proofs.SharedFacts.MembersAreSessions.{member_inside}
@@ -16,7 +16,7 @@ use Rattle.sl_host_law.proofs.Replies.PlainFilters.{filter_mapped}
 use Rattle.sl_sector.specs.Bitmaps.{bitmap_of}
 use Rattle.sl_sector.specs.declared.sector.Owner.{Owner}
 use Rattle.sl_trace.specs.Sessions.{calls_of, generation_of, has_open_write, is_active, is_call_of, is_leaving, is_present, is_recovering, joined_after, leaving_job, me, open_calls_of, recovery_of, refused_after, removed_after}
-use Rattle.sl_area.specs.Layouts.{Layout}
+use Rattle.sl_area.specs.AreaSizes.{Layout}
 use Rattle.sl_sector.specs.declared.sector.DeltaRec.{DeltaRec}
 use Rattle.sl_trace.specs.Sightings.{counts_over, current_run, evidence, evidence_in, evidence_of, has_seen, run_with, seen_records, sighted, sightings}
 use Rattle.sl_trace.specs.declared.sighting.Sighting.{Sighting}

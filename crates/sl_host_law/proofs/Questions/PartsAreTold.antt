@@ -1,5 +1,6 @@
 -- Parts of a step that go over holders, holdings and jobs are told by what is kept.
-use Rattle.sl_due.specs.DueFirst.{begin_recovery, begins_now, is_kill_due, kill_holders, refuse_jobs, send, signal_and_refuse, signal_holders, tell_to_stop, time_out, time_outs}
+use Rattle.sl_due.specs.DueRecovery.{begin_recovery, begins_now, is_kill_due, kill_holders, refuse_jobs, send, signal_and_refuse, signal_holders, tell_to_stop}
+use Rattle.sl_due.specs.DueTimeOuts.{time_out, time_outs}
 use Rattle.sl_due.specs.DueInputs.{end_holdings, leave_holdings, refuse_jobs_of}
 use Rattle.sl_due.specs.Steps.{Step, add_end, add_grant, add_move, add_reply, add_signal, add_start, for_each, seen, when}
 use Rattle.sl_host_law.proofs.SharedFacts.PlainLists.{at_mapped}

@@ -1,5 +1,5 @@
 -- The connection of a refused joining goes with it, or with the answer to its last write, as what is kept tells.
-use Rattle.sl_due.specs.DueFirst.{refuse, remove_connection, remove_of_refused}
+use Rattle.sl_due.specs.DueTimeOuts.{refuse, remove_connection, remove_of_refused}
 use Rattle.sl_due.specs.Steps.{Step, add_reply, seen, when, with_input, with_some}
 use Rattle.sl_host_law.proofs.SharedFacts.KeptJobs.{running_there}
 use Rattle.sl_host_law.specs.SharedFacts.AtInput.{IsAtInput}

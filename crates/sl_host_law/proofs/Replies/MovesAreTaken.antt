@@ -19,7 +19,7 @@ use Rattle.sl_trace.specs.Sessions.{has_open_write, is_call_of, is_joined, is_pr
 use Rattle.sl_trace.specs.declared.session.Begun.{Begun}
 use Rattle.sl_trace.specs.declared.session.Renewing.{Renewing}
 use Rattle.sl_trace.specs.declared.session.Session.{Session}
-use Rattle.sl_trace.specs.Connections.{Connection, after_move, connections, renewed_connection, unregisters}
+use Rattle.sl_trace.specs.WatchdogConnections.{Connection, after_move, connections, renewed_connection, unregisters}
 use Rattle.sl_trace.specs.Traces.{Job, Setting, Submitted, Trace, children, is_of_job, is_write, job_numbered, job_of, mark, new_call, running_jobs, submitted, unanswered}
 use Rattle.sl_trace.specs.declared.effects.Call.{Call}
 use Rattle.sl_trace.specs.declared.effects.Effects.{Effects}

@@ -4,7 +4,7 @@ use Rattle.sl_trace.specs.declared.session.Begun.{Begun}
 use Rattle.sl_trace.specs.declared.session.Renewing.{Renewing}
 use Rattle.sl_trace.specs.declared.session.Session.{Session}
 use Rattle.sl_time.specs.Times.{fail}
-use Rattle.sl_trace.specs.Connections.{unregisters}
+use Rattle.sl_trace.specs.WatchdogConnections.{unregisters}
 use Rattle.sl_trace.specs.Traces.{Job, Replied, Setting, Trace, line_in, next_job, reply_in, reply_to}
 use Rattle.sl_trace.specs.declared.effects.Entry.{Entry}
 use Rattle.sl_words.proofs.CaseLaws.{false_is_true}

@@ -1,10 +1,10 @@
 -- Renewals on a wake, removals and frees are taken.
-use Rattle.sl_area.specs.Places.{delta_offset}
+use Rattle.sl_area.specs.AreaLayout.{delta_offset}
 use Rattle.sl_host_law.proofs.Calls.CallsAreTaken.{calls_are_taken}
 use Rattle.sl_host_law.specs.Calls.MemberCalls.{CallFits, is_idle_job, is_leaving_alone}
 use Rattle.sl_host_law.specs.Decisions.CommandDecisions.{held_of}
-use Rattle.sl_due.specs.DueDelta.{carry_delta}
-use Rattle.sl_due.specs.DueFirst.{remove_connection}
+use Rattle.sl_due.specs.CarriedDelta.{carry_delta}
+use Rattle.sl_due.specs.DueTimeOuts.{remove_connection}
 use Rattle.sl_due.specs.DueWake.{end_if_done, finish_session, free_if_done, renew_on_wake}
 use Rattle.sl_due.specs.Steps.{Step, add_call, add_move, seen, when}
 use Rattle.sl_host_state.proofs.StepQuestions.{questions_are_answered}
@@ -23,7 +23,7 @@ use Rattle.sl_sector.specs.Bitmaps.{no_bits}
 use Rattle.sl_sector.specs.declared.sector.DeltaRec.{DeltaRec}
 use Rattle.sl_sector.specs.declared.sector.DeltaState.TheVariants.{Free, Live}
 use Rattle.sl_sector.specs.declared.sector.Rec.TheVariants.{DeltaIs}
-use Rattle.sl_trace.specs.Deltas.{DeltaLease, delta_record, has_seq_left, is_renewal_due, next_renewal, own_offset}
+use Rattle.sl_trace.specs.DeltaDecisions.{DeltaLease, delta_record, has_seq_left, is_renewal_due, next_renewal, own_offset}
 use Rattle.sl_trace.specs.Sessions.{is_delta_purpose, open_calls_of}
 use Rattle.sl_trace.specs.declared.delta.DeltaKnown.{DeltaKnown}
 use Rattle.sl_trace.specs.declared.delta.DeltaNext.TheVariants.{Nothing, WriteFree, WriteRenewal}

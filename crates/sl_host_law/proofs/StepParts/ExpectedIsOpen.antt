@@ -1,5 +1,5 @@
 -- The call of an answer that may come is kept by the host.
-use Rattle.sl_area.specs.Layouts.{Layout}
+use Rattle.sl_area.specs.AreaSizes.{Layout}
 use Rattle.sl_due.specs.Steps.{Step, seen}
 use Rattle.sl_host_law.proofs.SharedFacts.PlainLists.{each_of, found_some}
 use Rattle.sl_host_state.specs.KeptState.{Config, HostState}

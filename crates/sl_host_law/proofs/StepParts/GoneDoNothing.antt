@@ -1,8 +1,8 @@
 -- A session that is gone does nothing: it is not present, so it is not joined, and no job of its joining runs.
 use Rattle.sl_host_law.proofs.Calls.Beginnings.NothingIsDue.{began_before, not_now}
 use Rattle.sl_host_law.proofs.Decisions.QuestionsByKept.{joined_present}
-use Rattle.sl_due.specs.DueDelta.{carry_delta}
-use Rattle.sl_due.specs.DueFirst.{begin_recovery, begins_now, is_kill_due, kill_holders, signal_and_refuse, signal_holders}
+use Rattle.sl_due.specs.CarriedDelta.{carry_delta}
+use Rattle.sl_due.specs.DueRecovery.{begin_recovery, begins_now, is_kill_due, kill_holders, signal_and_refuse, signal_holders}
 use Rattle.sl_due.specs.DueRequests.{bits_due}
 use Rattle.sl_due.specs.DueWake.{end_if_done, finish_session, free_if_done, join_on_wake, renew_on_wake, settle_on_wake, settlings}
 use Rattle.sl_due.specs.Steps.{Step, for_each, seen, when, with_some}
@@ -13,13 +13,13 @@ use Rattle.sl_host_law.specs.StepParts.Recoveries.{GoneDoNothing, IsGone}
 use Rattle.sl_words.proofs.Lists.{any_of, got_inside, in_map, kept}
 use Rattle.sl_host_law.proofs.Questions.OneJoining.{joining_present}
 use Rattle.sl_host_law.proofs.Replies.NotJoinedNotBegun.{not_before}
-use Rattle.sl_trace.specs.Deltas.{delta_known, delta_of_session, next_on_wake, next_renewal}
+use Rattle.sl_trace.specs.DeltaDecisions.{delta_known, delta_of_session, next_on_wake, next_renewal}
 use Rattle.sl_trace.specs.Sessions.{calls_of, is_joined, is_present, joined_after, leaving_job, leaving_of, present_sessions, recovers, recovery_of, removed_after, renewed_by, renewing, sessions, shows_other}
 use Rattle.sl_trace.specs.declared.session.Begun.{Begun}
 use Rattle.sl_trace.specs.declared.session.Renewing.{Renewing}
 use Rattle.sl_trace.specs.declared.session.Session.{Session}
 use Rattle.sl_time.specs.Times.{fail}
-use Rattle.sl_trace.specs.Connections.{unregisters}
+use Rattle.sl_trace.specs.WatchdogConnections.{unregisters}
 use Rattle.sl_trace.specs.Traces.{Setting, Trace, is_running}
 use Rattle.sl_trace.specs.declared.effects.Effects.{Effects}
 use Rattle.sl_trace.specs.declared.effects.Entry.{Entry}

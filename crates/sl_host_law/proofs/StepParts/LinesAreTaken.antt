@@ -1,8 +1,8 @@
 -- A command line as a whole.
 use Rattle.sl_due_facts.proofs.Acts.DecisionsAreTheirs.{decisions_are_theirs}
 use Rattle.sl_due_facts.specs.Acts.DueDaemons.{IsDecidedFor}
-use Rattle.sl_area.specs.Layouts.{Layout}
-use Rattle.sl_area.specs.Places.{area_sectors, delta_offset, value_offset}
+use Rattle.sl_area.specs.AreaSizes.{Layout}
+use Rattle.sl_area.specs.AreaLayout.{area_sectors, delta_offset, value_offset}
 use Rattle.sl_host_law.proofs.Calls.MemberCalls.SpotsMore.{one_spot}
 use Rattle.sl_host_law.proofs.Calls.CallsAreTaken.{calls_are_taken}
 use Rattle.sl_host_law.proofs.Calls.InputsAreHeard.{inputs_are_heard}
@@ -12,7 +12,7 @@ use Rattle.sl_host_law.proofs.Decisions.CommandsAreDecided.{commands_are_decided
 use Rattle.sl_host_law.proofs.Decisions.QuestionsByKept.{open_is}
 use Rattle.sl_host_law.specs.Decisions.CommandDecisions.{open_at}
 use Rattle.sl_due.specs.DueCommands.{answer_line, carry_command, carry_decision, carry_line, decided, on_line, reply_at_once}
-use Rattle.sl_due.specs.DueFirst.{signal_and_refuse}
+use Rattle.sl_due.specs.DueRecovery.{signal_and_refuse}
 use Rattle.sl_due.specs.Steps.{Step, add_call_of, seen, with_input}
 use Rattle.sl_due.specs.declared.decision.Decision.TheVariants.{GetsValue, Joins, Leaves, ReadsArea, Replies, Requests, SetsValue}
 use Rattle.sl_due.specs.declared.decision.Decision.{Decision}

@@ -1,8 +1,8 @@
 -- Parts of a wake and of a step's end, by what is kept of a member.
 use Rattle.sl_host_law.specs.Decisions.CommandDecisions.{held_of, is_active_member, is_open_on}
-use Rattle.sl_due.specs.DueDelta.{carry_delta}
-use Rattle.sl_due.specs.DueFirst.{remove_connection}
-use Rattle.sl_due.specs.DueLease.{carry_lease, settle}
+use Rattle.sl_due.specs.CarriedDelta.{carry_delta}
+use Rattle.sl_due.specs.DueTimeOuts.{remove_connection}
+use Rattle.sl_due.specs.CarriedLease.{carry_lease, settle}
 use Rattle.sl_due.specs.DueRequests.{bits_due}
 use Rattle.sl_due.specs.DueWake.{end_if_done, finish_session, free_if_done, join_on_wake, renew_on_wake, settle_on_wake, settlings}
 use Rattle.sl_due.specs.Steps.{Step, for_each, seen, when, with_some}
@@ -14,8 +14,8 @@ use Rattle.sl_host_state.specs.HeardInputs.{setting_of}
 use Rattle.sl_host_state.specs.KeptState.{Config, HostState, MemberState}
 use Rattle.sl_host_state.specs.MadeEffects.{has_write_open}
 use Rattle.sl_host_state.specs.HostStands.{Keeps, MemberStands, bits_of, is_joining, kept_call, newest_of}
-use Rattle.sl_trace.specs.LeaseWork.{LeasePlace, settle_begin, within_turn}
-use Rattle.sl_trace.specs.Leases.{is_on, known, lease_spots, open_on}
+use Rattle.sl_trace.specs.LeaseDecisions.{LeasePlace, settle_begin, within_turn}
+use Rattle.sl_trace.specs.Leases.{is_on, known, lease_spots, open_on, LeaseKnown}
 use Rattle.sl_host_law.specs.StepParts.Wakes.{MembersWake, bits_in, delta_in, is_free_at, next_by_newest}
 use Rattle.sl_words.proofs.Lists.{any_found, any_of, contains_first, kept, kept_inside}
 use Rattle.sl_words.proofs.Options.{none_is}
@@ -23,7 +23,7 @@ use Rattle.sl_host_law.proofs.Questions.MembersAnswer.{members_answer}
 use Rattle.sl_host_law.specs.Questions.Answers.{place_in, settling_in}
 use Rattle.sl_host_law.specs.Questions.Jobs.{running_in}
 use Rattle.sl_host_law.specs.Questions.Members.{IsMemberAt, MemberAnswers, has_call_open}
-use Rattle.sl_trace.specs.Deltas.{DeltaLease, delta_known, delta_of_session, join_step_of, next_by_time, next_free, next_on_wake, next_renewal}
+use Rattle.sl_trace.specs.DeltaDecisions.{DeltaLease, delta_known, delta_of_session, join_step_of, next_by_time, next_free, next_on_wake, next_renewal}
 use Rattle.sl_trace.specs.Sessions.{added, begun_in, calls_of, given_session, has_open_write, is_join_call, is_join_done, joining_session, open_calls_of, recovery_of, removed_after, sessions}
 use Rattle.sl_trace.specs.declared.delta.DeltaNext.TheVariants.{Nothing}
 use Rattle.sl_trace.specs.declared.delta.DeltaNext.{DeltaNext}
@@ -40,7 +40,6 @@ use Rattle.sl_trace.specs.declared.input.Given.{Given}
 use Rattle.sl_trace.specs.declared.input.Input.{Input}
 use Rattle.sl_words.proofs.CaseLaws.{is_false, none_some, some_value, true_is_false}
 use Rattle.sl_words.specs.Words.{choose, is_empty}
-use Rattle.sl_trace.specs.Leases.{LeaseKnown}
 use Rattle.sl_trace.specs.declared.lease.LeaseNext.{LeaseNext}
 use Rattle.sl_due_facts.specs.Acts.Acts.{next_of_settling}
 use Rattle.sl_trace.specs.declared.lease.Aim.TheVariants.{Settles}

@@ -1,5 +1,5 @@
 -- Recoveries and kills before the input are taken.
-use Rattle.sl_due.specs.DueFirst.{begin_recovery, kill_holders, kills, signal_and_refuse, signal_holders}
+use Rattle.sl_due.specs.DueRecovery.{begin_recovery, kill_holders, kills, signal_and_refuse, signal_holders}
 use Rattle.sl_due.specs.Steps.{Step, for_each, when}
 use Rattle.sl_host_law.proofs.SharedFacts.PlainLists.{at_some}
 use Rattle.sl_host_state.specs.StepQuestions.{begins_in, is_kill_due_in}

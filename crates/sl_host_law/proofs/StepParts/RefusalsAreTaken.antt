@@ -1,6 +1,6 @@
 -- Jobs are refused one after another: each still runs when its turn comes, since no two have one number.
 use Rattle.sl_host_law.proofs.Decisions.PlainSums.{list_mapped}
-use Rattle.sl_due.specs.DueFirst.{refuse_jobs, signal_and_refuse, signal_holders}
+use Rattle.sl_due.specs.DueRecovery.{refuse_jobs, signal_and_refuse, signal_holders}
 use Rattle.sl_due.specs.Steps.{Step, add_reply, for_each, seen}
 use Rattle.sl_host_law.proofs.SharedFacts.PlainLists.{all_both, each_of}
 use Rattle.sl_host_law.proofs.SharedFacts.PlainOrders.{AreApart, apart_filtered}

@@ -1,6 +1,6 @@
 -- Signals, and kill programs in their place.
 use Rattle.sl_host_law.proofs.Calls.StartsAreTaken.{starts_are_taken}
-use Rattle.sl_due.specs.DueFirst.{send, signal_holders, tell_to_stop}
+use Rattle.sl_due.specs.DueRecovery.{send, signal_holders, tell_to_stop}
 use Rattle.sl_due.specs.Steps.{Step, add_signal, add_start, for_each, seen}
 use Rattle.sl_host_state.proofs.StepQuestions.{questions_are_answered}
 use Rattle.sl_host_state.proofs.EffectsAreTaken.{effects_are_taken}
@@ -8,7 +8,7 @@ use Rattle.sl_host_state.specs.StepQuestions.{stopper_in}
 use Rattle.sl_host_state.specs.KeptState.{HostState, MemberState}
 use Rattle.sl_host_state.specs.MadeEffects.{with_signal, with_start}
 use Rattle.sl_host_state.specs.HostStands.{Stands, Takes}
-use Rattle.sl_trace.specs.Counts.{stopper_of}
+use Rattle.sl_trace.specs.KillPrograms.{stopper_of}
 use Rattle.sl_host_law.specs.StepParts.Signals.{SignalsAreTaken, over, sending, signalling, telling}
 use Rattle.sl_host_law.proofs.Questions.MembersAnswer.{members_answer}
 use Rattle.sl_host_law.specs.Questions.Members.{IsMemberAt, holders_in}

@@ -5,8 +5,10 @@ use Rattle.sl_host_law.proofs.Answers.DecisionsAreCarried.{layout_is}
 use Rattle.sl_host_law.proofs.Answers.LeasesSetFree.{call_told, leases_set_free, told_spot}
 use Rattle.sl_host_law.specs.Answers.AnswersFollow.{IsAnswerTo}
 use Rattle.sl_host_law.specs.Answers.LeaseAnswers.{area_of}
-use Rattle.sl_area.specs.Layouts.{Layout}
-use Rattle.sl_area.specs.Places.{blocks_of, blocks_part, leader_read, needs_again, read_once}
+use Rattle.sl_area.specs.AreaSizes.{Layout}
+use Rattle.sl_area.specs.Pairs.{blocks_of, needs_again, read_once}
+use Rattle.sl_area.specs.TornLeader.{leader_read}
+use Rattle.sl_area.specs.AreaLayout.{blocks_part}
 use Rattle.sl_host_state.proofs.Pairs.{again_is, blocks_are_shown, second_finds}
 use Rattle.sl_host_law.proofs.Calls.MemberCalls.SpotsMore.{on_own, one_spot}
 use Rattle.sl_due.specs.Steps.{Step, seen, with_input}
@@ -20,7 +22,7 @@ use Rattle.sl_host_state.specs.declared.kept_parts.LeaseCall.{LeaseCall}
 use Rattle.sl_host_state.specs.declared.kept_parts.OpenCall.{OpenCall}
 use Rattle.sl_host_law.proofs.Steps.LeasesAreKnown.{kept_tops, known_is, lease_is, read_tops, settles_alike, stands as lease_stands, within_alike}
 use Rattle.sl_host_law.specs.Steps.Leases.{answered_next, blocks_at, kept_blocks, known_by}
-use Rattle.sl_trace.specs.LeaseWork.{LeasePlace, after_bytes, after_read, asked_again, first_step, heard, lease_next, part_read, settle_next, step_of_read, within_turn}
+use Rattle.sl_trace.specs.LeaseDecisions.{LeasePlace, after_bytes, after_read, asked_again, first_step, heard, lease_next, part_read, settle_next, step_of_read, within_turn}
 use Rattle.sl_trace.specs.Leases.{LeaseKnown, blocks_given, given_with, is_lease_call, is_on, is_second, last_blocks, lease_calls, lease_step, spot_of_call}
 use Rattle.sl_trace.specs.declared.lease.Aim.TheVariants.{Acquires, Converts, Settles}
 use Rattle.sl_trace.specs.declared.lease.Aim.{Aim}

@@ -24,7 +24,7 @@ use Rattle.sl_host_law.specs.Steps.Answers.{answering, answering_by, answering_f
 use Rattle.sl_host_law.specs.Steps.Leases.{answered_next}
 use Rattle.sl_host_law.specs.Steps.Passes.{member_numbered}
 use Rattle.sl_host_law.specs.Steps.SoundHosts.{IsSound}
-use Rattle.sl_area.specs.Layouts.{record_in}
+use Rattle.sl_area.specs.AreaSizes.{record_in}
 use Rattle.sl_trace.specs.Jobs.{process_named}
 use Rattle.sl_trace.specs.declared.lease.Aim.{Aim}
 use Rattle.sl_trace.specs.declared.lease.LeaseNext.TheVariants.{AnswerJob, BecomeExclusive, BecomeShared, GrantJob, Nothing as NoLease, ReadFor, WriteBlock, WriteLeader}
@@ -34,9 +34,9 @@ use Rattle.sl_words.proofs.Lists.{find_inside, in_map, kept_inside}
 use Rattle.sl_host_law.specs.Questions.Answers.{set_reply_in, spot_in}
 use Rattle.sl_host_law.specs.Questions.Jobs.{aim_in, command_in, goes_on_in, running_in}
 use Rattle.sl_host_law.specs.Questions.Members.{begins_by_read_in, exclusive_at, otherwise_at}
-use Rattle.sl_sector.specs.Spelling.{delta_in}
+use Rattle.sl_sector.specs.SectorLayouts.{delta_in}
 use Rattle.sl_sector.specs.declared.sector.DeltaRec.{DeltaRec}
-use Rattle.sl_trace.specs.Deltas.{next_after_first, next_after_free, next_after_renewal}
+use Rattle.sl_trace.specs.DeltaDecisions.{next_after_first, next_after_free, next_after_renewal}
 use Rattle.sl_trace.specs.Sessions.{is_delta_purpose}
 use Rattle.sl_trace.specs.Sightings.{is_free_state}
 use Rattle.sl_trace.specs.declared.delta.DeltaNext.TheVariants.{Disconnect, EndLeaving, Join, MoveConnection, Nothing, ReadOwn, RefuseJoin, RegisterAndRead, WriteClaim, WriteFirst, WriteFree, WriteRenewal}

@@ -1,9 +1,9 @@
 -- Leader and blocks of an area lie on it: it has room for leader, request and the block of each host, with one sector or with two.
 use Rattle.sl_host_law.specs.Answers.LeasesGoOn.{IsPlacedAt}
 use Rattle.sl_host_law.specs.Answers.LeaseDecisions.{read_from}
-use Rattle.sl_area.specs.Layouts.{IsGeometry, Layout, Sizes, layout_of, roomy}
-use Rattle.sl_area.specs.Places.{block_offset, block_sectors, pair_offset}
-use Rattle.sl_sector.specs.Spelling.{is_first_turn}
+use Rattle.sl_area.specs.AreaSizes.{IsGeometry, Layout, Sizes, layout_of, roomy}
+use Rattle.sl_area.specs.AreaLayout.{block_offset, block_sectors, pair_offset}
+use Rattle.sl_sector.specs.SectorLayouts.{is_first_turn}
 use Rattle.sl_trace.specs.declared.effects.LeaseRead.TheVariants.{OfArea, OfBlock, OfFree, OfPhase1, OfPhase2}
 use Rattle.sl_host_law.proofs.Calls.MemberCalls.SpotsMore.{spot_comes}
 use Rattle.sl_due.specs.Steps.{Step, seen}

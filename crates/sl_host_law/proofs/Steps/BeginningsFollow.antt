@@ -7,7 +7,8 @@ use Rattle.sl_host_law.proofs.Answers.RefusalsFollow.{refusals_follow}
 use Rattle.sl_host_law.specs.Answers.RefusalsFollow.{refusing, timing_out}
 use Rattle.sl_host_law.proofs.Calls.StepsBegin.{steps_begin}
 use Rattle.sl_due.specs.Due.{before_input}
-use Rattle.sl_due.specs.DueFirst.{begin_recoveries, begin_recovery, begins_now, kills, signal_and_refuse, time_outs}
+use Rattle.sl_due.specs.DueRecovery.{begin_recoveries, begin_recovery, begins_now, kills, signal_and_refuse}
+use Rattle.sl_due.specs.DueTimeOuts.{time_outs}
 use Rattle.sl_due.specs.Steps.{Step, begin_step, for_each, seen}
 use Rattle.sl_host_law.proofs.SharedFacts.PlainLists.{at_some, each_of}
 use Rattle.sl_host_law.proofs.SharedFacts.PlainOrders.{AreApart}

@@ -2,11 +2,11 @@
 use Rattle.sl_due_facts.proofs.Acts.LoopsKeep.{when_keeps}
 use Rattle.sl_due_facts.proofs.Acts.SessionsStay.{Stays, delta_stays, removal_stays}
 use Rattle.sl_due_facts.specs.Acts.Acts.{Has}
-use Rattle.sl_area.specs.Places.{delta_offset}
+use Rattle.sl_area.specs.AreaLayout.{delta_offset}
 use Rattle.sl_host_law.specs.Calls.MemberCalls.{is_idle_job, is_leaving_alone}
 use Rattle.sl_host_law.specs.Decisions.CommandDecisions.{held_of}
-use Rattle.sl_due.specs.DueDelta.{carry_delta}
-use Rattle.sl_due.specs.DueFirst.{remove_connection}
+use Rattle.sl_due.specs.CarriedDelta.{carry_delta}
+use Rattle.sl_due.specs.DueTimeOuts.{remove_connection}
 use Rattle.sl_due.specs.DueRequests.{bits_due}
 use Rattle.sl_due.specs.DueWake.{end_if_done, finish, finish_session, free_if_done, renew_on_wake}
 use Rattle.sl_due.specs.Steps.{Step, seen, when}
@@ -34,7 +34,7 @@ use Rattle.sl_sector.specs.Bitmaps.{no_bits}
 use Rattle.sl_sector.specs.declared.sector.DeltaRec.{DeltaRec}
 use Rattle.sl_sector.specs.declared.sector.DeltaState.TheVariants.{Free}
 use Rattle.sl_sector.specs.declared.sector.Rec.TheVariants.{DeltaIs}
-use Rattle.sl_trace.specs.Deltas.{delta_known, delta_of_session, delta_record, next_free, next_renewal}
+use Rattle.sl_trace.specs.DeltaDecisions.{delta_known, delta_of_session, delta_record, next_free, next_renewal}
 use Rattle.sl_trace.specs.Sessions.{calls_of, has_open_write, holdings_of, is_joined, open_calls_of, recovery_of}
 use Rattle.sl_trace.specs.declared.session.Begun.{Begun}
 use Rattle.sl_trace.specs.declared.session.Session.{Session}

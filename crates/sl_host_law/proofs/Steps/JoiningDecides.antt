@@ -9,7 +9,7 @@ use Rattle.sl_host_state.specs.NewHost.{IsOfProgram}
 use Rattle.sl_host_state.specs.HostStands.{JoinStands, Stands, kept_call}
 use Rattle.sl_host_state.specs.declared.kept_parts.OpenCall.{OpenCall}
 use Rattle.sl_host_law.specs.Steps.Answers.{joining_next, own_of}
-use Rattle.sl_trace.specs.Deltas.{DeltaLease, delta_of_session, next_in_joining}
+use Rattle.sl_trace.specs.DeltaDecisions.{DeltaLease, delta_of_session, next_in_joining}
 use Rattle.sl_trace.specs.Traces.{Submitted}
 use Rattle.sl_trace.specs.declared.effects.JoinStep.{JoinStep}
 use Rattle.sl_trace.specs.declared.effects.Purpose.TheVariants.{Joining}

@@ -7,7 +7,7 @@ use Rattle.sl_host_law.specs.Answers.CarriedDecisions.{carrying, own_sector, rea
 use Rattle.sl_host_law.specs.Answers.RefusalsFollow.{refusing}
 use Rattle.sl_host_law.specs.Answers.WakingsFollow.{joining_by_time}
 use Rattle.sl_host_law.specs.Calls.MemberCalls.{is_idle_job}
-use Rattle.sl_due.specs.DueDelta.{carry_delta}
+use Rattle.sl_due.specs.CarriedDelta.{carry_delta}
 use Rattle.sl_due.specs.DueWake.{join_on_wake}
 use Rattle.sl_due.specs.Steps.{Step, seen, when}
 use Rattle.sl_host_law.proofs.SharedFacts.IdleJobs.{open_of_job}
@@ -31,7 +31,7 @@ use Rattle.sl_words.proofs.Options.{none_is}
 use Rattle.sl_host_law.specs.Questions.Jobs.{joining_in, running_in}
 use Rattle.sl_host_law.specs.Questions.Members.{IsMemberAt}
 use Rattle.sl_host_law.proofs.Replies.OpenCallsAreKept.{open_delta_is}
-use Rattle.sl_trace.specs.Deltas.{DeltaLease, delta_of_session, join_step_of, next_by_time, next_on_wake}
+use Rattle.sl_trace.specs.DeltaDecisions.{DeltaLease, delta_of_session, join_step_of, next_by_time, next_on_wake}
 use Rattle.sl_trace.specs.Sessions.{calls_of, has_open_delta, is_delta_purpose, is_join_done, open_calls_of}
 use Rattle.sl_trace.specs.declared.delta.DeltaKnown.{DeltaKnown}
 use Rattle.sl_trace.specs.declared.delta.DeltaNext.TheVariants.{Disconnect, EndLeaving, Join, MoveConnection, Nothing, ReadOwn, RefuseJoin, RegisterAndRead, WriteClaim, WriteFirst, WriteFree, WriteRenewal}

@@ -1,5 +1,5 @@
 -- What is known of a lease by its calls is what is kept of it; and where no sectors are in hand the greatest number that is kept is enough.
-use Rattle.sl_area.specs.Layouts.{Layout}
+use Rattle.sl_area.specs.AreaSizes.{Layout}
 use Rattle.sl_host_law.proofs.Calls.MemberCalls.SpotsMore.{one_spot}
 use Rattle.sl_due.specs.Steps.{Step, seen}
 use Rattle.sl_host_law.proofs.SharedFacts.PlainLists.{at_some}
@@ -12,9 +12,11 @@ use Rattle.sl_host_state.specs.declared.kept_parts.TopNumber.{TopNumber}
 use Rattle.sl_host_law.specs.Steps.Leases.{converting_next, kept_blocks, known_by, lease_at, releasing_next, settling_next, top_block}
 use Rattle.sl_lease.proofs.NextLaws.{begins_again}
 use Rattle.sl_lease.specs.LeaseQuestions.{TopStands, begin_above}
-use Rattle.sl_lease.specs.declared.evidence.Held.{Held}
+use Rattle.sl_lease.specs.declared.outer_facts.Held.{Held}
 use Rattle.sl_lease.specs.declared.side.Side.{Side}
-use Rattle.sl_trace.specs.LeaseWork.{begin_next, convert_next, owes_block, refuses_block, release_next, settle_begin, settle_next, settle_owed, within_turn}
+use Rattle.sl_trace.specs.LeaseDecisions.{begin_next, owes_block, refuses_block, settle_begin, settle_next, settle_owed, within_turn}
+use Rattle.sl_trace.specs.Conversions.{convert_next}
+use Rattle.sl_trace.specs.Releases.{release_next}
 use Rattle.sl_trace.specs.Leases.{LeaseKnown, last_blocks, lease_calls, owed, owed_free}
 use Rattle.sl_trace.specs.declared.lease.Owed.TheVariants.{BallotOwed, FreeOwed, ModeOwed}
 use Rattle.sl_trace.specs.declared.lease.Owed.{Owed}

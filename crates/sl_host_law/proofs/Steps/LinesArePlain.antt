@@ -8,8 +8,9 @@ use Rattle.sl_host_law.specs.Replies.RepliesAreTaken.{is_plain_line}
 use Rattle.sl_trace.specs.declared.command.Command.TheVariants.{Acquire, AddLockspace, Convert, GetLvb, HostStatus, InqLockspace, Release, ReleaseOrphan, RemLockspace, Request, RunProgram, SetKillpath, SetLvb, Status, TakeOver}
 use Rattle.sl_trace.specs.declared.command.Command.{Command}
 use Rattle.sl_trace.specs.declared.command.LockspaceArg.{LockspaceArg}
-use Rattle.sl_trace.specs.Limits.{most_killpaths}
-use Rattle.sl_trace.specs.Traces.{KillProgram, is_orphan, no_process}
+use Rattle.sl_trace.specs.CountLimits.{most_killpaths}
+use Rattle.sl_trace.specs.KillPrograms.{KillProgram}
+use Rattle.sl_trace.specs.Traces.{is_orphan, no_process}
 use Rattle.sl_trace.specs.declared.reply.Limited.TheVariants.{Killpaths, Seq as SeqLimit}
 use Rattle.sl_trace.specs.declared.reply.Reply.TheVariants.{Busy, Done, Limit as LimitReached}
 use Rattle.sl_trace.specs.declared.reply.Reply.{Reply}

@@ -4,7 +4,7 @@ use Rattle.sl_due_facts.specs.Acts.DueDaemons.{IsDecidedFor}
 use Rattle.sl_host_law.proofs.Answers.AnswersSetFree.{of_trace}
 use Rattle.sl_host_law.specs.Answers.Grants.{after_giving, given_up}
 use Rattle.sl_host_law.specs.Answers.LeaseDecisions.{carrying_lease}
-use Rattle.sl_area.specs.Places.{delta_offset}
+use Rattle.sl_area.specs.AreaLayout.{delta_offset}
 use Rattle.sl_host_law.proofs.Decisions.CommandsAreDecided.{commands_are_decided}
 use Rattle.sl_host_law.specs.Decisions.CommandDecisions.{decision_of, held_on, joined_refused, member_named, member_refusal}
 use Rattle.sl_host_law.specs.Decisions.DecisionLaws.{LastIsEnough}
@@ -44,7 +44,7 @@ use Rattle.sl_trace.specs.Sessions.{is_delta_purpose, is_session_arg, joining_se
 use Rattle.sl_trace.specs.declared.delta.DeltaKnown.{DeltaKnown}
 use Rattle.sl_trace.specs.declared.session.Begun.{Begun}
 use Rattle.sl_trace.specs.declared.session.Session.{Session}
-use Rattle.sl_trace.specs.Limits.{most_lockspaces}
+use Rattle.sl_trace.specs.CountLimits.{most_lockspaces}
 use Rattle.sl_trace.specs.Traces.{Child, Submitted, children, job_numbered, job_of, next_job, same_place, spot_of_grant, submitted}
 use Rattle.sl_trace.specs.declared.command.Command.TheVariants.{AddLockspace, RemLockspace}
 use Rattle.sl_trace.specs.declared.command.Command.{Command}

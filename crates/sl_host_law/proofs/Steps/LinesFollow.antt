@@ -4,7 +4,7 @@ use Rattle.sl_due_facts.specs.Acts.DueDaemons.{IsDecidedFor, IsPresent}
 use Rattle.sl_host_law.proofs.Answers.GrantsAreTaken.{grants_are_taken}
 use Rattle.sl_host_law.specs.Answers.Grants.{after_giving, ended, given_up}
 use Rattle.sl_host_law.specs.Answers.LeaseDecisions.{carrying_lease, granting_for}
-use Rattle.sl_area.specs.Places.{area_sectors, value_offset}
+use Rattle.sl_area.specs.AreaLayout.{area_sectors, value_offset}
 use Rattle.sl_host_law.proofs.Decisions.CommandsAreDecided.{commands_are_decided}
 use Rattle.sl_host_law.specs.Decisions.CommandDecisions.{decision_of}
 use Rattle.sl_due.specs.DueCommands.{on_line}

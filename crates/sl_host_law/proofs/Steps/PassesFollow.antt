@@ -11,7 +11,7 @@ use Rattle.sl_host_law.specs.Steps.Passes.{at_member, for_members, member_number
 use Rattle.sl_host_law.specs.StepParts.Recoveries.{IsGone}
 use Rattle.sl_host_law.specs.StepParts.Signals.{over}
 use Rattle.sl_due_facts.proofs.Acts.WakesKeep.{present_has}
-use Rattle.sl_words.proofs.Lists.{contains_first, contains_more, find_fails, find_inside}
+use Rattle.sl_words.proofs.Lists.{contains_first, contains_more, find_fails, find_inside, any_found}
 use Rattle.sl_host_law.specs.Questions.Members.{IsMemberAt}
 use Rattle.sl_trace.specs.Sessions.{present_sessions, session_numbered}
 use Rattle.sl_trace.specs.declared.session.Session.{Session}
@@ -20,7 +20,6 @@ use Rattle.sl_words.proofs.CaseLaws.{is_false, some_value, true_is_false}
 use Rattle.std.proofs.Common.{ap, refl, subst, sym, ◌∙◌}
 use Rattle.std.proofs.lemmas.Bool.Decides.{Decides-eqb}
 use Rattle.std.specs.List.{list_any}
-use Rattle.sl_words.proofs.Lists.{any_found}
 use Rattle.std.specs.Prelude.{Contains, List, None, Option, Some, false, map, slice_get, true, [], ℕ, ◌==◌, ◌∷◌, ◌≡◌}
 
 -- What is asked of a pass: a state after a part follows the step after it and keeps P; nothing is done for a session that is gone; and

@@ -5,7 +5,7 @@ use Rattle.sl_due_facts.specs.Acts.Acts.{Has, next_of_settling}
 use Rattle.sl_host_law.proofs.Answers.SettlingsMay.{settlings_may}
 use Rattle.sl_host_law.proofs.Answers.WakingsFollow.{wakings_follow}
 use Rattle.sl_host_law.specs.Answers.LeaseDecisions.{carrying_lease}
-use Rattle.sl_area.specs.Layouts.{Layout}
+use Rattle.sl_area.specs.AreaSizes.{Layout}
 use Rattle.sl_host_law.proofs.Calls.MemberCalls.SpotsMore.{spot_itself}
 use Rattle.sl_host_law.specs.Decisions.CommandDecisions.{is_active_member}
 use Rattle.sl_due.specs.DueWake.{for_sessions, join_on_wake, on_wake, renew_on_wake, settle_on_wake, settlings}
@@ -35,15 +35,15 @@ use Rattle.sl_host_law.proofs.StepParts.MembersWake.{members_wake}
 use Rattle.sl_host_law.specs.StepParts.Ends.{renewing_in, writing_own}
 use Rattle.sl_host_law.specs.StepParts.Signals.{over}
 use Rattle.sl_host_law.specs.StepParts.Wakes.{bits_in, delta_in, is_free_at}
-use Rattle.sl_area.specs.Places.{delta_offset}
+use Rattle.sl_area.specs.AreaLayout.{delta_offset}
 use Rattle.sl_words.proofs.Lists.{contains_first, contains_map, contains_more, find_fails, find_inside, got_inside, in_map}
 use Rattle.sl_host_law.specs.Questions.Members.{IsMemberAt}
 use Rattle.sl_sector.specs.declared.sector.DeltaRec.{DeltaRec}
 use Rattle.sl_sector.specs.declared.sector.DeltaState.TheVariants.{Live}
 use Rattle.sl_sector.specs.declared.sector.Rec.TheVariants.{DeltaIs}
-use Rattle.sl_trace.specs.Deltas.{delta_known, delta_of_session, delta_record, is_renewal_due, next_renewal}
+use Rattle.sl_trace.specs.DeltaDecisions.{delta_known, delta_of_session, delta_record, is_renewal_due, next_renewal}
 use Rattle.sl_trace.specs.Sessions.{calls_of, is_active, is_joined}
-use Rattle.sl_due.specs.DueDelta.{carry_delta}
+use Rattle.sl_due.specs.CarriedDelta.{carry_delta}
 use Rattle.sl_due.specs.DueRequests.{bits_due}
 use Rattle.sl_trace.specs.declared.session.Session.{Session}
 use Rattle.sl_trace.specs.Traces.{Submitted, job_of, same_spot}
@@ -61,7 +61,7 @@ use Rattle.std.proofs.Common.{ap, refl, subst, sym, ◌∙◌}
 use Rattle.std.proofs.lemmas.Bool.Decides.{Decides-eqb}
 use Rattle.std.specs.List.{list_any}
 use Rattle.std.specs.Option.{option_or}
-use Rattle.sl_due.specs.DueLease.{settle}
+use Rattle.sl_due.specs.CarriedLease.{settle}
 use Rattle.sl_host_law.specs.Answers.WakingsFollow.{joining_by_time}
 use Rattle.sl_words.specs.Orders.{put_in}
 use Rattle.std.specs.Prelude.{Bool, Contains, List, None, Option, Some, cond, false, find, is_some, map, option_map, slice_get, true, [], ℕ, ◌+◌, ◌&&◌, ◌==◌, ◌∷◌, ◌≡◌}

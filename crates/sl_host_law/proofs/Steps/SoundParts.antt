@@ -1,5 +1,5 @@
 -- What leaves a host sound: what only takes members out, and a call that is its job's.
-use Rattle.sl_area.specs.Layouts.{IsGeometry, Layout}
+use Rattle.sl_area.specs.AreaSizes.{IsGeometry, Layout}
 use Rattle.sl_host_law.proofs.SharedFacts.PlainLists.{in_either, in_flat}
 use Rattle.sl_host_state.specs.KeptState.{Config, HostState, MemberState}
 use Rattle.sl_host_state.specs.MadeEffects.{calling, has_write_open, is_ended_by_move, joining_calling, known_calling, leases_calling, member_answered, member_calling, member_replying, with_move, with_reply}

@@ -11,7 +11,7 @@ use Rattle.sl_host_law.specs.Calls.MemberCalls.{is_idle_job}
 use Rattle.sl_host_law.specs.Questions.Jobs.{running_in}
 use Rattle.sl_host_law.specs.Replies.Answers.{FitsCall, IsOpen}
 use Rattle.sl_host_law.specs.Replies.Moves.{EndsBegun}
-use Rattle.sl_trace.specs.Deltas.{next_after_free, next_after_renewal}
+use Rattle.sl_trace.specs.DeltaDecisions.{next_after_free, next_after_renewal}
 use Rattle.sl_trace.specs.Sessions.{is_delta_purpose, is_present}
 use Rattle.sl_trace.specs.declared.effects.Move.TheVariants.{Unregister}
 use Rattle.sl_trace.specs.declared.effects.Purpose.TheVariants.{Leaving, Renewal}

@@ -1,9 +1,9 @@
 -- What a session's delta lease decided is done: the state that follows, and what is asked of the calls and replies in it.
 use Rattle.sl_host_law.specs.Answers.RefusalsFollow.{IsAlone, refusing}
 use Rattle.sl_host_law.specs.StepParts.Ends.{removing}
-use Rattle.sl_area.specs.Places.{delta_offset}
+use Rattle.sl_area.specs.AreaLayout.{delta_offset}
 use Rattle.sl_host_law.specs.Calls.MemberCalls.{CallFits}
-use Rattle.sl_due.specs.DueDelta.{carry_delta}
+use Rattle.sl_due.specs.CarriedDelta.{carry_delta}
 use Rattle.sl_due.specs.Steps.{Step, seen}
 use Rattle.sl_host_state.specs.KeptState.{HostState, MemberState}
 use Rattle.sl_host_state.specs.MadeEffects.{next_submitted, with_call, with_move, with_reply}

@@ -13,7 +13,7 @@ use Rattle.sl_host_state.specs.declared.kept_parts.OpenCall.{OpenCall}
 use Rattle.sl_host_law.specs.StepParts.Ends.{removing}
 use Rattle.sl_host_law.specs.Questions.Jobs.{running_in}
 use Rattle.sl_host_law.specs.Replies.Moves.{EndsBegun}
-use Rattle.sl_trace.specs.Deltas.{delta_of_session, next_in_joining}
+use Rattle.sl_trace.specs.DeltaDecisions.{delta_of_session, next_in_joining}
 use Rattle.sl_trace.specs.Sessions.{calls_of}
 use Rattle.sl_trace.specs.declared.delta.DeltaNext.{DeltaNext}
 use Rattle.sl_trace.specs.Traces.{Submitted}

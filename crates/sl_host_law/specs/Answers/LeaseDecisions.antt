@@ -1,7 +1,8 @@
 -- What a lease decided is done: the state that follows, and what is asked of the calls and replies in it.
 use Rattle.sl_host_law.specs.Answers.CarriedDecisions.{MayCall}
-use Rattle.sl_area.specs.Places.{area_sectors, block_offset, block_place, block_record, block_sectors, leader_offset, leader_record}
-use Rattle.sl_due.specs.DueLease.{carry_lease, grant_of}
+use Rattle.sl_area.specs.AreaLayout.{area_sectors, block_offset, block_place, block_sectors, leader_offset}
+use Rattle.sl_area.specs.AreaRecords.{block_record, leader_record}
+use Rattle.sl_due.specs.CarriedLease.{carry_lease, grant_of}
 use Rattle.sl_due.specs.Steps.{Step}
 use Rattle.sl_host_state.specs.KeptState.{HostState, LeaseState, MemberState}
 use Rattle.sl_host_state.specs.MadeEffects.{with_call, with_end, with_grant, with_reply, with_start}

@@ -4,7 +4,7 @@ use Rattle.sl_host_law.specs.Answers.AnswersFollow.{IsAnswerTo}
 use Rattle.sl_host_law.specs.Answers.LeaseAnswers.{area_of}
 use Rattle.sl_host_law.specs.Answers.LeaseDecisions.{MayCarryLease, carrying_lease, read_from}
 use Rattle.sl_host_law.specs.Answers.Requests.{Follows}
-use Rattle.sl_area.specs.Places.{block_place, leader_offset}
+use Rattle.sl_area.specs.AreaLayout.{block_place, leader_offset}
 use Rattle.sl_due.specs.Steps.{Step, with_input}
 use Rattle.sl_host_state.specs.HeardInputs.{heard_answer, member_hearing}
 use Rattle.sl_host_state.specs.KeptState.{HostState, MemberState}

@@ -1,6 +1,6 @@
 -- The second phase of a ballot follows the read of the first: a lease decides on it by no other answer, and in the own block's instance.
-use Rattle.sl_area.specs.Layouts.{Layout}
-use Rattle.sl_trace.specs.LeaseWork.{LeasePlace, asked_again, first_step, lease_next}
+use Rattle.sl_area.specs.AreaSizes.{Layout}
+use Rattle.sl_trace.specs.LeaseDecisions.{LeasePlace, asked_again, first_step, lease_next}
 use Rattle.sl_trace.specs.Leases.{LeaseKnown, is_second}
 use Rattle.sl_trace.specs.declared.lease.Aim.{Aim}
 use Rattle.sl_trace.specs.declared.lease.LeaseNext.TheVariants.{AnswerJob, ReadFor, WriteBlock, WriteLeader}

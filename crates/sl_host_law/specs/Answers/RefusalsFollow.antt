@@ -1,5 +1,5 @@
 -- A job is refused, and with a joining its connection goes, unless a write of it is unanswered.
-use Rattle.sl_due.specs.DueFirst.{refuse}
+use Rattle.sl_due.specs.DueTimeOuts.{refuse}
 use Rattle.sl_due.specs.Steps.{Step}
 use Rattle.sl_host_state.specs.KeptState.{HostState, MemberState}
 use Rattle.sl_host_state.specs.MadeEffects.{has_write_open, with_reply}

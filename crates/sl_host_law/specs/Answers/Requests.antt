@@ -1,6 +1,6 @@
 -- The whole of an answer to a call on a request or a value: the state that follows.
 use Rattle.sl_host_law.specs.Answers.AnswersFollow.{IsAnswerTo}
-use Rattle.sl_area.specs.Places.{request_offset}
+use Rattle.sl_area.specs.AreaLayout.{request_offset}
 use Rattle.sl_due.specs.DueAnswers.{after_answer}
 use Rattle.sl_due.specs.DueRequests.{owner_read, request_refusal, signal_of_request, value_reply}
 use Rattle.sl_due.specs.Steps.{Step, seen, with_input}

@@ -1,8 +1,8 @@
 -- The whole of an answer to a read of all ids: a recovery may begin by it, and requests are read where the session is asked.
 use Rattle.sl_host_law.specs.Answers.AnswersFollow.{IsAnswerTo}
 use Rattle.sl_host_law.specs.Answers.Requests.{Follows, on_given}
-use Rattle.sl_area.specs.Layouts.{Layout}
-use Rattle.sl_area.specs.Places.{delta_of, request_offset}
+use Rattle.sl_area.specs.AreaSizes.{Layout}
+use Rattle.sl_area.specs.AreaLayout.{delta_of, request_offset}
 use Rattle.sl_host_state.specs.HeardInputs.{heard_answer, member_hearing}
 use Rattle.sl_host_state.specs.KeptState.{HostState, MemberState}
 use Rattle.sl_host_state.specs.MadeEffects.{with_call}

@@ -1,5 +1,5 @@
 -- One more call of a member: what is asked of it by what is kept. Each is a test of one kind of call; of all others it says nothing.
-use Rattle.sl_area.specs.Layouts.{Layout}
+use Rattle.sl_area.specs.AreaSizes.{Layout}
 use Rattle.sl_due.specs.Steps.{add_call_of}
 use Rattle.sl_host_state.specs.KeptState.{HostState, LeaseState, MemberState}
 use Rattle.sl_host_state.specs.MadeEffects.{is_lease_on, next_submitted, with_call}

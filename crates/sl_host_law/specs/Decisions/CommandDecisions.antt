@@ -1,6 +1,6 @@
 -- What a command comes to by what a host keeps: the definitions' own decisions, each question asked of the kept lists.
-use Rattle.sl_area.specs.Layouts.{Layout}
-use Rattle.sl_area.specs.Places.{in_area}
+use Rattle.sl_area.specs.AreaSizes.{Layout}
+use Rattle.sl_area.specs.AreaLayout.{in_area}
 use Rattle.sl_due.specs.DueCommands.{unless_refused}
 use Rattle.sl_due.specs.declared.decision.Decision.TheVariants.{ConvertsTo, GetsValue, GivesUp, Joins, Leaves, ReadsArea, Replies, Requests, SetsValue, Shares, TakesOver}
 use Rattle.sl_due.specs.declared.decision.Decision.{Decision}
@@ -12,7 +12,7 @@ use Rattle.sl_trace.specs.Counts.{busy_among}
 use Rattle.sl_trace.specs.Jobs.{is_asking_lease, is_program, wanted_mode}
 use Rattle.sl_trace.specs.Leases.{spot_of}
 use Rattle.sl_trace.specs.Sessions.{is_session_arg}
-use Rattle.sl_trace.specs.Limits.{most_children, most_holders, most_killpaths, most_lockspaces, most_processes, most_resources}
+use Rattle.sl_trace.specs.CountLimits.{most_children, most_holders, most_killpaths, most_lockspaces, most_processes, most_resources}
 use Rattle.sl_trace.specs.Traces.{is_orphan, is_shared, no_process, same_place}
 use Rattle.sl_trace.specs.declared.command.Command.TheVariants.{Acquire, AddLockspace, Convert, GetLvb, HostStatus, InqLockspace, Release, ReleaseOrphan, RemLockspace, Request, RunProgram, SetKillpath, SetLvb, Status, TakeOver}
 use Rattle.sl_trace.specs.declared.command.Command.{Command}

@@ -1,17 +1,20 @@
 -- What an answer makes due, by what is kept: of whom it is asked, and for each purpose what then is done. Decisions on a lease and on an
 -- id's sector keep the calls as an argument: their own states answer for those.
-use Rattle.sl_area.specs.Layouts.{Layout}
+use Rattle.sl_area.specs.AreaSizes.{Layout}
 use Rattle.sl_due.specs.DueAnswers.{after_answer, after_answer_of, for_job, set_reply}
-use Rattle.sl_due.specs.DueDelta.{after_free, after_join_answer, after_renewal, after_survey, carry_delta, is_session_asked, see_requests}
-use Rattle.sl_due.specs.DueFirst.{remove_of_refused, send, signal_and_refuse}
-use Rattle.sl_due.specs.DueLease.{after_lease_answer, carry_lease, with_command}
+use Rattle.sl_due.specs.CarriedDelta.{after_free, after_join_answer, after_renewal, after_survey, carry_delta, is_session_asked, see_requests}
+use Rattle.sl_due.specs.DueTimeOuts.{remove_of_refused}
+use Rattle.sl_due.specs.DueRecovery.{send, signal_and_refuse}
+use Rattle.sl_due.specs.CarriedLease.{after_lease_answer, carry_lease, with_command}
 use Rattle.sl_due.specs.DueRequests.{after_request_read, after_see_request, after_value_read, signal_of_request}
 use Rattle.sl_due.specs.Steps.{Step, add_reply, seen, when, with_input, with_some}
 use Rattle.sl_host_law.specs.SharedFacts.AtInput.{IsAtInput}
 use Rattle.sl_host_state.specs.KeptState.{HostState, MemberState}
 use Rattle.sl_host_state.specs.HostStands.{Stands, kept_call}
 use Rattle.sl_host_state.specs.declared.kept_parts.OpenCall.{OpenCall}
-use Rattle.sl_trace.specs.LeaseWork.{LeasePlace, convert_next, lease_next, release_next, settle_begin, within_turn}
+use Rattle.sl_trace.specs.LeaseDecisions.{LeasePlace, lease_next, settle_begin, within_turn}
+use Rattle.sl_trace.specs.Conversions.{convert_next}
+use Rattle.sl_trace.specs.Releases.{release_next}
 use Rattle.sl_trace.specs.Leases.{LeaseKnown, known_of, lease_calls, lease_step}
 use Rattle.sl_trace.specs.declared.lease.Aim.TheVariants.{Converts, Releases, Settles}
 use Rattle.sl_trace.specs.declared.lease.Aim.{Aim}
@@ -19,7 +22,7 @@ use Rattle.sl_trace.specs.declared.lease.LeaseNext.{LeaseNext}
 use Rattle.sl_host_law.specs.Questions.Jobs.{aim_in, command_in, goes_on_in, running_in}
 use Rattle.sl_host_law.specs.Questions.Members.{IsMemberAt, begins_by_read_in, exclusive_at, me_in, over_in, shared_at}
 use Rattle.sl_host_law.specs.Replies.Answers.{IsOpen}
-use Rattle.sl_trace.specs.Deltas.{delta_of_session, next_after_free, next_after_renewal, next_in_joining}
+use Rattle.sl_trace.specs.DeltaDecisions.{delta_of_session, next_after_free, next_after_renewal, next_in_joining}
 use Rattle.sl_trace.specs.Sessions.{calls_of, is_present}
 use Rattle.sl_trace.specs.Traces.{Submitted, is_orphan, job_of, submitted}
 use Rattle.sl_trace.specs.declared.effects.JoinStep.{JoinStep}

@@ -1,6 +1,6 @@
 -- What a step asks of jobs, and what answers it of those that are kept.
-use Rattle.sl_due.specs.DueFirst.{refuse, time_out}
-use Rattle.sl_due.specs.DueLease.{goes_on}
+use Rattle.sl_due.specs.DueTimeOuts.{refuse, time_out}
+use Rattle.sl_due.specs.CarriedLease.{goes_on}
 use Rattle.sl_due.specs.Steps.{Step, seen, when, with_some}
 use Rattle.sl_host_state.specs.KeptState.{HostState, MemberState}
 use Rattle.sl_host_state.specs.HostStands.{Stands, kept_job, kept_waiting}

@@ -1,7 +1,7 @@
 -- What a step asks of a session, and what answers it of its member.
 use Rattle.sl_host_law.specs.Decisions.CommandDecisions.{held_of, held_on, is_active_member}
-use Rattle.sl_due.specs.DueDelta.{begins_by_read}
-use Rattle.sl_due.specs.DueLease.{held_otherwise}
+use Rattle.sl_due.specs.CarriedDelta.{begins_by_read}
+use Rattle.sl_due.specs.CarriedLease.{held_otherwise}
 use Rattle.sl_due.specs.DueRequests.{bits_due}
 use Rattle.sl_due.specs.Steps.{Step, seen}
 use Rattle.sl_host_state.specs.KeptState.{HostState, MemberState}

@@ -1,5 +1,6 @@
 -- Parts of a step that go over holders, holdings and jobs, or refuse one: what they are by what is kept.
-use Rattle.sl_due.specs.DueFirst.{begin_recovery, is_overdue, kill_holders, refuse, refuse_jobs, remove_connection, remove_of_refused, send, signal_and_refuse, signal_holders, tell_to_stop, time_outs}
+use Rattle.sl_due.specs.DueRecovery.{begin_recovery, kill_holders, refuse_jobs, send, signal_and_refuse, signal_holders, tell_to_stop}
+use Rattle.sl_due.specs.DueTimeOuts.{is_overdue, refuse, remove_connection, remove_of_refused, time_outs}
 use Rattle.sl_due.specs.DueInputs.{end_holdings, leave_holdings, refuse_jobs_of, started_reply}
 use Rattle.sl_due.specs.Steps.{Step, add_end, add_grant, add_move, add_reply, add_signal, add_start, for_each, seen, when, with_input, with_some}
 use Rattle.sl_host_law.specs.SharedFacts.AtInput.{IsAtInput}

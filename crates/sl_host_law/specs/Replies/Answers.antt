@@ -1,6 +1,6 @@
 -- An answer is heard before anything is decided on it: by the one thing that waits for it.
-use Rattle.sl_area.specs.Layouts.{Layout}
-use Rattle.sl_area.specs.Places.{read_at}
+use Rattle.sl_area.specs.AreaSizes.{Layout}
+use Rattle.sl_area.specs.AreaLayout.{read_at}
 use Rattle.sl_due.specs.Steps.{Step, seen, with_input}
 use Rattle.sl_host_law.specs.SharedFacts.AtInput.{IsAtInput}
 use Rattle.sl_host_state.specs.HeardInputs.{heard_answer}

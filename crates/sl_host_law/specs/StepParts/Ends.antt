@@ -1,8 +1,8 @@
 -- Renewals on a wake, and what comes last in a step, as functions of what is kept.
-use Rattle.sl_area.specs.Places.{delta_offset}
+use Rattle.sl_area.specs.AreaLayout.{delta_offset}
 use Rattle.sl_host_law.specs.Calls.MemberCalls.{is_idle_job, is_leaving_alone}
 use Rattle.sl_host_law.specs.Decisions.CommandDecisions.{held_of}
-use Rattle.sl_due.specs.DueFirst.{remove_connection}
+use Rattle.sl_due.specs.DueTimeOuts.{remove_connection}
 use Rattle.sl_due.specs.DueWake.{end_if_done, finish_session, free_if_done, renew_on_wake}
 use Rattle.sl_due.specs.Steps.{Step}
 use Rattle.sl_host_state.specs.KeptState.{HostState, MemberState}
@@ -15,7 +15,7 @@ use Rattle.sl_sector.specs.Bitmaps.{no_bits}
 use Rattle.sl_sector.specs.declared.sector.DeltaRec.{DeltaRec}
 use Rattle.sl_sector.specs.declared.sector.DeltaState.TheVariants.{Free, Live}
 use Rattle.sl_sector.specs.declared.sector.Rec.TheVariants.{DeltaIs}
-use Rattle.sl_trace.specs.Deltas.{delta_record, is_renewal_due}
+use Rattle.sl_trace.specs.DeltaDecisions.{delta_record, is_renewal_due}
 use Rattle.sl_trace.specs.declared.effects.Move.TheVariants.{Unregister}
 use Rattle.sl_trace.specs.declared.effects.Op.TheVariants.{WriteRecord}
 use Rattle.sl_trace.specs.declared.effects.Purpose.TheVariants.{Leaving, Renewal}

@@ -1,5 +1,5 @@
 -- An answer that may come is one of an open call.
-use Rattle.sl_area.specs.Layouts.{Layout}
+use Rattle.sl_area.specs.AreaSizes.{Layout}
 use Rattle.sl_due.specs.Steps.{Step}
 use Rattle.sl_host_state.specs.KeptState.{HostState}
 use Rattle.sl_host_state.specs.HostStands.{Stands}

@@ -1,5 +1,5 @@
 -- A command line as a whole: it is answered at once, or heard and carried out.
-use Rattle.sl_area.specs.Places.{area_sectors, delta_offset, value_offset}
+use Rattle.sl_area.specs.AreaLayout.{area_sectors, delta_offset, value_offset}
 use Rattle.sl_host_law.specs.Calls.MemberCalls.{fits_lease, fits_value}
 use Rattle.sl_host_law.specs.Decisions.CommandDecisions.{decision_of, open_at}
 use Rattle.sl_host_law.specs.Decisions.DecisionLaws.{LastIsEnough}

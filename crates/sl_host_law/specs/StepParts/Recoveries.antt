@@ -1,5 +1,5 @@
 -- Recoveries and kills before the input as functions of what is kept; and that a session which is gone does nothing in any pass.
-use Rattle.sl_due.specs.DueFirst.{begin_recovery, kill_holders}
+use Rattle.sl_due.specs.DueRecovery.{begin_recovery, kill_holders, kills}
 use Rattle.sl_due.specs.DueWake.{finish_session, join_on_wake, renew_on_wake, settlings}
 use Rattle.sl_due.specs.Steps.{Step, seen}
 use Rattle.sl_host_state.specs.StepQuestions.{begins_in, is_kill_due_in}
@@ -7,7 +7,6 @@ use Rattle.sl_host_state.specs.KeptState.{HostState, MemberState}
 use Rattle.sl_host_state.specs.HostStands.{Stands, Takes}
 use Rattle.sl_host_law.specs.StepParts.Refusals.{signalling_and_refusing}
 use Rattle.sl_host_law.specs.StepParts.Signals.{over, signalling}
-use Rattle.sl_due.specs.DueFirst.{kills}
 use Rattle.sl_host_law.specs.Questions.Members.{IsMemberAt}
 use Rattle.sl_trace.specs.Sessions.{session_numbered}
 use Rattle.sl_trace.specs.declared.session.Session.{Session}

@@ -1,5 +1,5 @@
 -- Which jobs are refused: those of a session as its recovery or leaving begins, one after another.
-use Rattle.sl_due.specs.DueFirst.{refuse_jobs, signal_and_refuse}
+use Rattle.sl_due.specs.DueRecovery.{refuse_jobs, signal_and_refuse}
 use Rattle.sl_due.specs.Steps.{Step, add_reply, for_each}
 use Rattle.sl_host_state.specs.KeptState.{HostState, MemberState}
 use Rattle.sl_host_state.specs.MadeEffects.{with_reply}

@@ -1,5 +1,5 @@
 -- Who is signalled: a process whose kill program is set has it started in place of a term.
-use Rattle.sl_due.specs.DueFirst.{send, signal_holders, tell_to_stop}
+use Rattle.sl_due.specs.DueRecovery.{send, signal_holders, tell_to_stop}
 use Rattle.sl_due.specs.Steps.{Step}
 use Rattle.sl_host_state.specs.StepQuestions.{stopper_in}
 use Rattle.sl_host_state.specs.KeptState.{HostState, MemberState}

@@ -1,7 +1,7 @@
 -- What a wake makes due, and what comes last in a step, by what is kept of a member.
-use Rattle.sl_due.specs.DueDelta.{carry_delta}
-use Rattle.sl_due.specs.DueFirst.{remove_connection}
-use Rattle.sl_due.specs.DueLease.{carry_lease}
+use Rattle.sl_due.specs.CarriedDelta.{carry_delta}
+use Rattle.sl_due.specs.DueTimeOuts.{remove_connection}
+use Rattle.sl_due.specs.CarriedLease.{carry_lease}
 use Rattle.sl_due.specs.DueWake.{end_if_done, finish_session, free_if_done, join_on_wake, renew_on_wake, settle_on_wake, settlings}
 use Rattle.sl_due.specs.Steps.{Step, for_each, when, with_some}
 use Rattle.sl_host_law.specs.Decisions.CommandDecisions.{held_of, is_active_member, is_open_on}
@@ -13,7 +13,7 @@ use Rattle.sl_host_state.specs.declared.kept_parts.JoinCall.{JoinCall}
 use Rattle.sl_host_law.specs.Questions.Answers.{settling_in}
 use Rattle.sl_host_law.specs.Questions.Jobs.{running_in}
 use Rattle.sl_host_law.specs.Questions.Members.{IsMemberAt, has_call_open}
-use Rattle.sl_trace.specs.Deltas.{DeltaLease, next_by_time, next_free, next_renewal}
+use Rattle.sl_trace.specs.DeltaDecisions.{DeltaLease, next_by_time, next_free, next_renewal}
 use Rattle.sl_trace.specs.declared.delta.DeltaNext.TheVariants.{Nothing}
 use Rattle.sl_trace.specs.declared.delta.DeltaNext.{DeltaNext}
 use Rattle.sl_trace.specs.declared.effects.Spot.{Spot}

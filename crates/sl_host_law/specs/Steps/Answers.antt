@@ -17,7 +17,7 @@ use Rattle.sl_host_law.specs.Steps.Passes.{member_numbered}
 use Rattle.sl_host_law.specs.StepParts.Ends.{removing}
 use Rattle.sl_host_law.specs.Questions.Answers.{set_reply_in}
 use Rattle.sl_host_law.specs.Questions.Jobs.{aim_in, goes_on_in, running_in}
-use Rattle.sl_trace.specs.Deltas.{next_after_free, next_after_renewal}
+use Rattle.sl_trace.specs.DeltaDecisions.{next_after_free, next_after_renewal}
 use Rattle.sl_trace.specs.declared.delta.DeltaNext.{DeltaNext}
 use Rattle.sl_trace.specs.declared.effects.JoinStep.{JoinStep}
 use Rattle.sl_trace.specs.declared.effects.LeaseStep.{LeaseStep}

@@ -1,7 +1,7 @@
 -- A line: what it says is decided before it is heard, then carried out.
 use Rattle.sl_host_law.specs.Answers.Grants.{after_giving, given_up}
 use Rattle.sl_host_law.specs.Answers.LeaseDecisions.{carrying_lease, granting_for}
-use Rattle.sl_area.specs.Places.{area_sectors, delta_offset, value_offset}
+use Rattle.sl_area.specs.AreaLayout.{area_sectors, delta_offset, value_offset}
 use Rattle.sl_host_law.specs.Decisions.CommandDecisions.{decision_of}
 use Rattle.sl_due.specs.declared.decision.Decision.TheVariants.{ConvertsTo, GetsValue, GivesUp, Joins, Leaves, ReadsArea, Replies, Requests, SetsValue, Shares, TakesOver}
 use Rattle.sl_due.specs.declared.decision.Decision.{Decision}

@@ -1,7 +1,7 @@
 -- A line of a step.
 use Rattle.sl_host_law.specs.Answers.Grants.{ended, given_up}
 use Rattle.sl_host_law.specs.Answers.LeaseDecisions.{MayCarryLease}
-use Rattle.sl_area.specs.Places.{area_sectors, value_offset}
+use Rattle.sl_area.specs.AreaLayout.{area_sectors, value_offset}
 use Rattle.sl_host_law.specs.Calls.MemberCalls.{fits_lease, fits_value}
 use Rattle.sl_host_law.specs.Decisions.CommandDecisions.{decision_of}
 use Rattle.sl_host_law.specs.Decisions.DecisionLaws.{LastIsEnough}

@@ -1,5 +1,5 @@
 -- A new host is sound, whatever sessions it is given that may be.
-use Rattle.sl_area.specs.Layouts.{IsGeometry}
+use Rattle.sl_area.specs.AreaSizes.{IsGeometry}
 use Rattle.sl_host_state.specs.NewHost.{IsOfProgram, given_sessions, new_host, sizes_in}
 use Rattle.sl_host_law.specs.Steps.SoundHosts.{IsSound}
 use Rattle.sl_trace.specs.declared.session.Session.{Session}

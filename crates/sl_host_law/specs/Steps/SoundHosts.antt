@@ -1,5 +1,5 @@
 -- What a host keeps beside what its steps ask: its invariants of its own.
-use Rattle.sl_area.specs.Layouts.{IsGeometry}
+use Rattle.sl_area.specs.AreaSizes.{IsGeometry}
 use Rattle.sl_host_law.specs.SharedFacts.AtInput.{IsAtInput}
 use Rattle.sl_host_state.specs.KeptState.{HostState, MemberState}
 use Rattle.sl_host_state.specs.NewHost.{IsOfProgram, sizes_in}

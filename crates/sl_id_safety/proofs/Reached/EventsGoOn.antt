@@ -12,7 +12,7 @@ use Rattle.sl_ids.specs.Runs.{Later, Reached}
 use Rattle.sl_ids.specs.State.{State}
 use Rattle.sl_ids.specs.Terms.{Terms}
 use Rattle.sl_words.proofs.Lists.{next_before}
-use Rattle.sl_run.specs.Events.{input_of}
+use Rattle.sl_run.specs.Inputs.{input_of}
 use Rattle.sl_run.specs.Runs.{Happening}
 use Rattle.sl_run.specs.Safety.{LawfulRun, world_at}
 use Rattle.sl_run.specs.Worlds.{Course, Machine, Program, World, flight_of, is_write_course, machine_at}

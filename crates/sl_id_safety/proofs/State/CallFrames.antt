@@ -5,7 +5,7 @@ use Rattle.sl_id_safety.proofs.State.Frames.{SameThere}
 use Rattle.sl_id_safety.proofs.State.LandingFrames.{Grows, number_there}
 use Rattle.sl_id_safety.proofs.State.SectorFrames.{SameIf, ThereIf, same_still, seqs_same}
 use Rattle.sl_id_safety.specs.State.IdStates.{deciding_sample, generation_above, generation_by, index_of, is_left_by, join_course, name_of, own_courses, same_name, seq_left, writer_of}
-use Rattle.sl_run.specs.Events.{change_call}
+use Rattle.sl_run.specs.EventChanges.{change_call}
 use Rattle.sl_run.specs.Safety.{Found, SessionId, is_course_of, session_of_world}
 use Rattle.sl_run.specs.Worlds.{Course, Landing, Machine, Sampling, World, flight_of, history_of, machine_at}
 use Rattle.sl_run_law.proofs.CourseLists.{changed_if}

@@ -4,8 +4,8 @@ use Rattle.sl_run_law.proofs.Place.FoundInLists.{place_is}
 use Rattle.sl_id_safety.proofs.State.Tails.{IsMadeAfter, front_at}
 use Rattle.sl_id_safety.specs.State.Facts.{JoinReadsAreOwn, ReadsOwn, is_reading_step}
 use Rattle.sl_id_safety.specs.State.IdStates.{is_sector_of, own_courses}
-use Rattle.sl_area.specs.Layouts.{Layout}
-use Rattle.sl_area.specs.Places.{delta_offset}
+use Rattle.sl_area.specs.AreaSizes.{Layout}
+use Rattle.sl_area.specs.AreaLayout.{delta_offset}
 use Rattle.sl_run.proofs.LawFacts.{orderly-front}
 use Rattle.sl_run.specs.Lawful.{Orderly}
 use Rattle.sl_run.specs.LawfulCalls.{may_submit}
@@ -15,7 +15,7 @@ use Rattle.sl_run.specs.Safety.{Found, SessionId, setting_in, trace_of, world_at
 use Rattle.sl_run.specs.Worlds.{Course, World}
 use Rattle.sl_run_law.proofs.Sessions.CallOwners.{owned}
 use Rattle.sl_run_law.specs.Sessions.SessionLaws.{IsSession as IsSessionOf}
-use Rattle.sl_trace.specs.Deltas.{own_offset}
+use Rattle.sl_trace.specs.DeltaDecisions.{own_offset}
 use Rattle.sl_trace.specs.Sessions.{has_open_delta, is_delta_purpose, is_join_call, is_survey_purpose, same_join_step, session_numbered, stage_of}
 use Rattle.sl_trace.specs.declared.session.Session.{Session}
 use Rattle.sl_trace.specs.Traces.{Setting, Submitted, Trace, new_call, same_place}

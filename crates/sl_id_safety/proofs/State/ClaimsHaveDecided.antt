@@ -4,8 +4,8 @@ use Rattle.sl_run_law.proofs.Place.Looks.{joins_at}
 use Rattle.sl_words.proofs.Lists.{kept_inside}
 use Rattle.sl_run_law.specs.FatesStay.{Every}
 use Rattle.sl_run_law.proofs.Place.TracesOnMachines.{answer_gave}
-use Rattle.sl_area.specs.Layouts.{Layout, record_in}
-use Rattle.sl_area.specs.Places.{delta_offset}
+use Rattle.sl_area.specs.AreaSizes.{Layout, record_in}
+use Rattle.sl_area.specs.AreaLayout.{delta_offset}
 use Rattle.sl_run_law.specs.Course.CallStamps.{IsCourseOf}
 use Rattle.sl_id_safety.proofs.State.TraceBridge.{Grounds, known}
 use Rattle.sl_id_safety.proofs.State.CallLaws.{IsOwnCall, is_at_own, own_call, read_is_own, step_law}
@@ -24,14 +24,14 @@ use Rattle.sl_run.specs.Worlds.{Course, Program, World, history_of}
 use Rattle.sl_run.specs.declared.header.Header.{Header}
 use Rattle.sl_run_law.specs.Sample.Samples.{numbered_landing, sector_place}
 use Rattle.sl_sector.specs.Bitmaps.{no_bits}
-use Rattle.sl_sector.specs.Spelling.{delta_in}
+use Rattle.sl_sector.specs.SectorLayouts.{delta_in}
 use Rattle.sl_sector.specs.declared.sector.DeltaRec.{DeltaRec}
 use Rattle.sl_sector.specs.declared.sector.DeltaState.TheVariants.{Claimed}
 use Rattle.sl_sector.specs.declared.sector.DeltaState.{DeltaState}
 use Rattle.sl_sector.specs.declared.sector.Rec.TheVariants.{DeltaIs}
 use Rattle.sl_sector.specs.declared.sector.Rec.{Rec}
 use Rattle.sl_run_law.specs.Sessions.SessionLaws.{all_done, fits, fits_as, has_reply}
-use Rattle.sl_trace.specs.Deltas.{delta_of_session, delta_record}
+use Rattle.sl_trace.specs.DeltaDecisions.{delta_of_session, delta_record}
 use Rattle.sl_trace.specs.Sessions.{delta_of_record, is_delta_purpose, is_join_call, is_survey_purpose}
 use Rattle.sl_trace.specs.Traces.{Submitted, is_ok_answer, is_write, record_of}
 use Rattle.sl_trace.specs.declared.effects.Call.{Call}

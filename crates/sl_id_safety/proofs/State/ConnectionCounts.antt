@@ -1,5 +1,5 @@
 -- From when the connection of a session of a lawful run counts, and on which daemon; and that one which has not verified has not joined.
-use Rattle.sl_area.specs.Layouts.{sector_with}
+use Rattle.sl_area.specs.AreaSizes.{sector_with}
 use Rattle.sl_ids.specs.Clocks.Points.{Point}
 use Rattle.sl_ids.specs.Clocks.Watchdog.{Connected, MayAct}
 use Rattle.sl_run_law.specs.Course.Mirrors.{since_restart}
@@ -9,7 +9,7 @@ use Rattle.sl_id_safety.proofs.State.LastRegistering.{registered, registering_ca
 use Rattle.sl_id_safety.specs.State.IdStates.{runs_still}
 use Rattle.sl_run.specs.Lawful.{Orderly}
 use Rattle.sl_run.specs.LawfulDelta.{LawfulDeciding, LawfulDeltaCall, LawfulFirstRenewal}
-use Rattle.sl_run.specs.LawfulWatchdog.{is_covered}
+use Rattle.sl_run.specs.LawfulConnections.{is_covered}
 use Rattle.sl_run_law.specs.Moment.MomentsFollowSteps.{point_of}
 use Rattle.sl_words.proofs.Lists.{find_fails, find_inside, got_inside}
 use Rattle.sl_run.specs.Safety.{Found, SessionId, trace_of, was_reset}

@@ -1,7 +1,6 @@
 -- What stands behind a deciding read.
-use Rattle.sl_run_law.proofs.Place.TracesOnMachines.{answer_gave}
-use Rattle.sl_run_law.proofs.Place.TracesOnMachines.{header_is}
-use Rattle.sl_area.specs.Layouts.{Layout, record_in}
+use Rattle.sl_run_law.proofs.Place.TracesOnMachines.{answer_gave, header_is}
+use Rattle.sl_area.specs.AreaSizes.{Layout, record_in}
 use Rattle.sl_ids.specs.Clocks.Points.{reading}
 use Rattle.sl_id_safety.proofs.State.TraceBridge.{Grounds, known}
 use Rattle.sl_id_safety.proofs.State.CallLaws.{IsOwnCall, own_call, step_law}
@@ -13,7 +12,7 @@ use Rattle.sl_run_law.specs.Moment.MomentsFollowSteps.{point_of}
 use Rattle.sl_run.specs.Safety.{Found, SessionId, setting_in, world_at}
 use Rattle.sl_run.specs.Worlds.{Course, Stamp, World}
 use Rattle.sl_run.specs.declared.header.Header.{Header}
-use Rattle.sl_sector.specs.Spelling.{delta_in}
+use Rattle.sl_sector.specs.SectorLayouts.{delta_in}
 use Rattle.sl_sector.specs.declared.sector.DeltaRec.{DeltaRec}
 use Rattle.sl_sector.specs.declared.sector.DeltaState.TheVariants.{Free}
 use Rattle.sl_trace.specs.Sessions.{is_join_call}

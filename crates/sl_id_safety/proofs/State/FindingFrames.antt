@@ -2,7 +2,7 @@
 use Rattle.sl_id_safety.proofs.State.Frames.{Same, flying_same, is_running}
 use Rattle.sl_id_safety.specs.State.IdStates.{own_courses}
 use Rattle.sl_words.proofs.Lists.{contains_first, contains_more}
-use Rattle.sl_run.specs.Events.{change_call}
+use Rattle.sl_run.specs.EventChanges.{change_call}
 use Rattle.sl_run.specs.Safety.{Found, SessionId, is_course_of, session_of_world}
 use Rattle.sl_run.specs.Worlds.{Course, Daemon, Machine, World, change_machine, daemon_numbered, daemons_on, flight_of, is_open, machine_at}
 use Rattle.sl_run_law.proofs.CourseLists.{changed_if}

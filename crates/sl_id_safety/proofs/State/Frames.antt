@@ -1,5 +1,5 @@
 -- What a session's state depends on: where that stays, the state stays.
-use Rattle.sl_area.specs.Layouts.{Layout, sector_with}
+use Rattle.sl_area.specs.AreaSizes.{Layout, sector_with}
 use Rattle.sl_run_law.specs.Course.CallStamps.{stamp_in}
 use Rattle.sl_id_safety.specs.State.IdStates.{claim_may_land, deciding_sample, comes_before, generation_by, has_begun, index_of, join_course, name_of, own_courses, runs_still, seq_left, standing_of}
 use Rattle.sl_ids.specs.State.{Session as IdSession}

@@ -1,5 +1,5 @@
 -- Who is said to have held a sector at first: the session that has it there.
-use Rattle.sl_area.specs.Layouts.{Layout}
+use Rattle.sl_area.specs.AreaSizes.{Layout}
 use Rattle.sl_run_law.proofs.Course.MachinesKeep.{header_machine}
 use Rattle.sl_run_law.proofs.Front.JoinedLists.{placed_at}
 use Rattle.sl_id_safety.proofs.State.FindingFrames.{find_passes, found_on, on_machine, session_with}

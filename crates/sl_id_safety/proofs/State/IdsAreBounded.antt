@@ -8,7 +8,7 @@ use Rattle.sl_id_safety.specs.State.IdStates.{blank, claim_bytes, claim_may_land
 use Rattle.sl_id_safety.specs.State.StateLaws.{IdsAreBounded}
 use Rattle.sl_ids.proofs.DerivedLaws.{watchdogs}
 use Rattle.sl_ids.specs.State.{Session as IdSession}
-use Rattle.sl_run.specs.LawfulWatchdog.{is_covered}
+use Rattle.sl_run.specs.LawfulConnections.{is_covered}
 use Rattle.sl_words.proofs.Lists.{any_found, any_of, find_inside, kept, kept_inside}
 use Rattle.sl_words.proofs.Options.{none_is, not_some, some_there}
 use Rattle.sl_run.specs.Runs.{Happening}

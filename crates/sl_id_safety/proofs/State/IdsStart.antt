@@ -1,6 +1,7 @@
 -- At first one whole record stands at the place of an id: a free one, or that of the header's session of this id.
-use Rattle.sl_area.specs.Layouts.{Layout, Sizes, sector_with}
-use Rattle.sl_area.specs.Places.{delta_offset, fresh_delta, in_area}
+use Rattle.sl_area.specs.AreaSizes.{Layout, Sizes, sector_with}
+use Rattle.sl_area.specs.AreaLayout.{delta_offset, in_area}
+use Rattle.sl_area.specs.AreaRecords.{fresh_delta}
 use Rattle.sl_run_law.proofs.Course.Daemons.{daemon_of_line}
 use Rattle.sl_run_law.proofs.Front.JoinedLists.{placed_at}
 use Rattle.sl_id_safety.proofs.State.FindingFrames.{find_passes}
@@ -26,7 +27,7 @@ use Rattle.sl_run.specs.declared.header.LockspaceLine.{LockspaceLine}
 use Rattle.sl_run.specs.declared.header.ResourceLine.{ResourceLine}
 use Rattle.sl_run.specs.declared.header.SessionLine.{SessionLine}
 use Rattle.sl_sector.proofs.PublicLaws.{spelled_is_read}
-use Rattle.sl_sector.specs.Spelling.{IsDigest, delta_in}
+use Rattle.sl_sector.specs.SectorLayouts.{IsDigest, delta_in}
 use Rattle.sl_sector.specs.declared.sector.DeltaRec.{DeltaRec}
 use Rattle.sl_sector.specs.declared.sector.Rec.TheVariants.{DeltaIs}
 use Rattle.sl_sector.specs.declared.sector.Rec.{Rec}

@@ -6,7 +6,7 @@ use Rattle.sl_run_law.proofs.Place.TracesOnMachines.{first_whole}
 use Rattle.sl_words.proofs.Lists.{contains_more, kept_inside}
 use Rattle.sl_words.proofs.Numbers.{one_times}
 use Rattle.sl_run_law.specs.FatesStay.{Every}
-use Rattle.sl_run_law.specs.Course.CallStamps.{AnswersAgree, IsAnsweredAs, IsCourseOf}
+use Rattle.sl_run_law.specs.Course.CallStamps.{AnswersAgree, IsAnsweredAs, IsCourseOf, stamp_in}
 use Rattle.sl_id_safety.proofs.State.TraceBridge.{Grounds, IsKnown, IsPlaced, step_agrees}
 use Rattle.sl_id_safety.proofs.State.CallLaws.{IsOwnCall}
 use Rattle.sl_id_safety.proofs.State.PairedLists.{EveryTail, every_pair, find_here, stands_there}
@@ -15,14 +15,13 @@ use Rattle.sl_id_safety.proofs.State.JoiningCallOrder.{InPlace, Precede, in_plac
 use Rattle.sl_id_safety.proofs.State.Tails.{IsLater, front_at}
 use Rattle.sl_id_safety.proofs.State.TracesInTime.{reading_front, refused_after_call, stamps_order, stamps_rise}
 use Rattle.sl_id_safety.specs.State.IdStates.{comes_before, join_course, own_courses, refused_stamp, sample_showing}
-use Rattle.sl_run_law.specs.Course.CallStamps.{stamp_in}
 use Rattle.sl_run_law.proofs.Front.JoinedLists.{contains_right}
-use Rattle.sl_run.specs.Events.{sectors_of}
+use Rattle.sl_run.specs.Refusals.{sectors_of}
 use Rattle.sl_run.specs.Runs.{Happening}
 use Rattle.sl_run.specs.Safety.{Found, LawfulRun, SessionId, setting_in, trace_of, world_at}
 use Rattle.sl_run.specs.Worlds.{Course, Machine, Program, Sampling, Stamp, World, machine_at}
 use Rattle.sl_run.specs.declared.header.Header.{Header}
-use Rattle.sl_area.specs.Places.{sector_of}
+use Rattle.sl_area.specs.AreaLayout.{sector_of}
 use Rattle.sl_run_law.specs.Sample.Samples.{IsSampleOf}
 use Rattle.sl_trace.specs.Sessions.{calls_of, is_call_of, is_join_call, refused_after}
 use Rattle.sl_time.specs.Times.{reading_of}

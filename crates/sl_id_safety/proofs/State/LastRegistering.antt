@@ -2,7 +2,7 @@
 use Rattle.sl_run.proofs.LawFacts.{orderly-front}
 use Rattle.sl_run.specs.Lawful.{Orderly}
 use Rattle.sl_run.specs.LawfulDelta.{LawfulDeltaCall}
-use Rattle.sl_run.specs.LawfulWatchdog.{is_covered}
+use Rattle.sl_run.specs.LawfulConnections.{is_covered}
 use Rattle.sl_run.specs.LawForms.{cut_at}
 use Rattle.sl_words.proofs.Lists.{got_inside}
 use Rattle.sl_words.proofs.Options.{some_there}
@@ -14,7 +14,7 @@ use Rattle.sl_run_law.proofs.Sessions.CallOwners.{is_the_one}
 use Rattle.sl_run_law.specs.Sessions.SessionLaws.{IsSession}
 use Rattle.sl_trace.specs.Sessions.{calls_of, free_write, has_open_write, is_covered_stage, joined_after, refused_after, removed_after, session_numbered, stage_in, stage_of}
 use Rattle.sl_trace.specs.declared.session.Session.{Session}
-use Rattle.sl_trace.specs.Connections.{registers, registers_with}
+use Rattle.sl_trace.specs.WatchdogConnections.{registers, registers_with}
 use Rattle.sl_trace.specs.Traces.{Setting, Submitted, Trace, answered_in, mark, new_call, submitted}
 use Rattle.sl_trace.specs.declared.effects.Call.{Call}
 use Rattle.sl_trace.specs.declared.effects.Entry.{Entry}

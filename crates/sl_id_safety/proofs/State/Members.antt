@@ -1,5 +1,5 @@
 -- The sessions of the header's world: one for each session line.
-use Rattle.sl_area.specs.Layouts.{Layout, layout_with}
+use Rattle.sl_area.specs.AreaSizes.{Layout, layout_with}
 use Rattle.sl_run_law.proofs.Course.Daemons.{daemon_of_line, every_has, first_daemons}
 use Rattle.sl_run_law.proofs.Course.MachinesKeep.{header_machine}
 use Rattle.sl_id_safety.proofs.State.FindingFrames.{IsFound, find_passes, on_machine}

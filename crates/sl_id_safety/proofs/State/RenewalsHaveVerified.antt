@@ -2,7 +2,7 @@
 use Rattle.sl_run_law.proofs.Course.Daemons.{every_has}
 use Rattle.sl_words.proofs.Lists.{contains_more, got_inside}
 use Rattle.sl_run_law.specs.FatesStay.{Every}
-use Rattle.sl_area.specs.Layouts.{Layout, sector_with}
+use Rattle.sl_area.specs.AreaSizes.{Layout, sector_with}
 use Rattle.sl_run_law.specs.Course.CallStamps.{IsCourseOf}
 use Rattle.sl_run_law.proofs.Front.JoinedLists.{contains_right}
 use Rattle.sl_id_safety.proofs.State.TraceBridge.{Grounds, IsKnown, known}
@@ -19,7 +19,7 @@ use Rattle.sl_id_safety.specs.State.Facts.{HasVerified, RenewalsHaveVerified}
 use Rattle.sl_id_safety.specs.State.IdStates.{claim_bytes, deciding_sample, generation_by, is_sector_of, own_courses, sample_showing, verifying_sample, watched_bytes}
 use Rattle.sl_run.specs.Lawful.{Orderly}
 use Rattle.sl_run.specs.LawForms.{cut_at}
-use Rattle.sl_run.specs.Events.{write_bytes}
+use Rattle.sl_run.specs.EventChanges.{write_bytes}
 use Rattle.sl_run.specs.Runs.{Happening}
 use Rattle.sl_run.specs.Safety.{Found, LawfulRun, SessionId, setting_in, trace_of, world_at}
 use Rattle.sl_run.specs.Worlds.{Course, Program, Sampling, World}

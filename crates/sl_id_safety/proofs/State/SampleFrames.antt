@@ -1,5 +1,5 @@
 -- What stands behind a sample that decides or verifies: its call, what it showed, and that the landing is there.
-use Rattle.sl_area.specs.Places.{delta_offset}
+use Rattle.sl_area.specs.AreaLayout.{delta_offset}
 use Rattle.sl_id_safety.proofs.State.CallFrames.{IsThere}
 use Rattle.sl_id_safety.proofs.State.FindingFrames.{find_passes, on_machine}
 use Rattle.sl_id_safety.specs.State.Facts.{JoinReadsAreOwn, ReadsOwn, is_reading_step}

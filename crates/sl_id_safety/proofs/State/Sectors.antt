@@ -1,6 +1,6 @@
 -- Whose sector a place of an id is in the header's world: that of the session whose line has its lockspace and id, and of no other.
-use Rattle.sl_area.specs.Layouts.{Layout, Sizes}
-use Rattle.sl_area.specs.Places.{delta_offset, in_area}
+use Rattle.sl_area.specs.AreaSizes.{Layout, Sizes}
+use Rattle.sl_area.specs.AreaLayout.{delta_offset, in_area}
 use Rattle.sl_run_law.proofs.Course.Daemons.{daemon_of_line}
 use Rattle.sl_run_law.proofs.Front.JoinedLists.{placed_at}
 use Rattle.sl_id_safety.proofs.State.FindingFrames.{found_on, session_with}

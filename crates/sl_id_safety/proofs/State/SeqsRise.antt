@@ -20,7 +20,7 @@ use Rattle.sl_sector.specs.declared.sector.DeltaState.TheVariants.{Free, Live}
 use Rattle.sl_sector.specs.declared.sector.DeltaState.{DeltaState}
 use Rattle.sl_run_law.proofs.Sessions.TraceGrowth.{mine_marked, mine_next, other_next, to_cut}
 use Rattle.sl_run_law.specs.Sessions.SessionLaws.{IsSession as IsSessionOf, fits_as}
-use Rattle.sl_trace.specs.Deltas.{claim_of, delta_of_session, delta_record}
+use Rattle.sl_trace.specs.DeltaDecisions.{claim_of, delta_of_session, delta_record}
 use Rattle.sl_trace.specs.Sessions.{calls_of, delta_of_record, delta_written, generation_in, generation_of, given_number, is_call_of, is_delta_purpose, is_free_purpose, is_join_call, is_survey_purpose, join_call, last_delta, last_seq, seq_in, sessions, stage_of}
 use Rattle.sl_trace.specs.declared.session.Session.{Session}
 use Rattle.sl_trace.specs.declared.stage.Stage.TheVariants.{Standing}

@@ -17,7 +17,7 @@ use Rattle.sl_run.specs.declared.header.Header.{Header}
 use Rattle.sl_sector.specs.Bitmaps.{no_bits}
 use Rattle.sl_sector.specs.declared.sector.DeltaRec.{DeltaRec}
 use Rattle.sl_sector.specs.declared.sector.DeltaState.TheVariants.{Claimed}
-use Rattle.sl_trace.specs.Deltas.{delta_of_session, delta_record}
+use Rattle.sl_trace.specs.DeltaDecisions.{delta_of_session, delta_record}
 use Rattle.sl_sector.specs.declared.sector.Rec.TheVariants.{DeltaIs}
 use Rattle.sl_sector.specs.declared.sector.Rec.{Rec}
 use Rattle.sl_trace.specs.Sessions.{calls_of, delta_of_record, delta_written, has_open_delta, is_call_of, is_delta_purpose, is_join_call}

@@ -1,5 +1,5 @@
 -- Who wrote a landing stays, as calls go on and the first daemons keep the sessions that they were given.
-use Rattle.sl_area.specs.Layouts.{Layout}
+use Rattle.sl_area.specs.AreaSizes.{Layout}
 use Rattle.sl_run_law.proofs.Front.RunsFromFronts.{not_zero, number_place}
 use Rattle.sl_id_safety.specs.State.IdStates.{holder_at, holder_in, holder_on, is_sector_of, submitter_of, submitter_on, writer_of}
 use Rattle.sl_ids.specs.State.{SessionId as IdName}

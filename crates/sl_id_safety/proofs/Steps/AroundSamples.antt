@@ -14,7 +14,7 @@ use Rattle.sl_id_safety.proofs.Steps.SampleKeepsRest.{sampled_found, stands_samp
 use Rattle.sl_id_safety.proofs.Steps.RecordsOfLockspace.{begun_name}
 use Rattle.sl_ids.specs.State.{Session as IdSession, SessionId as IdName}
 use Rattle.sl_words.proofs.Numbers.{no_times_more}
-use Rattle.sl_run.specs.Events.{sample_at}
+use Rattle.sl_run.specs.EventChanges.{sample_at}
 use Rattle.sl_run.specs.Runs.{Happening}
 use Rattle.sl_run.specs.Safety.{Found, LawfulRun, SessionId, is_over, session_of_world, world_at}
 use Rattle.sl_run.specs.Worlds.{Course, Landing, Program, Sampling, World, content, first_landing, history_of, landed_at, sector_size}

@@ -14,7 +14,9 @@ use Rattle.sl_ids.specs.Terms.{Terms}
 use Rattle.sl_run_law.proofs.Landing.InputNeedsDaemon.{own_by as no_calls_by}
 use Rattle.sl_run.specs.Lawful.{Orderly}
 use Rattle.sl_words.proofs.Lists.{got_inside}
-use Rattle.sl_run.specs.Events.{add_landing, after_effects, change_call, event_tests, fated, first_change, flight_at, happens, input_of, is_placed, is_read_course, is_shaped, machine_of, on_flight, on_machine, may_happen, next_input, next_step, sampled_more, sectors_left, take_step, write_bytes}
+use Rattle.sl_run.specs.EventChanges.{add_landing, after_effects, change_call, fated, first_change, flight_at, happens, next_input, next_step, sampled_more, take_step, write_bytes}
+use Rattle.sl_run.specs.Refusals.{event_tests, is_placed, is_read_course, is_shaped, on_flight, on_machine, may_happen, sectors_left}
+use Rattle.sl_run.specs.Inputs.{input_of, machine_of}
 use Rattle.sl_run.specs.Runs.{EachDaemon, Happening, HasSteps, IsRun, daemons_of, own_effects_of, world_after}
 use Rattle.sl_run.specs.Safety.{LawfulRun, world_at}
 use Rattle.sl_run.specs.Worlds.{Course, Daemon, Landed, Machine, Program, World, change_machine, daemons_on, first_that, flight_of, is_in_flight, is_of_running, is_torn_fate, is_write_course, machine_at, stamp_now, world_with}

@@ -4,7 +4,9 @@ use Rattle.sl_id_safety.proofs.State.CallFrames.{ChangesCall}
 use Rattle.sl_id_safety.proofs.State.FindingFrames.{changed_elsewhere}
 use Rattle.sl_id_safety.specs.Steps.EventParts.{between}
 use Rattle.sl_run_law.proofs.Landing.OneArrival.{changed_landings}
-use Rattle.sl_run.specs.Events.{add_landing, change_call, complete, event_tests, fated, first_change, flight_at, is_placed, is_read_course, is_shaped, land_torn, land_whole, may_happen, needs_daemon, next_step, on_flight, on_machine, sampled_more, sectors_left, spells_something, torn_bytes, write_bytes}
+use Rattle.sl_run.specs.EventChanges.{add_landing, change_call, complete, fated, first_change, flight_at, land_torn, land_whole, next_step, sampled_more, write_bytes}
+use Rattle.sl_run.specs.Refusals.{event_tests, is_placed, is_read_course, is_shaped, may_happen, needs_daemon, on_flight, on_machine, sectors_left}
+use Rattle.sl_run.specs.Premises.{spells_something, torn_bytes}
 use Rattle.sl_run.specs.Worlds.{Course, Dropped, Fate, Landed, Landing, Machine, Torn, World, change_machine, first_that, flight_of, is_in_flight, is_landed, is_of_running, is_torn_fate, is_write_course, machine_at}
 use Rattle.sl_run.specs.declared.event.Event.TheVariants.{AnswerCall, Do, DropWrite, Land, Sample, Tear}
 use Rattle.sl_run.specs.declared.event.Event.{Event}

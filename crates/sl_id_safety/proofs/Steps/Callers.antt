@@ -16,7 +16,7 @@ use Rattle.sl_id_safety.proofs.Steps.Fates.{FliesAt}
 use Rattle.sl_id_safety.proofs.Steps.FateChanges.{Turns, begun_turned}
 use Rattle.sl_ids.specs.State.{Session as IdSession, SessionId as IdName}
 use Rattle.sl_run_law.proofs.Place.TracesOnMachines.{IsPromised, owner_of, traced}
-use Rattle.sl_run.specs.Events.{change_call, fated}
+use Rattle.sl_run.specs.EventChanges.{change_call, fated}
 use Rattle.sl_run.specs.Runs.{Happening}
 use Rattle.sl_run.specs.Safety.{Found, LawfulRun, SessionId, has_write_in_flight, is_course_of, session_of_world, world_at}
 use Rattle.sl_run.specs.Worlds.{Course, Daemon, Fate, Landing, Machine, Program, World, is_in_flight, is_of_running, is_open, is_write_course, machine_at, may_land}

@@ -5,10 +5,10 @@ use Rattle.sl_run_law.proofs.Landing.CallLists.{one_call}
 use Rattle.sl_run_law.proofs.Landing.LandingLaws.{landings_are_written}
 use Rattle.sl_run_law.proofs.Landing.LandedRemain.{landed_are_there}
 use Rattle.sl_run_law.specs.Landing.Landings.{LeftBy}
-use Rattle.sl_area.specs.Layouts.{sector_with}
+use Rattle.sl_area.specs.AreaSizes.{sector_with}
 use Rattle.sl_run_law.proofs.Place.FoundInLists.{numbered_inside}
 use Rattle.sl_words.proofs.Lists.{contains_cases, contains_none, kept as keeps, kept_inside}
-use Rattle.sl_run.specs.Events.{write_bytes}
+use Rattle.sl_run.specs.EventChanges.{write_bytes}
 use Rattle.sl_run.specs.Runs.{Happening}
 use Rattle.sl_run.specs.Safety.{LawfulRun, world_at}
 use Rattle.sl_run.specs.Worlds.{Course, Landing, Machine, Program, Stamp, World, first_landing, history_of, is_landed, landed_at, machine_at}

@@ -23,7 +23,8 @@ use Rattle.sl_id_safety.proofs.Steps.OneSessionTurns.{OneTurns, Turns, flags_sta
 use Rattle.sl_id_safety.specs.Steps.EventParts.{EndingsGoOn, IsEndingEvent, between, state_between}
 use Rattle.sl_run_law.proofs.Landing.OneArrival.{changed_landings}
 use Rattle.sl_run_law.specs.Landing.Landings.{LandingsAreWritten}
-use Rattle.sl_run.specs.Events.{after_crash, after_reset, event_tests, first_change, may_happen, needs_daemon}
+use Rattle.sl_run.specs.EventChanges.{after_crash, after_reset, first_change}
+use Rattle.sl_run.specs.Refusals.{event_tests, may_happen, needs_daemon}
 use Rattle.sl_run.specs.Runs.{Happening}
 use Rattle.sl_run.specs.Safety.{Found, LawfulRun, SessionId, is_course_of, is_over, session_of_world, world_at}
 use Rattle.sl_run.specs.Worlds.{Daemon, Machine, Program, Stamp, World, daemon_numbered, machine_at, resets_after, stamp_now}

@@ -19,7 +19,8 @@ use Rattle.sl_id_safety.proofs.Steps.OneSessionTurns.{Acts, OneMay, one_acts}
 use Rattle.sl_id_safety.specs.Steps.EventParts.{EntriesGoOn, between, state_between}
 use Rattle.sl_run_law.specs.Landing.Landings.{LandingsAreWritten}
 use Rattle.sl_words.proofs.Options.{some_of}
-use Rattle.sl_run.specs.Events.{input_of, machine_of, take_step}
+use Rattle.sl_run.specs.Inputs.{input_of, machine_of}
+use Rattle.sl_run.specs.EventChanges.{take_step}
 use Rattle.sl_run.specs.Runs.{Happening}
 use Rattle.sl_run.specs.Safety.{LawfulRun, world_at}
 use Rattle.sl_run.specs.Worlds.{Program, World, daemon_numbered}

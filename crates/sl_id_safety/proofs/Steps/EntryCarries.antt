@@ -22,7 +22,8 @@ use Rattle.sl_run_law.proofs.Moment.Stamps.{made_is_stamp}
 use Rattle.sl_run_law.specs.Moment.MomentsFollowSteps.{IsKept, Of_sample, Of_stamp}
 use Rattle.sl_words.proofs.Lists.{kept_inside}
 use Rattle.sl_words.proofs.Numbers.{number_itself}
-use Rattle.sl_run.specs.Events.{after_step, machine_of}
+use Rattle.sl_run.specs.EventChanges.{after_step}
+use Rattle.sl_run.specs.Inputs.{machine_of}
 use Rattle.sl_run.specs.Runs.{Happening}
 use Rattle.sl_run.specs.Safety.{Found, IsSession, LawfulRun, SessionId, is_course_of, session_of_world, world_at}
 use Rattle.sl_run.specs.Worlds.{Course, Daemon, Machine, Program, Stamp, World, machine_at, resets_after, stamp_now}

@@ -12,7 +12,10 @@ use Rattle.sl_run_law.proofs.Landing.OneArrival.{changed_landings, flies_on}
 use Rattle.sl_run_law.specs.Landing.Landings.{LandingsAreWritten}
 use Rattle.sl_words.proofs.Lists.{contains_cases}
 use Rattle.sl_words.proofs.Numbers.{number_itself}
-use Rattle.sl_run.specs.Events.{add_landing, after_crash, after_effects, after_reset, after_restart, after_start, after_step, after_test, change_call, fated, first_change, flight_at, input_of, land_whole, machine_of, may_happen, sampled_more, sectors_left, take_step, torn_bytes, with_entry, write_bytes}
+use Rattle.sl_run.specs.EventChanges.{add_landing, after_crash, after_effects, after_reset, after_restart, after_start, after_step, after_test, change_call, fated, first_change, flight_at, land_whole, sampled_more, take_step, with_entry, write_bytes}
+use Rattle.sl_run.specs.Inputs.{input_of, machine_of}
+use Rattle.sl_run.specs.Refusals.{may_happen, sectors_left}
+use Rattle.sl_run.specs.Premises.{torn_bytes}
 use Rattle.sl_run.specs.Runs.{Happening}
 use Rattle.sl_run.specs.Safety.{LawfulRun, world_at}
 use Rattle.sl_run.specs.Worlds.{Course, Daemon, Dropped, Landed, Landing, Machine, Program, Stamp, Torn, World, change_machine, history_of, is_in_flight, is_open, is_write_course, machine_at, reading_now, stamp_now}

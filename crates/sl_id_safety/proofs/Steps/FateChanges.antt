@@ -1,9 +1,9 @@
 -- What becomes of a session's state where the fate of one of its calls changes.
-use Rattle.sl_area.specs.Layouts.{sector_with}
+use Rattle.sl_area.specs.AreaSizes.{sector_with}
 use Rattle.sl_id_safety.proofs.State.FindingFrames.{moved}
 use Rattle.sl_id_safety.specs.State.IdStates.{claim_bytes, claim_may_land, deciding_sample, generation_by, has_begun, index_of, join_course, name_of, own_courses, renewed_by_now, sample_showing, seq_left, standing_of, verifying_sample, watched_bytes}
 use Rattle.sl_ids.specs.State.{Session as IdSession}
-use Rattle.sl_run.specs.Events.{fated, write_bytes}
+use Rattle.sl_run.specs.EventChanges.{fated, write_bytes}
 use Rattle.sl_run.specs.Safety.{Found, SessionId, is_over, trace_of}
 use Rattle.sl_run.specs.Worlds.{Course, Fate, Machine, Sampling, World, history_of, is_landed}
 use Rattle.sl_run_law.proofs.CourseLists.{changed_if}

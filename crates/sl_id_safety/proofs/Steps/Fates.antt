@@ -4,7 +4,7 @@ use Rattle.sl_id_safety.proofs.State.FindingFrames.{moved}
 use Rattle.sl_id_safety.proofs.State.Frames.{flying_of, free_landed_by, free_of, is_running, landed_as, open_while}
 use Rattle.sl_id_safety.specs.State.IdStates.{claim_may_land, deciding_sample, index_of, join_course, own_courses, runs_still}
 use Rattle.sl_id_safety.proofs.Steps.FateChanges.{Turns, call_stays, claim_at, deciding_turned, has_landed, join_turned, pends, read_or, turned}
-use Rattle.sl_run.specs.Events.{fated}
+use Rattle.sl_run.specs.EventChanges.{fated}
 use Rattle.sl_run.specs.Safety.{Found, SessionId, free_landed, has_write_in_flight, is_over, trace_of, was_reset}
 use Rattle.sl_run.specs.Worlds.{Course, Fate, In_flight, Machine, World, history_of, is_in_flight, is_landed, is_write_course, may_land}
 use Rattle.sl_run_law.proofs.CourseLists.{changed_if}

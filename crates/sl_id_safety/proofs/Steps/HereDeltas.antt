@@ -1,6 +1,6 @@
 -- What lands at the sector of an id is a delta record, and says what was written.
-use Rattle.sl_area.specs.Layouts.{Layout, layout_with, record_in, sector_with}
-use Rattle.sl_area.specs.Places.{in_area}
+use Rattle.sl_area.specs.AreaSizes.{Layout, layout_with, record_in, sector_with}
+use Rattle.sl_area.specs.AreaLayout.{in_area}
 use Rattle.sl_run_law.proofs.Front.RunsFromFronts.{last_event}
 use Rattle.sl_id_safety.specs.State.IdStates.{content_of, said_by}
 use Rattle.sl_id_safety.specs.State.StateLaws.{IsIdPlace}
@@ -13,13 +13,15 @@ use Rattle.sl_run_law.proofs.Place.TracesOnMachines.{IsPromised, digest_is, layo
 use Rattle.sl_run_law.proofs.Place.Seats.{delta_within, sized_in}
 use Rattle.sl_run_law.proofs.Place.Sizes.{sector_fits, sized}
 use Rattle.sl_run_law.specs.Place.Homes.{IsDeltaLanding, LockspacesHoldDeltas}
-use Rattle.sl_run.specs.Events.{input_of, machine_of, spells_something, write_bytes}
+use Rattle.sl_run.specs.Inputs.{input_of, machine_of}
+use Rattle.sl_run.specs.Premises.{spells_something}
+use Rattle.sl_run.specs.EventChanges.{write_bytes}
 use Rattle.sl_run.specs.Runs.{Happening}
 use Rattle.sl_run.specs.Safety.{LawfulRun, world_at}
 use Rattle.sl_run.specs.Worlds.{Course, Landing, Machine, Program, World, machine_at}
 use Rattle.sl_run.specs.declared.header.Header.{Header}
 use Rattle.sl_sector.proofs.PublicLaws.{spelled_is_read}
-use Rattle.sl_sector.specs.Spelling.{delta_in}
+use Rattle.sl_sector.specs.SectorLayouts.{delta_in}
 use Rattle.sl_sector.specs.declared.sector.Bad.{Bad}
 use Rattle.sl_sector.specs.declared.sector.DeltaRec.{DeltaRec}
 use Rattle.sl_sector.specs.declared.sector.Rec.TheVariants.{DeltaIs}

@@ -27,7 +27,9 @@ use Rattle.sl_ids.specs.Steps.{Passes, Step}
 use Rattle.sl_ids.specs.Terms.{Terms}
 use Rattle.sl_words.proofs.Lists.{contains_first}
 use Rattle.sl_words.proofs.Numbers.{refl_le}
-use Rattle.sl_run.specs.Events.{fated, flight_at, may_happen, next_step, spells_something, torn_bytes, write_bytes}
+use Rattle.sl_run.specs.EventChanges.{fated, flight_at, next_step, write_bytes}
+use Rattle.sl_run.specs.Refusals.{may_happen}
+use Rattle.sl_run.specs.Premises.{spells_something, torn_bytes}
 use Rattle.sl_run.specs.Runs.{Happening}
 use Rattle.sl_run.specs.Safety.{LawfulRun, world_at}
 use Rattle.sl_run.specs.Worlds.{Course, Dropped, Fate, Landed, Landing, Machine, Program, Torn, World, flight_of, history_of, is_in_flight, is_landed, is_open, is_write_course, machine_at}

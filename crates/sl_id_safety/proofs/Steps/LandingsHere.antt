@@ -22,7 +22,7 @@ use Rattle.sl_ids.specs.Runs.{IsBounded, Later}
 use Rattle.sl_ids.specs.State.{Claimed as Claim_kind, Content, Kind, Session as IdSession, SessionId as IdName}
 use Rattle.sl_ids.specs.Steps.{Lands, Lands_claim, Tears_claim, after_claim, after_losing}
 use Rattle.sl_ids.specs.Terms.{Terms}
-use Rattle.sl_run.specs.Events.{write_bytes}
+use Rattle.sl_run.specs.EventChanges.{write_bytes}
 use Rattle.sl_run.specs.Runs.{Happening}
 use Rattle.sl_run.specs.Safety.{Found, LawfulRun, SessionId, is_over, session_of_world, trace_of, world_at}
 use Rattle.sl_run.specs.Worlds.{Course, Fate, Landing, Program, Sampling, World, history_of, is_in_flight, is_landed, may_land}

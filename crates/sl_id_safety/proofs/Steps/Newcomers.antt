@@ -26,7 +26,7 @@ use Rattle.sl_ids.specs.State.{Session as IdSession}
 use Rattle.sl_run_law.proofs.Moment.Stamps.{made_is_stamp}
 use Rattle.sl_run_law.specs.Moment.MomentsFollowSteps.{Of_stamp}
 use Rattle.sl_words.proofs.Lists.{contains_none, in_map, kept_inside}
-use Rattle.sl_run.specs.Events.{machine_of}
+use Rattle.sl_run.specs.Inputs.{machine_of}
 use Rattle.sl_run.specs.Runs.{Happening}
 use Rattle.sl_run.specs.Safety.{Found, IsSession, LawfulRun, SessionId, is_course_of, session_of_world, setting_in, trace_of, world_at}
 use Rattle.sl_run.specs.Worlds.{Course, Daemon, Machine, Program, Sampling, Stamp, World, daemon_numbered, machine_at}

@@ -16,7 +16,9 @@ use Rattle.sl_run_law.specs.Landing.Landings.{LandingsAreWritten}
 use Rattle.sl_run_law.proofs.Front.RunsFromFronts.{last_event}
 use Rattle.sl_words.proofs.Lists.{contains_cases, contains_first, contains_more, contains_none}
 use Rattle.sl_words.proofs.Options.{then_value}
-use Rattle.sl_run.specs.Events.{after_step, close_answered, done_input, if_running, input_at, input_of, machine_of, may_happen, new_course, ok_input}
+use Rattle.sl_run.specs.EventChanges.{after_step, close_answered, new_course}
+use Rattle.sl_run.specs.Inputs.{done_input, if_running, input_at, input_of, machine_of, ok_input}
+use Rattle.sl_run.specs.Refusals.{may_happen}
 use Rattle.sl_run.specs.Runs.{Happening}
 use Rattle.sl_run.specs.Safety.{Found, LawfulRun, SessionId, is_course_of, session_of_world, world_at}
 use Rattle.sl_run.specs.Worlds.{Course, Daemon, Machine, Program, Stamp, World, flight_of, is_of_running, is_open, machine_at, stamp_now}

@@ -5,7 +5,8 @@ use Rattle.sl_id_safety.proofs.State.SampleFrames.{IsJoinCourse, join_is, joinin
 use Rattle.sl_id_safety.specs.State.Facts.{HasClaimed, HasWatched, is_reading_step}
 use Rattle.sl_id_safety.specs.State.IdStates.{claim_bytes, comes_before, deciding_sample, join_course, own_courses, refused_stamp, sample_showing, verifying_sample, watched_bytes}
 use Rattle.sl_id_safety.proofs.Steps.SampleKeepsRest.{join_sampled, keeps_rest, sampled_found, turned}
-use Rattle.sl_run.specs.Events.{sample_at, sampled_more, sectors_of, write_bytes}
+use Rattle.sl_run.specs.EventChanges.{sample_at, sampled_more, write_bytes}
+use Rattle.sl_run.specs.Refusals.{sectors_of}
 use Rattle.sl_run.specs.Safety.{Found, SessionId}
 use Rattle.sl_run.specs.Worlds.{Course, Landing, Sampling, Stamp, World, content, first_landing, flight_of, history_of, landed_at, sector_size}
 use Rattle.sl_run.specs.declared.header.Header.{Header}

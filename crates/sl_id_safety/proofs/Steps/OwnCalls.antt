@@ -10,7 +10,7 @@ use Rattle.sl_id_safety.proofs.State.JoiningSteps.{only}
 use Rattle.sl_id_safety.specs.State.IdStates.{join_course, own_courses, runs_still}
 use Rattle.sl_id_safety.proofs.Steps.StepFrames.{IsNewCourse, step_submits}
 use Rattle.sl_words.proofs.Lists.{contains_map}
-use Rattle.sl_run.specs.Events.{after_step, close_answered}
+use Rattle.sl_run.specs.EventChanges.{after_step, close_answered}
 use Rattle.sl_run.specs.Runs.{Happening}
 use Rattle.sl_run.specs.Safety.{Found, IsSession, LawfulRun, SessionId, is_course_of, was_reset, world_at}
 use Rattle.sl_run.specs.Worlds.{Course, Daemon, In_flight, Machine, Program, Sampling, Stamp, World}

@@ -4,8 +4,8 @@ use Rattle.sl_run_law.proofs.Landing.Writers.{writer_settled}
 use Rattle.sl_run_law.proofs.Place.Sizes.{sector_fits}
 use Rattle.sl_words.proofs.Lists.{contains_cases, contains_first, contains_more, contains_none, kept, kept_inside}
 use Rattle.std.proofs.lemmas.Bool.{and_from, eq-eqb, eqb-true}
-use Rattle.sl_area.specs.Layouts.{Layout, layout_with, record_in}
-use Rattle.sl_area.specs.Places.{fresh_delta}
+use Rattle.sl_area.specs.AreaSizes.{Layout, layout_with, record_in}
+use Rattle.sl_area.specs.AreaRecords.{fresh_delta}
 use Rattle.sl_run_law.proofs.Front.JoinedLists.{contains_append}
 use Rattle.sl_id_safety.proofs.State.TraceBridge.{Grounds}
 use Rattle.sl_id_safety.proofs.State.FindingFrames.{find_passes}
@@ -28,7 +28,7 @@ use Rattle.sl_run.specs.declared.header.Header.{Header}
 use Rattle.sl_run.specs.declared.header.LockspaceLine.{LockspaceLine}
 use Rattle.sl_run.specs.declared.header.SessionLine.{SessionLine}
 use Rattle.sl_run_law.specs.FatesStay.{AreDistinct, EachDistinct}
-use Rattle.sl_sector.specs.Spelling.{delta_in}
+use Rattle.sl_sector.specs.SectorLayouts.{delta_in}
 use Rattle.sl_sector.specs.declared.sector.DeltaRec.{DeltaRec}
 use Rattle.sl_sector.specs.declared.sector.Rec.TheVariants.{DeltaIs}
 use Rattle.sl_sector.specs.declared.sector.Rec.{Rec}

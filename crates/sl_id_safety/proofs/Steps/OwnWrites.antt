@@ -23,7 +23,7 @@ use Rattle.sl_id_safety.specs.State.IdStates.{own_courses, verifying_sample}
 use Rattle.sl_id_safety.proofs.Steps.Fates.{FliesAt, one_fate}
 use Rattle.sl_id_safety.proofs.Steps.FateChanges.{Turns, turned}
 use Rattle.sl_run_law.proofs.Place.FoundInLists.{finds, partner, partner_of}
-use Rattle.sl_run.specs.Events.{fated}
+use Rattle.sl_run.specs.EventChanges.{fated}
 use Rattle.sl_run.specs.Runs.{Happening}
 use Rattle.sl_run.specs.Safety.{Found, LawfulRun, SessionId, free_landed, has_write_in_flight, is_over, session_of_world, setting_in, trace_of, world_at}
 use Rattle.sl_run.specs.Worlds.{Course, Fate, Machine, Program, Sampling, World, is_landed, is_write_course}

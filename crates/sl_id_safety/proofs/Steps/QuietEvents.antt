@@ -13,7 +13,9 @@ use Rattle.sl_run_law.proofs.Landing.OneArrival.{changed_landings}
 use Rattle.sl_run_law.proofs.Landing.InputNeedsDaemon.{own_makes_none}
 use Rattle.sl_words.proofs.Lists.{set_length}
 use Rattle.sl_words.proofs.Numbers.{equal_is_least}
-use Rattle.sl_run.specs.Events.{after_effects, after_restart, after_start, after_test, first_change, machine_of, may_happen, next_step, passed, take_step}
+use Rattle.sl_run.specs.EventChanges.{after_effects, after_restart, after_start, after_test, first_change, next_step, passed, take_step}
+use Rattle.sl_run.specs.Inputs.{machine_of}
+use Rattle.sl_run.specs.Refusals.{may_happen}
 use Rattle.sl_run.specs.Runs.{Happening}
 use Rattle.sl_run.specs.Safety.{LawfulRun, world_at}
 use Rattle.sl_run.specs.Worlds.{Daemon, Machine, Program, World, daemons_on, machine_at, stamp_now}

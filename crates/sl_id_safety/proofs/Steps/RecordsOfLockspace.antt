@@ -1,7 +1,7 @@
 -- What stands at the place of an id is of its lockspace, and so is each session that has begun there; of one daemon's such sessions each is
 -- over before the next.
-use Rattle.sl_area.specs.Layouts.{Layout, record_in}
-use Rattle.sl_area.specs.Places.{delta_offset, in_area}
+use Rattle.sl_area.specs.AreaSizes.{Layout, record_in}
+use Rattle.sl_area.specs.AreaLayout.{delta_offset, in_area}
 use Rattle.sl_run_law.proofs.Front.JoinedLists.{contains_append}
 use Rattle.sl_id_safety.proofs.State.TraceBridge.{known}
 use Rattle.sl_id_safety.proofs.State.SessionFacts.{deciding_reads_have_watched, grounds, join_reads_are_own}
@@ -25,7 +25,7 @@ use Rattle.sl_run.specs.Worlds.{Course, Landing, Program, Sampling, World, first
 use Rattle.sl_run.specs.declared.header.Header.{Header}
 use Rattle.sl_run.specs.declared.header.LockspaceLine.{LockspaceLine}
 use Rattle.sl_run_law.specs.Sample.Samples.{IsSampleOf, numbered_landing, sector_place}
-use Rattle.sl_sector.specs.Spelling.{delta_in}
+use Rattle.sl_sector.specs.SectorLayouts.{delta_in}
 use Rattle.sl_sector.specs.declared.sector.DeltaRec.{DeltaRec}
 use Rattle.sl_sector.specs.declared.sector.Rec.TheVariants.{DeltaIs}
 use Rattle.sl_trace.specs.Sessions.{sessions}

@@ -1,5 +1,5 @@
 -- The call of a renewal that an entry answers ok: it has landed at the session's sector, after it was submitted.
-use Rattle.sl_area.specs.Places.{delta_offset}
+use Rattle.sl_area.specs.AreaLayout.{delta_offset}
 use Rattle.sl_run_law.proofs.Course.CallsAreDistinct.{each_distinct}
 use Rattle.sl_run_law.specs.Course.CallStamps.{AnswersAgree, IsAnsweredAs, IsCourseOf, stamp_in}
 use Rattle.sl_run_law.proofs.Front.JoinedLists.{placed_at}

@@ -6,7 +6,7 @@ use Rattle.sl_id_safety.proofs.State.SectorFrames.{SameSector, sector_same}
 use Rattle.sl_id_safety.specs.State.IdStates.{claim_may_land, deciding_sample, generation_above, generation_by, index_of, join_course, own_courses, runs_still, standing_of, verifying_sample}
 use Rattle.sl_id_safety.proofs.Steps.FateChanges.{stood}
 use Rattle.sl_ids.specs.State.{Session as IdSession}
-use Rattle.sl_run.specs.Events.{change_call, sampled_more}
+use Rattle.sl_run.specs.EventChanges.{change_call, sampled_more}
 use Rattle.sl_run.specs.Safety.{Found, SessionId, free_landed, has_write_in_flight, is_course_of, is_over, trace_of, was_reset}
 use Rattle.sl_run.specs.Worlds.{Course, Sampling, World, history_of, is_landed, is_write_course, may_land}
 use Rattle.sl_run_law.proofs.CourseLists.{changed_if}

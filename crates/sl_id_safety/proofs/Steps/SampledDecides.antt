@@ -20,7 +20,7 @@ use Rattle.sl_ids.specs.Steps.{Decide, IsWatched, Was_free, after_deciding}
 use Rattle.sl_run_law.proofs.Moment.MomentsFollowSteps.{drift_between, kept_past}
 use Rattle.sl_run_law.proofs.Moment.Stamps.{answer_is_stamp, made_is_stamp}
 use Rattle.sl_run_law.specs.Moment.MomentsFollowSteps.{Of_stamp, point_of}
-use Rattle.sl_run.specs.Events.{sample_at}
+use Rattle.sl_run.specs.EventChanges.{sample_at}
 use Rattle.sl_run.specs.Runs.{Happening}
 use Rattle.sl_run.specs.Safety.{Found, LawfulRun, SessionId, is_over, session_of_world, trace_of, world_at}
 use Rattle.sl_run.specs.Worlds.{Course, Landing, Program, Sampling, World, history_of, is_landed, landed_at, may_land}

@@ -29,7 +29,8 @@ use Rattle.sl_ids.specs.Steps.{Decides, Verifies}
 use Rattle.sl_run_law.proofs.Landing.LandingLaws.{landings_are_written}
 use Rattle.sl_words.proofs.Lists.{kept}
 use Rattle.sl_words.proofs.Numbers.{refl_le}
-use Rattle.sl_run.specs.Events.{change_call, may_happen, sampled_more, sectors_left, sectors_of}
+use Rattle.sl_run.specs.EventChanges.{change_call, sampled_more}
+use Rattle.sl_run.specs.Refusals.{may_happen, sectors_left, sectors_of}
 use Rattle.sl_run.specs.Runs.{Happening}
 use Rattle.sl_run.specs.Safety.{Found, LawfulRun, SessionId, is_course_of, session_of_world, world_at}
 use Rattle.sl_run.specs.Worlds.{Course, Machine, Program, World, flight_of, is_open, is_write_course, machine_at}

@@ -6,7 +6,7 @@ use Rattle.sl_id_safety.specs.State.Facts.{HasClaimed, HasWatched}
 use Rattle.sl_id_safety.specs.State.IdStates.{claim_bytes, comes_before, deciding_sample, join_course, own_courses, refused_stamp, sample_showing, verifying_sample, watched_bytes}
 use Rattle.sl_id_safety.proofs.Steps.OwnCalls.{IsFresh, IsKept, JoinGoes, Through, closed, closes, had_step, join_goes, kept}
 use Rattle.sl_words.proofs.Lists.{contains_first}
-use Rattle.sl_run.specs.Events.{write_bytes}
+use Rattle.sl_run.specs.EventChanges.{write_bytes}
 use Rattle.sl_run.specs.Runs.{Happening}
 use Rattle.sl_run.specs.Safety.{Found, SessionId, world_at}
 use Rattle.sl_run.specs.Worlds.{Course, Program, Sampling, Stamp, World, is_landed}

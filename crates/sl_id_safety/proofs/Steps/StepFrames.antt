@@ -10,7 +10,9 @@ use Rattle.sl_id_safety.specs.Steps.EventParts.{between}
 use Rattle.sl_run_law.proofs.Landing.CallsOfStep.{same_daemon}
 use Rattle.sl_words.proofs.Lists.{contains_first, contains_more}
 use Rattle.sl_words.proofs.Options.{then_value}
-use Rattle.sl_run.specs.Events.{after_step, close_answered, daemon_number, if_running, input_at, input_of, machine_of, may_happen, new_course, take_step, with_entry}
+use Rattle.sl_run.specs.EventChanges.{after_step, close_answered, daemon_number, new_course, take_step, with_entry}
+use Rattle.sl_run.specs.Inputs.{if_running, input_at, input_of, machine_of}
+use Rattle.sl_run.specs.Refusals.{may_happen}
 use Rattle.sl_run.specs.Runs.{Happening}
 use Rattle.sl_run.specs.Safety.{Found, LawfulRun, SessionId, world_at}
 use Rattle.sl_run.specs.Worlds.{Course, Daemon, Machine, Program, Stamp, World, daemon_numbered, daemons_on, machine_at, stamp_now}

@@ -1,5 +1,5 @@
 -- What a lawful run knows of one session and its own sector: what stands behind its claim, its verify read, each renewal and its free.
-use Rattle.sl_area.specs.Layouts.{record_in}
+use Rattle.sl_area.specs.AreaSizes.{record_in}
 use Rattle.sl_ids.specs.Clocks.Points.{reading}
 use Rattle.sl_id_safety.specs.State.IdStates.{deciding_sample, generation_by, is_sector_of, join_course, own_courses, verifying_sample}
 use Rattle.sl_run_law.specs.Moment.MomentsFollowSteps.{point_of}
@@ -7,7 +7,7 @@ use Rattle.sl_run.specs.Runs.{Happening}
 use Rattle.sl_run.specs.Safety.{Found, IsSession, LawfulRun, SessionId, is_over, world_at}
 use Rattle.sl_run.specs.Worlds.{Course, Program, Sampling, Stamp, World, is_landed}
 use Rattle.sl_run.specs.declared.header.Header.{Header}
-use Rattle.sl_sector.specs.Spelling.{delta_in}
+use Rattle.sl_sector.specs.SectorLayouts.{delta_in}
 use Rattle.sl_sector.specs.declared.sector.DeltaRec.{DeltaRec}
 use Rattle.sl_sector.specs.declared.sector.DeltaState.TheVariants.{Claimed, Free, Live}
 use Rattle.sl_sector.specs.declared.sector.Rec.TheVariants.{DeltaIs}

@@ -3,16 +3,16 @@
 --
 -- A session counts from when it has sampled its deciding read; before that nothing of it can land there. Each flag is read off the calls
 -- of its machine and the trace of its daemon, so that a world alone tells the state, and no history beside it.
-use Rattle.sl_area.specs.Layouts.{Layout, record_in}
-use Rattle.sl_area.specs.Places.{delta_offset}
+use Rattle.sl_area.specs.AreaSizes.{Layout, record_in}
+use Rattle.sl_area.specs.AreaLayout.{delta_offset}
 use Rattle.sl_run_law.specs.Course.CallStamps.{stamp_in}
 use Rattle.sl_ids.specs.State.{Claimed as Claim_kind, Content, Free as Free_kind, Kind, Landing as IdLanding, Live as Live_kind, Session as IdSession, SessionId as IdName, State}
 use Rattle.sl_ids.specs.Listed.{no_landing}
-use Rattle.sl_run.specs.Events.{write_bytes}
+use Rattle.sl_run.specs.EventChanges.{write_bytes}
 use Rattle.sl_run.specs.Safety.{Found, SessionId, is_course_of, is_over, session_of_world, trace_of}
 use Rattle.sl_run.specs.Worlds.{Course, Daemon, Landing, Machine, Sampling, Stamp, World, daemon_numbered, history_of, is_landed, machine_at, may_land}
 use Rattle.sl_run_law.specs.Sample.Samples.{numbered_landing}
-use Rattle.sl_sector.specs.Spelling.{delta_in}
+use Rattle.sl_sector.specs.SectorLayouts.{delta_in}
 use Rattle.sl_sector.specs.declared.sector.DeltaRec.{DeltaRec}
 use Rattle.sl_sector.specs.declared.sector.DeltaState.TheVariants.{Claimed, Free, Live}
 use Rattle.sl_sector.specs.declared.sector.DeltaState.{DeltaState}

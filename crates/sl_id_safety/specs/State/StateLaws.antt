@@ -1,5 +1,5 @@
 -- What the worlds of a lawful run make of an id: at first a start, and always within the bounds that watchdogs keep.
-use Rattle.sl_area.specs.Places.{delta_offset}
+use Rattle.sl_area.specs.AreaLayout.{delta_offset}
 use Rattle.sl_id_safety.specs.State.IdStates.{id_state}
 use Rattle.sl_ids.specs.Guards.{terms_of}
 use Rattle.sl_ids.specs.Runs.{IsBounded, IsStart}
@@ -9,7 +9,7 @@ use Rattle.sl_run.specs.Safety.{LawfulRun, world_at}
 use Rattle.sl_run.specs.Worlds.{Program, world_with}
 use Rattle.sl_run.specs.declared.header.Header.{Header}
 use Rattle.sl_run.specs.declared.header.LockspaceLine.{LockspaceLine}
-use Rattle.sl_sector.specs.Spelling.{IsDigest}
+use Rattle.sl_sector.specs.SectorLayouts.{IsDigest}
 use Rattle.std.specs.Prelude.{Contains, List, ℕ, ◌≡◌, ◌≤◌}
 
 -- The place of an id of a lockspace of the header.

@@ -4,7 +4,8 @@ use Rattle.sl_id_safety.specs.State.StateLaws.{IsIdPlace}
 use Rattle.sl_ids.specs.Guards.{terms_of}
 use Rattle.sl_ids.specs.Runs.{IsBounded, Later, Reached}
 use Rattle.sl_ids.specs.State.{State}
-use Rattle.sl_run.specs.Events.{first_change, input_of, next_step}
+use Rattle.sl_run.specs.EventChanges.{first_change, next_step}
+use Rattle.sl_run.specs.Inputs.{input_of}
 use Rattle.sl_run.specs.Runs.{Happening}
 use Rattle.sl_run.specs.Safety.{LawfulRun, world_at}
 use Rattle.sl_run.specs.Worlds.{Course, Machine, Program, World, flight_of, is_write_course, machine_at}

@@ -1,5 +1,5 @@
 -- What the commands of the whole language read are commands; so the whole language may be played.
-use Rattle.sl_area.specs.Layouts.{layout_of}
+use Rattle.sl_area.specs.AreaSizes.{layout_of}
 use Rattle.sl_command.proofs.CommandLaws.{few_hosts, reads_commands}
 use Rattle.sl_world_state.specs.Daemons.{program_of}
 use Rattle.sl_play.proofs.Headers.HeadersAreGood.{headers_are_good}

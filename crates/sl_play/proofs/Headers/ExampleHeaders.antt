@@ -1,6 +1,7 @@
 -- Two headers that are read, by computation.
 use Rattle.sl_play.specs.Headers.HeaderLaw.{IsRead, SomeHeadersAreRead, full_header, least_header}
-use Rattle.sl_report.specs.ScheduleLines.{header_forms, header_of, header_tests}
+use Rattle.sl_report.specs.HeaderLines.{header_forms, header_of}
+use Rattle.sl_report.specs.HeaderRefusals.{header_tests}
 use Rattle.sl_run.specs.declared.header.Header.{Header}
 use Rattle.std.proofs.Common.{[], refl, ◌∷◌}
 use Rattle.std.specs.Prelude.{codes, false, true}

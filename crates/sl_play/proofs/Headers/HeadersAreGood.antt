@@ -1,5 +1,5 @@
 -- The header of lines that were taken is one that a world may begin with.
-use Rattle.sl_area.specs.Layouts.{IsGeometry, Sizes, is_geometry, most_ids, most_ids_of_all, roomy}
+use Rattle.sl_area.specs.AreaSizes.{IsGeometry, Sizes, is_geometry, most_ids, most_ids_of_all, roomy}
 use Rattle.sl_play.proofs.Headers.LineKinds.{area_fits, area_kind, clock_fits, clock_kind, disk_fits, disk_kind, hosts_kind, ids_fit, ids_kind, lease_fits, lease_kind, line_of_times, member_fits, member_kind, retries_kind, sizes_fit, sizes_ranked, times_fit, times_kind, version_kind}
 use Rattle.sl_play.proofs.Headers.ListFacts.{first_inside, none_passes, pairs_append, pairs_map}
 use Rattle.sl_play.proofs.Headers.WellFormedLines.{IsOffset}
@@ -7,7 +7,8 @@ use Rattle.sl_play.proofs.Headers.HeadersOfLines.{read_alike, read_lines}
 use Rattle.sl_play.proofs.Headers.TakenLines.{AreHeaderLines, GoesAcross, IsKind, IsLineBehind, StandsIn, across_stand, area_so_far, each_picked, each_stands, few_stand, formed, one_before, pairs_stand, picked_later, same_first, told_before}
 use Rattle.sl_play.specs.Headers.HeaderLaw.{EachHeaderIsGood}
 use Rattle.sl_words.proofs.Lists.{any_found, contains_first, in_map}
-use Rattle.sl_report.specs.ScheduleLines.{AreaLine, BeginLine, ClockLine, DiskLine, GeometryLine, HeaderLine, HostsLine, IdsLine, LeaseLine, LvmLine, MemberLine, area_line, clock_line, disk_line, first_line, geometry_line, header_of, hosts_line, ids_line, is_on_disk, lease_line, member_line, no_timing, rank, retries_line, timing_line, version_line}
+use Rattle.sl_report.specs.HeaderLines.{AreaLine, BeginLine, ClockLine, DiskLine, GeometryLine, HeaderLine, HostsLine, IdsLine, LeaseLine, LvmLine, MemberLine, area_line, clock_line, disk_line, first_line, geometry_line, header_of, hosts_line, ids_line, lease_line, member_line, no_timing, rank, retries_line, timing_line, version_line}
+use Rattle.sl_report.specs.HeaderRefusals.{is_on_disk}
 use Rattle.sl_report.specs.Schedules.{default_area, default_sector, numbered_lines}
 use Rattle.sl_run.specs.Headers.{GoTogether, IsArea, IsHeader, IsMember}
 use Rattle.sl_run.specs.Worlds.{first_that, mebibyte}

@@ -2,7 +2,7 @@
 use Rattle.sl_play.proofs.Headers.TakenLines.{AreHeaderLines, IsLineBehind, area_so_far, one_more}
 use Rattle.sl_report.specs.Languages.{language_of, whole_language}
 use Rattle.sl_report.specs.ReadLines.{header_line_in}
-use Rattle.sl_report.specs.ScheduleLines.{BeginLine, HeaderLine, header_forms, header_of}
+use Rattle.sl_report.specs.HeaderLines.{BeginLine, HeaderLine, header_forms, header_of}
 use Rattle.sl_report.specs.Schedules.{HeaderReading, Header_read, Header_refused, NumberedLine, default_area, default_sector, header_line_refusal, is_begin, line_refusal, read_header, with_line}
 use Rattle.sl_run.specs.Worlds.{Program}
 use Rattle.sl_run.specs.declared.event.Refusal.TheVariants.{Syntax}

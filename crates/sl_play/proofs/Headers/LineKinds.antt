@@ -1,5 +1,6 @@
 -- The kinds of a header's lines, and what each line's tests say of the lines before it.
-use Rattle.sl_report.specs.ScheduleLines.{AreaLine, BeginLine, ClockLine, DiskLine, HeaderLine, HostsLine, IdsLine, LeaseLine, MemberLine, TimeLine, VersionLine, area_line, clock_line, disk_line, first_line, header_of, header_tests, hosts_line, ids_line, is_known_lockspace, is_on_disk, is_taken_place, lease_line, member_line, rank, timing_line, GeometryLine, LvmLine, geometry_line, retries_line, version_line}
+use Rattle.sl_report.specs.HeaderLines.{AreaLine, BeginLine, ClockLine, DiskLine, HeaderLine, HostsLine, IdsLine, LeaseLine, MemberLine, TimeLine, VersionLine, area_line, clock_line, disk_line, first_line, header_of, hosts_line, ids_line, lease_line, member_line, rank, timing_line, GeometryLine, LvmLine, geometry_line, retries_line, version_line}
+use Rattle.sl_report.specs.HeaderRefusals.{header_tests, is_known_lockspace, is_on_disk, is_taken_place}
 use Rattle.sl_report.specs.Schedules.{default_area, default_sector}
 use Rattle.sl_run.specs.declared.header.Disk.{Disk}
 use Rattle.sl_run.specs.declared.header.FirstReading.{FirstReading}
@@ -15,7 +16,7 @@ use Rattle.std.proofs.lemmas.Bool.Decides.{nat_tests}
 use Rattle.std.proofs.lemmas.Bool.{ltb-false, or_parts}
 use Rattle.std.specs.Int.{is_in_range}
 use Rattle.std.specs.List.{filter_map, list_any}
-use Rattle.sl_area.specs.Layouts.{most_ids, most_ids_of_all, roomy}
+use Rattle.sl_area.specs.AreaSizes.{most_ids, most_ids_of_all, roomy}
 use Rattle.std.specs.Prelude.{bytes_eq, is_none, is_some, nat_lt, ◌==◌, ◌||◌, ℕ}
 
 -- ---- kinds

@@ -1,7 +1,8 @@
 -- Lines of a header that were taken one behind the other, and what holds of them because it holds of each behind those before it.
 use Rattle.sl_words.proofs.Lists.{contains_first, contains_none}
 use Rattle.sl_report.specs.ReadLines.{header_refusal, is_in_order, is_room_for}
-use Rattle.sl_report.specs.ScheduleLines.{HeaderLine, count_of_rank, first_line, geometry_line, header_forms, header_of, header_tests, rank}
+use Rattle.sl_report.specs.HeaderLines.{HeaderLine, count_of_rank, first_line, geometry_line, header_forms, header_of, rank}
+use Rattle.sl_report.specs.HeaderRefusals.{header_tests}
 use Rattle.sl_report.specs.Languages.{least_lines, most_lines, whole_language}
 use Rattle.sl_report.specs.Schedules.{default_area, default_sector}
 use Rattle.sl_run.specs.Worlds.{first_that}

@@ -1,5 +1,5 @@
 -- What the forms of header lines make is well formed.
-use Rattle.sl_report.specs.ScheduleLines.{AreaLine, ClockLine, DiskLine, HeaderLine, HostsLine, IdsLine, LeaseLine, LvmLine, MemberLine, header_forms, is_positive_word}
+use Rattle.sl_report.specs.HeaderLines.{AreaLine, ClockLine, DiskLine, HeaderLine, HostsLine, IdsLine, LeaseLine, LvmLine, MemberLine, header_forms, is_positive_word}
 use Rattle.sl_text.specs.Forms.{Form, exactly, fits_whole, fitting, made_by, word_at}
 use Rattle.sl_text.specs.Names.{is_name, is_path}
 use Rattle.sl_text.specs.Numbers.{capped_long, capped_short, is_number_text, is_number_that, number_of}

@@ -1,15 +1,15 @@
 -- What the whole language may be played with.
-use Rattle.sl_area.specs.Layouts.{layout_of}
+use Rattle.sl_area.specs.AreaSizes.{layout_of}
 use Rattle.sl_world_state.specs.SaneWorlds.{ReadsCommands}
 use Rattle.sl_play.specs.Replays.{MayPlay, played_language}
-use Rattle.sl_report.specs.Headline.{HeadersAreGood}
+use Rattle.sl_report.specs.OwedReports.{HeadersAreGood}
 use Rattle.sl_report.specs.Languages.{language_of, whole_language}
 use Rattle.sl_report.specs.Schedules.{Header_read, numbered_lines, read_header}
 use Rattle.sl_run.specs.Headers.{IsHeader}
 use Rattle.sl_run.specs.Worlds.{Program}
 use Rattle.sl_run.specs.declared.header.Header.{Header}
 use Rattle.sl_text.specs.Forms.{Form, as_bytes}
-use Rattle.sl_trace.specs.Commands.{forms}
+use Rattle.sl_trace.specs.CommandForms.{forms}
 use Rattle.sl_trace.specs.declared.command.Command.{Command}
 use Rattle.std.specs.Prelude.{List, codes, length, [], ℕ, ◌∷◌, ◌≡◌}
 

@@ -5,7 +5,9 @@ use Rattle.sl_run_law.proofs.Course.CountedDaemons.{turned_each}
 use Rattle.sl_run_law.proofs.Course.DaemonRuns.{input_there}
 use Rattle.sl_run_law.proofs.Course.MachineTurns.{KeepsAsking, Turned, flies}
 use Rattle.sl_words.proofs.Options.{then_value}
-use Rattle.sl_run.specs.Events.{change_call, done_input, event_tests, first_change, if_running, input_at, input_of, machine_of, may_happen, ok_input, rest_sampled, sampled_more, sectors_left}
+use Rattle.sl_run.specs.EventChanges.{change_call, first_change, sampled_more}
+use Rattle.sl_run.specs.Inputs.{done_input, if_running, input_at, input_of, machine_of, ok_input, rest_sampled}
+use Rattle.sl_run.specs.Refusals.{event_tests, may_happen, sectors_left}
 use Rattle.sl_run.specs.Worlds.{Course, Daemon, Machine, World, flight_of, is_of_running, is_open, is_write_course, machine_at}
 use Rattle.sl_run.specs.declared.event.Event.TheVariants.{AnswerCall, Crash, Do, DropWrite, ExitOf, GiveAsk, GiveCommand, GiveLvm, Land, Pass, Reset, Restart, Sample, SpawnedOf, StartDaemon, Tear, Test, WakeUp}
 use Rattle.sl_run.specs.declared.event.Event.{Event}

@@ -1,5 +1,5 @@
 -- No two calls of a machine have the same number: each daemon begins with the number after those of the ones before it.
-use Rattle.sl_area.specs.Layouts.{layout_with}
+use Rattle.sl_area.specs.AreaSizes.{layout_with}
 use Rattle.sl_run_law.proofs.Course.NumbersNameCalls.{AreNumberedBelow, all_numbered, numbered_called, same_call_if}
 use Rattle.sl_run_law.proofs.Course.Daemons.{daemons_are, entry_of, step_daemon}
 use Rattle.sl_run_law.proofs.Course.MachinesKeep.{Goes_on, OfMachines, lawful_on, machines_keep}
@@ -8,7 +8,7 @@ use Rattle.sl_run_law.proofs.Course.MachineTurns.{Alone, Began, Called, Came_up,
 use Rattle.sl_run_law.specs.Course.CourseLaws.{CallsAreDistinct}
 use Rattle.sl_run_law.proofs.Front.RunsFromFronts.{fronts_are_lawful, run_after}
 use Rattle.sl_words.proofs.Lists.{contains_first, next_before}
-use Rattle.sl_run.specs.Events.{after_step, close_answered, daemon_number, first_change, new_course, next_step, with_entry}
+use Rattle.sl_run.specs.EventChanges.{after_step, close_answered, daemon_number, first_change, new_course, next_step, with_entry}
 use Rattle.sl_run.specs.Runs.{Happening}
 use Rattle.sl_run.specs.Safety.{LawfulRun, world_at}
 use Rattle.sl_run.specs.Worlds.{Course, Daemon, Machine, Program, Stamp, World, daemons_on, first_numbers, machine_of_header, next_numbers, stamp_now, world_with}

@@ -1,5 +1,5 @@
 -- Daemons are numbered in their list, and each call has the number of one of them.
-use Rattle.sl_area.specs.Layouts.{layout_with}
+use Rattle.sl_area.specs.AreaSizes.{layout_with}
 use Rattle.sl_run_law.proofs.Course.Daemons.{DaemonsTurn, One_begins, One_enters, Same_daemons, daemons_are, every_has, stepped_daemons, turned_daemons}
 use Rattle.sl_run_law.proofs.Course.CallsAreDistinct.{made_calls, step_calls}
 use Rattle.sl_run_law.proofs.Course.MachinesKeep.{Goes_on, OfMachines, machines_keep}
@@ -8,7 +8,7 @@ use Rattle.sl_run_law.proofs.Course.MachineTurns.{Alone, Began, Called, Came_up,
 use Rattle.sl_run_law.specs.Course.Mirrors.{AreNumbered}
 use Rattle.sl_run_law.specs.Course.CourseLaws.{CoursesHaveDaemons}
 use Rattle.sl_words.proofs.Lists.{contains_first, contains_more}
-use Rattle.sl_run.specs.Events.{close_answered, daemon_number, first_change, new_course, next_step, with_entry}
+use Rattle.sl_run.specs.EventChanges.{close_answered, daemon_number, first_change, new_course, next_step, with_entry}
 use Rattle.sl_run.specs.Runs.{Happening}
 use Rattle.sl_run.specs.Safety.{LawfulRun, world_at}
 use Rattle.sl_run.specs.Worlds.{Course, Daemon, Machine, Program, Stamp, World, daemons_on, machine_of_header, stamp_now}

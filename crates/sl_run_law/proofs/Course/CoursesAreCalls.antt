@@ -1,5 +1,5 @@
 -- A machine's calls of a daemon are those of its trace, in the same order.
-use Rattle.sl_area.specs.Layouts.{layout_with}
+use Rattle.sl_area.specs.AreaSizes.{layout_with}
 use Rattle.sl_run_law.proofs.Course.AnsweredCalls.{AllAwait, Awaits, awaits, only_flight}
 use Rattle.sl_run_law.proofs.Course.CountedDaemons.{IsCountedOn, counted_after, daemon_number_is, daemons_numbered}
 use Rattle.sl_run_law.proofs.Course.Daemons.{all_ended, daemons_are, entry_of, every_each, every_has, first_daemons, step_ended, turned_daemons}
@@ -14,7 +14,7 @@ use Rattle.sl_run_law.specs.Course.Mirrors.{AreNumbered}
 use Rattle.sl_run_law.specs.Course.CourseLaws.{CoursesAreCalls}
 use Rattle.sl_run_law.specs.Course.CallStamps.{IsCourseOf, IsStampOf, IsStamped, Pairwise}
 use Rattle.sl_words.proofs.Numbers.{less_is_other}
-use Rattle.sl_run.specs.Events.{after_step, close_answered, daemon_number, first_change, new_course, next_step, with_entry}
+use Rattle.sl_run.specs.EventChanges.{after_step, close_answered, daemon_number, first_change, new_course, next_step, with_entry}
 use Rattle.sl_run.specs.Runs.{Happening}
 use Rattle.sl_run.specs.Safety.{world_at}
 use Rattle.sl_run.specs.Worlds.{Course, Daemon, Machine, Program, Stamp, World, daemons_on, flight_of, machine_at, machine_of_header, new_daemon, next_numbers, setting_of, stamp_now}

@@ -1,5 +1,5 @@
 -- Daemons of one name are one daemon: one that begins has a name that none had.
-use Rattle.sl_area.specs.Layouts.{layout_with}
+use Rattle.sl_area.specs.AreaSizes.{layout_with}
 use Rattle.sl_run_law.proofs.Course.Daemons.{all_ended, daemons_are, entry_of, every_has, first_daemons, step_daemon, step_ended}
 use Rattle.sl_run_law.proofs.Course.MachinesKeep.{Goes_on, header_machine, was_before}
 use Rattle.sl_run_law.proofs.Course.MachineTurns.{Alone, Began, Called, Came_up, Clocked, Crashed, Elsewhere, Stays, Stepped, Tested, Took, Turned, Went_down}
@@ -8,7 +8,8 @@ use Rattle.sl_run_law.specs.Course.CourseLaws.{DaemonNamesAreApart}
 use Rattle.sl_run_law.proofs.Front.RunsFromFronts.{run_keeps}
 use Rattle.sl_run_law.proofs.Front.JoinedLists.{in_flat}
 use Rattle.sl_words.proofs.Lists.{contains_cases, contains_first, contains_map, contains_more, contains_none, got_inside}
-use Rattle.sl_run.specs.Events.{first_change, machine_of, next_step, with_entry}
+use Rattle.sl_run.specs.EventChanges.{first_change, next_step, with_entry}
+use Rattle.sl_run.specs.Inputs.{machine_of}
 use Rattle.sl_run.specs.Headers.{GoTogether, IsHeader}
 use Rattle.sl_run.specs.Runs.{Happening}
 use Rattle.sl_run.specs.Safety.{LawfulRun, world_at}

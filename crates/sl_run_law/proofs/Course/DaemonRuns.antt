@@ -1,7 +1,8 @@
 -- Where an event gives an input to a daemon, one runs, before the event and at its step.
 use Rattle.sl_run_law.proofs.Course.MachineTurns.{Began, Called, Came_up, Clocked, Crashed, Stays, Tested, Turned, Went_down}
 use Rattle.sl_words.proofs.Options.{not_none, some_there, then_value}
-use Rattle.sl_run.specs.Events.{event_tests, if_running, input_at, input_of, machine_of, may_happen}
+use Rattle.sl_run.specs.Refusals.{event_tests, may_happen}
+use Rattle.sl_run.specs.Inputs.{if_running, input_at, input_of, machine_of}
 use Rattle.sl_run.specs.Worlds.{Daemon, Machine, World, machine_at}
 use Rattle.sl_run.specs.declared.event.Event.TheVariants.{AnswerCall, Crash, Do, DropWrite, ExitOf, GiveAsk, GiveCommand, GiveLvm, Land, Pass, Reset, Restart, Sample, SpawnedOf, StartDaemon, Tear, Test, WakeUp}
 use Rattle.sl_run.specs.declared.event.Event.{Event}

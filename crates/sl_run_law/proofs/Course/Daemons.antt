@@ -1,11 +1,11 @@
 -- What an event makes of the daemons of a machine: none ends in their list, one begins, or the one that runs has one more entry.
 use Rattle.sl_run_law.proofs.Course.MachineTurns.{Alone, Began, Called, Came_up, Clocked, Crashed, Elsewhere, Stays, Stepped, Tested, Took, Turned, Went_down}
 use Rattle.sl_words.proofs.Lists.{contains_cases, contains_none}
-use Rattle.sl_run.specs.Events.{after_step, next_step, first_change, with_entry}
+use Rattle.sl_run.specs.EventChanges.{after_step, next_step, first_change, with_entry}
 use Rattle.sl_run.specs.Worlds.{Daemon, Machine, Program, Stamp, World, daemons_on, first_numbers, first_stamp, given_of, machine_of_header, names_of, new_daemon, next_numbers, reading_now, setting_of, stamp_now}
 use Rattle.sl_run.specs.declared.header.Header.{Header}
 use Rattle.sl_run.specs.declared.header.SessionLine.{SessionLine}
-use Rattle.sl_area.specs.Layouts.{Layout}
+use Rattle.sl_area.specs.AreaSizes.{Layout}
 use Rattle.sl_run.specs.declared.event.Event.{Event}
 use Rattle.sl_run_law.specs.DaemonsGoOn.{IsSettled}
 use Rattle.sl_run_law.specs.FatesStay.{Every}

@@ -1,12 +1,12 @@
 -- Daemons are made of the header's times and layout, and have begun before now.
-use Rattle.sl_area.specs.Layouts.{layout_with}
+use Rattle.sl_area.specs.AreaSizes.{layout_with}
 use Rattle.sl_run_law.proofs.Course.Daemons.{IsNewest, OnDaemons, daemons_keep, every_each, every_has, first_daemons, stepped_daemons, turned_daemons}
 use Rattle.sl_run_law.proofs.Course.MachinesKeep.{Goes_on, OfMachines, machines_keep}
 use Rattle.sl_run_law.specs.Course.Mirrors.{IsOfWorld}
 use Rattle.sl_run_law.specs.Course.CourseLaws.{DaemonsAreOfWorld}
 use Rattle.sl_run_law.proofs.Front.RunsFromFronts.{run_after}
 use Rattle.sl_words.proofs.Numbers.{trans_lt}
-use Rattle.sl_run.specs.Events.{with_entry}
+use Rattle.sl_run.specs.EventChanges.{with_entry}
 use Rattle.sl_run.specs.Runs.{Happening}
 use Rattle.sl_run.specs.Safety.{LawfulRun, world_at}
 use Rattle.sl_run.specs.Worlds.{Daemon, Machine, Program, Stamp, World, daemons_on, machine_at, machine_of_header, next_numbers, setting_of, stamp_now, new_daemon, world_with}

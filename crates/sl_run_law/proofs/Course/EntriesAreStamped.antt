@@ -3,7 +3,7 @@ use Rattle.sl_run_law.proofs.Course.Daemons.{OnDaemons, daemons_keep, every_has,
 use Rattle.sl_run_law.proofs.Course.MachinesKeep.{Goes_on, machines_keep}
 use Rattle.sl_run_law.specs.Course.CourseLaws.{EntriesAreStamped}
 use Rattle.sl_run_law.specs.Course.CallStamps.{IsStamped}
-use Rattle.sl_area.specs.Layouts.{layout_with}
+use Rattle.sl_area.specs.AreaSizes.{layout_with}
 use Rattle.sl_run.specs.Runs.{Happening}
 use Rattle.sl_run.specs.Safety.{world_at}
 use Rattle.sl_run.specs.Worlds.{Daemon, Machine, Program, World, daemons_on, machine_of_header}

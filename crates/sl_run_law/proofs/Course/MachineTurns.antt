@@ -1,5 +1,7 @@
 -- What an event makes of a machine: first what the event changes there, then what the step of its daemon, or the machine itself, does.
-use Rattle.sl_run.specs.Events.{after_crash, after_effects, after_reset, after_restart, after_start, after_step, change_call, event_tests, fated, first_change, input_of, is_read_course, machine_of, may_happen, next_step, on_flight, own_effects, sampled_more, sectors_left, take_step}
+use Rattle.sl_run.specs.EventChanges.{after_crash, after_effects, after_reset, after_restart, after_start, after_step, change_call, fated, first_change, next_step, own_effects, sampled_more, take_step}
+use Rattle.sl_run.specs.Refusals.{event_tests, is_read_course, may_happen, on_flight, sectors_left}
+use Rattle.sl_run.specs.Inputs.{input_of, machine_of}
 use Rattle.sl_run.specs.Runs.{own_effects_of}
 use Rattle.sl_run.specs.Worlds.{Course, Dropped, Fate, Landed, Machine, Stamp, Torn, World, flight_of, machine_at, names_of, stamp_now}
 use Rattle.sl_run.specs.declared.event.Event.TheVariants.{AnswerCall, Crash, Do, DropWrite, ExitOf, GiveAsk, GiveCommand, GiveLvm, Land, Pass, Reset, Restart, Sample, SpawnedOf, StartDaemon, Tear, Test, WakeUp}

@@ -1,11 +1,12 @@
 -- What holds of each machine at first and is kept by each event of lawful runs holds of each after all of them.
-use Rattle.sl_area.specs.Layouts.{layout_with}
+use Rattle.sl_area.specs.AreaSizes.{layout_with}
 use Rattle.sl_run_law.proofs.Course.MachineTurns.{Becomes, becomes}
 use Rattle.sl_run_law.proofs.Front.RunsFromFronts.{last_event, run_after, run_keeps, settled_later, was_there}
 use Rattle.sl_run_law.proofs.Front.JoinedLists.{in_flat}
 use Rattle.sl_run.specs.Lawful.{Orderly}
 use Rattle.sl_words.proofs.Lists.{got_inside}
-use Rattle.sl_run.specs.Events.{input_of, may_happen}
+use Rattle.sl_run.specs.Inputs.{input_of}
+use Rattle.sl_run.specs.Refusals.{may_happen}
 use Rattle.sl_run.specs.Runs.{EachDaemon, Happening, own_effects_of}
 use Rattle.sl_run.specs.Safety.{LawfulRun, world_at}
 use Rattle.sl_run.specs.Worlds.{Daemon, Machine, Program, World, daemons_on, machine_at, machine_of_header, world_with}

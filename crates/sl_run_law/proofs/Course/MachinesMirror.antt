@@ -1,5 +1,5 @@
 -- What a machine keeps of its daemons, at a step and at first.
-use Rattle.sl_area.specs.Layouts.{Layout, layout_with}
+use Rattle.sl_area.specs.AreaSizes.{Layout, layout_with}
 use Rattle.sl_run_law.proofs.Course.OneMachineChanges.{changed_here}
 use Rattle.sl_run_law.proofs.Course.CountedDaemons.{daemons_numbered}
 use Rattle.sl_run_law.proofs.Course.Daemons.{daemon_of_line, daemons_are, entry_of, every_has, stepped_daemons, turned_daemons}
@@ -15,7 +15,8 @@ use Rattle.sl_run_law.specs.Course.Mirrors.{AreNumbered, Held_on, Mirrors, since
 use Rattle.sl_run_law.specs.Course.CourseLaws.{MachinesMirror}
 use Rattle.sl_words.proofs.Lists.{contains_cases, contains_more, contains_none}
 use Rattle.sl_words.proofs.Options.{not_some}
-use Rattle.sl_run.specs.Events.{after_effects, after_reset, after_step, first_change, input_at, input_of, machine_of, next_step, own_effects, with_entry}
+use Rattle.sl_run.specs.EventChanges.{after_effects, after_reset, after_step, first_change, next_step, own_effects, with_entry}
+use Rattle.sl_run.specs.Inputs.{input_at, input_of, machine_of}
 use Rattle.sl_run.specs.Locks.{Locks, fresh_locks}
 use Rattle.sl_run.specs.Runs.{Happening, own_effects_of}
 use Rattle.sl_run.specs.Safety.{world_at}
@@ -24,7 +25,7 @@ use Rattle.sl_run.specs.declared.event.Event.TheVariants.{AnswerCall, Crash, Do,
 use Rattle.sl_run.specs.declared.event.Event.{Event}
 use Rattle.sl_run.specs.declared.header.Header.{Header}
 use Rattle.sl_run.specs.declared.header.SessionLine.{SessionLine}
-use Rattle.sl_trace.specs.Connections.{Connection, after_move, connections, given_connection}
+use Rattle.sl_trace.specs.WatchdogConnections.{Connection, after_move, connections, given_connection}
 use Rattle.sl_trace.specs.Traces.{held_after, holdings, is_ended_by, no_effects}
 use Rattle.sl_trace.specs.declared.effects.Effects.{Effects}
 use Rattle.sl_trace.specs.declared.effects.Entry.{Entry}

@@ -3,7 +3,7 @@ use Rattle.sl_run_law.proofs.Course.AnsweredCalls.{Awaits}
 use Rattle.sl_run_law.proofs.Course.MachineTurns.{KeepsAsking}
 use Rattle.sl_run_law.specs.Course.CallStamps.{AnswersAgree, IsAnsweredAs, IsCourseOf, stamp_in}
 use Rattle.sl_words.proofs.Numbers.{less_is_other}
-use Rattle.sl_run.specs.Events.{new_course, with_entry}
+use Rattle.sl_run.specs.EventChanges.{new_course, with_entry}
 use Rattle.sl_run.specs.Worlds.{Course, Daemon, Stamp}
 use Rattle.sl_run_law.proofs.CourseLists.{changed_if}
 use Rattle.sl_run_law.proofs.CoursesGoOn.{told}

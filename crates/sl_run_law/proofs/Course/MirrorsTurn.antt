@@ -4,12 +4,12 @@ use Rattle.sl_run_law.proofs.Course.ResetsBeforeNow.{ResetsBefore, none_after, o
 use Rattle.sl_run_law.proofs.Course.MachineTurns.{Began, Called, Came_up, Clocked, Crashed, Stays, Tested, Turned, Went_down}
 use Rattle.sl_run_law.specs.Course.Mirrors.{AreNumbered, Mirrors, since_restart}
 use Rattle.sl_words.proofs.Lists.{contains_cases, contains_none}
-use Rattle.sl_run.specs.Events.{after_crash, after_reset, after_restart, after_start}
+use Rattle.sl_run.specs.EventChanges.{after_crash, after_reset, after_restart, after_start}
 use Rattle.sl_run.specs.Worlds.{Course, Daemon, Machine, Stamp, World, daemons_on, new_daemon, next_numbers, resets_after, setting_of, stamp_now}
 use Rattle.sl_run.specs.declared.event.Event.{Event}
 use Rattle.sl_run_law.specs.DaemonsGoOn.{IsSettled}
 use Rattle.sl_run_law.specs.FatesStay.{Every}
-use Rattle.sl_trace.specs.Connections.{connections}
+use Rattle.sl_trace.specs.WatchdogConnections.{connections}
 use Rattle.sl_trace.specs.Traces.{holdings}
 use Rattle.sl_words.proofs.CaseLaws.{no_value, none_some, some_value}
 use Rattle.sl_words.specs.Words.{first_of_list, is_empty}

@@ -1,5 +1,5 @@
 -- Calls are numbered in order over all daemons of a machine, so that a number names one call.
-use Rattle.sl_run.specs.Events.{new_course}
+use Rattle.sl_run.specs.EventChanges.{new_course}
 use Rattle.sl_run.specs.Worlds.{Course, Stamp}
 use Rattle.sl_run_law.proofs.CourseLists.{changed_if}
 use Rattle.sl_run_law.proofs.FatesStay.{every_map}

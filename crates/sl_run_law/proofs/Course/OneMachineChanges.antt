@@ -1,7 +1,8 @@
 -- What a change of one machine makes of that machine.
 use Rattle.sl_words.proofs.Lists.{set_here}
 use Rattle.sl_words.proofs.Options.{else_some}
-use Rattle.sl_run.specs.Events.{change_call, first_change, flight_at, land_whole, sampled_more, sectors_left}
+use Rattle.sl_run.specs.EventChanges.{change_call, first_change, flight_at, land_whole, sampled_more}
+use Rattle.sl_run.specs.Refusals.{sectors_left}
 use Rattle.sl_run.specs.Worlds.{Course, Machine, World, change_machine, flight_of, is_in_flight, is_write_course, machine_at}
 use Rattle.sl_run.specs.declared.event.Event.TheVariants.{AnswerCall, Do}
 use Rattle.sl_run_law.proofs.MachineWalk.{index}

@@ -4,7 +4,7 @@ use Rattle.sl_run_law.proofs.Course.MachineTurns.{Began, Called, Came_up, Clocke
 use Rattle.sl_run_law.specs.Course.Mirrors.{Held_on, IsLeft, Orphaned}
 use Rattle.sl_run_law.proofs.Front.JoinedLists.{contains_append}
 use Rattle.sl_words.proofs.Lists.{any_of, contains_map, contains_none, in_map, kept, kept_inside}
-use Rattle.sl_run.specs.Events.{own_effects}
+use Rattle.sl_run.specs.EventChanges.{own_effects}
 use Rattle.sl_run.specs.Worlds.{Machine, World}
 use Rattle.sl_run.specs.declared.event.Event.TheVariants.{AnswerCall, Crash, Do, DropWrite, ExitOf, GiveAsk, GiveCommand, GiveLvm, Land, Pass, Reset, Restart, Sample, SpawnedOf, StartDaemon, Tear, Test, WakeUp}
 use Rattle.sl_run.specs.declared.event.Event.{Event}

@@ -1,11 +1,11 @@
 -- Each reset of a machine came before now.
-use Rattle.sl_area.specs.Layouts.{layout_with}
+use Rattle.sl_area.specs.AreaSizes.{layout_with}
 use Rattle.sl_run_law.proofs.Course.Daemons.{every_each}
 use Rattle.sl_run_law.proofs.Course.MachinesKeep.{Goes_on, OfMachines, machines_keep}
 use Rattle.sl_run_law.proofs.Course.DaemonsOfWorld.{last_step}
 use Rattle.sl_run_law.proofs.Course.MachineTurns.{Alone, Began, Called, Came_up, Clocked, Crashed, Elsewhere, Stays, Stepped, Tested, Took, Turned, Went_down}
 use Rattle.sl_words.proofs.Numbers.{trans_lt}
-use Rattle.sl_run.specs.Events.{after_step, first_change, next_step}
+use Rattle.sl_run.specs.EventChanges.{after_step, first_change, next_step}
 use Rattle.sl_run.specs.Runs.{Happening}
 use Rattle.sl_run.specs.Safety.{LawfulRun, world_at}
 use Rattle.sl_run.specs.Worlds.{Machine, Program, Stamp, World, machine_of_header, resets_after, stamp_now, world_with}

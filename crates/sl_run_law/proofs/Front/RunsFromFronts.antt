@@ -6,7 +6,9 @@ use Rattle.sl_run.specs.Lawful.{Orderly}
 use Rattle.sl_words.proofs.Lists.{contains_cases, contains_first, contains_more, contains_none, got_inside, next_before, same_place_in}
 use Rattle.sl_words.proofs.Numbers.{one_before}
 use Rattle.sl_words.proofs.Options.{else_some}
-use Rattle.sl_run.specs.Events.{first_change, happens, input_of, machine_of, may_happen, next_input, next_step, take_step}
+use Rattle.sl_run.specs.EventChanges.{first_change, happens, next_input, next_step, take_step}
+use Rattle.sl_run.specs.Inputs.{input_of, machine_of}
+use Rattle.sl_run.specs.Refusals.{may_happen}
 use Rattle.sl_run.specs.Runs.{EachDaemon, Happening, IsRun, own_effects_of, world_after}
 use Rattle.sl_run.specs.Safety.{LawfulRun, world_at}
 use Rattle.sl_run.specs.Worlds.{Daemon, Machine, Program, World, daemons_on, machine_at, world_with}

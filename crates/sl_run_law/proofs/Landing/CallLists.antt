@@ -2,7 +2,7 @@
 use Rattle.sl_run_law.proofs.Course.Daemons.{every_has}
 use Rattle.sl_words.proofs.Lists.{contains_cases, contains_first, contains_more, contains_none}
 use Rattle.sl_words.proofs.Numbers.{number_turned}
-use Rattle.sl_run.specs.Events.{new_course}
+use Rattle.sl_run.specs.EventChanges.{new_course}
 use Rattle.sl_run.specs.Worlds.{Course, Stamp}
 use Rattle.sl_run_law.specs.FatesStay.{AreDistinct, Every}
 use Rattle.sl_trace.specs.declared.effects.Call.{Call}

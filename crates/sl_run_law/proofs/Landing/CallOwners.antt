@@ -1,5 +1,5 @@
 -- Whose calls are: of daemons that began; and none that was dropped is of the one that runs.
-use Rattle.sl_area.specs.Layouts.{Layout, layout_with}
+use Rattle.sl_area.specs.AreaSizes.{Layout, layout_with}
 use Rattle.sl_run_law.proofs.Course.CoursesAreCalls.{apart as not_the_next}
 use Rattle.sl_run_law.specs.Course.CourseLaws.{CallsAreDistinct}
 use Rattle.sl_run_law.proofs.Front.RunsFromFronts.{was_there}
@@ -10,7 +10,9 @@ use Rattle.sl_run_law.proofs.Landing.CallsOfStep.{IsMade, Stepped, came}
 use Rattle.sl_run_law.proofs.Landing.CallsBeforeStep.{NewFate, Turn, Turned}
 use Rattle.sl_words.proofs.Lists.{contains_none}
 use Rattle.sl_words.proofs.Numbers.{lt_then_le}
-use Rattle.sl_run.specs.Events.{after_start, after_step, daemon_number, first_change, input_of, machine_of, may_happen, take_step, with_entry}
+use Rattle.sl_run.specs.EventChanges.{after_start, after_step, daemon_number, first_change, take_step, with_entry}
+use Rattle.sl_run.specs.Inputs.{input_of, machine_of}
+use Rattle.sl_run.specs.Refusals.{may_happen}
 use Rattle.sl_run.specs.Runs.{Happening, own_effects_of}
 use Rattle.sl_run.specs.Safety.{LawfulRun, world_at}
 use Rattle.sl_run.specs.Worlds.{Course, Daemon, Dropped, Fate, In_flight, Landed, Machine, Program, Stamp, Torn, World, daemons_on, is_of_running, machine_at, machine_of_header, stamp_now, world_with, new_daemon, next_numbers, setting_of}

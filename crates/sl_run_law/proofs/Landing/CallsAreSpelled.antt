@@ -6,7 +6,9 @@ use Rattle.sl_run_law.proofs.Landing.InputNeedsDaemon.{HasEntry, has_entry, own_
 use Rattle.sl_run_law.proofs.Landing.CallsOfStep.{IsMade, came}
 use Rattle.sl_run.specs.Lawful.{Orderly}
 use Rattle.sl_words.proofs.Lists.{contains_none, got_inside}
-use Rattle.sl_run.specs.Events.{input_of, machine_of, may_happen, with_entry}
+use Rattle.sl_run.specs.Inputs.{input_of, machine_of}
+use Rattle.sl_run.specs.Refusals.{may_happen}
+use Rattle.sl_run.specs.EventChanges.{with_entry}
 use Rattle.sl_run.specs.Runs.{EachDaemon, Happening, own_effects_of}
 use Rattle.sl_run.specs.Safety.{LawfulRun, world_at}
 use Rattle.sl_run.specs.Worlds.{Course, Daemon, Machine, Program, World, daemons_on, machine_at}

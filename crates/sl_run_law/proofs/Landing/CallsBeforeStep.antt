@@ -2,7 +2,8 @@
 use Rattle.sl_run_law.proofs.Landing.OneArrival.{landing_of, flight_there, landed_with}
 use Rattle.sl_run_law.proofs.Landing.LandingGuards.{drop_ended}
 use Rattle.sl_words.proofs.Lists.{contains_map, find_inside, in_map}
-use Rattle.sl_run.specs.Events.{add_landing, change_call, fated, first_change, flight_at, land_whole, may_happen, sampled_more, sectors_left, write_bytes}
+use Rattle.sl_run.specs.EventChanges.{add_landing, change_call, fated, first_change, flight_at, land_whole, sampled_more, write_bytes}
+use Rattle.sl_run.specs.Refusals.{may_happen, sectors_left}
 use Rattle.sl_run.specs.Worlds.{Course, Dropped, Landed, Landing, Machine, Torn, World, change_machine, flight_of, is_in_flight, is_of_running, is_open, is_write_course, machine_at}
 use Rattle.sl_run.specs.declared.event.Event.TheVariants.{Do, Land}
 use Rattle.sl_run.specs.declared.event.Event.{Event}

@@ -4,7 +4,9 @@ use Rattle.sl_run_law.proofs.Landing.OneEvent.{IsLater, event_goes_on, event_lat
 use Rattle.sl_run_law.proofs.Landing.CallsOfStep.{IsMade, came}
 use Rattle.sl_run_law.proofs.Landing.CallsBeforeStep.{Turn}
 use Rattle.sl_words.proofs.Lists.{contains_none, find_inside}
-use Rattle.sl_run.specs.Events.{happens, machine_of, may_happen}
+use Rattle.sl_run.specs.EventChanges.{happens}
+use Rattle.sl_run.specs.Inputs.{machine_of}
+use Rattle.sl_run.specs.Refusals.{may_happen}
 use Rattle.sl_run.specs.Runs.{Happening, world_after}
 use Rattle.sl_run.specs.Safety.{LawfulRun, world_at}
 use Rattle.sl_run.specs.Worlds.{Course, Machine, Program, World, flight_of, is_in_flight, is_open, machine_at}

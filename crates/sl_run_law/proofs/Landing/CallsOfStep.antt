@@ -4,7 +4,9 @@ use Rattle.sl_run_law.proofs.Landing.OneEvent.{event_goes_on, world_first, world
 use Rattle.sl_run_law.proofs.Landing.CallsBeforeStep.{Turn, Turned, first_turns, turned_call, turned_same}
 use Rattle.sl_words.proofs.Lists.{there_is}
 use Rattle.sl_words.proofs.Options.{else_some}
-use Rattle.sl_run.specs.Events.{after_effects, after_step, close_answered, daemon_number, input_of, machine_of, may_happen, new_course, take_step}
+use Rattle.sl_run.specs.EventChanges.{after_effects, after_step, close_answered, daemon_number, new_course, take_step}
+use Rattle.sl_run.specs.Inputs.{input_of, machine_of}
+use Rattle.sl_run.specs.Refusals.{may_happen}
 use Rattle.sl_run.specs.Worlds.{Course, Machine, Stamp, World, machine_at, stamp_now}
 use Rattle.sl_run.specs.declared.event.Event.{Event}
 use Rattle.sl_run_law.proofs.MachineWalk.{each_step, index, number_within}

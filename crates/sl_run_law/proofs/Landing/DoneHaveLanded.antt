@@ -12,7 +12,9 @@ use Rattle.sl_run_law.proofs.Landing.CallsBeforeStep.{Turn, do_is, flight_number
 use Rattle.sl_run_law.specs.Landing.Landings.{DoneWritesHaveLanded}
 use Rattle.sl_words.proofs.Lists.{contains_none, find_inside, in_map}
 use Rattle.sl_words.proofs.Options.{then_value}
-use Rattle.sl_run.specs.Events.{add_landing, change_call, done_input, fated, first_change, if_running, input_at, input_of, land_whole, machine_of, may_happen, ok_input, rest_sampled, sectors_left, write_bytes}
+use Rattle.sl_run.specs.EventChanges.{add_landing, change_call, fated, first_change, land_whole, write_bytes}
+use Rattle.sl_run.specs.Inputs.{done_input, if_running, input_at, input_of, machine_of, ok_input, rest_sampled}
+use Rattle.sl_run.specs.Refusals.{may_happen, sectors_left}
 use Rattle.sl_run.specs.Safety.{world_at}
 use Rattle.sl_run.specs.Worlds.{Course, Daemon, Dropped, Fate, In_flight, Landed, Machine, Torn, World, change_machine, flight_of, is_in_flight, is_landed, is_of_running, is_open, is_torn_fate, is_write_course, machine_at, world_with}
 use Rattle.sl_run.specs.declared.event.Event.TheVariants.{AnswerCall, Crash, Do, DropWrite, ExitOf, GiveAsk, GiveCommand, GiveLvm, Land, Pass, Reset, Restart, Sample, SpawnedOf, StartDaemon, Tear, Test, WakeUp}

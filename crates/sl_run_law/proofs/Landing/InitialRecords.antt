@@ -1,8 +1,9 @@
 -- Each record of moment 0 has a spelling, whatever the digest, and so each place a sector's bytes.
 use Rattle.sl_area.proofs.FreshRecords.{fresh_block_at_is, leader_record_is, no_request_is, no_value_is}
 use Rattle.sl_area.proofs.SizeLaws.{has_room}
-use Rattle.sl_area.specs.Layouts.{IsGeometry, Layout, Sizes, layout_with, sector_with}
-use Rattle.sl_area.specs.Places.{area_sectors, fresh_block_at, fresh_delta, fresh_leader, in_area, leader_record, no_request, no_value}
+use Rattle.sl_area.specs.AreaSizes.{IsGeometry, Layout, Sizes, layout_with, sector_with}
+use Rattle.sl_area.specs.AreaLayout.{area_sectors, in_area}
+use Rattle.sl_area.specs.AreaRecords.{fresh_block_at, fresh_delta, fresh_leader, leader_record, no_request, no_value}
 use Rattle.sl_words.proofs.Lists.{find_inside}
 use Rattle.sl_words.proofs.Numbers.{one_least}
 use Rattle.sl_run.specs.Headers.{IsHeader}
@@ -14,7 +15,7 @@ use Rattle.sl_run.specs.declared.header.ResourceLine.{ResourceLine}
 use Rattle.sl_run.specs.declared.header.SessionLine.{SessionLine}
 use Rattle.sl_sector.proofs.SpellingLaws.{length-spelling}
 use Rattle.sl_sector.specs.Records.{IsDelta, IsRecord}
-use Rattle.sl_sector.specs.Spelling.{IsDigest, IsSectorSize}
+use Rattle.sl_sector.specs.SectorLayouts.{IsDigest, IsSectorSize}
 use Rattle.sl_sector.specs.declared.sector.DeltaRec.{DeltaRec}
 use Rattle.sl_sector.specs.declared.sector.Rec.TheVariants.{DeltaIs, RequestIs, ValueIs}
 use Rattle.sl_sector.specs.declared.sector.Rec.{Rec}

@@ -4,7 +4,9 @@ use Rattle.sl_run_law.proofs.Landing.LandingGuards.{answer_runs, do_runs}
 use Rattle.sl_run_law.proofs.Landing.OneEvent.{world_first, world_then}
 use Rattle.sl_run_law.proofs.Landing.CallsOfStep.{same_daemon}
 use Rattle.sl_words.proofs.Options.{some_there, then_value}
-use Rattle.sl_run.specs.Events.{after_step, first_change, if_running, input_at, input_of, machine_of, may_happen, own_effects, take_step, with_entry}
+use Rattle.sl_run.specs.EventChanges.{after_step, first_change, own_effects, take_step, with_entry}
+use Rattle.sl_run.specs.Inputs.{if_running, input_at, input_of, machine_of}
+use Rattle.sl_run.specs.Refusals.{may_happen}
 use Rattle.sl_run.specs.Runs.{own_effects_of}
 use Rattle.sl_run.specs.Worlds.{Daemon, Machine, Stamp, World, machine_at, reading_now, stamp_now}
 use Rattle.sl_run.specs.declared.event.Event.TheVariants.{AnswerCall, Crash, Do, DropWrite, ExitOf, GiveAsk, GiveCommand, GiveLvm, Land, Pass, Reset, Restart, Sample, SpawnedOf, StartDaemon, Tear, Test, WakeUp}

@@ -5,7 +5,9 @@ use Rattle.sl_run_law.proofs.Landing.CallsOfStep.{IsMade, came}
 use Rattle.sl_run_law.proofs.Landing.CallsBeforeStep.{NewFate, Turn}
 use Rattle.sl_run_law.specs.Landing.Landings.{HasLanded, LandedWritesAreThere}
 use Rattle.sl_words.proofs.Lists.{contains_first, contains_none}
-use Rattle.sl_run.specs.Events.{first_change, input_of, machine_of, may_happen}
+use Rattle.sl_run.specs.EventChanges.{first_change}
+use Rattle.sl_run.specs.Inputs.{input_of, machine_of}
+use Rattle.sl_run.specs.Refusals.{may_happen}
 use Rattle.sl_run.specs.Safety.{world_at}
 use Rattle.sl_run.specs.Worlds.{Course, Dropped, Fate, Landing, Machine, Torn, World, is_landed, machine_at}
 use Rattle.sl_run.specs.declared.event.Event.{Event}

@@ -1,6 +1,7 @@
 -- What more it means that an event may happen.
 use Rattle.sl_words.proofs.Truth.{left_is_false}
-use Rattle.sl_run.specs.Events.{event_tests, is_placed, is_read_course, is_shaped, may_happen, needs_daemon, on_flight, sectors_left, spells_something, torn_bytes}
+use Rattle.sl_run.specs.Refusals.{event_tests, is_placed, is_read_course, is_shaped, may_happen, needs_daemon, on_flight, sectors_left}
+use Rattle.sl_run.specs.Premises.{spells_something, torn_bytes}
 use Rattle.sl_run.specs.Worlds.{Course, Machine, World, first_that, flight_of, is_in_flight, is_landed, is_of_running, is_torn_fate, is_write_course, machine_at}
 use Rattle.sl_run.specs.declared.event.Event.TheVariants.{AnswerCall, Do, DropWrite, Land, Tear}
 use Rattle.sl_run.specs.declared.event.Event.{Event}

@@ -4,7 +4,8 @@ use Rattle.sl_run_law.proofs.Landing.CallLists.{pairs_more, pairs_none}
 use Rattle.sl_run_law.proofs.Landing.OneEvent.{IsLater, event_later, step_landings, world_first, world_keeps, world_then}
 use Rattle.sl_run_law.specs.Landing.Landings.{LandingsComeInOrder}
 use Rattle.sl_words.proofs.Lists.{contains_cases, contains_none}
-use Rattle.sl_run.specs.Events.{first_change, input_of, machine_of}
+use Rattle.sl_run.specs.EventChanges.{first_change}
+use Rattle.sl_run.specs.Inputs.{input_of, machine_of}
 use Rattle.sl_run.specs.Runs.{Happening}
 use Rattle.sl_run.specs.Safety.{LawfulRun, world_at}
 use Rattle.sl_run.specs.Worlds.{Landing, Program, World}

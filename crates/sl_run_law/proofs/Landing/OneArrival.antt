@@ -2,7 +2,9 @@
 use Rattle.sl_run_law.proofs.Landing.LandingGuards.{land_writes, shaped, tear_writes}
 use Rattle.sl_words.proofs.Lists.{set_here}
 use Rattle.sl_words.proofs.Options.{else_some}
-use Rattle.sl_run.specs.Events.{add_landing, after_crash, after_reset, after_restart, after_start, after_test, change_call, fated, first_change, flight_at, land_torn, land_whole, may_happen, sampled_more, sectors_left, spells_something, torn_bytes, write_bytes}
+use Rattle.sl_run.specs.EventChanges.{add_landing, after_crash, after_reset, after_restart, after_start, after_test, change_call, fated, first_change, flight_at, land_torn, land_whole, sampled_more, write_bytes}
+use Rattle.sl_run.specs.Refusals.{may_happen, sectors_left}
+use Rattle.sl_run.specs.Premises.{spells_something, torn_bytes}
 use Rattle.sl_run.specs.Worlds.{Course, Dropped, Fate, Landed, Landing, Machine, Torn, World, change_machine, flight_of, is_in_flight, is_write_course, machine_at, sector_size}
 use Rattle.sl_run.specs.declared.event.Event.TheVariants.{AnswerCall, Crash, Do, DropWrite, ExitOf, GiveAsk, GiveCommand, GiveLvm, Land, Pass, Reset, Restart, Sample, SpawnedOf, StartDaemon, Tear, Test, WakeUp}
 use Rattle.sl_run.specs.declared.event.Event.{Event}

@@ -1,7 +1,8 @@
 -- One event, from the world before it to the world after, and what each event keeps.
 use Rattle.sl_run_law.proofs.Front.RunsFromFronts.{IsLast, last_event, run_keeps}
 use Rattle.sl_run_law.proofs.Landing.OneArrival.{changed_landings}
-use Rattle.sl_run.specs.Events.{after_effects, after_step, first_change, input_of, machine_of, next_step, take_step}
+use Rattle.sl_run.specs.EventChanges.{after_effects, after_step, first_change, next_step, take_step}
+use Rattle.sl_run.specs.Inputs.{input_of, machine_of}
 use Rattle.sl_run.specs.Runs.{Happening}
 use Rattle.sl_run.specs.Safety.{LawfulRun, world_at}
 use Rattle.sl_run.specs.Worlds.{Program, World, stamp_now, world_with}

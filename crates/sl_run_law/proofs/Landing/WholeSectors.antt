@@ -1,12 +1,15 @@
 -- What lands are whole sectors.
-use Rattle.sl_area.specs.Layouts.{Layout, layout_with, sector_with}
+use Rattle.sl_area.specs.AreaSizes.{Layout, layout_with, sector_with}
 use Rattle.sl_run_law.proofs.Landing.OneArrival.{Arrival, Lands, first_lands}
 use Rattle.sl_run_law.proofs.Landing.InitialRecords.{initial_sized, is_size}
 use Rattle.sl_run_law.proofs.Landing.OneEvent.{event_goes_on, step_landings, world_first, world_keeps, world_then}
 use Rattle.sl_run_law.proofs.Landing.CallsAreSpelled.{CallsAreSpelled, IsSpelled, run_spells}
 use Rattle.sl_run_law.specs.Landing.Landings.{LandingsAreSectors}
 use Rattle.sl_words.proofs.Lists.{contains_cases, contains_none, find_inside}
-use Rattle.sl_run.specs.Events.{first_change, input_of, machine_of, may_happen, torn_bytes, write_bytes}
+use Rattle.sl_run.specs.EventChanges.{first_change, write_bytes}
+use Rattle.sl_run.specs.Inputs.{input_of, machine_of}
+use Rattle.sl_run.specs.Refusals.{may_happen}
+use Rattle.sl_run.specs.Premises.{torn_bytes}
 use Rattle.sl_run.specs.Headers.{IsHeader}
 use Rattle.sl_run.specs.Runs.{Happening}
 use Rattle.sl_run.specs.Safety.{LawfulRun, world_at}
@@ -15,7 +18,7 @@ use Rattle.sl_run.specs.declared.event.Event.{Event}
 use Rattle.sl_run.specs.declared.header.Header.{Header}
 use Rattle.sl_run_law.proofs.WorldsGoOn.{run_goes}
 use Rattle.sl_sector.proofs.SpellingLaws.{length-spelling}
-use Rattle.sl_sector.specs.Spelling.{IsDigest, IsSectorSize}
+use Rattle.sl_sector.specs.SectorLayouts.{IsDigest, IsSectorSize}
 use Rattle.sl_trace.specs.Traces.{is_write, record_of, same_place}
 use Rattle.sl_trace.specs.declared.effects.Call.{Call}
 use Rattle.sl_trace.specs.declared.effects.Effects.{Effects}

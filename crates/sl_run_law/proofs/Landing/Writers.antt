@@ -1,5 +1,5 @@
 -- Each landing has its writer.
-use Rattle.sl_area.specs.Layouts.{Layout, record_in, sector_with}
+use Rattle.sl_area.specs.AreaSizes.{Layout, record_in, sector_with}
 use Rattle.sl_run_law.specs.Course.CourseLaws.{CallsAreDistinct}
 use Rattle.sl_run_law.proofs.Landing.OneArrival.{Arrival, IsPart, IsWhole, Lands, first_lands}
 use Rattle.sl_run_law.proofs.Landing.CallsMadeBefore.{AreBefore, distinct_at, fate_kept, run_made_before}
@@ -9,7 +9,10 @@ use Rattle.sl_run_law.proofs.Landing.CallsOfStep.{Step, event_makes, step_makes}
 use Rattle.sl_run_law.proofs.Landing.CallsBeforeStep.{flight_number}
 use Rattle.sl_run_law.specs.Landing.Landings.{HasWriter, IsWrittenBy, LandingsAreWritten, LeftBy}
 use Rattle.sl_words.proofs.Lists.{contains_cases, contains_map, contains_none, find_inside}
-use Rattle.sl_run.specs.Events.{change_call, fated, first_change, input_of, machine_of, may_happen, spells_something}
+use Rattle.sl_run.specs.EventChanges.{change_call, fated, first_change}
+use Rattle.sl_run.specs.Inputs.{input_of, machine_of}
+use Rattle.sl_run.specs.Refusals.{may_happen}
+use Rattle.sl_run.specs.Premises.{spells_something}
 use Rattle.sl_run.specs.Safety.{world_at}
 use Rattle.sl_run.specs.Worlds.{Course, Fate, Landed, Landing, Machine, Stamp, Torn, World, flight_of, is_in_flight, is_of_running, is_open, machine_at, may_land, stamp_now, world_with}
 use Rattle.sl_run.specs.declared.event.Event.{Event}

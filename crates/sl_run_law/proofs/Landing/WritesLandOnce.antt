@@ -7,7 +7,8 @@ use Rattle.sl_run_law.proofs.Landing.OneEvent.{step_landings, world_first, world
 use Rattle.sl_run_law.proofs.Landing.Writers.{are_written_given, writer_settled}
 use Rattle.sl_run_law.specs.Landing.Landings.{HasWriter, IsWrittenBy, WritesLandOnce}
 use Rattle.sl_words.proofs.Lists.{find_inside}
-use Rattle.sl_run.specs.Events.{first_change, input_of, machine_of}
+use Rattle.sl_run.specs.EventChanges.{first_change}
+use Rattle.sl_run.specs.Inputs.{input_of, machine_of}
 use Rattle.sl_run.specs.Safety.{world_at}
 use Rattle.sl_run.specs.Worlds.{Course, Landing, Machine, World, is_in_flight, is_open, machine_at, world_with}
 use Rattle.sl_run.specs.declared.event.Event.{Event}

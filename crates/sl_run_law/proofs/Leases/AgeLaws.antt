@@ -1,6 +1,6 @@
 -- What stays of calls as they age.
-use Rattle.sl_area.specs.Layouts.{Layout}
-use Rattle.sl_area.specs.Places.{BlocksRead, blocks_of, pairs_kept}
+use Rattle.sl_area.specs.AreaSizes.{Layout}
+use Rattle.sl_area.specs.Pairs.{BlocksRead, blocks_of, pairs_kept}
 use Rattle.sl_run.specs.LawfulBlock.{FirstAfter, ReadAfter}
 use Rattle.sl_run_law.specs.Leases.CallFronts.{Aged, AllAged}
 use Rattle.sl_run_law.specs.Leases.Ways.{FoundIn, lease_among}

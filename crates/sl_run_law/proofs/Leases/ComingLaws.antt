@@ -1,5 +1,5 @@
 -- Each block comes from the own block.
-use Rattle.sl_area.specs.Layouts.{Layout}
+use Rattle.sl_area.specs.AreaSizes.{Layout}
 use Rattle.sl_run.specs.Lawful.{Orderly}
 use Rattle.sl_run.specs.LawfulBlock.{LawfulBlockStep, LawfulBlockWrite}
 use Rattle.sl_run.specs.LawForms.{cut_at}

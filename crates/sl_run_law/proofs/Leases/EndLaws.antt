@@ -1,5 +1,5 @@
 -- Ballots that ended, and the leaders that follow them.
-use Rattle.sl_area.specs.Layouts.{Layout}
+use Rattle.sl_area.specs.AreaSizes.{Layout}
 use Rattle.sl_run.specs.Lawful.{Orderly}
 use Rattle.sl_run.specs.LawfulLeader.{HasWon, LawfulFreeLeader, LawfulLeaderWrite, LawfulTake}
 use Rattle.sl_run.specs.LawForms.{cut_at}

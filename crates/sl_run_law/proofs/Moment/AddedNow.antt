@@ -2,7 +2,9 @@
 use Rattle.sl_run_law.proofs.Moment.GrowingLists.{CallsAdd, CourseAdds, From, IsNow, calls_again, calls_changed, calls_same, calls_submitted, from_again, from_both, from_equal, from_new, from_same}
 use Rattle.sl_run_law.specs.Moment.MomentsFollowSteps.{stamps_on}
 use Rattle.sl_words.proofs.Lists.{contains_cases, contains_none}
-use Rattle.sl_run.specs.Events.{after_crash, after_effects, after_reset, after_restart, after_start, after_step, after_test, change_call, close_answered, daemon_number, fated, first_change, happens, machine_of, next_input, next_step, passed, sample_at, sampled_more, sectors_left, take_step, take_steps, with_entry}
+use Rattle.sl_run.specs.EventChanges.{after_crash, after_effects, after_reset, after_restart, after_start, after_step, after_test, change_call, close_answered, daemon_number, fated, first_change, happens, next_input, next_step, passed, sample_at, sampled_more, take_step, take_steps, with_entry}
+use Rattle.sl_run.specs.Inputs.{machine_of}
+use Rattle.sl_run.specs.Refusals.{sectors_left}
 use Rattle.sl_run.specs.Locks.{Locks}
 use Rattle.sl_run.specs.Worlds.{Course, Daemon, Dropped, Fate, Landed, Machine, Sampling, Stamp, Torn, World, change_machine, daemons_on, machine_at, new_daemon, next_numbers, reading_now, setting_of, stamp_now}
 use Rattle.sl_run.specs.declared.event.Event.{Event}
@@ -11,7 +13,7 @@ use Rattle.sl_run_law.proofs.MachineWalk.{Asked, each_first, each_further, each_
 use Rattle.sl_run_law.specs.WorldsGoOn.{time_of}
 use Rattle.sl_run_law.specs.Machines.{EachMachine}
 use Rattle.sl_run_law.proofs.Front.JoinedLists.{contains_append, contains_right}
-use Rattle.sl_trace.specs.Connections.{test_holds}
+use Rattle.sl_trace.specs.WatchdogConnections.{test_holds}
 use Rattle.sl_trace.specs.Traces.{is_ok_answer}
 use Rattle.sl_trace.specs.declared.effects.Call.{Call}
 use Rattle.sl_trace.specs.declared.effects.Effects.{Effects}

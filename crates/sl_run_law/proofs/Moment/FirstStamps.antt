@@ -1,5 +1,5 @@
 -- At first all that is kept is of step 0, moment 0, and the clock as it stands.
-use Rattle.sl_area.specs.Layouts.{Layout, layout_with}
+use Rattle.sl_area.specs.AreaSizes.{Layout, layout_with}
 use Rattle.sl_run_law.proofs.Front.JoinedLists.{contains_append}
 use Rattle.sl_run_law.proofs.Moment.AddedNow.{daemon_stamps}
 use Rattle.sl_run_law.specs.Moment.MomentsFollowSteps.{At_first, IsKept, Of_landing, Of_sample, Of_stamp, stamps_on}

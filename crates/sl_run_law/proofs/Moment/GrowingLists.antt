@@ -1,7 +1,7 @@
 -- Lists of stamps and of calls that grow by what is kept now, and by nothing else.
 use Rattle.sl_run_law.proofs.Front.JoinedLists.{contains_append, contains_left, contains_right}
 use Rattle.sl_words.proofs.Lists.{contains_cases, contains_first, contains_more, contains_none}
-use Rattle.sl_run.specs.Events.{new_course}
+use Rattle.sl_run.specs.EventChanges.{new_course}
 use Rattle.sl_run.specs.Worlds.{Course, Sampling, Stamp}
 use Rattle.sl_run_law.proofs.CourseLists.{changed_if}
 use Rattle.sl_trace.specs.declared.effects.Call.{Call}

@@ -1,7 +1,10 @@
 -- What lands in an event lands now.
 use Rattle.sl_run_law.proofs.Moment.AddedNow.{Between, moved, steps_by_one}
 use Rattle.sl_words.proofs.Lists.{contains_cases}
-use Rattle.sl_run.specs.Events.{add_landing, after_crash, after_reset, after_restart, after_start, after_test, change_call, fated, first_change, flight_at, happens, land_whole, machine_of, next_input, next_step, sampled_more, sectors_left, take_step, take_steps, torn_bytes, write_bytes}
+use Rattle.sl_run.specs.EventChanges.{add_landing, after_crash, after_reset, after_restart, after_start, after_test, change_call, fated, first_change, flight_at, happens, land_whole, next_input, next_step, sampled_more, take_step, take_steps, write_bytes}
+use Rattle.sl_run.specs.Inputs.{machine_of}
+use Rattle.sl_run.specs.Refusals.{sectors_left}
+use Rattle.sl_run.specs.Premises.{torn_bytes}
 use Rattle.sl_run.specs.Worlds.{Course, Dropped, Landed, Landing, Machine, Torn, World, change_machine, is_in_flight, is_write_course}
 use Rattle.sl_run.specs.declared.event.Event.TheVariants.{AnswerCall, Crash, Do, DropWrite, ExitOf, GiveAsk, GiveCommand, GiveLvm, Land, Pass, Reset, Restart, Sample, SpawnedOf, StartDaemon, Tear, Test, WakeUp}
 use Rattle.sl_run.specs.declared.event.Event.{Event}

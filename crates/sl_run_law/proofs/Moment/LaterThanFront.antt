@@ -7,7 +7,7 @@ use Rattle.sl_run_law.proofs.Moment.MomentsFollowSteps.{Follows, Keeps, OldOrNew
 use Rattle.sl_run_law.proofs.Moment.GrowingLists.{IsNow}
 use Rattle.sl_run_law.specs.Moment.FrontMoments.{FrontsGoOn, IsSince, MomentsFollowFronts, StampsDriftFromFronts, WasSince}
 use Rattle.sl_run_law.specs.Moment.MomentsFollowSteps.{IsKept, Of_stamp, point_now, point_of, stamps_on}
-use Rattle.sl_run.specs.Events.{happens}
+use Rattle.sl_run.specs.EventChanges.{happens}
 use Rattle.sl_run.specs.Runs.{Happening, IsRun, world_after}
 use Rattle.sl_run.specs.Safety.{world_at}
 use Rattle.sl_run.specs.Worlds.{Machine, Stamp, World, machine_at, world_with}

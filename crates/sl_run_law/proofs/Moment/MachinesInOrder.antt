@@ -1,5 +1,5 @@
 -- What a machine keeps is in order: each event adds in front, and at a later step.
-use Rattle.sl_area.specs.Layouts.{Layout, layout_with}
+use Rattle.sl_area.specs.AreaSizes.{Layout, layout_with}
 use Rattle.sl_run_law.proofs.Front.RunsFromFronts.{was_there}
 use Rattle.sl_run_law.proofs.Front.JoinedLists.{contains_append}
 use Rattle.sl_run_law.proofs.Moment.AddedNow.{steps_by_one}
@@ -7,7 +7,9 @@ use Rattle.sl_run_law.proofs.Moment.FirstStamps.{first_machines}
 use Rattle.sl_run_law.proofs.Moment.Stamps.{entry_is_stamp}
 use Rattle.sl_run_law.specs.Moment.Orders.{CallsFall, EntriesAreInOrder, EntriesAreWaits, Fall, IsInOrder, IsTimed, MachinesAreInOrder, entry_stamp, life_of}
 use Rattle.sl_words.proofs.Lists.{contains_cases, contains_first, contains_more, contains_none}
-use Rattle.sl_run.specs.Events.{after_crash, after_effects, after_reset, after_restart, after_start, after_step, after_test, change_call, close_answered, daemon_number, fated, first_change, happens, machine_of, may_happen, new_course, next_input, next_step, passed, sample_at, sampled_more, sectors_left, take_step, take_steps, with_entry}
+use Rattle.sl_run.specs.EventChanges.{after_crash, after_effects, after_reset, after_restart, after_start, after_step, after_test, change_call, close_answered, daemon_number, fated, first_change, happens, new_course, next_input, next_step, passed, sample_at, sampled_more, take_step, take_steps, with_entry}
+use Rattle.sl_run.specs.Inputs.{machine_of}
+use Rattle.sl_run.specs.Refusals.{may_happen, sectors_left}
 use Rattle.sl_run.specs.Runs.{Happening, IsRun, world_after}
 use Rattle.sl_run.specs.Safety.{world_at}
 use Rattle.sl_run.specs.Worlds.{Course, Daemon, Dropped, Fate, Landed, Machine, Program, Sampling, Stamp, Torn, World, daemons_on, first_numbers, first_stamp, given_of, machine_at, machine_of_header, new_daemon, next_numbers, reading_now, setting_of, stamp_now, world_with}

@@ -7,7 +7,8 @@ use Rattle.sl_run_law.proofs.Moment.FirstStamps.{kept_first, stamps_first}
 use Rattle.sl_run_law.proofs.Moment.GrowingLists.{IsNow}
 use Rattle.sl_run_law.proofs.Moment.LandsNow.{Lands, event_lands}
 use Rattle.sl_run_law.specs.Moment.MomentsFollowSteps.{At_first, IsKept, KeptIsPast, MomentsFollowSteps, Of_landing, Of_sample, Of_stamp, StampsDrift, StampsDriftToNow, point_now, point_of, stamps_on}
-use Rattle.sl_run.specs.Events.{happens, may_happen}
+use Rattle.sl_run.specs.EventChanges.{happens}
+use Rattle.sl_run.specs.Refusals.{may_happen}
 use Rattle.sl_run.specs.Runs.{Happening, IsRun, world_after}
 use Rattle.sl_run.specs.Safety.{LawfulRun, world_at}
 use Rattle.sl_run.specs.Worlds.{Machine, Program, Stamp, World, machine_at, world_with}

@@ -1,6 +1,6 @@
 -- The header's areas are apart, and begin at multiples of their size.
-use Rattle.sl_area.specs.Layouts.{Layout, Sizes}
-use Rattle.sl_area.specs.Places.{in_area, is_base}
+use Rattle.sl_area.specs.AreaSizes.{Layout, Sizes}
+use Rattle.sl_area.specs.AreaLayout.{in_area, is_base}
 use Rattle.sl_run_law.proofs.Front.JoinedLists.{placed_at}
 use Rattle.sl_run_law.proofs.Place.Sizes.{IsSized, area_has_bytes, around_base, is_multiple, one_base}
 use Rattle.sl_words.proofs.Lists.{got_before, got_index}

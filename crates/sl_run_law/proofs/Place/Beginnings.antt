@@ -1,6 +1,7 @@
 -- What stands at a place at first: a record of a lockspace's area, or of a resource's, or zeros, which spell nothing.
-use Rattle.sl_area.specs.Layouts.{Layout, layout_with, record_in, sector_with}
-use Rattle.sl_area.specs.Places.{area_sectors, fresh_block, fresh_block_at, fresh_delta, fresh_leader, fresh_pair, in_area, leader_record, no_request, no_value}
+use Rattle.sl_area.specs.AreaSizes.{Layout, layout_with, record_in, sector_with}
+use Rattle.sl_area.specs.AreaLayout.{area_sectors, in_area}
+use Rattle.sl_area.specs.AreaRecords.{fresh_block, fresh_block_at, fresh_delta, fresh_leader, fresh_pair, leader_record, no_request, no_value}
 use Rattle.sl_run_law.proofs.Landing.InitialRecords.{a_moment, below, fresh_delta_is, initial_is_record, member_delta_is, up_to, within}
 use Rattle.sl_run_law.proofs.Place.FoundInLists.{same_read, same_text}
 use Rattle.sl_run_law.proofs.Place.Sizes.{sector_fits, sized}
@@ -15,7 +16,7 @@ use Rattle.sl_run.specs.declared.header.ResourceLine.{ResourceLine}
 use Rattle.sl_run.specs.declared.header.SessionLine.{SessionLine}
 use Rattle.sl_sector.proofs.PublicLaws.{spelled_is_read}
 use Rattle.sl_sector.specs.Records.{IsDelta, IsRecord}
-use Rattle.sl_sector.specs.Spelling.{IsDigest, decoded, magic}
+use Rattle.sl_sector.specs.SectorLayouts.{IsDigest, decoded, magic}
 use Rattle.sl_sector.specs.declared.sector.Block.{Block}
 use Rattle.sl_sector.specs.declared.sector.DeltaRec.{DeltaRec}
 use Rattle.sl_sector.specs.declared.sector.Leader.{Leader}

@@ -1,7 +1,7 @@
 -- What a read of blocks shows: each of their sectors, at its place, whether leader and request are read with them or not.
-use Rattle.sl_area.specs.Layouts.{Layout}
-use Rattle.sl_area.specs.Places.{area_sectors, block_offset, block_sectors, blocks_part, in_area, sector_of}
-use Rattle.sl_run.specs.Events.{sectors_of}
+use Rattle.sl_area.specs.AreaSizes.{Layout}
+use Rattle.sl_area.specs.AreaLayout.{area_sectors, block_offset, block_sectors, blocks_part, in_area, sector_of}
+use Rattle.sl_run.specs.Refusals.{sectors_of}
 use Rattle.sl_run.specs.Lawful.{Orderly}
 use Rattle.sl_run.specs.LawfulArea.{IsAreaRead, IsBlockRead}
 use Rattle.sl_run.specs.Runs.{Happening}

@@ -1,6 +1,6 @@
 -- Checks of what the laws of areas say: what follows from them, and would not if a definition said less.
-use Rattle.sl_area.specs.Layouts.{Layout, Sizes, record_in}
-use Rattle.sl_area.specs.Places.{block_offset, delta_offset, in_area}
+use Rattle.sl_area.specs.AreaSizes.{Layout, Sizes, record_in}
+use Rattle.sl_area.specs.AreaLayout.{block_offset, delta_offset, in_area}
 use Rattle.sl_run.specs.LawfulArea.{record_offset}
 use Rattle.sl_run_law.proofs.Place.Areas.{lockspace_aligned}
 use Rattle.sl_run_law.proofs.Place.PlaceLaws.{lockspaces_hold_deltas, promised}

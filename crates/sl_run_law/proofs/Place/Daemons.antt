@@ -1,12 +1,13 @@
 -- Of each daemon of a lawful run: each entry came at a later step than the one before, and it is given the header's sessions or none.
-use Rattle.sl_area.specs.Layouts.{Layout, layout_with}
+use Rattle.sl_area.specs.AreaSizes.{Layout, layout_with}
 use Rattle.sl_run_law.proofs.Course.MatchedCall.{found_below}
 use Rattle.sl_run_law.specs.Course.CallStamps.{stamp_in}
 use Rattle.sl_run_law.proofs.Front.RunsFromFronts.{IsKeptInRuns, IsLast, last_event, run_keeps}
 use Rattle.sl_words.proofs.Lists.{contains_cases, contains_more, contains_none, same_place_in}
 use Rattle.sl_words.proofs.Numbers.{less_than_next, lt_then_le}
 use Rattle.sl_words.proofs.Options.{else_some}
-use Rattle.sl_run.specs.Events.{after_effects, after_step, first_change, input_of, machine_of, next_step, take_step, with_entry}
+use Rattle.sl_run.specs.EventChanges.{after_effects, after_step, first_change, next_step, take_step, with_entry}
+use Rattle.sl_run.specs.Inputs.{input_of, machine_of}
 use Rattle.sl_run.specs.Runs.{Happening}
 use Rattle.sl_run.specs.Safety.{LawfulRun, world_at}
 use Rattle.sl_run.specs.Worlds.{Daemon, Machine, Program, Stamp, World, daemons_on, first_numbers, first_stamp, given_of, machine_at, machine_of_header, new_daemon, next_numbers, reading_now, setting_of, stamp_now, world_with}

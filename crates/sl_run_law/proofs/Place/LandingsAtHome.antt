@@ -1,6 +1,6 @@
 -- Each landing is at home: by induction on its step, since what its writer had read stood there at first or landed before.
-use Rattle.sl_area.specs.Layouts.{Layout}
-use Rattle.sl_area.specs.Places.{delta_offset, in_area}
+use Rattle.sl_area.specs.AreaSizes.{Layout}
+use Rattle.sl_area.specs.AreaLayout.{delta_offset, in_area}
 use Rattle.sl_run_law.specs.Landing.Landings.{HasWriter, IsWrittenBy}
 use Rattle.sl_run.specs.LawfulArea.{HasVerified, LawfulAreaWrite, is_delta_record, record_offset}
 use Rattle.sl_run.specs.LawfulLeader.{LawfulLeaderWrite}

@@ -1,13 +1,13 @@
 -- A session that writes its sector was given, or had looked at the sector before: its first read gave a record of its lockspace and id.
-use Rattle.sl_area.specs.Layouts.{record_in}
-use Rattle.sl_area.specs.Places.{is_base}
+use Rattle.sl_area.specs.AreaSizes.{record_in}
+use Rattle.sl_area.specs.AreaLayout.{is_base}
 use Rattle.sl_run.specs.Lawful.{Orderly}
 use Rattle.sl_run.specs.LawfulDelta.{Gave, LawfulClaim, LawfulDeciding, LawfulDeltaCall, LawfulFirstRenewal, LawfulJoin, LawfulJoinStep, LawfulLook, LawfulVerify, is_on_own_sector}
 use Rattle.sl_run_law.proofs.Place.FoundInLists.{place_is}
 use Rattle.sl_run_law.proofs.Place.TracesOnMachines.{answer_gave, call_law}
 use Rattle.sl_words.proofs.Lists.{contains_none, find_inside, got_inside, in_map, kept_inside}
 use Rattle.sl_words.proofs.Numbers.{below_itself_suc, less_than_suc, refl_le, trans_le}
-use Rattle.sl_sector.specs.Spelling.{delta_in}
+use Rattle.sl_sector.specs.SectorLayouts.{delta_in}
 use Rattle.sl_sector.specs.declared.sector.DeltaRec.{DeltaRec}
 use Rattle.sl_sector.specs.declared.sector.DeltaState.{DeltaState}
 use Rattle.sl_run_law.proofs.Sessions.FrontAnswersStay.{front_answers_stay}
@@ -15,7 +15,7 @@ use Rattle.sl_run_law.proofs.Sessions.CallsAreMade.{answers_stay, calls_are_made
 use Rattle.sl_run_law.proofs.Sessions.CallOwners.{calls_were_lawful}
 use Rattle.sl_run_law.proofs.Sessions.EndedAreSilent.{stage_by}
 use Rattle.sl_run_law.specs.Sessions.SessionLaws.{IsMade, IsSession, WasLawful, front_of, made_as}
-use Rattle.sl_trace.specs.Deltas.{DeltaLease, delta_of_session, delta_record, own_offset}
+use Rattle.sl_trace.specs.DeltaDecisions.{DeltaLease, delta_of_session, delta_record, own_offset}
 use Rattle.sl_trace.specs.Sessions.{calls_of, delta_of_record, delta_written, free_write, is_call_of, is_delta_purpose, is_join_call, is_survey_purpose, join_call, joined_after, refused_after, removed_after, same_join_step, sessions, stage_after, stage_in, stage_of}
 use Rattle.sl_trace.specs.declared.session.Session.{Session}
 use Rattle.sl_trace.specs.declared.stage.Stage.TheVariants.{Looking, Standing}

@@ -1,10 +1,13 @@
 -- With pairs a leader that a lease was given was read, or was made for a torn one; then it has the names of a pair's block that was read.
-use Rattle.sl_area.specs.Layouts.{Layout, record_in}
-use Rattle.sl_area.specs.Places.{BlocksRead, block_sectors, fresh_leader, greatest_lver, later_pair, leader_made, leader_of, leader_read, needs_again, pair_back, pair_front, pair_kept, pair_merged, pair_read, pairs_kept, pairs_of, read_once, sector_of}
+use Rattle.sl_area.specs.AreaSizes.{Layout, record_in}
+use Rattle.sl_area.specs.Pairs.{BlocksRead, later_pair, needs_again, pair_back, pair_front, pair_kept, pair_merged, pair_read, pairs_kept, pairs_of, read_once}
+use Rattle.sl_area.specs.TornLeader.{greatest_lver, leader_made, leader_read}
+use Rattle.sl_area.specs.AreaLayout.{block_sectors, leader_of, sector_of}
+use Rattle.sl_area.specs.AreaRecords.{fresh_leader}
 use Rattle.sl_words.proofs.Lists.{contains_cases, contains_first, contains_more, contains_none, find_inside, in_map}
 use Rattle.sl_words.proofs.Numbers.{both_next, one_further, plus_zero, zero_less}
 use Rattle.sl_run_law.proofs.Place.FoundInLists.{given_by}
-use Rattle.sl_sector.specs.Spelling.{is_first_turn, pair_in}
+use Rattle.sl_sector.specs.SectorLayouts.{is_first_turn, pair_in}
 use Rattle.sl_sector.specs.declared.sector.Bad.{Bad}
 use Rattle.sl_sector.specs.declared.sector.Leader.{Leader}
 use Rattle.sl_sector.specs.declared.sector.PairBlock.{PairBlock}

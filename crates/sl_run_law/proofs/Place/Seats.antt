@@ -1,6 +1,6 @@
 -- Where a landing is at home, and where a session is: one that writes its sector has the area of its lockspace.
-use Rattle.sl_area.specs.Layouts.{Layout, Sizes, record_in}
-use Rattle.sl_area.specs.Places.{delta_offset, in_area, is_base, sector_of}
+use Rattle.sl_area.specs.AreaSizes.{Layout, Sizes, record_in}
+use Rattle.sl_area.specs.AreaLayout.{delta_offset, in_area, is_base, sector_of}
 use Rattle.sl_run_law.specs.Course.CallStamps.{stamp_in}
 use Rattle.sl_run.specs.LawfulArea.{is_delta_record}
 use Rattle.sl_run_law.proofs.Place.Areas.{is_base_aligned, is_within, lockspace_aligned, same_base}
@@ -14,7 +14,7 @@ use Rattle.sl_run_law.proofs.Place.Sizes.{IsSized, sector_fits, sector_has_bytes
 use Rattle.sl_run_law.specs.Place.Homes.{IsDeltaLanding, IsLeaseLanding}
 use Rattle.sl_words.proofs.Lists.{contains_none, find_inside}
 use Rattle.sl_words.proofs.Numbers.{at_least_first, next_is_most, no_times_more, one_least}
-use Rattle.sl_run.specs.Events.{sectors_of}
+use Rattle.sl_run.specs.Refusals.{sectors_of}
 use Rattle.sl_run.specs.Headers.{IsHeader}
 use Rattle.sl_run.specs.Runs.{Happening}
 use Rattle.sl_run.specs.Safety.{LawfulRun, world_at}
@@ -23,7 +23,7 @@ use Rattle.sl_run.specs.declared.header.Header.{Header}
 use Rattle.sl_run.specs.declared.header.LockspaceLine.{LockspaceLine}
 use Rattle.sl_run.specs.declared.header.ResourceLine.{ResourceLine}
 use Rattle.sl_run.specs.declared.header.SessionLine.{SessionLine}
-use Rattle.sl_sector.specs.Spelling.{delta_in}
+use Rattle.sl_sector.specs.SectorLayouts.{delta_in}
 use Rattle.sl_sector.specs.declared.sector.Bad.{Bad}
 use Rattle.sl_sector.specs.declared.sector.DeltaRec.{DeltaRec}
 use Rattle.sl_sector.specs.declared.sector.Rec.TheVariants.{BlockIs, DeltaIs, LeaderIs, PairIs, PairLeaderIs, RequestIs, ValueIs}

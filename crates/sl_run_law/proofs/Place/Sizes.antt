@@ -1,8 +1,8 @@
 -- What the table of sizes gives of a layout, and the arithmetic of its areas and sectors, whatever their sizes.
 use Rattle.sl_area.proofs.SizeLaws.{HasRoom, has_room}
-use Rattle.sl_area.specs.Layouts.{IsGeometry, Layout, Sizes, layout_with, roomy}
-use Rattle.sl_area.specs.Places.{block_sectors}
-use Rattle.sl_sector.specs.Spelling.{IsSectorSize}
+use Rattle.sl_area.specs.AreaSizes.{IsGeometry, Layout, Sizes, layout_with, roomy}
+use Rattle.sl_area.specs.AreaLayout.{block_sectors}
+use Rattle.sl_sector.specs.SectorLayouts.{IsSectorSize}
 use Rattle.sl_words.proofs.CaseLaws.{false_is_true}
 use Rattle.sl_words.proofs.WordLaws.{and_true, or_true}
 use Rattle.std.proofs.Common.{ap, arith, inl, inr, refl, subst, sym, ◌∙◌}

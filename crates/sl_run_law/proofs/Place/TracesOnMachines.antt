@@ -1,7 +1,7 @@
 -- What stands in a trace stands on its machine: a call is a call of a session, a landing is read back as what its write spelled, and a
 -- read that was answered shows landings.
-use Rattle.sl_area.specs.Layouts.{Layout, layout_with, record_in}
-use Rattle.sl_area.specs.Places.{sector_of}
+use Rattle.sl_area.specs.AreaSizes.{Layout, layout_with, record_in}
+use Rattle.sl_area.specs.AreaLayout.{sector_of}
 use Rattle.sl_run_law.specs.Course.CourseLaws.{CoursesAreCalls, CoursesHaveDaemons, DaemonsAreOfWorld}
 use Rattle.sl_run_law.specs.Course.CallStamps.{AnswersAgree, IsAnsweredAs, IsCourseOf, courses_of, stamp_in}
 use Rattle.sl_run_law.proofs.Front.JoinedLists.{contains_append, in_flat}
@@ -13,7 +13,7 @@ use Rattle.sl_run_law.proofs.Place.SessionNumbers.{session_number}
 use Rattle.sl_words.proofs.Lists.{contains_cases, contains_none, find_inside, got_inside, kept, kept_inside, there_is}
 use Rattle.sl_words.proofs.Numbers.{no_times, one_times}
 use Rattle.sl_words.proofs.Options.{some_of}
-use Rattle.sl_run.specs.Events.{sectors_of}
+use Rattle.sl_run.specs.Refusals.{sectors_of}
 use Rattle.sl_run.specs.Runs.{Happening}
 use Rattle.sl_run.specs.Safety.{Found, LawfulRun, SessionId, session_of_world, world_at}
 use Rattle.sl_run.specs.Worlds.{Course, Daemon, Landing, Machine, Program, Sampling, Stamp, World, daemon_numbered, daemons_on, first_landing, history_of, landed_at, machine_at, world_with}
@@ -23,7 +23,7 @@ use Rattle.sl_run_law.proofs.MachineWalk.{index}
 use Rattle.sl_run_law.specs.Sample.Samples.{DoneReadsAreWhole, IsSampleOf, SampledAreSectors, SamplesAreLandings, sector_place}
 use Rattle.sl_sector.proofs.PublicLaws.{spelled_is_read}
 use Rattle.sl_sector.specs.Records.{IsRecord}
-use Rattle.sl_sector.specs.Spelling.{IsDigest, IsSectorSize}
+use Rattle.sl_sector.specs.SectorLayouts.{IsDigest, IsSectorSize}
 use Rattle.sl_sector.specs.declared.sector.Rec.{Rec}
 use Rattle.sl_run_law.proofs.Sessions.TraceGrowth.{all_of_it}
 use Rattle.sl_run_law.proofs.Sessions.CallsAreMade.{calls_are_made}

@@ -1,6 +1,6 @@
 -- A session that has verified an area is on a resource's: what it read there is that resource's leader.
-use Rattle.sl_area.specs.Layouts.{Layout, record_in}
-use Rattle.sl_area.specs.Places.{area_sectors, block_sectors, in_area, leader_of, sector_of}
+use Rattle.sl_area.specs.AreaSizes.{Layout, record_in}
+use Rattle.sl_area.specs.AreaLayout.{area_sectors, block_sectors, in_area, leader_of, sector_of}
 use Rattle.sl_run_law.specs.Course.CallStamps.{stamp_in}
 use Rattle.sl_run.specs.Lawful.{Orderly}
 use Rattle.sl_run.specs.LawfulArea.{HasVerified, IsLeaderGiven, IsRightRead, is_delta_record, is_leader_read, leaders_read}
@@ -18,14 +18,14 @@ use Rattle.sl_trace.specs.Leases.{blocks_bytes, is_leader_of, is_lease_call, is_
 use Rattle.sl_run_law.proofs.Place.Sizes.{IsSized, sector_fits}
 use Rattle.sl_words.proofs.Lists.{kept_inside}
 use Rattle.sl_words.proofs.Numbers.{no_times_more}
-use Rattle.sl_run.specs.Events.{sectors_of}
+use Rattle.sl_run.specs.Refusals.{sectors_of}
 use Rattle.sl_run.specs.Headers.{IsHeader}
 use Rattle.sl_run.specs.Runs.{Happening}
 use Rattle.sl_run.specs.Safety.{LawfulRun, world_at}
 use Rattle.sl_run.specs.Worlds.{Daemon, Landing, Machine, Program, Stamp, World, daemons_on, machine_at}
 use Rattle.sl_run.specs.declared.header.Header.{Header}
 use Rattle.sl_run.specs.declared.header.ResourceLine.{ResourceLine}
-use Rattle.sl_sector.specs.Spelling.{leader_in, pair_leader_in}
+use Rattle.sl_sector.specs.SectorLayouts.{leader_in, pair_leader_in}
 use Rattle.sl_sector.specs.declared.sector.Bad.{Bad}
 use Rattle.sl_sector.specs.declared.sector.DeltaRec.{DeltaRec}
 use Rattle.sl_sector.specs.declared.sector.Leader.{Leader}

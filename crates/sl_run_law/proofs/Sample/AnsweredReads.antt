@@ -3,7 +3,9 @@ use Rattle.sl_run_law.proofs.Course.OneMachineChanges.{changed_here}
 use Rattle.sl_run_law.proofs.Course.Daemons.{every_each}
 use Rattle.sl_run_law.proofs.Landing.OneArrival.{flight_there}
 use Rattle.sl_words.proofs.Options.{then_value}
-use Rattle.sl_run.specs.Events.{add_landing, change_call, complete, done_input, fated, first_change, if_running, input_at, input_of, is_read_course, land_whole, machine_of, may_happen, ok_input, rest_sampled, sample_at, sampled_more, sectors_left, sectors_of, write_bytes}
+use Rattle.sl_run.specs.EventChanges.{add_landing, change_call, complete, fated, first_change, land_whole, sample_at, sampled_more, write_bytes}
+use Rattle.sl_run.specs.Inputs.{done_input, if_running, input_at, input_of, machine_of, ok_input, rest_sampled}
+use Rattle.sl_run.specs.Refusals.{is_read_course, may_happen, sectors_left, sectors_of}
 use Rattle.sl_run.specs.Worlds.{Course, Landed, Machine, Sampling, World, change_machine, flight_of, is_in_flight, is_open, is_write_course, machine_at}
 use Rattle.sl_run.specs.declared.event.Event.TheVariants.{AnswerCall, Crash, Do, DropWrite, ExitOf, GiveAsk, GiveCommand, GiveLvm, Land, Pass, Reset, Restart, Sample, SpawnedOf, StartDaemon, Tear, Test, WakeUp}
 use Rattle.sl_run.specs.declared.event.Event.{Event}

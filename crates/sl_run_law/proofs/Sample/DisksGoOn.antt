@@ -1,7 +1,9 @@
 -- What each event leaves of the disks: at most one landing comes, now.
 use Rattle.sl_run_law.proofs.Course.Daemons.{every_each}
 use Rattle.sl_words.proofs.Numbers.{at_least_first, refl_le, trans_le}
-use Rattle.sl_run.specs.Events.{add_landing, after_crash, after_effects, after_pass, after_reset, after_restart, after_start, after_step, after_test, change_call, fated, first_change, flight_at, land_whole, next_step, sampled_more, sectors_left, take_step, torn_bytes, write_bytes}
+use Rattle.sl_run.specs.EventChanges.{add_landing, after_crash, after_effects, after_pass, after_reset, after_restart, after_start, after_step, after_test, change_call, fated, first_change, flight_at, land_whole, next_step, sampled_more, take_step, write_bytes}
+use Rattle.sl_run.specs.Refusals.{sectors_left}
+use Rattle.sl_run.specs.Premises.{torn_bytes}
 use Rattle.sl_run.specs.Worlds.{Course, Dropped, Landed, Landing, Machine, Torn, World, change_machine, is_in_flight, is_write_course, machine_at, stamp_now}
 use Rattle.sl_run.specs.declared.event.Event.TheVariants.{AnswerCall, Crash, Do, DropWrite, ExitOf, GiveAsk, GiveCommand, GiveLvm, Land, Pass, Reset, Restart, Sample, SpawnedOf, StartDaemon, Tear, Test, WakeUp}
 use Rattle.sl_run.specs.declared.event.Event.{Event}

@@ -1,6 +1,6 @@
 -- The call that an event is about: it is the only one with its number, and no more is sampled than it reads.
 use Rattle.sl_words.proofs.Truth.{second_is_false}
-use Rattle.sl_run.specs.Events.{event_tests, is_placed, is_read_course, may_happen, needs_daemon, on_flight, sectors_left, sectors_of}
+use Rattle.sl_run.specs.Refusals.{event_tests, is_placed, is_read_course, may_happen, needs_daemon, on_flight, sectors_left, sectors_of}
 use Rattle.sl_run.specs.Worlds.{Course, Machine, World, flight_of, is_of_running, is_open, is_write_course, machine_at, is_landed}
 use Rattle.sl_run.specs.declared.event.Event.TheVariants.{AnswerCall, Sample}
 use Rattle.sl_run.specs.declared.event.Refusal.TheVariants.{MissingCall, MissingLanding, MissingPlace, MissingSample}

@@ -1,6 +1,7 @@
 -- A read that samples more sees what it samples.
 use Rattle.sl_words.proofs.Numbers.{less_than_next, next_is_most, refl_le, zero_least}
-use Rattle.sl_run.specs.Events.{next_step, sample_at, sampled_more, sectors_of}
+use Rattle.sl_run.specs.EventChanges.{next_step, sample_at, sampled_more}
+use Rattle.sl_run.specs.Refusals.{sectors_of}
 use Rattle.sl_run.specs.Worlds.{Course, Landing, Sampling, World, content, first_landing, history_of, landed_at, sector_size}
 use Rattle.sl_run_law.specs.FatesStay.{Every}
 use Rattle.sl_run_law.proofs.Sample.LandingNumbers.{newest_number, number_below, one_behind, sector_behind, sector_stays}

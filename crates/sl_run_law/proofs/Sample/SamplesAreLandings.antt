@@ -1,12 +1,13 @@
 -- What is kept along lawful runs, and the promises that are read off it.
-use Rattle.sl_area.specs.Layouts.{Layout, layout_with}
+use Rattle.sl_area.specs.AreaSizes.{Layout, layout_with}
 use Rattle.sl_run_law.specs.Course.CourseLaws.{CallsAreDistinct}
 use Rattle.sl_run_law.proofs.Front.RunsFromFronts.{IsKeptInRuns, IsLast, last_event, run_after, run_keeps, was_there}
 use Rattle.sl_run_law.proofs.Landing.InitialRecords.{initial_sized}
 use Rattle.sl_run_law.proofs.Landing.CallsMadeBefore.{distinct_at}
 use Rattle.sl_run_law.specs.Landing.Landings.{LandingsAreSectors}
 use Rattle.sl_words.proofs.Lists.{contains_cases, contains_none, find_inside}
-use Rattle.sl_run.specs.Events.{first_change, input_of, machine_of, take_step}
+use Rattle.sl_run.specs.EventChanges.{first_change, take_step}
+use Rattle.sl_run.specs.Inputs.{input_of, machine_of}
 use Rattle.sl_run.specs.Runs.{Happening}
 use Rattle.sl_run.specs.Safety.{LawfulRun, world_at}
 use Rattle.sl_run.specs.Worlds.{Course, Landing, Machine, Program, World, content, initial_bytes, last_landing, machine_at, world_with}

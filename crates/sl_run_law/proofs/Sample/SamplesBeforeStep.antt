@@ -1,7 +1,8 @@
 -- What is kept of each call by what an event changes before the daemon's step.
 use Rattle.sl_run_law.proofs.Landing.OneArrival.{flight_there}
 use Rattle.sl_words.proofs.Numbers.{refl_le}
-use Rattle.sl_run.specs.Events.{change_call, complete, fated, first_change, flight_at, land_whole, may_happen, next_step, sampled_more, sectors_left, sectors_of}
+use Rattle.sl_run.specs.EventChanges.{change_call, complete, fated, first_change, flight_at, land_whole, next_step, sampled_more}
+use Rattle.sl_run.specs.Refusals.{may_happen, sectors_left, sectors_of}
 use Rattle.sl_run.specs.Worlds.{Course, Dropped, Fate, Landed, Machine, Sampling, Torn, World, change_machine, content, flight_of, is_in_flight, is_write_course, machine_at}
 use Rattle.sl_run.specs.declared.event.Event.TheVariants.{Do, Sample}
 use Rattle.sl_run.specs.declared.event.Event.{Event}

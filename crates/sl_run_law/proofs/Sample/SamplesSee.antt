@@ -1,10 +1,10 @@
 -- What is kept of each call: its samples are of its first sectors, in order, and each shows what was the newest.
-use Rattle.sl_area.specs.Places.{sector_of}
+use Rattle.sl_area.specs.AreaLayout.{sector_of}
 use Rattle.sl_run_law.proofs.Course.Daemons.{every_each}
-use Rattle.sl_run.specs.Events.{is_read_course, sectors_of}
+use Rattle.sl_run.specs.Refusals.{is_read_course, sectors_of}
 use Rattle.sl_run.specs.Worlds.{Course, Landing, Sampling, World, first_landing, history_of, initial_bytes}
 use Rattle.sl_run.specs.declared.header.Header.{Header}
-use Rattle.sl_area.specs.Layouts.{Layout}
+use Rattle.sl_area.specs.AreaSizes.{Layout}
 use Rattle.sl_run_law.specs.FatesStay.{Every}
 use Rattle.sl_run_law.proofs.Sample.LandingNumbers.{every_kept, number_from, number_stays}
 use Rattle.sl_run_law.specs.Sample.Samples.{IsSampleOf, SampledInOrder, numbered_landing, sector_place}

@@ -1,6 +1,7 @@
 -- What is kept of each call by a step of the daemon, or of the machine itself.
 use Rattle.sl_words.proofs.Numbers.{zero_least}
-use Rattle.sl_run.specs.Events.{change_call, close_answered, daemon_number, new_course, sectors_of, take_step}
+use Rattle.sl_run.specs.EventChanges.{change_call, close_answered, daemon_number, new_course, take_step}
+use Rattle.sl_run.specs.Refusals.{sectors_of}
 use Rattle.sl_run.specs.Worlds.{Course, Machine, Sampling, Stamp, World, machine_at, stamp_now}
 use Rattle.sl_run_law.proofs.CoursesGoOn.{told}
 use Rattle.sl_run_law.proofs.MachineWalk.{each_step}

@@ -1,5 +1,5 @@
 -- The connection stands while a write is unanswered.
-use Rattle.sl_run.specs.LawfulWatchdog.{CoveredBy, is_covered}
+use Rattle.sl_run.specs.LawfulConnections.{CoveredBy, is_covered}
 use Rattle.sl_run.specs.Lawful.{Orderly}
 use Rattle.sl_words.proofs.Lists.{got_inside}
 use Rattle.sl_words.proofs.Truth.{or_false}

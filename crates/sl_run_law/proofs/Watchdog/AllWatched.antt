@@ -3,7 +3,10 @@ use Rattle.sl_run_law.proofs.Front.RunsFromFronts.{last_event, run_after, run_ke
 use Rattle.sl_words.proofs.Lists.{got_inside}
 use Rattle.sl_words.proofs.Options.{not_none, some_there, then_value}
 use Rattle.sl_words.proofs.Truth.{second_is_false}
-use Rattle.sl_run.specs.Events.{after_effects, after_step, change_call, event_tests, fated, first_change, if_running, input_at, input_of, is_late_landing, machine_of, may_happen, next_step, own_effects, pass_tests, passed, sampled_more, sectors_left, take_step}
+use Rattle.sl_run.specs.EventChanges.{after_effects, after_step, change_call, fated, first_change, next_step, own_effects, passed, sampled_more, take_step}
+use Rattle.sl_run.specs.Refusals.{event_tests, may_happen, sectors_left}
+use Rattle.sl_run.specs.Premises.{is_late_landing, pass_tests}
+use Rattle.sl_run.specs.Inputs.{if_running, input_at, input_of, machine_of}
 use Rattle.sl_run.specs.Runs.{Happening}
 use Rattle.sl_run.specs.Safety.{LawfulRun, world_at}
 use Rattle.sl_run.specs.Worlds.{Course, Daemon, Dropped, Landed, Machine, Program, Stamp, Torn, World, machine_at, may_land, resets_after, stamp_now, world_with}

@@ -1,11 +1,11 @@
 -- Each change of a machine leaves it watched.
 use Rattle.sl_run_law.specs.Course.Mirrors.{since_restart}
 use Rattle.sl_words.proofs.Lists.{contains_cases, contains_first, contains_more, kept, kept_inside}
-use Rattle.sl_run.specs.Events.{after_crash, after_reset, after_restart, after_start, after_test, change_call, fated, passed, sampled_more}
+use Rattle.sl_run.specs.EventChanges.{after_crash, after_reset, after_restart, after_start, after_test, change_call, fated, passed, sampled_more}
 use Rattle.sl_run.specs.Worlds.{Course, Daemon, Fate, Machine, Stamp, World, daemons_on, is_in_flight, is_write_course, may_land, reading_now, resets_after, stamp_now}
 use Rattle.sl_run_law.proofs.CoursesGoOn.{told}
 use Rattle.sl_time.specs.Times.{TimingNumbers, reading_of}
-use Rattle.sl_trace.specs.Connections.{test_holds}
+use Rattle.sl_trace.specs.WatchdogConnections.{test_holds}
 use Rattle.sl_run_law.proofs.Watchdog.Freshness.{IsFresh, test_finds}
 use Rattle.sl_run_law.proofs.Watchdog.ConnectionHeld.{held}
 use Rattle.sl_run_law.proofs.Watchdog.KnownMachines.{IsKnown}

@@ -1,7 +1,7 @@
 -- The connection of a session that needs it stands, on a machine that is up.
 use Rattle.sl_ids.specs.Clocks.Points.{Precedes}
 use Rattle.sl_run_law.specs.Course.Mirrors.{since_restart}
-use Rattle.sl_run.specs.LawfulWatchdog.{is_covered}
+use Rattle.sl_run.specs.LawfulConnections.{is_covered}
 use Rattle.sl_run_law.proofs.Moment.Stamps.{kept_is_stamp}
 use Rattle.sl_run_law.specs.Moment.MomentsFollowSteps.{point_of, stamps_on}
 use Rattle.sl_run_law.proofs.Front.JoinedLists.{contains_left, contains_right, in_flat}

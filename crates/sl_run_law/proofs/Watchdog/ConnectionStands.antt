@@ -1,7 +1,7 @@
 -- A session's connection stands while a write of it is unanswered, and nothing registers its name meanwhile.
 use Rattle.sl_run.proofs.LawFacts.{orderly-front}
 use Rattle.sl_run.specs.Lawful.{Orderly}
-use Rattle.sl_run.specs.LawfulWatchdog.{is_covered}
+use Rattle.sl_run.specs.LawfulConnections.{is_covered}
 use Rattle.sl_words.proofs.Lists.{contains_none, got_inside}
 use Rattle.sl_run_law.proofs.Sessions.WritesAreCovered.{by_stage, covered_in}
 use Rattle.sl_run_law.proofs.Sessions.JoiningsInTurn.{in_turn}
@@ -11,7 +11,7 @@ use Rattle.sl_run_law.proofs.Sessions.UnansweredNotRemoved.{not_removed}
 use Rattle.sl_run_law.specs.Sessions.SessionLaws.{IsSession}
 use Rattle.sl_trace.specs.Sessions.{calls_of, free_write, has_open_write, is_covered_stage, joined_after, refused_after, removed_after, session_numbered, sessions, stage_in, stage_of}
 use Rattle.sl_trace.specs.declared.session.Session.{Session}
-use Rattle.sl_trace.specs.Connections.{last_registering, registers, unregisters}
+use Rattle.sl_trace.specs.WatchdogConnections.{last_registering, registers, unregisters}
 use Rattle.sl_trace.specs.Traces.{Setting, Submitted, Trace, is_write, mark, submitted}
 use Rattle.sl_trace.specs.declared.effects.Entry.{Entry}
 use Rattle.sl_trace.specs.declared.effects.Move.{Move}

@@ -1,7 +1,7 @@
 -- What keeps the reading of the last keepalive below that until which a session may act.
 use Rattle.sl_run.proofs.LawFacts.{orderly-front}
 use Rattle.sl_run.specs.Lawful.{Orderly}
-use Rattle.sl_run.specs.LawfulWatchdog.{acts_until, is_covered}
+use Rattle.sl_run.specs.LawfulConnections.{acts_until, is_covered}
 use Rattle.sl_words.proofs.Lists.{contains_first, contains_more, find_inside, got_inside}
 use Rattle.sl_run_law.proofs.Sessions.JoiningsInTurn.{joined_before}
 use Rattle.sl_run_law.proofs.Sessions.EndedAreSilent.{stage_by}
@@ -12,7 +12,7 @@ use Rattle.sl_trace.specs.declared.session.Session.{Session}
 use Rattle.sl_trace.specs.declared.stage.Stage.TheVariants.{Looking}
 use Rattle.sl_trace.specs.declared.stage.Stage.{Stage}
 use Rattle.sl_time.specs.Times.{IsTiming, TimingNumbers, fail}
-use Rattle.sl_trace.specs.Connections.{Connection, connections, given_connection, last_registering, registers, test_holds}
+use Rattle.sl_trace.specs.WatchdogConnections.{Connection, connections, given_connection, last_registering, registers, test_holds}
 use Rattle.sl_trace.specs.Traces.{Setting, Submitted, Trace}
 use Rattle.sl_trace.specs.declared.effects.Entry.{Entry}
 use Rattle.sl_trace.specs.declared.input.Given.{Given}

@@ -6,7 +6,7 @@ use Rattle.sl_trace.specs.declared.session.Begun.{Begun}
 use Rattle.sl_trace.specs.declared.session.Renewing.{Renewing}
 use Rattle.sl_trace.specs.declared.session.Session.{Session}
 use Rattle.sl_time.specs.Times.{fail}
-use Rattle.sl_trace.specs.Connections.{last_registering, registers}
+use Rattle.sl_trace.specs.WatchdogConnections.{last_registering, registers}
 use Rattle.sl_trace.specs.Traces.{IsTrace, Setting, Submitted, Trace, call_numbered, last_reading, mark, submitted}
 use Rattle.sl_trace.specs.declared.effects.Entry.{Entry}
 use Rattle.sl_trace.specs.declared.input.Answer.TheVariants.{Failed, Read, Written}

@@ -3,7 +3,7 @@ use Rattle.sl_run_law.proofs.Course.MatchedCall.{newest_stamp, stamp_stays}
 use Rattle.sl_run_law.specs.Course.CallStamps.{IsStampOf, IsStamped, Pairwise, stamp_in}
 use Rattle.sl_run.proofs.LawFacts.{orderly-front}
 use Rattle.sl_run.specs.Lawful.{Orderly}
-use Rattle.sl_run.specs.LawfulWatchdog.{acts_until, is_covered}
+use Rattle.sl_run.specs.LawfulConnections.{acts_until, is_covered}
 use Rattle.sl_words.proofs.Lists.{contains_first, contains_more, contains_none, find_inside}
 use Rattle.sl_run.specs.Worlds.{Daemon, Stamp}
 use Rattle.sl_run_law.proofs.Sessions.JoiningsInTurn.{joined_before}
@@ -12,7 +12,7 @@ use Rattle.sl_run_law.specs.Sessions.SessionLaws.{IsSession}
 use Rattle.sl_trace.specs.Sessions.{joined_after, last_renewal}
 use Rattle.sl_trace.specs.declared.session.Session.{Session}
 use Rattle.sl_time.specs.Times.{fail, reading_of}
-use Rattle.sl_trace.specs.Connections.{last_registering, registers}
+use Rattle.sl_trace.specs.WatchdogConnections.{last_registering, registers}
 use Rattle.sl_trace.specs.Traces.{Setting, Submitted, Trace, mark, submitted}
 use Rattle.sl_trace.specs.declared.effects.Entry.{Entry}
 use Rattle.sl_trace.specs.declared.input.Given.{Given}

@@ -2,12 +2,12 @@
 use Rattle.sl_run_law.specs.Course.Mirrors.{AreNumbered, since_restart}
 use Rattle.sl_run.specs.Lawful.{Orderly}
 use Rattle.sl_words.proofs.Lists.{contains_cases, contains_first, contains_none, kept_inside}
-use Rattle.sl_run.specs.Events.{after_effects, after_step, daemon_number, new_course, with_entry}
+use Rattle.sl_run.specs.EventChanges.{after_effects, after_step, daemon_number, new_course, with_entry}
 use Rattle.sl_run.specs.Locks.{Locks}
 use Rattle.sl_run.specs.Worlds.{Course, Daemon, Machine, Stamp, daemons_on, may_land, reading_now, resets_after}
 use Rattle.sl_run_law.proofs.CoursesGoOn.{told}
 use Rattle.sl_time.specs.Times.{IsTiming, TimingNumbers, fail, reading_of}
-use Rattle.sl_trace.specs.Connections.{Connection, after_move}
+use Rattle.sl_trace.specs.WatchdogConnections.{Connection, after_move}
 use Rattle.sl_trace.specs.Traces.{held_after, is_ok_answer}
 use Rattle.sl_trace.specs.declared.effects.Call.{Call}
 use Rattle.sl_trace.specs.declared.effects.Effects.{Effects}

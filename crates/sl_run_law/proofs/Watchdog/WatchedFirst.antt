@@ -1,5 +1,5 @@
 -- At moment 0 each machine is watched.
-use Rattle.sl_area.specs.Layouts.{Layout, layout_with}
+use Rattle.sl_area.specs.AreaSizes.{Layout, layout_with}
 use Rattle.sl_run_law.proofs.Moment.FirstStamps.{all_are}
 use Rattle.sl_words.proofs.Lists.{contains_none}
 use Rattle.sl_run.specs.Locks.{fresh_locks}
@@ -10,7 +10,7 @@ use Rattle.sl_run.specs.declared.header.SessionLine.{SessionLine}
 use Rattle.sl_run_law.proofs.MachineWalk.{index}
 use Rattle.sl_trace.specs.declared.session.Session.{Session}
 use Rattle.sl_time.specs.Times.{IsTiming, reading_of}
-use Rattle.sl_trace.specs.Connections.{given_connection}
+use Rattle.sl_trace.specs.WatchdogConnections.{given_connection}
 use Rattle.sl_trace.specs.declared.input.Given.{Given}
 use Rattle.sl_run_law.proofs.Watchdog.Freshness.{IsFresh, acts_first, some_fail}
 use Rattle.sl_run_law.proofs.Watchdog.Machines.{IsWatched}

@@ -19,7 +19,7 @@ use Rattle.sl_run_law.specs.Sessions.SessionLaws.{IsSession}
 use Rattle.sl_trace.specs.Sessions.{has_open_write, session_numbered}
 use Rattle.sl_trace.specs.declared.session.Session.{Session}
 use Rattle.sl_time.specs.Times.{TimingNumbers}
-use Rattle.sl_trace.specs.Connections.{connection_named}
+use Rattle.sl_trace.specs.WatchdogConnections.{connection_named}
 use Rattle.sl_trace.specs.Traces.{Answered, Setting, Submitted, Trace, is_write, submitted}
 use Rattle.sl_trace.specs.declared.effects.Call.{Call}
 use Rattle.sl_run_law.proofs.Watchdog.FoundCalls.{call_inside, numbers_apart, open_write}

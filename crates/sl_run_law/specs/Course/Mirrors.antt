@@ -1,6 +1,6 @@
 -- What a machine keeps beside its daemons: which of them is the one since the last restart, and what of its trace the machine has too.
 use Rattle.sl_run.specs.Worlds.{Daemon, Machine, World, daemons_on, machine_at, resets_after}
-use Rattle.sl_trace.specs.Connections.{connections}
+use Rattle.sl_trace.specs.WatchdogConnections.{connections}
 use Rattle.sl_trace.specs.Traces.{holdings, is_orphan, orphan_of}
 use Rattle.sl_trace.specs.declared.effects.Grant.{Grant}
 use Rattle.sl_words.specs.Words.{first_of_list, is_empty}

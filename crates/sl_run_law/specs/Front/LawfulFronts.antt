@@ -1,5 +1,5 @@
 -- What a lawful run is at each front, and what one event of it is.
-use Rattle.sl_run.specs.Events.{input_of}
+use Rattle.sl_run.specs.Inputs.{input_of}
 use Rattle.sl_run.specs.Runs.{Happening, HasSteps, own_effects_of}
 use Rattle.sl_run.specs.Safety.{LawfulRun}
 use Rattle.sl_run.specs.Worlds.{Program, World}

@@ -1,6 +1,6 @@
 -- What landed, and which write left it.
-use Rattle.sl_area.specs.Layouts.{sector_with}
-use Rattle.sl_run.specs.Events.{spells_something}
+use Rattle.sl_area.specs.AreaSizes.{sector_with}
+use Rattle.sl_run.specs.Premises.{spells_something}
 use Rattle.sl_run.specs.Runs.{Happening}
 use Rattle.sl_run.specs.Safety.{LawfulRun, world_at}
 use Rattle.sl_run.specs.Worlds.{Course, Landed, Landing, Machine, Program, Stamp, Torn, World, is_landed, is_write_course, machine_at}

@@ -10,7 +10,7 @@
 --
 -- What reads show (IsRegister.submitted, earlier; ShowsNewest) and that sessions come in order are no facts of one trace. ShowsNewest
 -- rests on one of them: that a session has one block write in flight.
-use Rattle.sl_area.specs.Layouts.{Layout}
+use Rattle.sl_area.specs.AreaSizes.{Layout}
 use Rattle.sl_run.specs.Lawful.{Orderly}
 use Rattle.sl_run.specs.LawfulArea.{is_area_work, is_block_work}
 use Rattle.sl_run.specs.LawfulModes.{LawfulSharedGrant}

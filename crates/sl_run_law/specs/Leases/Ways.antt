@@ -4,7 +4,7 @@ use Rattle.sl_run.specs.LawForms.{cut_at}
 use Rattle.sl_run_law.specs.Leases.CallFronts.{Submission}
 use Rattle.sl_trace.specs.Ballots.{ballot_blocks, moded_block, owner_of, phase2_block, same_owner, stop_of, value_of}
 use Rattle.sl_trace.specs.Leases.{Mode_cleared, Mode_set, Phase1_read, Phase1_write, Phase2_read, Phase2_write, block_of_host, block_submitted, block_written, blocks_given, freed, is_at, is_lease_call, is_on}
-use Rattle.sl_area.specs.Layouts.{Layout}
+use Rattle.sl_area.specs.AreaSizes.{Layout}
 use Rattle.sl_sector.specs.declared.sector.Block.{Block}
 use Rattle.sl_sector.specs.declared.sector.Leader.{Leader}
 use Rattle.sl_sector.specs.declared.sector.Owner.{Owner}

@@ -1,7 +1,7 @@
 -- Each area holds its own kind of records: a lockspace's the delta records of its ids, a resource's the leader, request, blocks and value
 -- of that resource, each written by a session of its lockspace. Else a session of another lockspace, with the same id and generation,
 -- could be taken for one of this.
-use Rattle.sl_area.specs.Places.{delta_offset, in_area}
+use Rattle.sl_area.specs.AreaLayout.{delta_offset, in_area}
 use Rattle.sl_run_law.specs.Landing.Landings.{IsWrittenBy}
 use Rattle.sl_run.specs.LawfulArea.{is_delta_record, record_offset}
 use Rattle.sl_run.specs.Runs.{Happening}

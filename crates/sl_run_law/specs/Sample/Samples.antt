@@ -1,6 +1,6 @@
 -- What a read shows: of each sector the landing that was the newest when it was sampled.
-use Rattle.sl_area.specs.Places.{sector_of}
-use Rattle.sl_run.specs.Events.{is_read_course, sectors_of}
+use Rattle.sl_area.specs.AreaLayout.{sector_of}
+use Rattle.sl_run.specs.Refusals.{is_read_course, sectors_of}
 use Rattle.sl_run.specs.Runs.{Happening}
 use Rattle.sl_run.specs.Safety.{LawfulRun, world_at}
 use Rattle.sl_run.specs.Worlds.{Course, Landing, Machine, Program, Sampling, Stamp, World, history_of, machine_at}

@@ -9,7 +9,7 @@
 -- Bounds: a write in flight has its connection, with a bounded expiry (WritesAreCovered, WritersStay).
 use Rattle.sl_run.specs.Lawful.{Orderly}
 use Rattle.sl_run.specs.LawfulDelta.{LawfulDeltaCall, is_on_own_sector}
-use Rattle.sl_run.specs.LawfulWatchdog.{CoveredBy}
+use Rattle.sl_run.specs.LawfulConnections.{CoveredBy}
 use Rattle.sl_run.specs.LawForms.{cut_at}
 use Rattle.sl_trace.specs.Sessions.{calls_of, ended_after, free_write, has_open_delta, has_open_write, is_delta_purpose, is_join_call, is_present, is_survey_purpose, joined_after, refused_after, removed_after, same_join_step, session_numbered, sessions, stage_after, stage_of}
 use Rattle.sl_trace.specs.declared.session.Session.{Session}

@@ -5,7 +5,7 @@ use Rattle.sl_run.specs.Worlds.{Daemon, Stamp}
 use Rattle.sl_trace.specs.Sessions.{is_call_of, is_joined, is_renewal, joined_after, last_renewal, recovery_of, shows_other}
 use Rattle.sl_trace.specs.declared.session.Session.{Session}
 use Rattle.sl_time.specs.Times.{fail}
-use Rattle.sl_trace.specs.Connections.{registers}
+use Rattle.sl_trace.specs.WatchdogConnections.{registers}
 use Rattle.sl_trace.specs.Traces.{Setting, Submitted, Trace, call_numbered}
 use Rattle.sl_trace.specs.declared.effects.Entry.{Entry}
 use Rattle.sl_trace.specs.declared.input.Answer.TheVariants.{Written}

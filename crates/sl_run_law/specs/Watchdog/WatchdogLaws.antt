@@ -1,7 +1,7 @@
 -- What watchdogs promise of the sessions of a lawful run.
 use Rattle.sl_ids.specs.Clocks.Watchdog.{IsConnected, MayAct}
 use Rattle.sl_run_law.specs.Course.Mirrors.{since_restart}
-use Rattle.sl_run.specs.LawfulWatchdog.{is_covered}
+use Rattle.sl_run.specs.LawfulConnections.{is_covered}
 use Rattle.sl_run_law.specs.Moment.MomentsFollowSteps.{point_of}
 use Rattle.sl_run.specs.Runs.{Happening}
 use Rattle.sl_run.specs.Safety.{FlightsCovered, Found, IsSession, LawfulRun, SessionId, has_write_in_flight, trace_of, world_at}

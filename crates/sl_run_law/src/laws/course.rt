@@ -1,6 +1,6 @@
 //! What a lawful run promises of calls and daemons.
 
-ghost use Rattle.sl_run_law.specs.Course.CourseLaws.{CallsAreDistinct, CoursesAreCalls, CoursesHaveDaemons, DaemonNamesAreApart, DaemonsAreOfWorld, EntriesAreStamped, MachinesMirror};
+ghost use Rattle.sl_run_law.specs.Course.CourseLaws.{CallsAreDistinct, CoursesAreCalls, CoursesHaveDaemons, DaemonsAreOfWorld, EntriesAreStamped, MachinesMirror};
 
 /// Each entry of a daemon has its stamp.
 pub fn entries_are_stamped()
@@ -30,9 +30,4 @@ pub fn machines_mirror()
 /// Each daemon is made of the header's times and layout.
 pub fn daemons_are_of_world()
     ensures { DaemonsAreOfWorld }
-{}
-
-/// No two daemons share a name.
-pub fn daemon_names_are_apart()
-    ensures { DaemonNamesAreApart }
 {}

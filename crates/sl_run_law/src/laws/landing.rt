@@ -1,11 +1,6 @@
 //! What a lawful run promises of landings.
 
-ghost use Rattle.sl_run_law.specs.Landing.Landings.{DoneWritesHaveLanded, LandedWritesAreThere, LandingsAreSectors, LandingsAreWritten, LandingsComeInOrder, WritesLandOnce};
-
-/// Each landing was left by a write of a machine.
-pub fn landings_are_written()
-    ensures { LandingsAreWritten }
-{}
+ghost use Rattle.sl_run_law.specs.Landing.Landings.{DoneWritesHaveLanded, LandedWritesAreThere, LandingsAreSectors, LandingsComeInOrder, WritesLandOnce};
 
 /// The newest landing stands first.
 pub fn landings_come_in_order()

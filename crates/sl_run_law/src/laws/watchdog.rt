@@ -1,6 +1,6 @@
 //! What watchdogs promise of a lawful run.
 
-ghost use Rattle.sl_run_law.specs.Watchdog.WatchdogLaws.{CoveredAreConnected, WritersMayAct, WritesInFlightAreCovered};
+ghost use Rattle.sl_run_law.specs.Watchdog.WatchdogLaws.{CoveredAreConnected, WritersMayAct};
 
 /// A session whose connection must stand is connected.
 pub fn covered_are_connected()
@@ -10,9 +10,4 @@ pub fn covered_are_connected()
 /// A session with a write in flight may act.
 pub fn writers_may_act()
     ensures { WritersMayAct }
-{}
-
-/// Each write in flight is covered.
-pub fn writes_in_flight_are_covered()
-    ensures { WritesInFlightAreCovered }
 {}

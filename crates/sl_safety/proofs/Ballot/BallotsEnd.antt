@@ -10,8 +10,8 @@ use Rattle.sl_safety.proofs.Ballot.Phase2Ones.{last_wrote, written_there}
 use Rattle.sl_safety.proofs.GivenReads.ReadsInTraces.{read_told}
 use Rattle.sl_safety.proofs.Ballot.Phase2Shows.{OwnRead, is_clean, start}
 use Rattle.sl_safety.specs.Ballot.Endings.{HostsJoin, holder_as}
-use Rattle.sl_ballots.specs.Ballots.{BallotEnded, IsClean}
-use Rattle.sl_ballots.specs.History.{History}
+use Rattle.sl_ballot_law.specs.Ballots.{BallotEnded, IsClean}
+use Rattle.sl_ballot_law.specs.History.{History}
 use Rattle.sl_run_law.specs.Course.CallStamps.{IsCourseOf, stamp_in}
 use Rattle.sl_run.specs.LawfulArea.{is_area_work}
 use Rattle.sl_run_law.proofs.Leases.RestLaws.{phase2_is_read}
@@ -44,7 +44,7 @@ use Rattle.std.specs.Prelude.{Contains, List, None, Option, Some, find, is_some,
 use Rattle.sl_run_law.proofs.Place.Seats.{sized_in}
 use Rattle.sl_safety.proofs.Ballot.EndedFirst.{first_after}
 use Rattle.sl_safety.proofs.Ballot.ReadsStand.{ReadStands, began_after, read_stands}
-use Rattle.sl_area.specs.Layouts.{Layout}
+use Rattle.sl_area.specs.AreaSizes.{Layout}
 
 -- ---- a read of phase 2 in a session's trace
 

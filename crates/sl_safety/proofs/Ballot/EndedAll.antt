@@ -1,7 +1,7 @@
 -- A ballot that has ended in a trace has ended in the history: the read that ended it stands in the whole trace as it stood then.
 use Rattle.sl_safety.proofs.Ballot.BallotsEnd.{AnsweredBy, EndingRead, ballot_ended}
 use Rattle.sl_safety.specs.Ballot.Endings.{EndedBallotsEnd, holder_as}
-use Rattle.sl_ballots.specs.Ballots.{BallotEnded}
+use Rattle.sl_ballot_law.specs.Ballots.{BallotEnded}
 use Rattle.sl_run_law.proofs.Leases.AnswerLaws.{answers_within}
 use Rattle.sl_run_law.proofs.Leases.EndLaws.{ended}
 use Rattle.sl_run_law.specs.Leases.Ways.{Ended, lease_among}

@@ -1,6 +1,6 @@
 -- Who ends a ballot has written its block, and so has verified the leader of a resource there: the area is a resource's, and the session
 -- has joined its lockspace.
-use Rattle.sl_area.specs.Layouts.{Layout}
+use Rattle.sl_area.specs.AreaSizes.{Layout}
 use Rattle.sl_safety.proofs.Ballot.BallotsEnd.{EndingRead}
 use Rattle.sl_safety.proofs.Ballot.EndedAll.{ends_in}
 use Rattle.sl_safety.proofs.GivenReads.BlocksNameHosts.{written_in}

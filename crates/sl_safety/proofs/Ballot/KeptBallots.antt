@@ -2,15 +2,14 @@
 use Rattle.sl_safety.proofs.Ballot.ReasonGiven.{have_reasons}
 use Rattle.sl_safety.specs.Ballot.Endings.{EndedBallotsEnd, HostsJoin}
 use Rattle.sl_safety.specs.Ballot.Reasons.{HistoriesKeepTheirBallots}
-use Rattle.sl_ballots.specs.Ballots.{IsPhase2, Mode_only, Phase, Phase_1, Phase_2}
-use Rattle.sl_ballots.specs.History.{History}
+use Rattle.sl_ballot_law.specs.Ballots.{IsPhase2, Mode_only, Phase, Phase_1, Phase_2}
+use Rattle.sl_ballot_law.specs.History.{History}
 use Rattle.sl_run_law.specs.Leases.Ways.{Of_mode, Of_phase1, Of_phase2, Way}
 use Rattle.sl_trace.specs.Leases.{Phase1_write, Phase2_write, StepKind, is_at}
 use Rattle.sl_safety.proofs.Resources.BlockOrigins.{WrittenAt, written_at}
 use Rattle.sl_safety.proofs.GivenReads.BlocksNameHosts.{own_host}
 use Rattle.sl_safety.proofs.Resources.Bases.{Based, based}
-use Rattle.sl_safety.proofs.Resources.StepsNameCalls.{worker_joined}
-use Rattle.sl_safety.proofs.Resources.StepsNameCalls.{block_works as block_is_work}
+use Rattle.sl_safety.proofs.Resources.StepsNameCalls.{worker_joined, block_works as block_is_work}
 use Rattle.sl_safety.proofs.Resources.WritesHaveBases.{have_bases}
 use Rattle.sl_safety.proofs.Resources.PhaseOne.{mode_of, phase1_of}
 use Rattle.sl_safety.proofs.Resources.CallParts.{Standing, standing}

@@ -4,8 +4,8 @@ use Rattle.sl_safety.proofs.Ballot.ReasonEvidence.{found_of_standing, sender_fou
 use Rattle.sl_safety.proofs.Ballot.ReasonFronted.{fronted, name_at_front}
 use Rattle.sl_safety.specs.Ballot.Endings.{HostsJoin, holder_as}
 use Rattle.sl_safety.specs.Ballot.LeadersFollowBallots.{LeadersFollowBallots}
-use Rattle.sl_ballots.specs.Ballots.{BallotEnded}
-use Rattle.sl_ballots.specs.History.{History, Owner as Holder}
+use Rattle.sl_ballot_law.specs.Ballots.{BallotEnded}
+use Rattle.sl_ballot_law.specs.History.{History, Owner as Holder}
 use Rattle.sl_run.specs.LawForms.{cut_at}
 use Rattle.sl_run_law.proofs.Leases.EndLaws.{leaders_follow}
 use Rattle.sl_run_law.specs.Leases.Ways.{Ended, LeaderRests, lease_among}

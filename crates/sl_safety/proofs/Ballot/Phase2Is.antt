@@ -10,8 +10,8 @@ use Rattle.sl_safety.proofs.Ballot.Phase2Shows.{OwnRead, is_clean, start}
 use Rattle.sl_safety.proofs.Ballot.Phase2Values.{proposes_what}
 use Rattle.sl_safety.proofs.Ballot.ReasonFronted.{fronted, name_at_front}
 use Rattle.sl_safety.specs.Ballot.Endings.{HostsJoin, holder_as}
-use Rattle.sl_ballots.specs.Ballots.{IsClean, IsPhase1, IsPhase2, ProposesItself, ProposesSeen}
-use Rattle.sl_ballots.specs.History.{History}
+use Rattle.sl_ballot_law.specs.Ballots.{IsClean, IsPhase1, IsPhase2, ProposesItself, ProposesSeen}
+use Rattle.sl_ballot_law.specs.History.{History}
 use Rattle.sl_run_law.specs.Course.CallStamps.{AnswersAgree, IsAnsweredAs, IsCourseOf}
 use Rattle.sl_run.specs.LawfulArea.{is_area_work}
 use Rattle.sl_run.specs.LawForms.{cut_at}

@@ -2,7 +2,7 @@
 use Rattle.sl_safety.proofs.Ballot.Phase2Apart.{host_there}
 use Rattle.sl_safety.proofs.Ballot.Phase2Last.{OwnLast}
 use Rattle.sl_safety.specs.Ballot.Endings.{HostsJoin}
-use Rattle.sl_ballots.specs.Ballots.{IsPhase1}
+use Rattle.sl_ballot_law.specs.Ballots.{IsPhase1}
 use Rattle.sl_run_law.specs.Leases.Ways.{Of_mode, Of_phase1, Of_phase2, Way}
 use Rattle.sl_trace.specs.Leases.{Mode_cleared, Mode_set, Phase1_write, Phase2_write, block_of_record, block_written, is_at}
 use Rattle.sl_safety.proofs.Resources.BlockOrigins.{WrittenAt, block_by}

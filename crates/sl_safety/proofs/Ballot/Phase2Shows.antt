@@ -1,7 +1,7 @@
 -- What the history has of a read: of each host the block that the ballot goes by, the own torn one as it was last submitted; and each
 -- block that the ballot goes by it has of a host.
-use Rattle.sl_ballots.specs.Ballots.{IsClean}
-use Rattle.sl_ballots.specs.History.{History}
+use Rattle.sl_ballot_law.specs.Ballots.{IsClean}
+use Rattle.sl_ballot_law.specs.History.{History}
 use Rattle.sl_trace.specs.Ballots.{ballot_blocks, known_block, stop_of, with_own}
 use Rattle.sl_trace.specs.Leases.{blocks_given, is_on}
 use Rattle.sl_run_law.specs.Leases.Ways.{lease_among}

@@ -1,10 +1,10 @@
 -- What phase 2 proposes in a trace it proposes in the history: its session, or the value of the greatest ballot that the read shows.
-use Rattle.sl_area.specs.Layouts.{Layout}
+use Rattle.sl_area.specs.AreaSizes.{Layout}
 use Rattle.sl_safety.proofs.GivenReads.ReadsInTraces.{given_below}
 use Rattle.sl_safety.proofs.Ballot.Phase2Shows.{OwnRead, host_shown, none_shown, start}
 use Rattle.sl_safety.specs.Ballot.Endings.{holder_as}
-use Rattle.sl_ballots.specs.Ballots.{ProposesItself, ProposesSeen}
-use Rattle.sl_ballots.specs.History.{History}
+use Rattle.sl_ballot_law.specs.Ballots.{ProposesItself, ProposesSeen}
+use Rattle.sl_ballot_law.specs.History.{History}
 use Rattle.sl_trace.specs.Ballots.{ballot_blocks, value_to_write, whole_blocks, with_own}
 use Rattle.sl_words.proofs.Lists.{contains_cases, contains_none}
 use Rattle.sl_words.proofs.Numbers.{zero_is_least}

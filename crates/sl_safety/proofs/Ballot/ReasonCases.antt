@@ -7,23 +7,21 @@ use Rattle.sl_safety.proofs.Ballot.ReasonOwn.{own_seen_at}
 use Rattle.sl_safety.proofs.Ballot.ReasonReads.{area_seen}
 use Rattle.sl_safety.proofs.Ballot.ReasonWrites.{free_before, leader_submitted, owner_named}
 use Rattle.sl_safety.specs.Ballot.Endings.{EndedBallotsEnd, HostsJoin, holder_as}
-use Rattle.sl_ballots.specs.Ballots.{BeginReason, Begun, Freed_before, LeaderSubmitted, Leads_itself, Lost_before, Never_led, Owner_over}
-use Rattle.sl_ballots.specs.History.{History, Owner as Holder}
+use Rattle.sl_ballot_law.specs.Ballots.{BeginReason, Begun, Freed_before, LeaderSubmitted, Leads_itself, Lost_before, Never_led, Owner_over}
+use Rattle.sl_ballot_law.specs.History.{History, Owner as Holder}
 use Rattle.sl_run_law.specs.Course.CallStamps.{stamp_in}
 use Rattle.sl_run.specs.LawfulArea.{is_area_work}
-use Rattle.sl_run.specs.LawfulBlock.{Block_above, Freed_before as Freed_in_trace, Leader_before, Leader_own, Lost_before as Lost_in_trace, Own_block}
-use Rattle.sl_run.specs.LawfulBlock.{BeginReason as TraceReason}
+use Rattle.sl_run.specs.LawfulBlock.{Block_above, Freed_before as Freed_in_trace, Leader_before, Leader_own, Lost_before as Lost_in_trace, Own_block, BeginReason as TraceReason}
 use Rattle.sl_run.specs.LawForms.{cut_at}
 use Rattle.sl_run_law.specs.Leases.CallFronts.{Submission}
 use Rattle.sl_trace.specs.Ballots.{owner_of, same_owner}
 use Rattle.sl_trace.specs.Leases.{ended_ballots, is_on, lease_calls, spot_of_call}
 use Rattle.sl_words.proofs.Numbers.{refl_le}
-use Rattle.sl_safety.proofs.Resources.BlockOrigins.{line_aligned}
+use Rattle.sl_safety.proofs.Resources.BlockOrigins.{line_aligned, block_of_step}
 use Rattle.sl_safety.proofs.Resources.StepsNameCalls.{block_at_step}
 use Rattle.sl_safety.proofs.Resources.OwnBlocks.{works}
 use Rattle.sl_safety.proofs.Resources.WritesHaveBases.{writes_at}
 use Rattle.sl_safety.proofs.Resources.Phases.{holder_as as named_alike}
-use Rattle.sl_safety.proofs.Resources.BlockOrigins.{block_of_step}
 use Rattle.sl_safety.proofs.Resources.TraceReads.{IsWriter}
 use Rattle.sl_safety.proofs.Resources.HistoryShows.{Never, Once, Seen}
 use Rattle.sl_safety.proofs.Resources.CallParts.{Standing}

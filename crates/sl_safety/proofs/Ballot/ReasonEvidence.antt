@@ -1,6 +1,6 @@
 -- The entry of a step is the newest of the trace by that step. So what a session counted as over by that entry it has evidence of by that
 -- step, in the history's words.
-use Rattle.sl_ballots.specs.History.{Owner as Holder}
+use Rattle.sl_ballot_law.specs.History.{Owner as Holder}
 use Rattle.sl_run_law.proofs.Course.PairwiseLists.{pairs_length}
 use Rattle.sl_run_law.proofs.Course.EntriesAreStamped.{entries_are_stamped}
 use Rattle.sl_run_law.specs.Course.CallStamps.{IsStampOf, stamp_in}

@@ -1,9 +1,8 @@
 -- Where a session writes or reads on an area it has joined. So its name there is the one that it has in the history.
-use Rattle.sl_safety.proofs.Ballot.ReasonEvidence.{sender_found}
-use Rattle.sl_safety.proofs.Ballot.ReasonEvidence.{found_of_standing}
+use Rattle.sl_safety.proofs.Ballot.ReasonEvidence.{sender_found, found_of_standing}
 use Rattle.sl_safety.proofs.Ballot.ReasonNames.{cut_keeps, generation_stays}
 use Rattle.sl_safety.specs.Ballot.Endings.{holder_as}
-use Rattle.sl_ballots.specs.History.{Owner as Holder}
+use Rattle.sl_ballot_law.specs.History.{Owner as Holder}
 use Rattle.sl_run.specs.Lawful.{Orderly}
 use Rattle.sl_run.specs.LawfulArea.{is_area_work}
 use Rattle.sl_run.specs.LawForms.{cut_at}

@@ -1,6 +1,6 @@
 -- Calls of an entry have no answer in it. So what a session has evidence of, and which of its ballots have ended, is the same before any
 -- call of an entry as after the whole entry.
-use Rattle.sl_area.specs.Layouts.{Layout}
+use Rattle.sl_area.specs.AreaSizes.{Layout}
 use Rattle.sl_safety.proofs.Ballot.ReasonNames.{cut_keeps}
 use Rattle.sl_run.specs.Lawful.{Orderly}
 use Rattle.sl_run.specs.LawForms.{cut_at}

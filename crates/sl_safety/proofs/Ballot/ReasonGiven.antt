@@ -3,14 +3,13 @@ use Rattle.sl_safety.proofs.Ballot.ReasonCases.{Begins, Writing, front_trace, re
 use Rattle.sl_safety.proofs.Ballot.ReasonFronted.{fronted}
 use Rattle.sl_safety.specs.Ballot.Endings.{EndedBallotsEnd}
 use Rattle.sl_safety.specs.Ballot.Reasons.{InstancesHaveReasons}
-use Rattle.sl_ballots.specs.Ballots.{BeginReason}
-use Rattle.sl_ballots.specs.History.{History}
+use Rattle.sl_ballot_law.specs.Ballots.{BeginReason}
+use Rattle.sl_ballot_law.specs.History.{History}
 use Rattle.sl_run.specs.LawfulBlock.{LawfulPhase1}
 use Rattle.sl_trace.specs.Leases.{Phase1_write, freed, is_at, lease_calls, lease_step, spot_of_call}
 use Rattle.sl_words.proofs.Numbers.{above_zero}
 use Rattle.sl_safety.proofs.Resources.BlockOrigins.{block_by, line_aligned, told_spot}
-use Rattle.sl_safety.proofs.Resources.StepsNameCalls.{found_at, worker_joined}
-use Rattle.sl_safety.proofs.Resources.StepsNameCalls.{block_works as block_is_work}
+use Rattle.sl_safety.proofs.Resources.StepsNameCalls.{found_at, worker_joined, block_works as block_is_work}
 use Rattle.sl_safety.proofs.Resources.WritesHaveBases.{writer_is}
 use Rattle.sl_safety.proofs.Resources.PhaseOne.{one_write}
 use Rattle.sl_safety.proofs.Resources.OwnBlocks.{block_is_lease, block_works, front_at, lease_is_work, written}

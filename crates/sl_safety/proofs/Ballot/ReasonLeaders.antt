@@ -1,6 +1,7 @@
 -- What a read of an area gives as the leader: the one that stood there at first, or one that was submitted before the answer.
-use Rattle.sl_area.specs.Layouts.{Layout, layout_with, record_in, sector_with}
-use Rattle.sl_area.specs.Places.{area_sectors, block_sectors, fresh_block, fresh_block_at, fresh_leader, fresh_pair, in_area, leader_of, leader_record, leader_spelled, no_request, no_value, sector_of}
+use Rattle.sl_area.specs.AreaSizes.{Layout, layout_with, record_in, sector_with}
+use Rattle.sl_area.specs.AreaLayout.{area_sectors, block_sectors, in_area, leader_of, leader_spelled, sector_of}
+use Rattle.sl_area.specs.AreaRecords.{fresh_block, fresh_block_at, fresh_leader, fresh_pair, leader_record, no_request, no_value}
 use Rattle.sl_run_law.proofs.Landing.InitialRecords.{initial_is_record}
 use Rattle.sl_run.specs.LawfulArea.{IsAreaRead}
 use Rattle.sl_trace.specs.Leases.{is_area_read, is_on, leader_of_record, spot_of_call}
@@ -17,7 +18,7 @@ use Rattle.sl_safety.proofs.Resources.NewestCalls.{sent_as}
 use Rattle.sl_safety.proofs.Resources.AnsweredReads.{IsLook, area_place, look_layout}
 use Rattle.sl_safety.proofs.Resources.CallParts.{sent_there}
 use Rattle.sl_safety.specs.Resources.SentCalls.{Sent, all_sent, leader_of_course, step_of}
-use Rattle.sl_run.specs.Events.{sectors_of}
+use Rattle.sl_run.specs.Refusals.{sectors_of}
 use Rattle.sl_run.specs.Headers.{IsHeader}
 use Rattle.sl_run.specs.Runs.{Happening}
 use Rattle.sl_run.specs.Safety.{LawfulRun, world_at}
@@ -26,7 +27,7 @@ use Rattle.sl_run.specs.declared.header.Header.{Header}
 use Rattle.sl_run.specs.declared.header.LockspaceLine.{LockspaceLine}
 use Rattle.sl_run.specs.declared.header.ResourceLine.{ResourceLine}
 use Rattle.sl_sector.proofs.PublicLaws.{spelled_is_read}
-use Rattle.sl_sector.specs.Spelling.{IsDigest, leader_in, pair_leader_in}
+use Rattle.sl_sector.specs.SectorLayouts.{IsDigest, leader_in, pair_leader_in}
 use Rattle.sl_sector.specs.declared.sector.Leader.{Leader}
 use Rattle.sl_sector.specs.declared.sector.Rec.TheVariants.{BlockIs, LeaderIs, PairIs, PairLeaderIs, RequestIs, ValueIs}
 use Rattle.sl_sector.specs.declared.sector.Rec.{Rec}

@@ -1,7 +1,10 @@
 -- What a session's read of an area gave, where it writes a block later: each block and the leader were submitted before, or stood there
 -- at first.
-use Rattle.sl_area.specs.Layouts.{Layout}
-use Rattle.sl_area.specs.Places.{BlocksRead, fresh_leader, greatest_lver, leader_made, leader_of, leader_read, pairs_of}
+use Rattle.sl_area.specs.AreaSizes.{Layout}
+use Rattle.sl_area.specs.Pairs.{BlocksRead, pairs_of}
+use Rattle.sl_area.specs.TornLeader.{greatest_lver, leader_made, leader_read}
+use Rattle.sl_area.specs.AreaRecords.{fresh_leader}
+use Rattle.sl_area.specs.AreaLayout.{leader_of}
 use Rattle.sl_safety.proofs.Ballot.ReasonLeaders.{IsUnled, LeaderSeen, Led, Unled, leader_looked}
 use Rattle.sl_run_law.proofs.Front.JoinedLists.{placed_at}
 use Rattle.sl_run.specs.LawfulBlock.{AreaRead}

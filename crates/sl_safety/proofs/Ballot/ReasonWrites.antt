@@ -1,7 +1,7 @@
 -- A leader that was submitted at an earlier step, in the words of the history; and so each free that a session submitted before it
 -- writes a block.
-use Rattle.sl_ballots.specs.Ballots.{LeaderSubmitted}
-use Rattle.sl_ballots.specs.History.{History, Leader as HistoryLeader, Owner as Holder}
+use Rattle.sl_ballot_law.specs.Ballots.{LeaderSubmitted}
+use Rattle.sl_ballot_law.specs.History.{History, Leader as HistoryLeader, Owner as Holder}
 use Rattle.sl_run_law.specs.Course.CallStamps.{IsCourseOf}
 use Rattle.sl_run.specs.LawfulArea.{is_area_work}
 use Rattle.sl_run_law.proofs.Leases.AgeLaws.{aged_lease, became}

@@ -1,8 +1,9 @@
 -- Where each host's block has one sector, what stood at first at a place spells no block that a ballot has written; and what it is that
 -- spells a host's block.
 use Rattle.sl_run.proofs.PlainAreas.{initial_plain}
-use Rattle.sl_area.specs.Layouts.{Layout, layout_with, record_in, sector_with}
-use Rattle.sl_area.specs.Places.{fresh_block, fresh_leader, in_area, no_request, no_value}
+use Rattle.sl_area.specs.AreaSizes.{Layout, layout_with, record_in, sector_with}
+use Rattle.sl_area.specs.AreaRecords.{fresh_block, fresh_leader, no_request, no_value}
+use Rattle.sl_area.specs.AreaLayout.{in_area}
 use Rattle.sl_run_law.proofs.Landing.InitialRecords.{initial_is_record}
 use Rattle.sl_run_law.proofs.Place.Beginnings.{zeros_at}
 use Rattle.sl_run_law.proofs.Place.FoundInLists.{same_read}
@@ -17,7 +18,7 @@ use Rattle.sl_run.specs.declared.header.Header.{Header}
 use Rattle.sl_run.specs.declared.header.LockspaceLine.{LockspaceLine}
 use Rattle.sl_run.specs.declared.header.ResourceLine.{ResourceLine}
 use Rattle.sl_sector.proofs.PublicLaws.{spelled_is_read}
-use Rattle.sl_sector.specs.Spelling.{IsDigest, block_in}
+use Rattle.sl_sector.specs.SectorLayouts.{IsDigest, block_in}
 use Rattle.sl_sector.specs.declared.sector.Block.{Block}
 use Rattle.sl_sector.specs.declared.sector.Rec.TheVariants.{BlockIs, DeltaIs, LeaderIs, PairIs, PairLeaderIs, RequestIs, ValueIs}
 use Rattle.sl_sector.specs.declared.sector.Rec.{Rec}

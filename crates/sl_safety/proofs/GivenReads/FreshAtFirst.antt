@@ -1,7 +1,8 @@
 -- What stood at first at a sector of a resource; where each host's block has one, at a host's place the host's block of zeros.
 use Rattle.sl_run.proofs.PlainAreas.{initial_plain}
-use Rattle.sl_area.specs.Layouts.{Layout, record_in, sector_with}
-use Rattle.sl_area.specs.Places.{block_offset, fresh_block, fresh_leader, in_area, no_request, no_value}
+use Rattle.sl_area.specs.AreaSizes.{Layout, record_in, sector_with}
+use Rattle.sl_area.specs.AreaLayout.{block_offset, in_area}
+use Rattle.sl_area.specs.AreaRecords.{fresh_block, fresh_leader, no_request, no_value}
 use Rattle.sl_run_law.proofs.Landing.InitialRecords.{initial_is_record}
 use Rattle.sl_run_law.proofs.Place.Areas.{lockspace_aligned, never_both, one_resource, resource_aligned, same_base}
 use Rattle.sl_run_law.proofs.Place.FoundInLists.{finds, same_text}

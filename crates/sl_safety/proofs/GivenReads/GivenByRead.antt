@@ -1,6 +1,6 @@
 -- What a read gives of a host, where each host has one sector: the block of the landing that it sampled there, if that is whole.
-use Rattle.sl_area.specs.Layouts.{record_in}
-use Rattle.sl_area.specs.Places.{block_offset, in_area, sector_of}
+use Rattle.sl_area.specs.AreaSizes.{record_in}
+use Rattle.sl_area.specs.AreaLayout.{block_offset, in_area, sector_of}
 use Rattle.sl_run_law.proofs.Course.CallsAreDistinct.{each_distinct}
 use Rattle.sl_run_law.proofs.Landing.CallLists.{one_call}
 use Rattle.sl_run_law.proofs.Place.FoundInLists.{same_read, same_text}
@@ -25,7 +25,7 @@ use Rattle.sl_safety.specs.Resources.SampledReads.{landing_shown, sector_number,
 use Rattle.sl_safety.specs.Resources.HistoryLaws.{spot_of_line}
 use Rattle.sl_safety.specs.Resources.Reads.{ReadBlocks, Says, step_given}
 use Rattle.sl_safety.specs.Resources.SentCalls.{Sent, all_sent, read_at}
-use Rattle.sl_run.specs.Events.{sectors_of}
+use Rattle.sl_run.specs.Refusals.{sectors_of}
 use Rattle.sl_run.specs.Runs.{Happening}
 use Rattle.sl_run.specs.Safety.{LawfulRun, world_at}
 use Rattle.sl_run.specs.Worlds.{Course, Landing, Machine, Program, Sampling, World, first_landing, history_of, machine_at}
@@ -33,7 +33,7 @@ use Rattle.sl_run.specs.declared.header.Header.{Header}
 use Rattle.sl_run.specs.declared.header.ResourceLine.{ResourceLine}
 use Rattle.sl_sector.proofs.PublicLaws.{spelled_is_read}
 use Rattle.sl_sector.specs.Records.{IsRecord}
-use Rattle.sl_sector.specs.Spelling.{IsDigest, IsSectorSize}
+use Rattle.sl_sector.specs.SectorLayouts.{IsDigest, IsSectorSize}
 use Rattle.sl_sector.specs.declared.sector.Block.{Block}
 use Rattle.sl_sector.specs.declared.sector.Rec.TheVariants.{BlockIs}
 use Rattle.sl_trace.specs.Leases.{block_of_record, is_area_read, is_on, spot_of_call}

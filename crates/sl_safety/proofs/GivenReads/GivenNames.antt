@@ -1,11 +1,12 @@
 -- What a read gives of a host names that host, with pairs or without: it was read through the test of the host's number.
-use Rattle.sl_area.specs.Layouts.{Layout}
-use Rattle.sl_area.specs.Places.{BlocksRead, blocks_in, blocks_of, pair_back, pair_front, pair_merged, pair_read, pairs_of, read_at}
+use Rattle.sl_area.specs.AreaSizes.{Layout}
+use Rattle.sl_area.specs.Pairs.{BlocksRead, blocks_of, pair_back, pair_front, pair_merged, pair_read, pairs_of}
+use Rattle.sl_area.specs.AreaLayout.{blocks_in, read_at}
 use Rattle.sl_safety.proofs.GivenReads.FirstIsUnwritten.{block_in_is}
 use Rattle.sl_safety.proofs.Resources.BlockOrigins.{own_there}
 use Rattle.sl_words.proofs.Options.{mapped_value}
 use Rattle.sl_run_law.proofs.Place.MadeLeaders.{GivenOf, given_of, kept_of, kept_read, later_is, merged_is, ranged}
-use Rattle.sl_sector.specs.Spelling.{block_in, is_first_turn, pair_in}
+use Rattle.sl_sector.specs.SectorLayouts.{block_in, is_first_turn, pair_in}
 use Rattle.sl_sector.specs.declared.sector.Bad.{Bad}
 use Rattle.sl_sector.specs.declared.sector.Block.{Block}
 use Rattle.sl_sector.specs.declared.sector.PairBlock.{PairBlock}

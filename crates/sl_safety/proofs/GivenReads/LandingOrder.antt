@@ -22,15 +22,15 @@ use Rattle.std.proofs.lemmas.Bool.{and_from, cases_lt}
 use Rattle.std.proofs.lemmas.Option.{slice_get_within}
 use Rattle.std.specs.Prelude.{AllPairs, Bool, Contains, List, Some, false, slice_get, true, ℕ, ◌<◌, ◌≡◌, ◌≤◌}
 use Rattle.sl_safety.proofs.Resources.CallsTakeTurns.{First, One, Second, Turns, turns_of}
-use Rattle.sl_area.specs.Places.{block_offset, block_place, in_area, pair_offset}
+use Rattle.sl_area.specs.AreaLayout.{block_offset, block_place, in_area, pair_offset}
 use Rattle.sl_safety.proofs.Pairs.Places.{pair_within}
 use Rattle.sl_run_law.proofs.Place.Seats.{sized_in}
-use Rattle.sl_sector.specs.Spelling.{is_first_turn}
+use Rattle.sl_sector.specs.SectorLayouts.{is_first_turn}
 use Rattle.sl_run_law.proofs.Place.PlaceLaws.{resources_hold_leases}
 use Rattle.sl_run_law.specs.Place.Homes.{IsLeaseLanding}
 use Rattle.sl_run_law.proofs.Place.Sizes.{IsSized}
 use Rattle.sl_safety.proofs.GivenReads.ShownAtPlace.{place_within}
-use Rattle.sl_area.specs.Layouts.{Sizes}
+use Rattle.sl_area.specs.AreaSizes.{Sizes}
 
 -- ---- places
 

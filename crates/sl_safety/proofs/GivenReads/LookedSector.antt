@@ -1,18 +1,18 @@
 -- What a read gave of a host, where each host's block has one sector: that sector, and where it stands.
-use Rattle.sl_area.specs.Layouts.{Layout, record_in}
-use Rattle.sl_area.specs.Places.{area_sectors, block_offset, block_sectors, blocks_in, read_at, sector_of}
+use Rattle.sl_area.specs.AreaSizes.{Layout, record_in}
+use Rattle.sl_area.specs.AreaLayout.{area_sectors, block_offset, block_sectors, blocks_in, read_at, sector_of}
 use Rattle.sl_run.specs.LawfulArea.{IsAreaRead, IsBlockRead}
 use Rattle.sl_trace.specs.Leases.{blocks_given, is_area_read, spot_of_call}
 use Rattle.sl_run_law.proofs.Place.Blocks.{behind_two}
 use Rattle.sl_run_law.proofs.Place.MadeLeaders.{ranged}
 use Rattle.sl_run_law.proofs.Place.PlaceLaws.{promised}
 use Rattle.sl_run_law.proofs.Place.TracesOnMachines.{IsRead, read_of}
-use Rattle.sl_run.specs.Events.{sectors_of}
+use Rattle.sl_run.specs.Refusals.{sectors_of}
 use Rattle.sl_run.specs.Runs.{Happening}
 use Rattle.sl_run.specs.Safety.{world_at}
 use Rattle.sl_run.specs.Worlds.{Daemon, Machine, Program, World}
 use Rattle.sl_run.specs.declared.header.Header.{Header}
-use Rattle.sl_sector.specs.Spelling.{block_in}
+use Rattle.sl_sector.specs.SectorLayouts.{block_in}
 use Rattle.sl_sector.specs.declared.sector.Block.{Block}
 use Rattle.sl_trace.specs.Traces.{Submitted}
 use Rattle.sl_trace.specs.declared.effects.Op.TheVariants.{ReadSectors}

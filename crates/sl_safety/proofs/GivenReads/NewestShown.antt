@@ -1,7 +1,7 @@
 -- What a place has held comes in order; so a read that was submitted once a block was answered ok shows that block, or one that was submitted
 -- later, where each host's block has one sector.
-use Rattle.sl_area.specs.Layouts.{Layout}
-use Rattle.sl_area.specs.Places.{block_offset, in_area}
+use Rattle.sl_area.specs.AreaSizes.{Layout}
+use Rattle.sl_area.specs.AreaLayout.{block_offset, in_area}
 use Rattle.sl_run_law.proofs.Front.JoinedLists.{contains_append, contains_left, placed_at}
 use Rattle.sl_run_law.proofs.Landing.LandingOrder.{come_in_order}
 use Rattle.sl_run_law.proofs.Landing.LandingLaws.{done_writes_have_landed, landings_are_written}

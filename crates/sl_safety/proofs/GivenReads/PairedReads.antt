@@ -5,7 +5,7 @@ use Rattle.sl_trace.specs.declared.effects.Spot.{Spot}
 use Rattle.sl_run_law.specs.Leases.Ways.{lease_among}
 use Rattle.std.proofs.Common.{ap, refl, subst, sym, ◌∙◌}
 use Rattle.std.specs.Prelude.{Bool, Contains, List, None, Option, Some, false, if◌then◌else◌, is_some, option_and_then, option_map, true, ℕ, ◌<◌, ◌≡◌, ◌≤◌}
-use Rattle.sl_area.specs.Places.{BlocksRead, needs_again, pairs_kept, read_once}
+use Rattle.sl_area.specs.Pairs.{BlocksRead, needs_again, pairs_kept, read_once}
 use Rattle.sl_safety.proofs.Resources.Calls.{IsWork, one_sent}
 use Rattle.sl_safety.specs.Resources.HistoryLaws.{history_of_line, spot_of_line}
 use Rattle.sl_safety.specs.Resources.SentCalls.{Sent, all_sent, begun_by, read_at, step_of}
@@ -21,7 +21,7 @@ use Rattle.sl_safety.specs.Resources.Histories.{block_shown, counts_own, is_host
 use Rattle.sl_safety.specs.Resources.Reads.{AgreesOn, ReadBlocks, ReadsGive, shown_given, shows_given, step_given}
 use Rattle.sl_safety.specs.Pairs.PairsAreShown.{given_shown}
 use Rattle.sl_safety.specs.Pairs.PairLogs.{pair_sent}
-use Rattle.sl_ballots.specs.Pairs.State.{Stored}
+use Rattle.sl_ballot_law.specs.Pairs.State.{Stored}
 use Rattle.sl_words.proofs.Options.{mapped_value}
 use Rattle.sl_sector.specs.declared.sector.Block.{Block}
 use Rattle.sl_trace.specs.Leases.{blocks_given}

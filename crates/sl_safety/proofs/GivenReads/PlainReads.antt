@@ -1,7 +1,7 @@
 -- Where each host's block has one sector a resource's reads give of each host what the landing spells that they sampled at its place: so the
 -- record of reads is met.
-use Rattle.sl_area.specs.Layouts.{record_in}
-use Rattle.sl_area.specs.Places.{sector_of}
+use Rattle.sl_area.specs.AreaSizes.{record_in}
+use Rattle.sl_area.specs.AreaLayout.{sector_of}
 use Rattle.sl_words.proofs.Numbers.{trans_lt}
 use Rattle.sl_safety.proofs.GivenReads.GivenByRead.{At_first, By_call, GivenBy, LeftAt, given_found, given_if, given_in, gives_block, is_given, left_at, left_by, left_step}
 use Rattle.sl_safety.proofs.GivenReads.StandsSinceOk.{stands_since}
@@ -23,7 +23,7 @@ use Rattle.sl_run.specs.Worlds.{Landing, Program, Stamp, World}
 use Rattle.sl_run.specs.declared.header.Header.{Header}
 use Rattle.sl_run.specs.declared.header.ResourceLine.{ResourceLine}
 use Rattle.sl_run_law.proofs.Place.PlaceLaws.{promised}
-use Rattle.sl_sector.specs.Spelling.{block_in}
+use Rattle.sl_sector.specs.SectorLayouts.{block_in}
 use Rattle.sl_sector.specs.declared.sector.Block.{Block}
 use Rattle.sl_words.proofs.CaseLaws.{none_some, some_value}
 use Rattle.sl_words.specs.Words.{choose, some_is}
@@ -33,7 +33,7 @@ use Rattle.std.specs.Prelude.{Bool, Contains, List, None, Option, Some, false, i
 use Rattle.sl_trace.specs.Traces.{Submitted}
 use Rattle.sl_trace.specs.declared.effects.Spot.{Spot}
 use Rattle.sl_run_law.specs.Leases.Ways.{lease_among}
-use Rattle.sl_ballots.specs.Pairs.State.{Stored}
+use Rattle.sl_ballot_law.specs.Pairs.State.{Stored}
 use Rattle.sl_words.proofs.WordLaws.{choose_some}
 use Rattle.sl_safety.proofs.Resources.Looks.{began_before}
 use Rattle.sl_safety.proofs.GivenReads.OtherHosts.{others_at, shown_or}

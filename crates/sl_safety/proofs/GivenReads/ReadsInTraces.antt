@@ -1,6 +1,7 @@
 -- A read of blocks in its trace: its bytes are what it sampled; where each host's block has one sector it gave of each host what that spells.
-use Rattle.sl_area.specs.Layouts.{Layout, record_in}
-use Rattle.sl_area.specs.Places.{BlocksRead, blocks_in, blocks_of, pair_merged, pairs_of, read_at as sector_read, sector_of}
+use Rattle.sl_area.specs.AreaSizes.{Layout, record_in}
+use Rattle.sl_area.specs.Pairs.{BlocksRead, blocks_of, pair_merged, pairs_of}
+use Rattle.sl_area.specs.AreaLayout.{blocks_in, read_at as sector_read, sector_of}
 use Rattle.sl_run_law.proofs.Course.CallsAreDistinct.{nothing_more}
 use Rattle.sl_run_law.specs.Course.CallStamps.{AnswersAgree, IsAnsweredAs, IsCourseOf}
 use Rattle.sl_words.proofs.Numbers.{both_next, one_again, one_further, zero_less}
@@ -8,7 +9,7 @@ use Rattle.sl_safety.proofs.Resources.AnsweredReads.{By_area, By_phase, Gave, gi
 use Rattle.sl_safety.specs.Resources.SampledReads.{sector_number}
 use Rattle.sl_safety.specs.Resources.SentCalls.{reads_blocks}
 use Rattle.sl_run.specs.Worlds.{Course, Daemon}
-use Rattle.sl_sector.specs.Spelling.{block_in}
+use Rattle.sl_sector.specs.SectorLayouts.{block_in}
 use Rattle.sl_sector.specs.declared.sector.Block.{Block}
 use Rattle.sl_trace.specs.Leases.{blocks_given, is_area_read, is_block_read, read_given}
 use Rattle.sl_trace.specs.Traces.{Answered, Submitted, gave, is_ok_answer, new_call}

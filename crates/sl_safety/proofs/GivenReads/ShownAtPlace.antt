@@ -1,6 +1,6 @@
 -- What stands at a host's place of a resource's area, and what a read shows of it, where each host's block has one sector.
-use Rattle.sl_area.specs.Layouts.{Layout, Sizes}
-use Rattle.sl_area.specs.Places.{block_offset, block_place, in_area, leader_offset, pair_offset, request_offset, value_offset}
+use Rattle.sl_area.specs.AreaSizes.{Layout, Sizes}
+use Rattle.sl_area.specs.AreaLayout.{block_offset, block_place, in_area, leader_offset, pair_offset, request_offset, value_offset}
 use Rattle.sl_run_law.proofs.Course.CallsAreDistinct.{each_distinct}
 use Rattle.sl_run_law.proofs.Front.JoinedLists.{contains_append}
 use Rattle.sl_run_law.proofs.Landing.CallLists.{one_call}
@@ -52,7 +52,7 @@ use Rattle.std.proofs.Math.Nat.{mul-le-mul_left}
 use Rattle.std.proofs.lemmas.Bool.{and_from, eq-eqb, eqb-true}
 use Rattle.std.specs.Option.{option_map_or}
 use Rattle.std.specs.Prelude.{Bool, Contains, IsTrue, List, None, Option, Some, [], bytes_eq, false, find, if◌then◌else◌, option_and_then, slice_get, true, ℕ, ◌*◌, ◌+◌, ◌-◌, ◌<◌, ◌==◌, ◌∷◌, ◌≡◌, ◌≤◌, ◌⊎◌}
-use Rattle.sl_sector.specs.Spelling.{is_first_turn}
+use Rattle.sl_sector.specs.SectorLayouts.{is_first_turn}
 use Rattle.sl_safety.specs.Resources.Orders.{LandedAt}
 
 -- ---- a host's place

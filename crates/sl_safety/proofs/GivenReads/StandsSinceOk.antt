@@ -4,11 +4,12 @@
 -- What stands at a place is the newest landing there; a block that was answered ok has landed; and a host's blocks land in the order in
 -- which they were submitted, where the sessions that sent them follow one another. It is so at each front that the answer has come
 -- before, of whatever run.
-use Rattle.sl_sector.specs.Spelling.{block_in}
+use Rattle.sl_sector.specs.SectorLayouts.{block_in}
 use Rattle.sl_sector.specs.declared.sector.PairBlock.{PairBlock}
 use Rattle.sl_trace.specs.declared.effects.Spot.{Spot}
-use Rattle.sl_area.specs.Layouts.{Layout, record_in}
-use Rattle.sl_area.specs.Places.{block_offset, later_pair}
+use Rattle.sl_area.specs.AreaSizes.{Layout, record_in}
+use Rattle.sl_area.specs.AreaLayout.{block_offset}
+use Rattle.sl_area.specs.Pairs.{later_pair}
 use Rattle.sl_run_law.proofs.Front.RunsFromFronts.{fronts_are_lawful, run_after}
 use Rattle.sl_run_law.proofs.Front.JoinedLists.{contains_left, contains_right}
 use Rattle.sl_id_safety.proofs.FrontsOfSteps.{landed_since}

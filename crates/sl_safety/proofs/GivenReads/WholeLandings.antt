@@ -1,7 +1,8 @@
 -- Where each host's block has one sector, a whole landing at a host's place spells a block of the host: so where a read gave nothing of a
 -- host, what it shows there is torn.
-use Rattle.sl_area.specs.Layouts.{record_in, sector_with}
-use Rattle.sl_area.specs.Places.{block_offset, fresh_block, sector_of}
+use Rattle.sl_area.specs.AreaSizes.{record_in, sector_with}
+use Rattle.sl_area.specs.AreaLayout.{block_offset, sector_of}
+use Rattle.sl_area.specs.AreaRecords.{fresh_block}
 use Rattle.sl_run_law.proofs.Place.TracesOnMachines.{digest_is, writes_record}
 use Rattle.sl_run_law.proofs.Place.Seats.{sized_in}
 use Rattle.sl_run_law.proofs.Place.Sizes.{sector_fits}
@@ -24,7 +25,7 @@ use Rattle.sl_run.specs.declared.header.Header.{Header}
 use Rattle.sl_run.specs.declared.header.ResourceLine.{ResourceLine}
 use Rattle.sl_sector.proofs.PublicLaws.{spelled_is_read}
 use Rattle.sl_sector.specs.Records.{IsRecord}
-use Rattle.sl_sector.specs.Spelling.{block_in}
+use Rattle.sl_sector.specs.SectorLayouts.{block_in}
 use Rattle.sl_sector.specs.declared.sector.Block.{Block}
 use Rattle.sl_sector.specs.declared.sector.Rec.TheVariants.{BlockIs}
 use Rattle.sl_trace.specs.Leases.{block_of_record}

@@ -1,5 +1,5 @@
 -- A session's block in the history, back in its trace: the call of its lease that wrote it, and where it was made.
-use Rattle.sl_area.specs.Layouts.{Layout}
+use Rattle.sl_area.specs.AreaSizes.{Layout}
 use Rattle.sl_run_law.specs.Course.CallStamps.{stamp_in}
 use Rattle.sl_safety.proofs.Grant.CallsOfWorlds.{OfLease}
 use Rattle.sl_run_law.proofs.Leases.AgeLaws.{writes}

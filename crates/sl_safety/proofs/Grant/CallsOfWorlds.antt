@@ -1,5 +1,5 @@
 -- A call at a front of a session's trace is one of the world's, with its stamps.
-use Rattle.sl_area.specs.Layouts.{Layout}
+use Rattle.sl_area.specs.AreaSizes.{Layout}
 use Rattle.sl_run_law.proofs.Course.CoursesAreCalls.{courses_are_calls}
 use Rattle.sl_run_law.specs.Course.CallStamps.{AnswersAgree, IsAnsweredAs, IsCourseOf, courses_of, stamp_in}
 use Rattle.sl_safety.proofs.Grant.CallsOfFronts.{Grown, calls_grow, calls_were}

@@ -1,7 +1,7 @@
 -- What a session counted as over by an entry of its trace it has evidence of by the entry's step, in the history.
 use Rattle.sl_safety.proofs.Ballot.ReasonEvidence.{by_step}
 use Rattle.sl_safety.specs.Ballot.Endings.{IsEntryAt}
-use Rattle.sl_ballots.specs.History.{Owner as Holder}
+use Rattle.sl_ballot_law.specs.History.{Owner as Holder}
 use Rattle.sl_run_law.proofs.Course.PairwiseLists.{pairs_length}
 use Rattle.sl_run_law.proofs.Course.EntriesAreStamped.{entries_are_stamped}
 use Rattle.sl_run_law.specs.Course.CallStamps.{IsStampOf}

@@ -1,9 +1,9 @@
 -- An exclusive grant of a trace is one of the history: the ballot that was won, the look at all blocks after the instance had begun, and
 -- that no free of it was submitted.
-use Rattle.sl_area.specs.Layouts.{Layout}
+use Rattle.sl_area.specs.AreaSizes.{Layout}
 use Rattle.sl_safety.specs.Ballot.Endings.{EndedBallotsEnd, IsEntryAt}
-use Rattle.sl_ballots.specs.Ballots.{BallotEnded}
-use Rattle.sl_ballots.specs.History.{Block as HistoryBlock, History, Owner as Holder}
+use Rattle.sl_ballot_law.specs.Ballots.{BallotEnded}
+use Rattle.sl_ballot_law.specs.History.{Block as HistoryBlock, History, Owner as Holder}
 use Rattle.sl_safety.proofs.Grant.EvidenceInHistory.{evidence_by}
 use Rattle.sl_safety.proofs.Grant.LeadersAndFrees.{FreeTold, free_told, freed_most}
 use Rattle.sl_safety.proofs.Grant.Looks.{is_present, look_shows_host, look_shows_nothing}

@@ -1,7 +1,7 @@
 -- An exclusive holding of a session that is not over stands: it goes back to a grant of the history, and nothing of its instance was
 -- freed.
 use Rattle.sl_safety.specs.Ballot.Endings.{IsEntryAt}
-use Rattle.sl_ballots.specs.History.{History}
+use Rattle.sl_ballot_law.specs.History.{History}
 use Rattle.sl_run_law.proofs.Course.PairwiseLists.{pairs_length}
 use Rattle.sl_run_law.proofs.Course.EntriesAreStamped.{entries_are_stamped}
 use Rattle.sl_run_law.specs.Course.CallStamps.{IsStampOf}
@@ -14,7 +14,7 @@ use Rattle.sl_safety.specs.Grant.HistoryGrants.{ExclusivesAreKept, GrantedThere,
 use Rattle.sl_safety.proofs.Holding.HoldingsAreGranted.{holdings_are_granted}
 use Rattle.sl_safety.proofs.Holding.Places.{HeldOn, held_on, on_held}
 use Rattle.sl_safety.proofs.Holding.ExclusivesUnfreed.{exclusives_are_unfreed}
-use Rattle.sl_ballots.specs.Grantings.Holdings.{IsKept}
+use Rattle.sl_ballot_law.specs.Grantings.Holdings.{IsKept}
 use Rattle.sl_id_safety.proofs.Steps.JoiningIsAlive.{stamp_there}
 use Rattle.sl_trace.specs.Leases.{holdings_on}
 use Rattle.sl_safety.specs.Resources.HistoryLaws.{history_of_line, spot_of_line}

@@ -1,7 +1,7 @@
 -- A leader in the history that names a session was written by this session: and so was each free of an instance that it won.
-use Rattle.sl_area.specs.Layouts.{Layout}
+use Rattle.sl_area.specs.AreaSizes.{Layout}
 use Rattle.sl_safety.proofs.Ballot.LeadersFollowBallots.{owner_as}
-use Rattle.sl_ballots.specs.History.{Leader as HistoryLeader}
+use Rattle.sl_ballot_law.specs.History.{Leader as HistoryLeader}
 use Rattle.sl_run_law.specs.Course.CallStamps.{stamp_in}
 use Rattle.sl_safety.proofs.Grant.Names.{name_of_sent}
 use Rattle.sl_safety.proofs.Grant.CallsOfWorlds.{OfLease}

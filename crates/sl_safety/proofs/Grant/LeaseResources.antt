@@ -1,7 +1,7 @@
 -- The resource of a session's lease. Who writes a block on an area has verified a leader of its lockspace there: so the area is that of a
 -- resource of the header, of the session's lockspace.
-use Rattle.sl_area.specs.Layouts.{Layout}
-use Rattle.sl_area.specs.Places.{in_area, is_base}
+use Rattle.sl_area.specs.AreaSizes.{Layout}
+use Rattle.sl_area.specs.AreaLayout.{in_area, is_base}
 use Rattle.sl_safety.proofs.Grant.CallsOfWorlds.{IsFront, of_lease, told, told_block, told_on, whole_of}
 use Rattle.sl_safety.specs.Grant.HistoryGrants.{ResourceAt}
 use Rattle.sl_id_safety.proofs.State.TraceBridge.{placed}

@@ -1,6 +1,6 @@
 -- Each block of a session that has held shared since a grant has its mark, from the mark of that grant on: before the grant by what stands
 -- before it, after it by the law of modes.
-use Rattle.sl_area.specs.Layouts.{Layout}
+use Rattle.sl_area.specs.AreaSizes.{Layout}
 use Rattle.sl_safety.proofs.Ballot.ReasonNames.{cut_keeps}
 use Rattle.sl_safety.specs.Ballot.Endings.{IsEntryAt}
 use Rattle.sl_safety.proofs.Grant.SharedBacking.{IsBacked}

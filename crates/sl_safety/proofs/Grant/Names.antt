@@ -1,15 +1,14 @@
 -- A session's name in ballots, at a front of its trace where it has called for a lease: it has joined by then, and keeps its generation.
 use Rattle.sl_safety.proofs.Ballot.ReasonNames.{cut_keeps, generation_stays}
 use Rattle.sl_safety.specs.Ballot.Endings.{holder_as}
-use Rattle.sl_ballots.specs.History.{Owner as Holder}
+use Rattle.sl_ballot_law.specs.History.{Owner as Holder}
 use Rattle.sl_safety.proofs.Grant.CallsOfWorlds.{IsFront, OfLease, whole_of}
 use Rattle.sl_run.proofs.LawFacts.{orderly-front}
 use Rattle.sl_run.specs.Lawful.{Orderly}
 use Rattle.sl_run.specs.LawfulArea.{is_area_work}
 use Rattle.sl_run_law.proofs.Place.TracesOnMachines.{call_law, owner_of}
-use Rattle.sl_safety.proofs.Resources.Calls.{IsOwned, found_of, made_of, owner_found, stood}
+use Rattle.sl_safety.proofs.Resources.Calls.{IsOwned, found_of, made_of, owner_found, stood, holder_is}
 use Rattle.sl_safety.proofs.Resources.OwnBlocks.{lease_is_work}
-use Rattle.sl_safety.proofs.Resources.Calls.{holder_is}
 use Rattle.sl_safety.specs.Resources.SentCalls.{Sent, holder_of, sender_of}
 use Rattle.sl_run.specs.Runs.{Happening}
 use Rattle.sl_run.specs.Safety.{Found, IsSession, LawfulRun, SessionId, found_generation, setting_in, trace_of, world_at}

@@ -8,7 +8,7 @@ use Rattle.sl_safety.proofs.Holding.Places.{HeldOn, held_on}
 use Rattle.sl_safety.proofs.Holding.SharedHoldingsBegin.{was_session}
 use Rattle.sl_safety.proofs.Holding.ExclusivesUnfreed.{exclusives_are_unfreed}
 use Rattle.sl_safety.specs.Holding.HoldingOrigins.{GrantedIn}
-use Rattle.sl_area.specs.Layouts.{Layout}
+use Rattle.sl_area.specs.AreaSizes.{Layout}
 use Rattle.sl_run.proofs.LawFacts.{orderly-front}
 use Rattle.sl_run.specs.Lawful.{Orderly}
 use Rattle.sl_run.specs.LawfulLeader.{HasWon}

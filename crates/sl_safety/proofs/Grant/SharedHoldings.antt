@@ -1,8 +1,8 @@
 -- A shared holding of a session that is not over has stood since a grant of the history, by a ballot or by conversion: the ballot that was
 -- won, its mark, and that each later block of the session has the mark too.
-use Rattle.sl_area.specs.Places.{is_base}
-use Rattle.sl_ballots.specs.Ballots.{BallotEnded}
-use Rattle.sl_ballots.specs.History.{Block as HistoryBlock, History, Owner as Holder}
+use Rattle.sl_area.specs.AreaLayout.{is_base}
+use Rattle.sl_ballot_law.specs.Ballots.{BallotEnded}
+use Rattle.sl_ballot_law.specs.History.{Block as HistoryBlock, History, Owner as Holder}
 use Rattle.sl_run_law.specs.Course.CallStamps.{stamp_in}
 use Rattle.sl_safety.proofs.Grant.AliveInHistory.{alive_by}
 use Rattle.sl_safety.proofs.Grant.SharedBacking.{IsBacked, is_backed, mode_of}
@@ -21,7 +21,7 @@ use Rattle.sl_safety.proofs.Holding.HoldingsAreGranted.{holdings_are_granted}
 use Rattle.sl_safety.proofs.Holding.Places.{held_on, on_held, the_shared}
 use Rattle.sl_safety.proofs.Holding.SharedHoldingsBegin.{shared_holdings_begin}
 use Rattle.sl_safety.specs.Holding.HoldingOrigins.{SharedRun}
-use Rattle.sl_ballots.specs.Grantings.Holdings.{IsSharedTo, SharedGrant}
+use Rattle.sl_ballot_law.specs.Grantings.Holdings.{IsSharedTo, SharedGrant}
 use Rattle.sl_run.proofs.LawFacts.{orderly-front}
 use Rattle.sl_run.specs.Lawful.{Orderly}
 use Rattle.sl_trace.specs.Leases.{has_shared_on, is_free_write}

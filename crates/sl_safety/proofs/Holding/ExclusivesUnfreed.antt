@@ -1,6 +1,6 @@
 -- What is held exclusive is not freed. At the grant no free of its instance was submitted, in no entry up to that of the grant and not in
 -- this either; while it stands the law of leaders lets none be.
-use Rattle.sl_area.specs.Places.{is_base}
+use Rattle.sl_area.specs.AreaLayout.{is_base}
 use Rattle.sl_safety.proofs.Holding.HoldingsAreGranted.{held_or_given}
 use Rattle.sl_safety.proofs.Holding.Places.{HeldOn, held_on, on_held, spot_is}
 use Rattle.sl_safety.proofs.Holding.HoldersStand.{stands_behind}

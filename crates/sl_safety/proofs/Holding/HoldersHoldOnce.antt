@@ -1,6 +1,6 @@
 -- No process of a machine holds a place twice. While a daemon runs the machine's holdings are those of its trace, where each grant leaves
 -- its process one of its place; after the daemon's end holdings end, and an exit leaves one orphan of a place at most.
-use Rattle.sl_area.specs.Layouts.{Layout, layout_with}
+use Rattle.sl_area.specs.AreaSizes.{Layout, layout_with}
 use Rattle.sl_run_law.proofs.Course.OrphansOfExits.{Exits, GrantsOrphans, Grants_nothing, own_grants}
 use Rattle.sl_run_law.proofs.Course.MachinesKeep.{Goes_on, lawful_on, machines_keep}
 use Rattle.sl_run_law.proofs.Course.MachinesMirror.{machines_mirror}
@@ -14,7 +14,7 @@ use Rattle.sl_run.proofs.LawFacts.{orderly-front}
 use Rattle.sl_run.specs.Lawful.{Orderly}
 use Rattle.sl_words.proofs.Lists.{any_of, contains_cases, contains_first, contains_more, contains_none, in_map, kept_inside, next_before}
 use Rattle.sl_words.proofs.Options.{some_of}
-use Rattle.sl_run.specs.Events.{first_change, next_step, own_effects, with_entry}
+use Rattle.sl_run.specs.EventChanges.{first_change, next_step, own_effects, with_entry}
 use Rattle.sl_run.specs.HeldOverTime.{HoldersHoldOnce}
 use Rattle.sl_run.specs.Runs.{Happening, own_effects_of}
 use Rattle.sl_run.specs.Safety.{LawfulRun, world_at}

@@ -10,7 +10,7 @@ use Rattle.sl_run.specs.LawfulGrant.{LawfulGrantTo, LawfulOrphan}
 use Rattle.sl_run.specs.LawfulParting.{MayPart}
 use Rattle.sl_run.specs.LawForms.{cut_at}
 use Rattle.sl_run_law.proofs.Leases.NumberLaws.{number_is_place}
-use Rattle.sl_area.specs.Places.{is_base}
+use Rattle.sl_area.specs.AreaLayout.{is_base}
 use Rattle.sl_words.proofs.Lists.{contains_none, got_inside, kept}
 use Rattle.sl_words.proofs.Options.{none_is, some_of}
 use Rattle.sl_run_law.proofs.Sessions.CallsAreMade.{IsNewCall, old_or_new, was_marked}

@@ -1,5 +1,5 @@
 -- Places and areas as equations, and the holdings of a session on an area.
-use Rattle.sl_area.specs.Layouts.{Layout}
+use Rattle.sl_area.specs.AreaSizes.{Layout}
 use Rattle.sl_run_law.proofs.Leases.SpotLaws.{areas_are_apart}
 use Rattle.sl_trace.specs.Leases.{has_shared_on, holdings_on, is_on, spot_of_call}
 use Rattle.sl_words.proofs.Lists.{contains_cases, contains_none, find_inside, kept, kept_inside}

@@ -1,6 +1,6 @@
 -- What a trace was given of all blocks is what a read of the world gives: by its own answer, or by that of the call before it too.
-use Rattle.sl_area.specs.Layouts.{Layout}
-use Rattle.sl_area.specs.Places.{BlocksRead, needs_again, pairs_kept, read_once}
+use Rattle.sl_area.specs.AreaSizes.{Layout}
+use Rattle.sl_area.specs.Pairs.{BlocksRead, needs_again, pairs_kept, read_once}
 use Rattle.sl_safety.proofs.Resources.Calls.{IsWork}
 use Rattle.sl_safety.proofs.Resources.OwnBlocks.{layout_at}
 use Rattle.sl_safety.proofs.Resources.CallParts.{Standing}
@@ -21,8 +21,7 @@ use Rattle.sl_trace.specs.declared.effects.Call.{Call}
 use Rattle.sl_run_law.specs.Leases.Ways.{lease_among}
 use Rattle.std.proofs.Common.{ap, refl, sym, ◌∙◌}
 use Rattle.std.specs.Prelude.{Contains, List, Option, Some, false, true, ℕ, ◌≡◌}
-use Rattle.sl_safety.proofs.Resources.GivenBlocks.{GaveRead, GivenWays, Second, gave_read, given_ways}
-use Rattle.sl_safety.proofs.Resources.GivenBlocks.{Alone}
+use Rattle.sl_safety.proofs.Resources.GivenBlocks.{GaveRead, GivenWays, Second, gave_read, given_ways, Alone}
 use Rattle.sl_words.proofs.CaseLaws.{some_value}
 use Rattle.sl_words.specs.Words.{first_of_list}
 use Rattle.sl_safety.proofs.Resources.Looks.{begun_once, begun_twice}

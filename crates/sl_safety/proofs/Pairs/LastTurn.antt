@@ -1,6 +1,6 @@
 -- The last call of a lease that shows a turn of the own pair, in its trace and among its machine's calls.
-use Rattle.sl_area.specs.Layouts.{Layout}
-use Rattle.sl_area.specs.Places.{pair_read}
+use Rattle.sl_area.specs.AreaSizes.{Layout}
+use Rattle.sl_area.specs.Pairs.{pair_read}
 use Rattle.sl_safety.proofs.Resources.LastBlock.{kept_calls}
 use Rattle.sl_safety.proofs.Resources.NewestCalls.{calls_below}
 use Rattle.sl_words.proofs.Lists.{contains_cases, contains_first, contains_more}

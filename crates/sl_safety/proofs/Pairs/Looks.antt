@@ -1,7 +1,8 @@
 -- What is asked of a log's looks: a read of a session of the host, between whose submission and answer the session writes nothing, shows the
 -- pair as its two sectors stood when they were sampled.
-use Rattle.sl_area.specs.Layouts.{Layout, record_in}
-use Rattle.sl_area.specs.Places.{area_sectors, block_offset, block_sectors, blocks_part, later_pair, pair_back, pair_front, pair_offset, pair_read, sector_of}
+use Rattle.sl_area.specs.AreaSizes.{Layout, record_in}
+use Rattle.sl_area.specs.AreaLayout.{area_sectors, block_offset, block_sectors, blocks_part, pair_offset, sector_of}
+use Rattle.sl_area.specs.Pairs.{later_pair, pair_back, pair_front, pair_read}
 use Rattle.sl_safety.proofs.Resources.CallsTakeTurns.{First, One, Second, Turns, turns_of}
 use Rattle.sl_safety.proofs.GivenReads.ShownAtPlace.{IsPlaced, read_placed}
 use Rattle.sl_safety.proofs.Resources.Calls.{IsOwned, IsWork, host_range, made_of, owned, owner_layout}
@@ -17,11 +18,11 @@ use Rattle.sl_safety.proofs.Pairs.SentBlocks.{JoinedFor, PairSent, joined_for, p
 use Rattle.sl_safety.proofs.Pairs.LogEvents.{answered_is}
 use Rattle.sl_safety.proofs.Pairs.Writes.{IsPair}
 use Rattle.sl_safety.specs.Pairs.PairLogs.{is_look_at, is_of_host, join_of, look_at, look_of, pair_log, sample_step}
-use Rattle.sl_ballots.specs.PairLogs.Logs.{Log, Look, LookShows, SectorAt}
-use Rattle.sl_ballots.specs.Pairs.State.{Stored, later}
+use Rattle.sl_ballot_law.specs.PairLogs.Logs.{Log, Look, LookShows, SectorAt}
+use Rattle.sl_ballot_law.specs.Pairs.State.{Stored, later}
 use Rattle.sl_words.proofs.Lists.{contains_first, there_is}
 use Rattle.sl_words.proofs.Options.{mapped_value}
-use Rattle.sl_run.specs.Events.{is_read_course, sectors_of}
+use Rattle.sl_run.specs.Refusals.{is_read_course, sectors_of}
 use Rattle.sl_run.specs.Runs.{Happening}
 use Rattle.sl_run.specs.Safety.{LawfulRun, world_at}
 use Rattle.sl_run.specs.Worlds.{Course, Landing, Program, Sampling, Stamp, World, history_of}
@@ -32,7 +33,7 @@ use Rattle.sl_run_law.proofs.Place.FoundInLists.{given_by, same_text}
 use Rattle.sl_run_law.proofs.Place.MadeLeaders.{sectors_of_pairs}
 use Rattle.sl_run_law.proofs.Sample.SampleLaws.{done_reads_are_whole, samples_are_landings}
 use Rattle.sl_run_law.specs.Sample.Samples.{IsSampleOf, numbered_landing, sector_place}
-use Rattle.sl_sector.specs.Spelling.{pair_in}
+use Rattle.sl_sector.specs.SectorLayouts.{pair_in}
 use Rattle.sl_sector.specs.declared.sector.PairBlock.{PairBlock}
 use Rattle.sl_trace.specs.Leases.{is_area_read, is_on}
 use Rattle.sl_trace.specs.Traces.{Setting, Submitted, is_write, new_call, record_of}

@@ -1,5 +1,5 @@
 -- The sessions of a host follow one another, and so do its writes.
-use Rattle.sl_ballots.specs.History.{Owner as Holder}
+use Rattle.sl_ballot_law.specs.History.{Owner as Holder}
 use Rattle.sl_safety.proofs.Resources.CallsTakeTurns.{First, One, Second, Turns, turns_of}
 use Rattle.sl_safety.proofs.Resources.AtSteps.{wrote}
 use Rattle.sl_safety.proofs.Resources.Calls.{IsOwned, IsWork}

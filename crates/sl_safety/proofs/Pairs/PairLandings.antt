@@ -1,6 +1,6 @@
 -- What lands at a sector of a host's pair is a block of a session of the host, of a turn of that sector; and each such write lands there.
-use Rattle.sl_area.specs.Layouts.{Layout}
-use Rattle.sl_area.specs.Places.{in_area, pair_offset}
+use Rattle.sl_area.specs.AreaSizes.{Layout}
+use Rattle.sl_area.specs.AreaLayout.{in_area, pair_offset}
 use Rattle.sl_safety.proofs.GivenReads.ShownAtPlace.{sender_is, step_is}
 use Rattle.sl_safety.proofs.Resources.Calls.{found_of, holder_is, made_of, owned, owner_found, owner_layout, spot_is, there_sent}
 use Rattle.sl_safety.proofs.Resources.StepsNameCalls.{finds_it, named, sent_format, text_same}
@@ -26,7 +26,7 @@ use Rattle.sl_run_law.proofs.Place.TracesOnMachines.{call_law}
 use Rattle.sl_run_law.proofs.Place.Seats.{sized_in}
 use Rattle.sl_run_law.specs.Landing.Landings.{LeftBy}
 use Rattle.sl_run_law.specs.Place.Homes.{IsLeaseLanding}
-use Rattle.sl_sector.specs.Spelling.{is_first_turn}
+use Rattle.sl_sector.specs.SectorLayouts.{is_first_turn}
 use Rattle.sl_sector.specs.declared.sector.PairBlock.{PairBlock}
 use Rattle.sl_sector.specs.declared.sector.Rec.TheVariants.{BlockIs, DeltaIs, LeaderIs, PairIs, PairLeaderIs, RequestIs, ValueIs}
 use Rattle.sl_sector.specs.declared.sector.Rec.{Rec}

@@ -1,6 +1,7 @@
 -- What reads give of a host's pair is a register's content.
-use Rattle.sl_area.specs.Layouts.{Layout, record_in}
-use Rattle.sl_area.specs.Places.{BlocksRead, later_pair, needs_again, pair_back, pair_front, pair_kept, pair_merged, pair_read, pairs_kept, sector_of}
+use Rattle.sl_area.specs.AreaSizes.{Layout, record_in}
+use Rattle.sl_area.specs.Pairs.{BlocksRead, later_pair, needs_again, pair_back, pair_front, pair_kept, pair_merged, pair_read, pairs_kept}
+use Rattle.sl_area.specs.AreaLayout.{sector_of}
 use Rattle.sl_safety.proofs.Resources.Calls.{host_range, sent_there}
 use Rattle.sl_safety.specs.Resources.Histories.{is_host}
 use Rattle.sl_safety.specs.Resources.HistoryLaws.{spot_of_line}
@@ -16,11 +17,11 @@ use Rattle.sl_safety.specs.Pairs.Reads.{GivesBlocks, IsReadOf, Once, PairsAreGiv
 use Rattle.sl_safety.specs.Pairs.PairsAreShown.{Both, PairsAreShown, StandsFor}
 use Rattle.sl_safety.specs.Pairs.PairLogs.{pair_log, pair_sent}
 use Rattle.sl_safety.specs.Resources.SampledReads.{blocks_sampled, pair_number, shown_of, shown_once, shown_twice, stored_in, stored_sampled}
-use Rattle.sl_ballots.proofs.PairLogs.RegistersAreRead.{reads_are_registers}
-use Rattle.sl_ballots.specs.PairLogs.Logs.{SectorAt}
-use Rattle.sl_ballots.specs.PairLogs.Theorems.{IsRegisterOf, Read_once, Read_twice, ReadsPair}
-use Rattle.sl_ballots.specs.Pairs.Reads.{merged}
-use Rattle.sl_ballots.specs.Pairs.State.{Stored, later}
+use Rattle.sl_ballot_law.proofs.PairLogs.RegistersAreRead.{reads_are_registers}
+use Rattle.sl_ballot_law.specs.PairLogs.Logs.{SectorAt}
+use Rattle.sl_ballot_law.specs.PairLogs.Theorems.{IsRegisterOf, Read_once, Read_twice, ReadsPair}
+use Rattle.sl_ballot_law.specs.Pairs.Reads.{merged}
+use Rattle.sl_ballot_law.specs.Pairs.State.{Stored, later}
 use Rattle.sl_words.proofs.Lists.{any_of, contains_first, contains_more}
 use Rattle.sl_run.specs.Runs.{Happening}
 use Rattle.sl_run.specs.Safety.{LawfulRun, world_at}
@@ -28,7 +29,7 @@ use Rattle.sl_run.specs.Worlds.{Course, Program, Stamp, World}
 use Rattle.sl_run.specs.declared.header.Header.{Header}
 use Rattle.sl_run.specs.declared.header.ResourceLine.{ResourceLine}
 use Rattle.sl_run_law.proofs.Sample.SampleLaws.{samples_come_in_order}
-use Rattle.sl_sector.specs.Spelling.{pair_in}
+use Rattle.sl_sector.specs.SectorLayouts.{pair_in}
 use Rattle.sl_sector.specs.declared.sector.PairBlock.{PairBlock}
 use Rattle.sl_trace.specs.Leases.{is_again, is_area_read}
 use Rattle.sl_trace.specs.Traces.{new_call}

@@ -1,6 +1,7 @@
 -- Once a block of a host was answered ok, what stands in its pair is that block, or one that was submitted later.
-use Rattle.sl_area.specs.Layouts.{Layout, record_in}
-use Rattle.sl_area.specs.Places.{block_offset, later_pair, pair_offset}
+use Rattle.sl_area.specs.AreaSizes.{Layout, record_in}
+use Rattle.sl_area.specs.AreaLayout.{block_offset, pair_offset}
+use Rattle.sl_area.specs.Pairs.{later_pair}
 use Rattle.sl_safety.proofs.GivenReads.NewestShown.{Descends, history_descends}
 use Rattle.sl_safety.proofs.GivenReads.ShownAtPlace.{in_history}
 use Rattle.sl_safety.proofs.GivenReads.StandsSinceOk.{landed_later, landed_sooner, layout_kept}
@@ -23,8 +24,8 @@ use Rattle.sl_safety.specs.Pairs.Reads.{PairsStand, SentOf}
 use Rattle.sl_safety.specs.Pairs.PairsAreShown.{Both, StandsFor}
 use Rattle.sl_safety.specs.Pairs.PairLogs.{pair_log, pair_sent}
 use Rattle.sl_safety.specs.Resources.SampledReads.{stored_in}
-use Rattle.sl_ballots.proofs.PairLogs.NothingLands.{stays}
-use Rattle.sl_ballots.specs.Pairs.State.{Stored, later}
+use Rattle.sl_ballot_law.proofs.PairLogs.NothingLands.{stays}
+use Rattle.sl_ballot_law.specs.Pairs.State.{Stored, later}
 use Rattle.sl_words.proofs.Lists.{contains_cases, contains_first, kept}
 use Rattle.sl_words.proofs.Options.{mapped_value}
 use Rattle.sl_run.specs.Runs.{Happening}
@@ -34,7 +35,7 @@ use Rattle.sl_run.specs.declared.header.Header.{Header}
 use Rattle.sl_run.specs.declared.header.ResourceLine.{ResourceLine}
 use Rattle.sl_run_law.proofs.Front.RunsFromFronts.{fronts_are_lawful}
 use Rattle.sl_run_law.proofs.Front.JoinedLists.{contains_left}
-use Rattle.sl_sector.specs.Spelling.{block_in, pair_in}
+use Rattle.sl_sector.specs.SectorLayouts.{block_in, pair_in}
 use Rattle.sl_sector.specs.declared.sector.Block.{Block}
 use Rattle.sl_sector.specs.declared.sector.PairBlock.{PairBlock}
 use Rattle.sl_trace.specs.Leases.{block_of_record}
@@ -46,7 +47,7 @@ use Rattle.std.proofs.Common.{ap, arith, inl, inr, refl, subst, sym, ◌∙◌}
 use Rattle.std.proofs.lemmas.Bool.{and_from, eq-eqb}
 use Rattle.std.specs.Prelude.{Bool, Contains, List, None, Option, Some, [], false, is_some, nat_le, option_and_then, option_map, true, ℕ, ◌&&◌, ◌++◌, ◌+◌, ◌-◌, ◌<◌, ◌∷◌, ◌≡◌, ◌≤◌, ◌⊎◌}
 use Rattle.sl_safety.proofs.Sessions.OrderedFronts.{steps_grow}
-use Rattle.sl_ballots.proofs.PairLogs.RegistersAreRead.{pairs_have_blocks}
+use Rattle.sl_ballot_law.proofs.PairLogs.RegistersAreRead.{pairs_have_blocks}
 
 -- ---- at a front
 

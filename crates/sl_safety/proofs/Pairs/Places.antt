@@ -1,6 +1,6 @@
 -- The sectors of a host's pair, and that nothing else is written there.
-use Rattle.sl_area.specs.Layouts.{Layout}
-use Rattle.sl_area.specs.Places.{block_sectors, in_area, leader_offset, pair_offset, request_offset, value_offset}
+use Rattle.sl_area.specs.AreaSizes.{Layout}
+use Rattle.sl_area.specs.AreaLayout.{block_sectors, in_area, leader_offset, pair_offset, request_offset, value_offset}
 use Rattle.sl_safety.proofs.Resources.Calls.{host_range}
 use Rattle.sl_safety.specs.Resources.Histories.{is_host}
 use Rattle.sl_run.specs.LawfulArea.{is_of_format, record_offset}
@@ -8,7 +8,7 @@ use Rattle.sl_run.specs.Worlds.{World}
 use Rattle.sl_run_law.proofs.Place.Blocks.{blocks_place, blocks_within}
 use Rattle.sl_run_law.proofs.Place.MadeLeaders.{sectors_of_pairs}
 use Rattle.sl_run_law.proofs.Place.Sizes.{IsSized, one_slot, sector_has_bytes}
-use Rattle.sl_sector.specs.Spelling.{is_first_turn}
+use Rattle.sl_sector.specs.SectorLayouts.{is_first_turn}
 use Rattle.sl_sector.specs.declared.sector.PairBlock.{PairBlock}
 use Rattle.sl_sector.specs.declared.sector.Rec.TheVariants.{BlockIs, DeltaIs, LeaderIs, PairIs, PairLeaderIs, RequestIs, ValueIs}
 use Rattle.sl_sector.specs.declared.sector.Rec.{Rec}

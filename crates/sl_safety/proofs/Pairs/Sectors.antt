@@ -1,6 +1,7 @@
 -- What a sector of a host's pair holds after a step is what its newest landing spells.
-use Rattle.sl_area.specs.Layouts.{Layout, record_in}
-use Rattle.sl_area.specs.Places.{area_sectors, block_sectors, fresh_block_at, fresh_leader, fresh_pair, leader_record, no_request, no_value, pair_offset}
+use Rattle.sl_area.specs.AreaSizes.{Layout, record_in}
+use Rattle.sl_area.specs.AreaLayout.{area_sectors, block_sectors, pair_offset}
+use Rattle.sl_area.specs.AreaRecords.{fresh_block_at, fresh_leader, fresh_pair, leader_record, no_request, no_value}
 use Rattle.sl_area.proofs.FreshRecords.{block_with_pairs}
 use Rattle.sl_safety.proofs.GivenReads.FreshAtFirst.{sector_record, spelled_at_first}
 use Rattle.sl_safety.proofs.GivenReads.BlocksNameHosts.{block_host, own_host}
@@ -19,8 +20,8 @@ use Rattle.sl_safety.proofs.Pairs.Places.{area_number, pair_within}
 use Rattle.sl_safety.proofs.Pairs.SentBlocks.{as_block, pair_found, told_of}
 use Rattle.sl_safety.proofs.Pairs.LogEvents.{landed_is, lands_at, turn_is, whole_is}
 use Rattle.sl_safety.specs.Pairs.PairLogs.{pair_log}
-use Rattle.sl_ballots.specs.PairLogs.Logs.{At_first, Left, NoLanding, SectorAt, stored_at_first}
-use Rattle.sl_ballots.specs.Pairs.State.{Stored, is_first}
+use Rattle.sl_ballot_law.specs.PairLogs.Logs.{At_first, Left, NoLanding, SectorAt, stored_at_first}
+use Rattle.sl_ballot_law.specs.Pairs.State.{Stored, is_first}
 use Rattle.sl_words.proofs.Lists.{kept}
 use Rattle.sl_run.specs.Runs.{Happening}
 use Rattle.sl_run.specs.Safety.{LawfulRun, world_at}
@@ -37,7 +38,7 @@ use Rattle.sl_run_law.specs.Landing.Landings.{LeftBy}
 use Rattle.sl_run_law.specs.Sample.Samples.{numbered_landing}
 use Rattle.sl_sector.proofs.PublicLaws.{spelled_is_read}
 use Rattle.sl_sector.specs.Records.{IsRecord}
-use Rattle.sl_sector.specs.Spelling.{is_first_turn, pair_in}
+use Rattle.sl_sector.specs.SectorLayouts.{is_first_turn, pair_in}
 use Rattle.sl_sector.specs.declared.sector.Bad.{Bad}
 use Rattle.sl_sector.specs.declared.sector.PairBlock.{PairBlock}
 use Rattle.sl_sector.specs.declared.sector.Rec.TheVariants.{PairIs, RequestIs, ValueIs}

@@ -1,6 +1,7 @@
 -- What stands in a sector of a host's pair, or in both, as a block of its sender.
-use Rattle.sl_area.specs.Layouts.{record_in}
-use Rattle.sl_area.specs.Places.{fresh_pair, later_pair}
+use Rattle.sl_area.specs.AreaSizes.{record_in}
+use Rattle.sl_area.specs.AreaRecords.{fresh_pair}
+use Rattle.sl_area.specs.Pairs.{later_pair}
 use Rattle.sl_safety.specs.Resources.Histories.{is_host}
 use Rattle.sl_safety.specs.Resources.SampledReads.{step_of_landing, stored_in}
 use Rattle.sl_safety.specs.Resources.Reads.{step_given}
@@ -9,14 +10,14 @@ use Rattle.sl_safety.proofs.Pairs.PairLandings.{IsPairLanding, pair_landing}
 use Rattle.sl_safety.proofs.Pairs.Sectors.{IsFrom, Landed, NewestIn, Stood, left_spelled}
 use Rattle.sl_safety.specs.Pairs.Reads.{SentOf}
 use Rattle.sl_safety.specs.Pairs.PairsAreShown.{Both, StandsFor}
-use Rattle.sl_ballots.specs.Pairs.Reads.{merged}
-use Rattle.sl_ballots.specs.Pairs.State.{Stored, later}
+use Rattle.sl_ballot_law.specs.Pairs.Reads.{merged}
+use Rattle.sl_ballot_law.specs.Pairs.State.{Stored, later}
 use Rattle.sl_run.specs.Runs.{Happening}
 use Rattle.sl_run.specs.Safety.{LawfulRun, world_at}
 use Rattle.sl_run.specs.Worlds.{Landing, Program, World}
 use Rattle.sl_run.specs.declared.header.Header.{Header}
 use Rattle.sl_run.specs.declared.header.ResourceLine.{ResourceLine}
-use Rattle.sl_sector.specs.Spelling.{pair_in}
+use Rattle.sl_sector.specs.SectorLayouts.{pair_in}
 use Rattle.sl_sector.specs.declared.sector.PairBlock.{PairBlock}
 use Rattle.sl_sector.specs.declared.sector.Rec.TheVariants.{PairIs}
 use Rattle.sl_words.proofs.CaseLaws.{none_some, some_value}

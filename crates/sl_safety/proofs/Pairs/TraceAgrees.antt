@@ -1,6 +1,6 @@
 -- What a trace was given of each host is what the landings show that the read has sampled, by its sender.
-use Rattle.sl_area.specs.Layouts.{Layout}
-use Rattle.sl_area.specs.Places.{BlocksRead, blocks_of, pair_merged, pairs_of}
+use Rattle.sl_area.specs.AreaSizes.{Layout}
+use Rattle.sl_area.specs.Pairs.{BlocksRead, blocks_of, pair_merged, pairs_of}
 use Rattle.sl_safety.proofs.GivenReads.GivenNames.{blocks_paired, given_names}
 use Rattle.sl_safety.proofs.Resources.Calls.{IsWork, host_range}
 use Rattle.sl_safety.proofs.Resources.OwnBlocks.{layout_at}
@@ -17,7 +17,7 @@ use Rattle.sl_safety.specs.Pairs.Reads.{SentOf}
 use Rattle.sl_safety.specs.Pairs.PairsAreShown.{Both, given_shown}
 use Rattle.sl_safety.specs.Resources.SampledReads.{shown_of}
 use Rattle.sl_safety.specs.Pairs.PairLogs.{pair_sent}
-use Rattle.sl_ballots.specs.Pairs.State.{Stored}
+use Rattle.sl_ballot_law.specs.Pairs.State.{Stored}
 use Rattle.sl_words.proofs.Options.{mapped_value}
 use Rattle.sl_run.specs.Runs.{Happening}
 use Rattle.sl_run.specs.Safety.{LawfulRun, world_at}

@@ -1,6 +1,6 @@
 -- A block of a host has the turn above the one that its session was shown last.
-use Rattle.sl_area.specs.Layouts.{Layout}
-use Rattle.sl_area.specs.Places.{pair_read}
+use Rattle.sl_area.specs.AreaSizes.{Layout}
+use Rattle.sl_area.specs.Pairs.{pair_read}
 use Rattle.sl_safety.proofs.GivenReads.BlocksNameHosts.{own_host}
 use Rattle.sl_safety.proofs.Resources.CallsTakeTurns.{First, One, Second, Turns, turns_of}
 use Rattle.sl_safety.proofs.Resources.BlockOrigins.{in_older}
@@ -23,7 +23,7 @@ use Rattle.sl_safety.proofs.Resources.GivenBlocks.{GaveRead, gave_read}
 use Rattle.sl_safety.proofs.Pairs.Writes.{IsPair}
 use Rattle.sl_safety.specs.Pairs.PairLogs.{is_look_at, is_of_host, join_of, look_at, look_of, pair_log, pair_sent}
 use Rattle.sl_safety.specs.Resources.SampledReads.{blocks_sampled}
-use Rattle.sl_ballots.specs.PairLogs.Logs.{By_look, By_ok, IsKnown, Look, Shows}
+use Rattle.sl_ballot_law.specs.PairLogs.Logs.{By_look, By_ok, IsKnown, Look, Shows}
 use Rattle.sl_words.proofs.Lists.{contains_cases, contains_none}
 use Rattle.sl_run.specs.Runs.{Happening}
 use Rattle.sl_run.specs.Safety.{LawfulRun, world_at}

@@ -1,5 +1,5 @@
 -- In one trace: a block's turn is the one above the turn that the calls of the lease before it show last, as they stand now.
-use Rattle.sl_area.specs.Layouts.{Layout}
+use Rattle.sl_area.specs.AreaSizes.{Layout}
 use Rattle.sl_run.specs.Lawful.{Orderly}
 use Rattle.sl_run.specs.LawfulBlock.{LawfulTurn}
 use Rattle.sl_trace.specs.Leases.{base_turn, lease_calls, spot_of_call, turn_shown, turn_written}

@@ -1,6 +1,7 @@
 -- What a block's turn rests on: a call of its session before it that shows the turn below, and none after that shows one.
-use Rattle.sl_area.specs.Layouts.{Layout}
-use Rattle.sl_area.specs.Places.{blocks_part, pair_read}
+use Rattle.sl_area.specs.AreaSizes.{Layout}
+use Rattle.sl_area.specs.AreaLayout.{blocks_part}
+use Rattle.sl_area.specs.Pairs.{pair_read}
 use Rattle.sl_safety.proofs.GivenReads.BlocksNameHosts.{own_host}
 use Rattle.sl_safety.proofs.Resources.BlockOrigins.{answered_before, is_among, line_aligned, told_spot}
 use Rattle.sl_safety.proofs.Resources.Calls.{IsWork}

@@ -5,8 +5,8 @@ use Rattle.sl_run_law.proofs.Place.ReadsInPlace.{area_place as placed_area, phas
 use Rattle.sl_words.specs.Words.{choose}
 use Rattle.sl_trace.specs.Traces.{Answered, Submitted, gave, submitted}
 use Rattle.sl_trace.specs.declared.input.Answer.TheVariants.{Read}
-use Rattle.sl_area.specs.Layouts.{Layout}
-use Rattle.sl_area.specs.Places.{area_blocks, blocks_in, blocks_part}
+use Rattle.sl_area.specs.AreaSizes.{Layout}
+use Rattle.sl_area.specs.AreaLayout.{area_blocks, blocks_in, blocks_part}
 use Rattle.sl_run.specs.Lawful.{Orderly}
 use Rattle.sl_run.specs.LawfulArea.{IsAreaRead, IsBlockRead}
 use Rattle.sl_run_law.proofs.Place.PlaceLaws.{promised}

@@ -1,5 +1,5 @@
 -- What the history of a resource has at a step: a block, a read with its answer, and the block that a session sent last before it.
-use Rattle.sl_ballots.specs.Disk.{Wrote}
+use Rattle.sl_ballot_law.specs.Disk.{Wrote}
 use Rattle.sl_trace.specs.Leases.{is_on}
 use Rattle.sl_words.proofs.Lists.{find_inside}
 use Rattle.sl_words.proofs.Options.{some_there}

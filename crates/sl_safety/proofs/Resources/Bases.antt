@@ -1,5 +1,5 @@
 -- The block of a write's base is the own block that the law of blocks speaks of; so no ballot goes below it.
-use Rattle.sl_ballots.specs.History.{History}
+use Rattle.sl_ballot_law.specs.History.{History}
 use Rattle.sl_run_law.specs.Leases.Ways.{Of_mode, Of_phase1, Of_phase2, Way, lease_among}
 use Rattle.sl_trace.specs.Leases.{block_submitted, is_on}
 use Rattle.sl_run_law.proofs.Place.Seats.{sized_in}

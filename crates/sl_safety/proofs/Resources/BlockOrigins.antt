@@ -1,5 +1,5 @@
 -- A write of a lease, with the calls of the lease before it, and where its block comes from; and the history's block of a step.
-use Rattle.sl_area.specs.Layouts.{Layout}
+use Rattle.sl_area.specs.AreaSizes.{Layout}
 use Rattle.sl_run_law.specs.Course.CallStamps.{stamp_in}
 use Rattle.sl_run_law.proofs.Front.JoinedLists.{contains_right}
 use Rattle.sl_run.specs.LawfulArea.{is_area_work}

@@ -1,5 +1,5 @@
 -- Calls of a world: all that was sent, by whom it was sent, and the area that it is on; work on the blocks of a resource.
-use Rattle.sl_area.specs.Places.{in_area}
+use Rattle.sl_area.specs.AreaLayout.{in_area}
 use Rattle.sl_run_law.proofs.Course.CallsAreDistinct.{each_distinct}
 use Rattle.sl_run_law.proofs.Front.JoinedLists.{contains_flat, in_flat}
 use Rattle.sl_run_law.proofs.Landing.CallLists.{one_call}

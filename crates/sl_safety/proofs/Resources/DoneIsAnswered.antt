@@ -9,7 +9,7 @@ use Rattle.sl_words.proofs.Numbers.{above_zero}
 use Rattle.sl_safety.proofs.Resources.Calls.{IsOwned}
 use Rattle.sl_safety.proofs.Resources.StepsNameEntries.{fall_apart}
 use Rattle.sl_safety.specs.Resources.SentCalls.{Sent, step_of}
-use Rattle.sl_run.specs.Events.{input_of, machine_of}
+use Rattle.sl_run.specs.Inputs.{input_of, machine_of}
 use Rattle.sl_run.specs.Runs.{Happening}
 use Rattle.sl_run.specs.Safety.{LawfulRun, world_at}
 use Rattle.sl_run.specs.Worlds.{Course, Daemon, Machine, Program, Stamp, World, machine_at, stamp_now}

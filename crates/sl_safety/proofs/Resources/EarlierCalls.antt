@@ -21,7 +21,7 @@ use Rattle.sl_safety.proofs.Resources.BlockOrigins.{IsAmong, answer_step, answer
 use Rattle.sl_safety.proofs.Resources.Looks.{read_is_lease}
 use Rattle.sl_trace.specs.Sessions.{is_call_of}
 use Rattle.sl_safety.proofs.Resources.GivenBlocks.{heard_as}
-use Rattle.sl_area.specs.Layouts.{Layout}
+use Rattle.sl_area.specs.AreaSizes.{Layout}
 use Rattle.sl_trace.specs.declared.effects.Call.{Call}
 use Rattle.sl_trace.specs.declared.effects.Spot.{Spot}
 

@@ -3,7 +3,8 @@ use Rattle.sl_trace.specs.Traces.{Answered, Submitted, gave, is_answered_ok, is_
 use Rattle.sl_words.specs.Words.{choose, some_is}
 use Rattle.std.proofs.Common.{ap, inl, inr, refl, subst, sym, ◌∙◌}
 use Rattle.std.specs.Prelude.{Bool, List, None, Option, Some, false, if◌then◌else◌, not, option_map, true, ℕ, ◌||◌, ◌≡◌, ◌⊎◌}
-use Rattle.sl_area.specs.Places.{BlocksRead, blocks_of, blocks_part, needs_again, read_once}
+use Rattle.sl_area.specs.Pairs.{BlocksRead, blocks_of, needs_again, read_once}
+use Rattle.sl_area.specs.AreaLayout.{blocks_part}
 use Rattle.sl_safety.specs.Resources.SampledReads.{blocks_sampled, reads_again}
 use Rattle.sl_run.specs.Worlds.{Course, Daemon, Stamp, World}
 use Rattle.sl_run_law.specs.Course.CallStamps.{AnswersAgree, IsAnsweredAs, IsCourseOf}
@@ -16,7 +17,7 @@ use Rattle.sl_sector.specs.declared.sector.Block.{Block}
 use Rattle.sl_safety.specs.Resources.SentCalls.{reads_blocks, reads_enough}
 use Rattle.sl_run_law.proofs.Place.TracesOnMachines.{answer_gave}
 use Rattle.std.proofs.lemmas.Bool.{or_left}
-use Rattle.sl_area.specs.Layouts.{Layout}
+use Rattle.sl_area.specs.AreaSizes.{Layout}
 use Rattle.sl_trace.specs.declared.effects.Call.{Call}
 
 -- ---- in its trace

@@ -1,6 +1,6 @@
 -- The last read of blocks before a call, in its trace and among its machine's calls.
 use Rattle.sl_run_law.proofs.Leases.ComingLaws.{none_there}
-use Rattle.sl_area.specs.Layouts.{Layout}
+use Rattle.sl_area.specs.AreaSizes.{Layout}
 use Rattle.sl_trace.specs.Traces.{Answered, Submitted, bytes_given, gave, new_call}
 use Rattle.sl_trace.specs.declared.effects.Call.{Call}
 use Rattle.sl_run_law.specs.Leases.CallFronts.{Aged, AllAged}
@@ -9,7 +9,8 @@ use Rattle.sl_words.specs.Words.{choose}
 use Rattle.sl_words.proofs.Lists.{contains_cases, contains_first, contains_more}
 use Rattle.std.proofs.Common.{ap, arith, inl, inr, refl, subst, sym, ◌∙◌}
 use Rattle.std.specs.Prelude.{Bool, Contains, List, None, Option, Some, [], cond, false, option_and_then, option_map, true, ℕ, ◌++◌, ◌+◌, ◌-◌, ◌<◌, ◌||◌, ◌∷◌, ◌≡◌, ◌≤◌, ◌⊎◌}
-use Rattle.sl_area.specs.Places.{blocks_of, blocks_part, pairs_kept}
+use Rattle.sl_area.specs.Pairs.{blocks_of, pairs_kept}
+use Rattle.sl_area.specs.AreaLayout.{blocks_part}
 use Rattle.sl_run_law.specs.Course.CallStamps.{IsCourseOf, Pairwise}
 use Rattle.sl_trace.specs.Leases.{Read_before_block, block_of_host, blocks_bytes, blocks_given, given_with, is_again, is_area_read, is_at, is_block_read, is_phase_read, kept_before, last_blocks}
 use Rattle.sl_sector.specs.declared.sector.Block.{Block}

@@ -1,5 +1,5 @@
 -- The last read of blocks that a session's first write rests on is the last read of the history that gave blocks.
-use Rattle.sl_area.specs.Layouts.{Layout}
+use Rattle.sl_area.specs.AreaSizes.{Layout}
 use Rattle.sl_run_law.specs.Course.CallStamps.{AnswersAgree, IsAnsweredAs, IsCourseOf}
 use Rattle.sl_run.specs.LawfulArea.{is_area_work}
 use Rattle.sl_trace.specs.Leases.{block_of_host, blocks_bytes, blocks_given, is_again, is_area_read, is_block_read, is_lease_call, is_on, kept_before, last_blocks, lease_calls, spot_of_call}
@@ -12,7 +12,8 @@ use Rattle.sl_safety.proofs.Resources.FirstWriteBase.{ReadFront}
 use Rattle.sl_safety.proofs.Resources.AnswersFit.{answers_fit}
 use Rattle.sl_safety.proofs.Resources.LastBlock.{kept_calls, lease_kept}
 use Rattle.sl_safety.proofs.Resources.AnsweredReads.{IsLook, area_place, given_told, phase_place}
-use Rattle.sl_area.specs.Places.{area_sectors, block_sectors, blocks_part, needs_again, pairs_kept}
+use Rattle.sl_area.specs.AreaLayout.{area_sectors, block_sectors, blocks_part}
+use Rattle.sl_area.specs.Pairs.{needs_again, pairs_kept}
 use Rattle.sl_safety.proofs.Resources.NewestCalls.{newest, sent_as}
 use Rattle.sl_safety.proofs.Resources.OwnBlocks.{behind, is_behind, layout_at, lease_test, number_at, session_as, spot_is, works}
 use Rattle.sl_safety.proofs.Resources.LastRead.{AnsweredBefore, Gives, LastRead, last_read, last_same}

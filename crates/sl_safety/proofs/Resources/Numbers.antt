@@ -1,5 +1,5 @@
 -- The number of a ballot is of its host's remainder.
-use Rattle.sl_ballots.specs.Residues.{host_by_remainder}
+use Rattle.sl_ballot_law.specs.Residues.{host_by_remainder}
 use Rattle.sl_trace.specs.Ballots.{in_instance, number_above, phase1_block}
 use Rattle.sl_sector.specs.declared.sector.Block.{Block}
 use Rattle.sl_sector.specs.declared.sector.Owner.{Owner}

@@ -1,5 +1,5 @@
 -- The own block of a write, where the session has written one before: it is the block of the write's base.
-use Rattle.sl_area.specs.Layouts.{Layout}
+use Rattle.sl_area.specs.AreaSizes.{Layout}
 use Rattle.sl_run_law.specs.Course.CallStamps.{AnswersAgree, IsAnsweredAs, IsCourseOf, Pairwise, courses_of}
 use Rattle.sl_run_law.proofs.Front.JoinedLists.{contains_right}
 use Rattle.sl_run.specs.LawfulArea.{is_area_work, is_block_work}

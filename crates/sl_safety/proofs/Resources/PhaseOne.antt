@@ -1,7 +1,7 @@
 -- Phase 1 of a history, where the session's id is a host's: its number is the host's own, and it goes by the own block.
-use Rattle.sl_ballots.specs.Ballots.{IsPhase1, KeepsBallot}
-use Rattle.sl_ballots.specs.History.{History}
-use Rattle.sl_ballots.specs.Residues.{host_by_remainder}
+use Rattle.sl_ballot_law.specs.Ballots.{IsPhase1, KeepsBallot}
+use Rattle.sl_ballot_law.specs.History.{History}
+use Rattle.sl_ballot_law.specs.Residues.{host_by_remainder}
 use Rattle.sl_run.specs.LawfulBlock.{LawfulBlockStep, LawfulPhase1}
 use Rattle.sl_run.specs.LawForms.{cut_at}
 use Rattle.sl_run_law.specs.Leases.Ways.{ByMode, ByPhase1}

@@ -1,7 +1,7 @@
 -- What a write is, beside its own block: a change of mode keeps the ballot, and phase 1 goes by the own block. Both rest on it that a
 -- session that writes has a host's id.
-use Rattle.sl_ballots.specs.Ballots.{IsPhase1, KeepsBallot}
-use Rattle.sl_ballots.specs.History.{History, Owner as Holder}
+use Rattle.sl_ballot_law.specs.Ballots.{IsPhase1, KeepsBallot}
+use Rattle.sl_ballot_law.specs.History.{History, Owner as Holder}
 use Rattle.sl_run_law.specs.Leases.Ways.{ByMode}
 use Rattle.sl_safety.proofs.Resources.BlockOrigins.{WrittenAt}
 use Rattle.sl_safety.proofs.Resources.Bases.{Based, block_of_base}

@@ -1,6 +1,6 @@
 -- How a read begins: with itself, or, where it is made once more, with the session's call on the area before it, which is the last look of
 -- the history. So a read of the history is the one of the step at which it began.
-use Rattle.sl_area.specs.Layouts.{Layout}
+use Rattle.sl_area.specs.AreaSizes.{Layout}
 use Rattle.sl_trace.specs.Leases.{is_again, is_block_read, is_on, spot_of_call}
 use Rattle.sl_trace.specs.Traces.{Setting, Submitted, is_write, new_call}
 use Rattle.sl_trace.specs.declared.effects.Call.{Call}
@@ -10,7 +10,7 @@ use Rattle.sl_words.proofs.CaseLaws.{none_some, one_value, some_value, true_is_f
 use Rattle.sl_words.proofs.Lists.{contains_cases, contains_first, contains_more, find_inside}
 use Rattle.std.proofs.Common.{ap, arith, inl, inr, refl, subst, sym, ◌∙◌}
 use Rattle.std.specs.Prelude.{Bool, Contains, List, Some, [], cond, false, not, slice_get, true, ℕ, ◌&&◌, ◌+◌, ◌<◌, ◌==◌, ◌||◌, ◌∷◌, ◌≡◌, ◌≤◌}
-use Rattle.sl_area.specs.Places.{needs_again}
+use Rattle.sl_area.specs.Pairs.{needs_again}
 use Rattle.sl_safety.proofs.Resources.BlockOrigins.{is_among, line_aligned, told_spot}
 use Rattle.sl_safety.proofs.Resources.Calls.{IsWork}
 use Rattle.sl_safety.proofs.Resources.StepsNameCalls.{finds_it, read_works, steps_name, worker_joined}

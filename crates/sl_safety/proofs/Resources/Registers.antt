@@ -1,5 +1,5 @@
 -- A resource's blocks are registers: what the history shows of a host the read was given, or it is the block that the reader submitted last.
-use Rattle.sl_ballots.specs.Disk.{Wrote}
+use Rattle.sl_ballot_law.specs.Disk.{Wrote}
 use Rattle.sl_words.proofs.Numbers.{trans_lt}
 use Rattle.sl_safety.proofs.GivenReads.ReadsAreGiven.{reads_are_given}
 use Rattle.sl_safety.proofs.Resources.AtSteps.{IsReadAt, answer_of_read, block_at, found_before, not_at_first, read_found, wrote, since, answered}

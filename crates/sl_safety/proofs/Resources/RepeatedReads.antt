@@ -1,6 +1,6 @@
 -- A read that is made once more, in its session's trace: the session's newest call on the area before it is the first one, which is of the
 -- same kind, and in whose answer some host's second sector is torn.
-use Rattle.sl_area.specs.Places.{needs_again}
+use Rattle.sl_area.specs.Pairs.{needs_again}
 use Rattle.sl_run.specs.Lawful.{Orderly}
 use Rattle.sl_run.specs.LawfulArea.{LawfulAgain, is_same_read}
 use Rattle.sl_run.specs.LawForms.{cut_at}

@@ -1,7 +1,7 @@
 -- A step of a lease names its call, and a call is work by its step; who works has joined, and holders name sessions.
 use Rattle.sl_safety.proofs.Resources.Calls.{IsOwned, IsWork, Newer, Older, Order, Same, found_as, found_in_daemon, found_of, found_on, made_of, numbered_at, on_spot, order, owned, owner_found, owner_layout, same_entry, sent_is, spot_is, stood}
-use Rattle.sl_area.specs.Layouts.{Layout}
-use Rattle.sl_ballots.specs.History.{Owner as Holder}
+use Rattle.sl_area.specs.AreaSizes.{Layout}
+use Rattle.sl_ballot_law.specs.History.{Owner as Holder}
 use Rattle.sl_run_law.proofs.Course.CallsAreDistinct.{each_distinct}
 use Rattle.sl_run_law.specs.Course.CallStamps.{AnswersAgree, IsAnsweredAs, IsCourseOf}
 use Rattle.sl_run_law.proofs.Front.JoinedLists.{in_flat}

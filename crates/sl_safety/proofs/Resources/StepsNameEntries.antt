@@ -9,7 +9,8 @@ use Rattle.sl_run_law.proofs.Moment.MachinesInOrder.{fall_rest, fall_step, machi
 use Rattle.sl_run_law.specs.Moment.Orders.{Fall, IsTimed, life_of}
 use Rattle.sl_words.proofs.Lists.{contains_cases, contains_none}
 use Rattle.sl_safety.proofs.Resources.OwnBlocks.{timed_in}
-use Rattle.sl_run.specs.Events.{machine_of, may_happen}
+use Rattle.sl_run.specs.Inputs.{machine_of}
+use Rattle.sl_run.specs.Refusals.{may_happen}
 use Rattle.sl_run.specs.Runs.{Happening}
 use Rattle.sl_run.specs.Safety.{LawfulRun, world_at}
 use Rattle.sl_run.specs.Worlds.{Course, Daemon, Machine, Program, Stamp, World, daemons_on, machine_at}

@@ -1,5 +1,5 @@
 -- A read of a trace as the history has it: one that gave blocks before a session's write is a read of the history, which was answered by then.
-use Rattle.sl_area.specs.Layouts.{Layout}
+use Rattle.sl_area.specs.AreaSizes.{Layout}
 use Rattle.sl_run_law.specs.Course.CallStamps.{IsCourseOf}
 use Rattle.sl_run.specs.LawfulArea.{is_area_work, is_same_read}
 use Rattle.sl_run_law.proofs.Front.JoinedLists.{contains_right}

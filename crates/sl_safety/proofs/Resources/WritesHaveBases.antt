@@ -1,6 +1,6 @@
 -- Each write has an own block: the one that its session submitted last, or what the session's last read shows of its host.
-use Rattle.sl_ballots.specs.Ballots.{IsFoundBlock, IsLastWrite}
-use Rattle.sl_ballots.specs.History.{History}
+use Rattle.sl_ballot_law.specs.Ballots.{IsFoundBlock, IsLastWrite}
+use Rattle.sl_ballot_law.specs.History.{History}
 use Rattle.sl_run_law.specs.Leases.Ways.{lease_among}
 use Rattle.sl_trace.specs.Leases.{block_submitted}
 use Rattle.sl_safety.proofs.Resources.BlockOrigins.{WrittenAt, written_at}

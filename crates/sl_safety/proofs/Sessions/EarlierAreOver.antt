@@ -1,5 +1,5 @@
 -- Where a session of a resource's history joins, those of its id that joined before it are over.
-use Rattle.sl_ballots.specs.History.{Owner as Holder}
+use Rattle.sl_ballot_law.specs.History.{Owner as Holder}
 use Rattle.sl_run_law.proofs.Front.RunsFromFronts.{fronts_are_lawful}
 use Rattle.sl_id_safety.proofs.IdInterface.{lockspaces_are_areas}
 use Rattle.sl_id_safety.proofs.IdSafety.{joiners_find_over}

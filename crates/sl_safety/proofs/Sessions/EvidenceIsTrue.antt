@@ -1,6 +1,6 @@
 -- Evidence means over. What a session had counted as over by a step is over at each front from there on at which it has joined; and it
 -- joins at none, since it would be over where it joins.
-use Rattle.sl_ballots.specs.History.{Owner as Holder}
+use Rattle.sl_ballot_law.specs.History.{Owner as Holder}
 use Rattle.sl_run_law.proofs.Front.RunsFromFronts.{fronts_are_lawful, run_after}
 use Rattle.sl_id_safety.proofs.IdInterface.{stands_in, stands_with}
 use Rattle.sl_id_safety.proofs.IdSafety.{evidence_means_over}

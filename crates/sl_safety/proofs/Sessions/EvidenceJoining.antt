@@ -20,7 +20,7 @@ use Rattle.sl_run_law.proofs.Place.Daemons.{daemons_are_fine, stamp_order}
 use Rattle.sl_run_law.proofs.Place.FoundInLists.{partner_of}
 use Rattle.sl_run_law.proofs.Place.Looks.{stands as standing_joined}
 use Rattle.sl_words.proofs.Lists.{any_found, contains_cases, contains_more, find_inside, kept_inside}
-use Rattle.sl_run.specs.Events.{first_change, next_step, with_entry}
+use Rattle.sl_run.specs.EventChanges.{first_change, next_step, with_entry}
 use Rattle.sl_run.specs.Runs.{Happening}
 use Rattle.sl_run.specs.Safety.{Found, IsSession, LawfulRun, SessionId, free_landed, has_write_in_flight, is_course_of, is_over, setting_in, trace_of, was_reset, world_at}
 use Rattle.sl_run.specs.Worlds.{Course, Daemon, Machine, Program, Stamp, daemons_on, is_landed, stamp_now}

@@ -3,7 +3,7 @@ use Rattle.sl_run_law.proofs.Course.Daemons.{all_ended, daemons_are, entry_of, s
 use Rattle.sl_run_law.proofs.Course.MachinesKeep.{Goes_on}
 use Rattle.sl_run_law.proofs.Course.MachineTurns.{Alone, Began, Called, Came_up, Clocked, Crashed, Elsewhere, Stays, Stepped, Tested, Took, Turned, Went_down}
 use Rattle.sl_words.proofs.Lists.{contains_cases, contains_more}
-use Rattle.sl_run.specs.Events.{first_change, next_step}
+use Rattle.sl_run.specs.EventChanges.{first_change, next_step}
 use Rattle.sl_run.specs.Runs.{Happening}
 use Rattle.sl_run.specs.Safety.{world_at}
 use Rattle.sl_run.specs.Worlds.{Daemon, Machine, Program, Stamp, World, daemons_on, new_daemon, next_numbers, setting_of, stamp_now}

@@ -1,6 +1,6 @@
 -- The sessions of a host's blocks on a resource follow one another: they are joined sessions of one lockspace and one id, so of two one is
 -- over where the other joins, and nothing lands of one that is over.
-use Rattle.sl_ballots.specs.History.{Owner as Holder}
+use Rattle.sl_ballot_law.specs.History.{Owner as Holder}
 use Rattle.sl_id_safety.proofs.IdInterface.{lockspaces_are_areas}
 use Rattle.sl_run.specs.LawfulArea.{is_area_work}
 use Rattle.sl_safety.proofs.Resources.Calls.{IsWork, sent_there}

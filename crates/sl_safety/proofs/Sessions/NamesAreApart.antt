@@ -1,5 +1,5 @@
 -- A joined session of a resource's lockspace is named by its id and its generation, and its id is a host's.
-use Rattle.sl_area.specs.Layouts.{Layout}
+use Rattle.sl_area.specs.AreaSizes.{Layout}
 use Rattle.sl_id_safety.proofs.IdSafety.{generations_name_one}
 use Rattle.sl_id_safety.proofs.JoinedStand.{joined_stand}
 use Rattle.sl_run_law.proofs.Place.FoundInLists.{same_text}
@@ -7,7 +7,7 @@ use Rattle.sl_run_law.proofs.Place.TracesOnMachines.{layout_is}
 use Rattle.sl_safety.specs.Resources.SentCalls.{holder_of, holder_of_found, is_joined_there, nobody}
 use Rattle.sl_run.specs.Safety.{Found, HasJoined, IsSession, SessionId, session_of_world, trace_of, world_at}
 use Rattle.sl_run.specs.Worlds.{World}
-use Rattle.sl_ballots.specs.History.{Owner as Holder}
+use Rattle.sl_ballot_law.specs.History.{Owner as Holder}
 use Rattle.sl_safety.specs.Sessions.SessionLaws.{JoinedAreHosts, NamesAreApart}
 use Rattle.sl_trace.specs.Sessions.{joined_after}
 use Rattle.sl_words.proofs.WordLaws.{and_true, some_is_true}

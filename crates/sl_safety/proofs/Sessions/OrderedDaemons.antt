@@ -7,7 +7,8 @@ use Rattle.sl_run_law.proofs.Front.JoinedLists.{contains_append}
 use Rattle.sl_run_law.proofs.Front.RunsFromFronts.{fronts_are_lawful, run_after}
 use Rattle.sl_run_law.proofs.Landing.OneEvent.{first_later, world_first}
 use Rattle.sl_words.proofs.Lists.{contains_cases, contains_first, contains_more, contains_none}
-use Rattle.sl_run.specs.Events.{first_change, machine_of, next_step, with_entry}
+use Rattle.sl_run.specs.EventChanges.{first_change, next_step, with_entry}
+use Rattle.sl_run.specs.Inputs.{machine_of}
 use Rattle.sl_run.specs.Runs.{Happening}
 use Rattle.sl_run.specs.Safety.{LawfulRun, world_at}
 use Rattle.sl_run.specs.Worlds.{Daemon, Machine, Program, Stamp, World, daemons_on, machine_at, new_daemon, next_numbers, setting_of, stamp_now, world_with}

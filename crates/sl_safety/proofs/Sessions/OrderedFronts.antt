@@ -2,7 +2,7 @@
 use Rattle.sl_run_law.proofs.Front.RunsFromFronts.{one_step, run_after}
 use Rattle.sl_run_law.specs.Front.LawfulFronts.{HasOneStep}
 use Rattle.sl_safety.specs.Resources.Histories.{world_by}
-use Rattle.sl_run.specs.Events.{happens}
+use Rattle.sl_run.specs.EventChanges.{happens}
 use Rattle.sl_run.specs.Runs.{Happening, HasSteps, IsRun, world_after}
 use Rattle.sl_run.specs.Safety.{LawfulRun, world_at}
 use Rattle.sl_run.specs.Worlds.{Program, World, world_with}

@@ -1,5 +1,5 @@
 -- The names of a resource's history: the session that one names, when it joined, and that it has joined at the fronts from there on.
-use Rattle.sl_ballots.specs.History.{Owner as Holder}
+use Rattle.sl_ballot_law.specs.History.{Owner as Holder}
 use Rattle.sl_words.proofs.Lists.{find_inside}
 use Rattle.sl_words.proofs.Options.{then_value}
 use Rattle.sl_safety.specs.Resources.Histories.{is_over_in, joined_of, joined_step}

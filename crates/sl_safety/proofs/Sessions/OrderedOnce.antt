@@ -2,7 +2,7 @@
 -- joined at first differ by the header.
 use Rattle.sl_run_law.proofs.Course.Daemons.{every_has, first_daemons}
 use Rattle.sl_run_law.proofs.Course.MachinesKeep.{header_machine, was_before}
-use Rattle.sl_area.specs.Layouts.{layout_with}
+use Rattle.sl_area.specs.AreaSizes.{layout_with}
 use Rattle.sl_run_law.specs.Course.CallStamps.{stamp_in}
 use Rattle.sl_run_law.proofs.Front.RunsFromFronts.{fronts_are_lawful, run_keeps}
 use Rattle.sl_run_law.proofs.Front.JoinedLists.{contains_append, contains_left}

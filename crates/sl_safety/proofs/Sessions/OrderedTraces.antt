@@ -10,7 +10,7 @@ use Rattle.sl_run_law.proofs.Sessions.MarksStay.{joined_more, marks_stay}
 use Rattle.sl_run_law.specs.Sessions.SessionLaws.{IsSession as IsSessionOf}
 use Rattle.sl_trace.specs.Sessions.{is_join_done, joined_after, removed_after}
 use Rattle.sl_trace.specs.declared.session.Session.{Session}
-use Rattle.sl_trace.specs.Connections.{unregisters}
+use Rattle.sl_trace.specs.WatchdogConnections.{unregisters}
 use Rattle.sl_trace.specs.Traces.{Replied, Setting, Trace, reply_in, reply_to}
 use Rattle.sl_trace.specs.declared.effects.Entry.{Entry}
 use Rattle.sl_trace.specs.declared.effects.JobReply.{JobReply}

@@ -20,7 +20,8 @@ use Rattle.sl_run_law.proofs.Landing.OneArrival.{Arrival, Lands, first_lands}
 use Rattle.sl_run_law.proofs.Landing.CallLists.{one_call}
 use Rattle.sl_run_law.proofs.Landing.OneEvent.{step_landings}
 use Rattle.sl_run_law.proofs.Place.FoundInLists.{partner}
-use Rattle.sl_run.specs.Events.{first_change, input_of, machine_of, next_step}
+use Rattle.sl_run.specs.EventChanges.{first_change, next_step}
+use Rattle.sl_run.specs.Inputs.{input_of, machine_of}
 use Rattle.sl_run.specs.Runs.{Happening}
 use Rattle.sl_run.specs.Safety.{Found, IsSession, LawfulRun, SessionId, free_landed, has_write_in_flight, is_course_of, is_over, setting_in, trace_of, was_reset, world_at}
 use Rattle.sl_run.specs.Worlds.{Course, Landing, Machine, Program, World, flight_of, is_open, is_write_course, machine_at, world_with}

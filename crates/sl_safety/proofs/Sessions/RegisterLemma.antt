@@ -1,7 +1,7 @@
 -- The register lemma. What a read was given is no older than what was answered ok before. Where it was given nothing of its own host the
 -- block counts that the reader last submitted; a block of its host that was answered ok before is its own, or of a session that was over
 -- where the reader joined: one that finds the reader over joined after the read.
-use Rattle.sl_ballots.specs.Disk.{Wrote}
+use Rattle.sl_ballot_law.specs.Disk.{Wrote}
 use Rattle.sl_id_safety.proofs.OverIsQuiet.{over_are_silent}
 use Rattle.sl_id_safety.specs.State.IdStates.{own_courses}
 use Rattle.sl_trace.specs.Leases.{is_on}

@@ -1,6 +1,6 @@
 -- The sessions of a resource's history are in order: only joined ones act, one of an id joins at a step, and over is final, silent and
 -- settled.
-use Rattle.sl_ballots.specs.History.{Owner as Holder}
+use Rattle.sl_ballot_law.specs.History.{Owner as Holder}
 use Rattle.sl_run_law.proofs.Course.MachinesMirror.{machines_mirror}
 use Rattle.sl_run_law.proofs.Front.RunsFromFronts.{fronts_are_lawful}
 use Rattle.sl_id_safety.proofs.IdSafety.{over_stays}

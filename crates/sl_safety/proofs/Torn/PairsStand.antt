@@ -1,11 +1,11 @@
 -- With pairs each host has a block on each resource after every event.
 use Rattle.sl_safety.proofs.Pairs.PairsStand.{pair_has_block}
-use Rattle.sl_run.specs.Pairs.{PairsStand}
+use Rattle.sl_run.specs.TornPairBlocks.{PairsStand}
 use Rattle.sl_safety.proofs.GivenReads.StandsSinceOk.{layout_kept}
 use Rattle.sl_run_law.proofs.Place.TracesOnMachines.{header_is}
 use Rattle.std.proofs.Common.{ap, subst, sym, ◌∙◌}
 use Rattle.std.proofs.lemmas.Bool.{and_from, le-leb}
-use Rattle.sl_area.specs.Layouts.{Layout}
+use Rattle.sl_area.specs.AreaSizes.{Layout}
 use Rattle.sl_run.specs.Safety.{LawfulRun, world_at}
 use Rattle.sl_run.specs.declared.header.Header.{Header}
 use Rattle.std.specs.Prelude.{Contains, ◌++◌, ◌≡◌, ◌≤◌}

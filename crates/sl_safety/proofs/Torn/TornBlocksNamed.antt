@@ -1,7 +1,7 @@
 -- Whoever is refused for a torn block with pairs is told of a host both of whose sectors were torn when the second read sampled them.
-use Rattle.sl_area.specs.Layouts.{Layout}
+use Rattle.sl_area.specs.AreaSizes.{Layout}
 use Rattle.sl_run.specs.Caused.{Answering, AnswersWell, BeforeCall, CausedBy, GivesBlocks, IsTornBlockRead, after_entry, the_session}
-use Rattle.sl_run.specs.Pairs.{NamesTorn, TornBlocksAreNamed}
+use Rattle.sl_run.specs.TornPairBlocks.{NamesTorn, TornBlocksAreNamed}
 use Rattle.sl_run.specs.LawForms.{IsAnsweredAt}
 use Rattle.sl_safety.proofs.Torn.TornPairs.{TornIn, first_none, stopped_at, torn_in}
 use Rattle.sl_safety.proofs.Value.ReplyEntries.{replied_by}
@@ -12,7 +12,7 @@ use Rattle.sl_words.proofs.Options.{else_some}
 use Rattle.sl_trace.proofs.TraceFacts.{each_entry-front}
 use Rattle.sl_run_law.proofs.Front.JoinedLists.{contains_flat, placed_at}
 use Rattle.sl_trace.specs.Leases.{blocks_given}
-use Rattle.sl_area.specs.Places.{area_blocks}
+use Rattle.sl_area.specs.AreaLayout.{area_blocks}
 use Rattle.sl_run_law.proofs.Sessions.CallsAreMade.{answers_stay}
 use Rattle.sl_trace.specs.declared.reply.Reply.TheVariants.{TornBlock}
 use Rattle.sl_trace.specs.declared.input.Answer.TheVariants.{Read}

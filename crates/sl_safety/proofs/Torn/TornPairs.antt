@@ -1,6 +1,7 @@
 -- Where a read gives no block of a host with pairs, it is a second one, in whose answer both sectors of the host are torn.
-use Rattle.sl_area.specs.Layouts.{Layout}
-use Rattle.sl_area.specs.Places.{BlocksRead, blocks_in, blocks_of, later_pair, needs_again, pair_back, pair_front, pair_merged, pair_read, pairs_of}
+use Rattle.sl_area.specs.AreaSizes.{Layout}
+use Rattle.sl_area.specs.Pairs.{BlocksRead, blocks_of, later_pair, needs_again, pair_back, pair_front, pair_merged, pair_read, pairs_of}
+use Rattle.sl_area.specs.AreaLayout.{blocks_in}
 use Rattle.sl_safety.proofs.Resources.GivenBlocks.{Alone, GivenWays, Second, given_ways}
 use Rattle.sl_sector.specs.declared.sector.Block.{Block}
 use Rattle.sl_sector.specs.declared.sector.PairBlock.{PairBlock}

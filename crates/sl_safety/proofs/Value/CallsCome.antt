@@ -4,7 +4,8 @@ use Rattle.sl_run_law.proofs.Front.RunsFromFronts.{fronts_are_lawful, last_event
 use Rattle.sl_run_law.proofs.Landing.CallsMadeBefore.{fate_kept}
 use Rattle.sl_run_law.proofs.Landing.OneEvent.{first_later, world_first, world_then}
 use Rattle.sl_run_law.proofs.Landing.CallsOfStep.{Step, came}
-use Rattle.sl_run.specs.Events.{input_of, machine_of, may_happen}
+use Rattle.sl_run.specs.Inputs.{input_of, machine_of}
+use Rattle.sl_run.specs.Refusals.{may_happen}
 use Rattle.sl_run.specs.Runs.{Happening}
 use Rattle.sl_run.specs.Safety.{LawfulRun, world_at}
 use Rattle.sl_run.specs.Worlds.{Course, Machine, Program, World, is_in_flight, machine_at, world_with}

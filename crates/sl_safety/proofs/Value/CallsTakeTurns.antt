@@ -1,6 +1,6 @@
 -- Two calls of a session that write on one area: the older was answered by the time that the newer was made.
-use Rattle.sl_area.specs.Layouts.{Layout}
-use Rattle.sl_area.specs.Places.{in_area}
+use Rattle.sl_area.specs.AreaSizes.{Layout}
+use Rattle.sl_area.specs.AreaLayout.{in_area}
 use Rattle.sl_run.specs.LawfulArea.{is_area_work, is_block_work}
 use Rattle.sl_run_law.proofs.Leases.SpotLaws.{areas_are_apart}
 use Rattle.sl_run_law.proofs.Leases.TurnLaws.{one_at_a_time}

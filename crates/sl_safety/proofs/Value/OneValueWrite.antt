@@ -2,12 +2,12 @@
 --
 -- What stands behind a write in flight is an exclusive grant that is kept; of one resource's grants one is kept, and beside it nobody
 -- else holds shared. A session's own writes take turns.
-use Rattle.sl_area.specs.Layouts.{Layout}
-use Rattle.sl_area.specs.Places.{value_offset}
+use Rattle.sl_area.specs.AreaSizes.{Layout}
+use Rattle.sl_area.specs.AreaLayout.{value_offset}
 use Rattle.sl_run_law.proofs.Course.CallsAreDistinct.{each_distinct}
 use Rattle.sl_safety.specs.Grant.HistoryGrants.{ExclusiveGrantsAre, ExclusivesAreKept, SharedAreShared}
 use Rattle.sl_safety.proofs.Holding.Places.{held_on, shared_there}
-use Rattle.sl_ballots.proofs.Grantings.GrantsMeet.{none_shares_beside, one_is_kept}
+use Rattle.sl_ballot_law.proofs.Grantings.GrantsMeet.{none_shares_beside, one_is_kept}
 use Rattle.sl_run_law.proofs.Landing.CallLists.{one_call}
 use Rattle.sl_run.specs.LawfulArea.{is_area_work, is_block_work}
 use Rattle.sl_trace.specs.Leases.{is_block_read, is_on}

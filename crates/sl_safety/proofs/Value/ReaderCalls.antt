@@ -1,7 +1,7 @@
 -- A reader's call, with what the law says of its answer: what it was told is what it sampled, its session held the resource from the call
 -- to the answer, and wrote nothing there meanwhile.
-use Rattle.sl_area.specs.Layouts.{Layout, record_in}
-use Rattle.sl_area.specs.Places.{value_offset}
+use Rattle.sl_area.specs.AreaSizes.{Layout, record_in}
+use Rattle.sl_area.specs.AreaLayout.{value_offset}
 use Rattle.sl_run_law.proofs.Course.CallsAreDistinct.{each_distinct}
 use Rattle.sl_run_law.proofs.Course.CoursesAreCalls.{courses_are_calls}
 use Rattle.sl_run_law.specs.Course.CallStamps.{AnswersAgree, IsAnsweredAs, IsCourseOf, courses_of, stamp_in}
@@ -20,7 +20,7 @@ use Rattle.sl_run.specs.Safety.{Found, LawfulRun, SessionId, is_course_of, setti
 use Rattle.sl_run.specs.Values.{IsGivenValue}
 use Rattle.sl_run.specs.Worlds.{Course, Daemon, Program, Stamp, World, daemon_numbered, machine_at}
 use Rattle.sl_run.specs.declared.header.Header.{Header}
-use Rattle.sl_sector.specs.Spelling.{value_in}
+use Rattle.sl_sector.specs.SectorLayouts.{value_in}
 use Rattle.sl_sector.specs.declared.sector.ValueRec.{ValueRec}
 use Rattle.sl_run_law.proofs.Sessions.CallsAreMade.{answers_stay}
 use Rattle.sl_run_law.proofs.Sessions.CallOwners.{sessions_stay}

@@ -8,9 +8,8 @@ use Rattle.sl_run_law.proofs.Landing.LandingLaws.{writes_land_once}
 use Rattle.sl_run_law.proofs.Landing.LandedRemain.{landed_are_there}
 use Rattle.sl_words.proofs.Lists.{contains_cases, contains_none, find_inside}
 use Rattle.sl_safety.proofs.Resources.OneSessionStands.{head_pairs, tail_pairs}
-use Rattle.sl_safety.proofs.Resources.Calls.{IsThere, sent_there}
+use Rattle.sl_safety.proofs.Resources.Calls.{IsThere, sent_there, Name, name_of}
 use Rattle.sl_safety.proofs.Resources.StepsNameCalls.{write_is}
-use Rattle.sl_safety.proofs.Resources.Calls.{Name, name_of}
 use Rattle.sl_safety.specs.Resources.SentCalls.{Sent, step_of}
 use Rattle.sl_run.specs.Runs.{Happening}
 use Rattle.sl_run.specs.Safety.{LawfulRun, world_at}

@@ -1,7 +1,7 @@
 -- A reader is given the last value that was set: what it sampled is the newest landing there, each set that was answered ok before its
 -- answer had landed before its sample, and values land in the order in which they were made.
-use Rattle.sl_area.specs.Layouts.{record_in}
-use Rattle.sl_area.specs.Places.{value_offset}
+use Rattle.sl_area.specs.AreaSizes.{record_in}
+use Rattle.sl_area.specs.AreaLayout.{value_offset}
 use Rattle.sl_id_safety.proofs.State.CallLaws.{is_place}
 use Rattle.sl_id_safety.proofs.State.SessionFacts.{grounds}
 use Rattle.sl_id_safety.proofs.State.JoiningSteps.{IsSampled, is_sampled}
@@ -21,7 +21,7 @@ use Rattle.sl_run.specs.Values.{IsSet, IsSetBefore, MayRead, ValueTheorem}
 use Rattle.sl_run.specs.Worlds.{Course, Landed, Landing, Program, Stamp, World, history_of}
 use Rattle.sl_run.specs.declared.header.Header.{Header}
 use Rattle.sl_run_law.specs.Sample.Samples.{IsSampleOf, numbered_landing, sector_place}
-use Rattle.sl_sector.specs.Spelling.{value_in}
+use Rattle.sl_sector.specs.SectorLayouts.{value_in}
 use Rattle.sl_sector.specs.declared.sector.Bad.{Bad}
 use Rattle.sl_sector.specs.declared.sector.Rec.TheVariants.{BlockIs, DeltaIs, LeaderIs, PairIs, PairLeaderIs, RequestIs, ValueIs}
 use Rattle.sl_sector.specs.declared.sector.Rec.{Rec}

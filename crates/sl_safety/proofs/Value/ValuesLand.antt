@@ -1,5 +1,5 @@
 -- What a set of a value left at the value's place, and that of a place's landings the numbers are in the order of their steps.
-use Rattle.sl_area.specs.Places.{value_offset}
+use Rattle.sl_area.specs.AreaLayout.{value_offset}
 use Rattle.sl_run_law.proofs.Front.JoinedLists.{contains_append, contains_left, placed_at}
 use Rattle.sl_id_safety.proofs.State.CallLaws.{is_place}
 use Rattle.sl_id_safety.proofs.Steps.Seqs.{has_number}
@@ -10,9 +10,8 @@ use Rattle.sl_run_law.specs.Landing.Landings.{HasWriter}
 use Rattle.sl_run_law.proofs.Place.FoundInLists.{numbered_inside, place_is}
 use Rattle.sl_words.proofs.Lists.{contains_cases, contains_first, contains_more, contains_none, kept, kept_inside}
 use Rattle.sl_safety.proofs.Resources.OneSessionStands.{head_pairs, tail_pairs}
-use Rattle.sl_safety.proofs.Resources.Calls.{there_sent}
+use Rattle.sl_safety.proofs.Resources.Calls.{there_sent, Name, name_of, one_sent}
 use Rattle.sl_safety.proofs.Resources.StepsNameCalls.{write_is}
-use Rattle.sl_safety.proofs.Resources.Calls.{Name, name_of, one_sent}
 use Rattle.sl_safety.specs.Resources.SentCalls.{Sent, all_sent, step_of}
 use Rattle.sl_run.specs.Runs.{Happening}
 use Rattle.sl_run.specs.Safety.{LawfulRun, world_at}

@@ -1,5 +1,5 @@
 -- What a write of a value was made under: an exclusive holding of its session there, and where that was granted.
-use Rattle.sl_area.specs.Places.{value_offset}
+use Rattle.sl_area.specs.AreaLayout.{value_offset}
 use Rattle.sl_safety.proofs.Holding.HoldingsAreGranted.{holdings_are_granted}
 use Rattle.sl_safety.proofs.Holding.Places.{HeldOn, held_on}
 use Rattle.sl_run.specs.LawfulArea.{is_area_work}

@@ -1,7 +1,7 @@
 -- A write of a value in flight keeps the exclusive grant under which it was made: its session is not over, and has not freed the instance.
 -- A free of before the grant would bar the grant, one of before the write would bar the holding, and one that came after waits for it.
-use Rattle.sl_ballots.specs.Ballots.{LeaderSubmitted}
-use Rattle.sl_ballots.specs.History.{Owner as Holder}
+use Rattle.sl_ballot_law.specs.Ballots.{LeaderSubmitted}
+use Rattle.sl_ballot_law.specs.History.{Owner as Holder}
 use Rattle.sl_run_law.proofs.Course.EntriesAreStamped.{entries_are_stamped}
 use Rattle.sl_run_law.specs.Course.CallStamps.{IsStampOf, Pairwise, stamp_in}
 use Rattle.sl_safety.proofs.Grant.AliveInHistory.{whole_by}
@@ -11,7 +11,7 @@ use Rattle.sl_safety.specs.Grant.HistoryGrants.{ExclusiveGrantsAre, GrantedThere
 use Rattle.sl_safety.proofs.Holding.Places.{on_held}
 use Rattle.sl_safety.proofs.Holding.HoldersStand.{holders_stand}
 use Rattle.sl_safety.proofs.Holding.ExclusivesUnfreed.{exclusives_are_unfreed}
-use Rattle.sl_ballots.specs.Grantings.Holdings.{IsKept}
+use Rattle.sl_ballot_law.specs.Grantings.Holdings.{IsKept}
 use Rattle.sl_run.proofs.LawFacts.{orderly-front}
 use Rattle.sl_run.specs.LawfulArea.{is_area_work}
 use Rattle.sl_run_law.specs.Leases.LeaseLaws.{WasAnsweredBy}

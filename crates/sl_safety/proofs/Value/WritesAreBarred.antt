@@ -1,7 +1,7 @@
 -- No write of a value is in flight between a reader's call and its answer: another session's is barred by the reader's holding, and of its
 -- own session none was unanswered at the call, and none was made since.
-use Rattle.sl_area.specs.Layouts.{Layout}
-use Rattle.sl_area.specs.Places.{value_offset}
+use Rattle.sl_area.specs.AreaSizes.{Layout}
+use Rattle.sl_area.specs.AreaLayout.{value_offset}
 use Rattle.sl_run_law.proofs.Front.JoinedLists.{contains_right}
 use Rattle.sl_safety.proofs.Grant.CallsOfFronts.{calls_grow}
 use Rattle.sl_id_safety.proofs.State.CallLaws.{is_place}

@@ -1,5 +1,5 @@
 -- Whose ballots end: only a joined session of a resource's lockspace ends a ballot on the resource's area.
-use Rattle.sl_area.specs.Places.{is_base}
+use Rattle.sl_area.specs.AreaLayout.{is_base}
 use Rattle.sl_trace.specs.Leases.{ended_ballots, lease_calls}
 use Rattle.sl_safety.specs.Resources.HistoryLaws.{spot_of_line}
 use Rattle.sl_safety.specs.Resources.SentCalls.{is_joined_there}

@@ -1,6 +1,6 @@
 -- Ballots that end in a session's trace end in the history of the resource.
-use Rattle.sl_ballots.specs.Ballots.{BallotEnded}
-use Rattle.sl_ballots.specs.History.{Owner as Holder}
+use Rattle.sl_ballot_law.specs.Ballots.{BallotEnded}
+use Rattle.sl_ballot_law.specs.History.{Owner as Holder}
 use Rattle.sl_run_law.specs.Course.CallStamps.{stamp_in}
 use Rattle.sl_trace.specs.Leases.{ended_ballots, lease_calls}
 use Rattle.sl_safety.specs.Resources.Histories.{is_host}

@@ -1,7 +1,7 @@
 -- Why each instance of a resource's history was begun; and so each write of its blocks is one of a ballot.
 use Rattle.sl_safety.specs.Ballot.Endings.{HostsJoin}
-use Rattle.sl_ballots.specs.Ballots.{BeginReason, KeepsBallots}
-use Rattle.sl_ballots.specs.History.{History}
+use Rattle.sl_ballot_law.specs.Ballots.{BeginReason, KeepsBallots}
+use Rattle.sl_ballot_law.specs.History.{History}
 use Rattle.sl_trace.specs.Leases.{Phase1_write, is_at}
 use Rattle.sl_safety.specs.Resources.HistoryLaws.{NamesDiffer, history_of_line, spot_of_line}
 use Rattle.sl_safety.specs.Resources.SentCalls.{Sent, sent_at, writes_block}

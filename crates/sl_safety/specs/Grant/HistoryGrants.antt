@@ -1,7 +1,7 @@
 -- Grants of a run, as the history of their resource has them.
 use Rattle.sl_safety.specs.Ballot.Endings.{IsEntryAt}
-use Rattle.sl_ballots.specs.History.{History}
-use Rattle.sl_ballots.specs.Grantings.Holdings.{ExclusiveGrant, IsGrantedExclusive, IsKept, IsSharedTo, SharedGrant}
+use Rattle.sl_ballot_law.specs.History.{History}
+use Rattle.sl_ballot_law.specs.Grantings.Holdings.{ExclusiveGrant, IsGrantedExclusive, IsKept, IsSharedTo, SharedGrant}
 use Rattle.sl_trace.specs.Leases.{has_shared_on, holdings_on}
 use Rattle.sl_safety.specs.Resources.HistoryLaws.{history_of_line, spot_of_line}
 use Rattle.sl_safety.specs.Resources.SentCalls.{holder_of, is_joined_there}

@@ -1,7 +1,7 @@
 -- What a lawful run over areas with pairs promises of each pair.
 use Rattle.sl_safety.specs.Resources.Histories.{is_host}
 use Rattle.sl_safety.specs.Pairs.PairLogs.{pair_log}
-use Rattle.sl_ballots.specs.PairLogs.Logs.{IsLog}
+use Rattle.sl_ballot_law.specs.PairLogs.Logs.{IsLog}
 use Rattle.sl_run.specs.Runs.{Happening}
 use Rattle.sl_run.specs.Safety.{LawfulRun, world_at}
 use Rattle.sl_run.specs.Worlds.{Program}

@@ -1,12 +1,12 @@
--- What a run tells of a host's pair on a resource: a log of `sl_ballots`, read off the world at the run's end.
+-- What a run tells of a host's pair on a resource: a log of `sl_ballot_law`, read off the world at the run's end.
 --
 -- A write has the step at which it was submitted, and a session the step at which it joined.
-use Rattle.sl_area.specs.Places.{pair_read}
+use Rattle.sl_area.specs.Pairs.{pair_read}
 use Rattle.sl_safety.specs.Resources.Histories.{joined_of}
 use Rattle.sl_safety.specs.Resources.HistoryLaws.{spot_of_line}
 use Rattle.sl_safety.specs.Resources.SampledReads.{blocks_sampled, pair_number}
 use Rattle.sl_safety.specs.Resources.SentCalls.{Sent, all_names, all_sent, holder_of, is_joined_there, reads_blocks, sender_of, sent_at, step_of, writes_block}
-use Rattle.sl_ballots.specs.PairLogs.Logs.{Log, Look}
+use Rattle.sl_ballot_law.specs.PairLogs.Logs.{Log, Look}
 use Rattle.sl_run.specs.Safety.{SessionId}
 use Rattle.sl_run.specs.Worlds.{Course, Landing, World}
 use Rattle.sl_run.specs.declared.header.ResourceLine.{ResourceLine}

@@ -1,5 +1,5 @@
 -- What reads show of a host's pair by the landings that they have sampled: it is computed from the world, as the history of a resource is.
-use Rattle.sl_area.specs.Places.{BlocksRead, pair_merged}
+use Rattle.sl_area.specs.Pairs.{BlocksRead, pair_merged}
 use Rattle.sl_safety.specs.Resources.Histories.{is_host}
 use Rattle.sl_safety.specs.Resources.HistoryLaws.{spot_of_line}
 use Rattle.sl_safety.specs.Resources.Reads.{step_given}
@@ -7,7 +7,7 @@ use Rattle.sl_safety.specs.Resources.SentCalls.{Sent}
 use Rattle.sl_safety.specs.Pairs.Reads.{GivesBlocks, SentOf}
 use Rattle.sl_safety.specs.Pairs.PairLogs.{pair_sent}
 use Rattle.sl_safety.specs.Resources.SampledReads.{shown_of}
-use Rattle.sl_ballots.specs.Pairs.State.{Stored}
+use Rattle.sl_ballot_law.specs.Pairs.State.{Stored}
 use Rattle.sl_run.specs.Runs.{Happening}
 use Rattle.sl_run.specs.Safety.{LawfulRun, world_at}
 use Rattle.sl_run.specs.Worlds.{Course, Program, World}

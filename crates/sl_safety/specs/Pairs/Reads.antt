@@ -1,7 +1,8 @@
 -- What reads give of a host's pair: a read of all blocks gives it by one answer, or, where some host's second sector is torn in that, by two.
 --
 -- Nothing is asked of the reader: it is any call that reads the blocks of the resource's area and was answered ok.
-use Rattle.sl_area.specs.Places.{BlocksRead, fresh_pair, needs_again, pair_merged, pairs_kept, read_once}
+use Rattle.sl_area.specs.Pairs.{BlocksRead, needs_again, pair_merged, pairs_kept, read_once}
+use Rattle.sl_area.specs.AreaRecords.{fresh_pair}
 use Rattle.sl_safety.specs.Resources.Histories.{is_host}
 use Rattle.sl_safety.specs.Resources.Orders.{BlockSent}
 use Rattle.sl_safety.specs.Resources.HistoryLaws.{spot_of_line}

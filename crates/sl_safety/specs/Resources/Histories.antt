@@ -2,12 +2,12 @@
 --
 -- All but `over` is read off the world at the run's end, since a world keeps its past; who was over after a step is read off the world
 -- after that step.
-use Rattle.sl_ballots.specs.History.{Block as HistoryBlock, History, Leader as HistoryLeader, Owner as Holder}
-use Rattle.sl_ballots.specs.Residues.{host_by_remainder}
+use Rattle.sl_ballot_law.specs.History.{Block as HistoryBlock, History, Leader as HistoryLeader, Owner as Holder}
+use Rattle.sl_ballot_law.specs.Residues.{host_by_remainder}
 use Rattle.sl_run_law.specs.Course.CallStamps.{stamp_in}
 use Rattle.sl_safety.specs.Resources.SampledReads.{landing_shown, shown_of, step_of_landing}
 use Rattle.sl_safety.specs.Resources.SentCalls.{Sent, block_of_course, holder_of, begun_by, last_block_before, last_given_before, leader_of_course, nobody, read_at, sender_of, sent_at, session_of_holder, step_of, writes_block, writes_leader}
-use Rattle.sl_run.specs.Events.{happens}
+use Rattle.sl_run.specs.EventChanges.{happens}
 use Rattle.sl_run.specs.Runs.{Happening}
 use Rattle.sl_run.specs.Safety.{Found, SessionId, is_over, session_of_world, setting_in, trace_of, world_at}
 use Rattle.sl_run.specs.Worlds.{Landing, Program, Stamp, World, world_with}

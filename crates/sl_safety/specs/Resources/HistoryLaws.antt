@@ -1,8 +1,8 @@
 -- What a lawful run promises of the history of each resource by itself: its blocks are registers, ballots go up, and their numbers are above 0.
 -- (What it owes to the ids of its lockspace, and what it keeps of ballots, stands in crates above.)
-use Rattle.sl_ballots.specs.Ballots.{GoesUp, NumbersArePositive}
-use Rattle.sl_ballots.specs.Disk.{IsRegister}
-use Rattle.sl_ballots.specs.History.{History}
+use Rattle.sl_ballot_law.specs.Ballots.{GoesUp, NumbersArePositive}
+use Rattle.sl_ballot_law.specs.Disk.{IsRegister}
+use Rattle.sl_ballot_law.specs.History.{History}
 use Rattle.sl_safety.specs.Resources.Histories.{history_in}
 use Rattle.sl_safety.specs.Resources.SentCalls.{holder_of, is_joined_there}
 use Rattle.sl_run.specs.Runs.{Happening}

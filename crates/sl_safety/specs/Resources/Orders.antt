@@ -1,6 +1,6 @@
 -- The order in which the blocks of a host land: that in which they were submitted. The register lemma rests on it.
-use Rattle.sl_area.specs.Layouts.{Layout}
-use Rattle.sl_area.specs.Places.{block_place}
+use Rattle.sl_area.specs.AreaSizes.{Layout}
+use Rattle.sl_area.specs.AreaLayout.{block_place}
 use Rattle.sl_trace.specs.Leases.{is_on}
 use Rattle.sl_safety.specs.Resources.Histories.{block_shown, is_host, joined_step}
 use Rattle.sl_safety.specs.Resources.HistoryLaws.{spot_of_line}

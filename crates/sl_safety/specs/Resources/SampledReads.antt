@@ -1,12 +1,12 @@
 -- What a read of a resource's blocks has sampled: its bytes, and of each host the landings that it shows, one of its sector, or one of each
 -- sector of its pair.
-use Rattle.sl_area.specs.Layouts.{Layout, record_in}
-use Rattle.sl_area.specs.Places.{block_offset, blocks_part, pair_offset}
-use Rattle.sl_ballots.specs.Pairs.Reads.{merged}
-use Rattle.sl_ballots.specs.Pairs.State.{Stored, later}
+use Rattle.sl_area.specs.AreaSizes.{Layout, record_in}
+use Rattle.sl_area.specs.AreaLayout.{block_offset, blocks_part, pair_offset}
+use Rattle.sl_ballot_law.specs.Pairs.Reads.{merged}
+use Rattle.sl_ballot_law.specs.Pairs.State.{Stored, later}
 use Rattle.sl_run.specs.Worlds.{Course, Landing, World, history_of, machine_at}
 use Rattle.sl_run_law.specs.Sample.Samples.{numbered_landing}
-use Rattle.sl_sector.specs.Spelling.{pair_in}
+use Rattle.sl_sector.specs.SectorLayouts.{pair_in}
 use Rattle.sl_trace.specs.Leases.{is_again, is_area_read}
 use Rattle.sl_trace.specs.Traces.{new_call}
 use Rattle.sl_trace.specs.declared.effects.Spot.{Spot}

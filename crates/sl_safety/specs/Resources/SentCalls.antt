@@ -1,9 +1,9 @@
 -- What was sent to the area of a resource, by which session, and when. A call is named by the step of the entry that made it: on one area
 -- at most one write, one read, one leader and one grant in each mode come at a step. A read that is made once more is named by the step of
 -- its first call, and ends with its second.
-use Rattle.sl_area.specs.Layouts.{Layout}
-use Rattle.sl_area.specs.Places.{needs_again}
-use Rattle.sl_ballots.specs.History.{Owner as Holder}
+use Rattle.sl_area.specs.AreaSizes.{Layout}
+use Rattle.sl_area.specs.Pairs.{needs_again}
+use Rattle.sl_ballot_law.specs.History.{Owner as Holder}
 use Rattle.sl_trace.specs.Leases.{block_of_record, is_block_read, is_on, leader_of_record}
 use Rattle.sl_safety.specs.Resources.SampledReads.{blocks_sampled, reads_again}
 use Rattle.sl_run.specs.Safety.{Found, SessionId, found_generation, session_of_world, trace_of}

@@ -1,7 +1,7 @@
 -- What the history of each resource of a lawful run owes to the sessions of its lockspace.
-use Rattle.sl_ballots.specs.Disk.{ShowsNewest}
-use Rattle.sl_ballots.specs.History.{History}
-use Rattle.sl_ballots.specs.Sessions.{EarlierAreOver, EvidenceMeansOver, SessionsInOrder}
+use Rattle.sl_ballot_law.specs.Disk.{ShowsNewest}
+use Rattle.sl_ballot_law.specs.History.{History}
+use Rattle.sl_ballot_law.specs.Sessions.{EarlierAreOver, EvidenceMeansOver, SessionsInOrder}
 use Rattle.sl_safety.specs.Resources.Histories.{is_host}
 use Rattle.sl_safety.specs.Resources.HistoryLaws.{NamesDiffer, history_of_line}
 use Rattle.sl_safety.specs.Resources.SentCalls.{holder_of, is_joined_there}

@@ -1,5 +1,5 @@
 -- Writes of a value in flight, and who may have one.
-use Rattle.sl_area.specs.Places.{value_offset}
+use Rattle.sl_area.specs.AreaLayout.{value_offset}
 use Rattle.sl_trace.specs.Leases.{holdings_on}
 use Rattle.sl_run.specs.Runs.{Happening}
 use Rattle.sl_run.specs.Safety.{Found, IsSession, LawfulRun, SessionId, is_course_of, is_over, trace_of, world_at}

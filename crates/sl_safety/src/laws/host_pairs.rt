@@ -1,4 +1,4 @@
-//! Areas with pairs: what a run of many machines tells of each host's pair is a log of `sl_ballots`.
+//! Areas with pairs: what a run of many machines tells of each host's pair is a log of `sl_ballot_law`.
 //!
 //! So the pair's states are a run, and what is read of it is a register's content.
 

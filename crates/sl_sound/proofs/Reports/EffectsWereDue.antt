@@ -10,8 +10,10 @@ use Rattle.sl_words.proofs.Lists.{contains_first, got_inside, head_is, next_befo
 use Rattle.sl_sound.proofs.Reports.UnseenCalls.{complete_keeps, seen_of}
 use Rattle.sl_sound.specs.Reports.FollowedSchedules.{DoesWhatIsDue}
 use Rattle.sl_words.proofs.Options.{else_some, some_there, then_value}
-use Rattle.sl_report.specs.Replay.{due_at, effects_of}
-use Rattle.sl_run.specs.Events.{after_step, event_tests, first_change, happens, input_at, input_of, machine_of, may_happen, next_step, take_step, with_entry}
+use Rattle.sl_report.specs.DueRuns.{due_at, effects_of}
+use Rattle.sl_run.specs.EventChanges.{after_step, first_change, happens, next_step, take_step, with_entry}
+use Rattle.sl_run.specs.Refusals.{event_tests, may_happen}
+use Rattle.sl_run.specs.Inputs.{input_at, input_of, machine_of}
 use Rattle.sl_run.specs.Runs.{EachDaemon, Happening, IsRun, own_effects_of}
 use Rattle.sl_run.specs.Safety.{world_at}
 use Rattle.sl_run.specs.Worlds.{Daemon, Machine, Program, Stamp, World, change_machine, daemons_on, machine_at, reading_now, stamp_now, world_with}

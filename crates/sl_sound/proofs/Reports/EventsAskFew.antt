@@ -3,7 +3,9 @@ use Rattle.sl_safety.proofs.Resources.Calls.{numbered_at, numbered_in}
 use Rattle.sl_words.proofs.Lists.{find_fails, find_inside}
 use Rattle.sl_words.proofs.Options.{not_some}
 use Rattle.sl_report.specs.Schedules.{NoAsk}
-use Rattle.sl_run.specs.Events.{after_effects, after_step, asking, event_tests, first_change, happens, if_running, input_at, input_of, machine_of, may_happen, needs_daemon, next_step, number_of_step, take_step}
+use Rattle.sl_run.specs.EventChanges.{after_effects, after_step, first_change, happens, next_step, number_of_step, take_step}
+use Rattle.sl_run.specs.Inputs.{asking, if_running, input_at, input_of, machine_of}
+use Rattle.sl_run.specs.Refusals.{event_tests, may_happen, needs_daemon}
 use Rattle.sl_run.specs.Locks.{fresh_locks, locks_after}
 use Rattle.sl_run.specs.Worlds.{Daemon, Machine, Stamp, World, first_that, machine_at, stamp_now}
 use Rattle.sl_run.specs.declared.event.Event.TheVariants.{GiveAsk, StartDaemon}

@@ -1,14 +1,14 @@
 -- A source has one report and one status: whoever reports a sound run, or a front of one, writes the plain program's text.
-use Rattle.sl_report.specs.Headline.{FrontOf, GoodRun, HeadersAreGood, Headline, In_events, In_header, IsFrontOf, MayHaveBeen, Of_events, Of_nothing, Of_report, ReplayOf, SoundRun, is_whole_status}
+use Rattle.sl_report.specs.OwedReports.{FrontOf, GoodRun, HeadersAreGood, Headline, In_events, In_header, IsFrontOf, MayHaveBeen, Of_events, Of_nothing, Of_report, ReplayOf, SoundRun, is_whole_status}
 use Rattle.sl_report.specs.Languages.{Language}
 use Rattle.sl_report.specs.Reports.{no_counts, run_counts, run_lines}
-use Rattle.sl_report.specs.ScheduleLines.{refusal_line}
+use Rattle.sl_report.specs.RefusalLines.{refusal_line}
 use Rattle.sl_report.specs.Schedules.{At_end, At_line, Ending, EventLine, Follows, FollowsSoFar, HeaderReading, Header_read, Header_refused, NoAsk, NumberedLine, event_lines_of, last_lines, numbered_lines, read_header, replay_from, replay_lines, report_of, status_of}
 use Rattle.sl_run.specs.Headers.{IsHeader}
 use Rattle.sl_run.specs.Runs.{Happening, world_after}
 use Rattle.sl_run.specs.Worlds.{Machine, Program, World, machine_at, machine_of_header, world_with}
 use Rattle.sl_run.specs.declared.header.Header.{Header}
-use Rattle.sl_area.specs.Layouts.{layout_with}
+use Rattle.sl_area.specs.AreaSizes.{layout_with}
 use Rattle.sl_run_law.proofs.Course.MachinesKeep.{header_machine}
 use Rattle.sl_sound.proofs.Reports.EventsAskFew.{no_ask}
 use Rattle.sl_sound.proofs.Reports.RunsFollowSchedules.{IsFollowed, follows_so}

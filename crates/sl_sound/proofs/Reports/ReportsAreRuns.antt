@@ -1,11 +1,13 @@
 -- What is followed is a run that does what is due, and the plain program's lines are its report.
 use Rattle.sl_words.proofs.Options.{none_is}
 use Rattle.sl_report.specs.Languages.{Language}
-use Rattle.sl_report.specs.Replay.{due_at, effects_of}
+use Rattle.sl_report.specs.DueRuns.{due_at, effects_of}
 use Rattle.sl_report.specs.Reports.{Counts, count_event, event_lines, run_counts, run_lines}
-use Rattle.sl_report.specs.ScheduleLines.{refusal_line}
+use Rattle.sl_report.specs.RefusalLines.{refusal_line}
 use Rattle.sl_report.specs.Schedules.{AsksPlayed, At_line, Ending, EventLine, Follows, IsAskOf, NoAsk, last_lines, many_asks, play_asks, replay_from}
-use Rattle.sl_run.specs.Events.{asking, happens, input_of, machine_of, may_happen, next_input, refusal_of}
+use Rattle.sl_run.specs.Inputs.{asking, input_of, machine_of}
+use Rattle.sl_run.specs.EventChanges.{happens, next_input}
+use Rattle.sl_run.specs.Refusals.{may_happen, refusal_of}
 use Rattle.sl_run.specs.Runs.{Happening, HasSteps, IsRun, own_effects_of, world_after}
 use Rattle.sl_run.specs.Worlds.{World, machine_at}
 use Rattle.sl_run.specs.declared.event.Event.TheVariants.{GiveAsk}

@@ -1,9 +1,11 @@
 -- A run that follows a schedule and does what is due is the one that the schedule tells: event by event, with the asks behind each.
 use Rattle.sl_words.proofs.Numbers.{trans_le}
 use Rattle.sl_words.proofs.Options.{none_is}
-use Rattle.sl_report.specs.Replay.{due_at, effects_of}
+use Rattle.sl_report.specs.DueRuns.{due_at, effects_of}
 use Rattle.sl_report.specs.Schedules.{At_end, At_line, Ending, EventLine, Follows, IsAskOf, NoAsk, many_asks}
-use Rattle.sl_run.specs.Events.{asking, happens, input_of, machine_of, may_happen, refusal_of}
+use Rattle.sl_run.specs.Inputs.{asking, input_of, machine_of}
+use Rattle.sl_run.specs.EventChanges.{happens}
+use Rattle.sl_run.specs.Refusals.{may_happen, refusal_of}
 use Rattle.sl_run.specs.Runs.{Happening, own_effects_of, world_after}
 use Rattle.sl_run.specs.Worlds.{World, machine_at}
 use Rattle.sl_run.specs.declared.event.Event.TheVariants.{GiveAsk}

@@ -1,8 +1,10 @@
 -- Happenings that follow a schedule so far, and do what is due, are a front of those that it tells.
-use Rattle.sl_report.specs.Replay.{effects_of}
+use Rattle.sl_report.specs.DueRuns.{effects_of}
 use Rattle.sl_report.specs.Schedules.{EventLine, FollowsSoFar, IsAskOf, many_asks}
 use Rattle.sl_words.proofs.Options.{none_is}
-use Rattle.sl_run.specs.Events.{asking, happens, may_happen, refusal_of}
+use Rattle.sl_run.specs.Inputs.{asking}
+use Rattle.sl_run.specs.EventChanges.{happens}
+use Rattle.sl_run.specs.Refusals.{may_happen, refusal_of}
 use Rattle.sl_run.specs.Runs.{Happening, world_after}
 use Rattle.sl_run.specs.Worlds.{World}
 use Rattle.sl_run.specs.declared.event.Event.TheVariants.{GiveAsk}

@@ -1,5 +1,6 @@
 -- What isn't seen of machines while calls go on.
-use Rattle.sl_run.specs.Events.{add_landing, change_call, complete, fated, flight_at, land_whole, sampled_more, sectors_left, write_bytes}
+use Rattle.sl_run.specs.EventChanges.{add_landing, change_call, complete, fated, flight_at, land_whole, sampled_more, write_bytes}
+use Rattle.sl_run.specs.Refusals.{sectors_left}
 use Rattle.sl_run.specs.Worlds.{Course, Landed, Machine, World, change_machine, is_in_flight, is_write_course, machine_at}
 use Rattle.sl_words.proofs.CaseLaws.{none_some, some_value}
 use Rattle.std.proofs.Common.{ap, refl, sym, ◌∙◌}

@@ -1,7 +1,9 @@
 -- How many asks may follow an event: of a machine's locks, and of a world.
 use Rattle.sl_run.specs.Lvm.{Acquiring, Course, Moving, Reading, Releasing, Writing}
 use Rattle.sl_report.specs.Schedules.{NoAsk}
-use Rattle.sl_run.specs.Events.{asking, happens, may_happen}
+use Rattle.sl_run.specs.Inputs.{asking}
+use Rattle.sl_run.specs.EventChanges.{happens}
+use Rattle.sl_run.specs.Refusals.{may_happen}
 use Rattle.sl_run.specs.Locks.{Locks}
 use Rattle.sl_run.specs.Worlds.{Machine, World, machine_at}
 use Rattle.sl_run.specs.declared.event.Event.TheVariants.{GiveAsk}

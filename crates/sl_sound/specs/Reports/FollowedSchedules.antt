@@ -1,8 +1,10 @@
 -- A schedule followed, each daemon doing what is due.
 use Rattle.sl_report.specs.Languages.{Language}
-use Rattle.sl_report.specs.Replay.{effects_of}
+use Rattle.sl_report.specs.DueRuns.{effects_of}
 use Rattle.sl_report.specs.Schedules.{At_end, At_line, Ending, EventLine, Follows, Header_read, NumberedLine, event_lines_of, many_asks, numbered_lines, read_header}
-use Rattle.sl_run.specs.Events.{asking, happens, refusal_of}
+use Rattle.sl_run.specs.Inputs.{asking}
+use Rattle.sl_run.specs.EventChanges.{happens}
+use Rattle.sl_run.specs.Refusals.{refusal_of}
 use Rattle.sl_run.specs.Runs.{Happening, world_after}
 use Rattle.sl_run.specs.Worlds.{World, world_with}
 use Rattle.sl_run.specs.declared.event.Event.TheVariants.{GiveAsk}

@@ -1,5 +1,5 @@
 -- What is promised of the run that a schedule tells.
-use Rattle.sl_report.specs.Headline.{GoodRun, HeadersAreGood, Headline, ReplayHeadline, ReplayOf, ReplayOwed, SoundRun}
+use Rattle.sl_report.specs.OwedReports.{GoodRun, HeadersAreGood, Headline, ReplayHeadline, ReplayOf, ReplayOwed, SoundRun}
 use Rattle.sl_report.specs.Languages.{Language}
 use Rattle.sl_report.specs.Reports.{Counts, run_counts, run_lines}
 use Rattle.sl_report.specs.Schedules.{EventLine, Follows, Header_read, Header_refused, NoAsk, event_lines_of, last_lines, numbered_lines, read_header, replay_from, replay_lines, status_of}

@@ -1,5 +1,5 @@
 use Rattle.sl_cell.proofs.connections.given_connections.Given as goal
-use Rattle.sl_trace.specs.Connections.{given_connection}
+use Rattle.sl_trace.specs.WatchdogConnections.{given_connection}
 use Rattle.std.proofs.Common.{map, take, ◌≡◌}
 
 -- the sessions before this one have their connections

@@ -1,5 +1,5 @@
 use Rattle.sl_cell.proofs.connections.make_moves.Given as goal
-use Rattle.sl_trace.specs.Connections.{after_move}
+use Rattle.sl_trace.specs.WatchdogConnections.{after_move}
 use Rattle.std.proofs.Common.{fold, length, take, vec_len, ◌+◌, ◌-◌, ◌≡◌, ◌≤◌}
 use Rattle.std.specs.Vec.{vec_capacity}
 

@@ -1,6 +1,6 @@
 use Rattle.sl_cell.proofs.MappedLists.{mapped_all, mapped_one}
 use Rattle.sl_cell.proofs.connections.renew.Goals as goal
-use Rattle.sl_trace.specs.Connections.{renewed_connection}
+use Rattle.sl_trace.specs.WatchdogConnections.{renewed_connection}
 use Rattle.std.proofs.Common.{arith}
 
 pub loop-index-preserved : goal.loop-index-preserved

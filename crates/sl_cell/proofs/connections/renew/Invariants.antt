@@ -1,6 +1,6 @@
 use Rattle.sl_cell.proofs.MappedLists.{front_mapped}
 use Rattle.sl_cell.proofs.connections.renew.Given as goal
-use Rattle.sl_trace.specs.Connections.{renewed_connection}
+use Rattle.sl_trace.specs.WatchdogConnections.{renewed_connection}
 use Rattle.std.proofs.Common.{vec_len, ◌≡◌}
 use Rattle.std.specs.Vec.{vec_capacity}
 

@@ -1,6 +1,6 @@
 use Rattle.sl_cli.proofs.ArgumentLaws.{lockspace_read-is}
 use Rattle.sl_cli.proofs.arguments.lockspace_of.Goals as goal
-use Rattle.sl_cli.specs.Readings.{lockspace_read}
+use Rattle.sl_cli.specs.PartReadings.{lockspace_read}
 use Rattle.sl_command.proofs.ArgumentLaws.{taken}
 use Rattle.sl_text.specs.Walks.{unread}
 use Rattle.std.proofs.Common.{ap, ◌∙◌}

@@ -1,6 +1,6 @@
 use Rattle.sl_cli.proofs.ArgumentLaws.{stretch_read-is}
 use Rattle.sl_cli.proofs.arguments.stretch_of.Goals as goal
-use Rattle.sl_cli.specs.Readings.{stretch_read}
+use Rattle.sl_cli.specs.PartReadings.{stretch_read}
 use Rattle.sl_command.proofs.ArgumentLaws.{taken}
 use Rattle.sl_text.specs.Walks.{unread}
 use Rattle.std.proofs.Common.{ap, ◌∙◌}

@@ -3,7 +3,7 @@ use Rattle.clap.specs.Faults.{fault_of}
 use Rattle.clap.specs.Simple.{app_of, subcommand_of}
 use Rattle.sl_cli.proofs.ParseLaws.{free_app, refuses, same_error, simple_app}
 use Rattle.sl_cli.proofs.command_words.parse.Goals as goal
-use Rattle.sl_cli.specs.Parses.{met_in}
+use Rattle.sl_cli.specs.ParserMeets.{met_in}
 use Rattle.sl_cli.specs.declared.command_words.WordsError.TheVariants.{Bad}
 use Rattle.std.proofs.Common.{Err, ap, map, refl, sym, ◌∙◌}
 use Rattle.std.specs.Prelude.{string_bytes}

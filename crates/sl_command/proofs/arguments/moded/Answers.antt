@@ -1,4 +1,4 @@
-use Rattle.sl_area.specs.Layouts.{layout_of}
+use Rattle.sl_area.specs.AreaSizes.{layout_of}
 use Rattle.sl_command.proofs.arguments.moded.Goals as goal
 use Rattle.sl_command.specs.Arguments.{is_moded_word, moded_of_word}
 use Rattle.sl_text.proofs.PartLaws.{accepted}

@@ -1,7 +1,7 @@
-use Rattle.sl_area.specs.Layouts.{layout_of}
+use Rattle.sl_area.specs.AreaSizes.{layout_of}
 use Rattle.sl_command.proofs.ArgumentLaws.{moded_first}
 use Rattle.sl_command.proofs.arguments.moded_of.Goals as goal
-use Rattle.sl_trace.specs.Commands.{is_resource_word, is_shared_word, resource_of_word}
+use Rattle.sl_trace.specs.CommandForms.{is_resource_word, is_shared_word, resource_of_word}
 use Rattle.std.proofs.Common.{sym, ◌∙◌}
 
 pub returns-in-Some : goal.returns-in-Some

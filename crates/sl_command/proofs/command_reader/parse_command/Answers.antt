@@ -1,4 +1,4 @@
-use Rattle.sl_area.specs.Layouts.{layout_of}
+use Rattle.sl_area.specs.AreaSizes.{layout_of}
 use Rattle.sl_command.proofs.CommandLaws.{few_hosts, parsed_as}
 use Rattle.sl_command.proofs.command_reader.parse_command.Goals as goal
 

@@ -1,5 +1,5 @@
 use Rattle.sl_command.proofs.effects.push_starts.Given as goal
-use Rattle.sl_command.specs.Lines.{class_text}
+use Rattle.sl_command.specs.OutputLines.{class_text}
 use Rattle.sl_trace.specs.EffectTexts.{start_words}
 use Rattle.std.proofs.Common.{take, ◌++◌, ◌≡◌}
 

@@ -1,5 +1,5 @@
 use Rattle.sl_command.proofs.replies.push_each_session.Given as goal
-use Rattle.sl_command.specs.Lines.{behind, session_word}
+use Rattle.sl_command.specs.OutputLines.{behind, session_word}
 use Rattle.std.proofs.Common.{map, take, ◌++◌, ◌≡◌}
 
 -- the sessions before this one have been added

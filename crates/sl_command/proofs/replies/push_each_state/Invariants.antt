@@ -1,5 +1,5 @@
 use Rattle.sl_command.proofs.replies.push_each_state.Given as goal
-use Rattle.sl_command.specs.Lines.{behind, host_words}
+use Rattle.sl_command.specs.OutputLines.{behind, host_words}
 use Rattle.std.proofs.Common.{take, ◌++◌, ◌≡◌}
 
 -- the ids before this one have been added where they are not free

@@ -1,4 +1,4 @@
-use Rattle.sl_area.specs.Layouts.{layout_of}
+use Rattle.sl_area.specs.AreaSizes.{layout_of}
 use Rattle.sl_delta.proofs.WatchLaws.{nothing_spelled}
 use Rattle.sl_delta.proofs.reads.version_at_first.Goals as goal
 use Rattle.std.proofs.Common.{sym}

@@ -3,7 +3,7 @@ use Rattle.sha2.specs.Sha256.{sha256}
 use Rattle.sl_direct.proofs.LineLaws.{joined_line}
 use Rattle.sl_direct.proofs.lines.push_sector_line.Goals as goal
 use Rattle.sl_direct.specs.Lines.{found_words}
-use Rattle.sl_sector.specs.Spelling.{decoded}
+use Rattle.sl_sector.specs.SectorLayouts.{decoded}
 use Rattle.std.proofs.Common.{OnOk, [], rules, subst, ◌++◌, ◌∷◌, ◌≡◌}
 use Rattle.std.specs.Fmt.{decimal}
 use Rattle.std.specs.List.{join_with_byte}

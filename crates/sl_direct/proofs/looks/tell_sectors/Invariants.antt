@@ -1,5 +1,5 @@
 -- The sectors so far were told, and the disk is as it was.
-use Rattle.sl_direct.specs.Steps.{AreTold}
+use Rattle.sl_direct.specs.HalfDone.{AreTold}
 use Rattle.sl_direct.proofs.looks.tell_sectors.Given as goal
 use Rattle.std.proofs.Common.{◌≤◌}
 use Rattle.std.specs.Io.KnownBytes.{Keeps}

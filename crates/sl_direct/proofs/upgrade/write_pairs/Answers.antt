@@ -1,5 +1,5 @@
 -- One more pair stands before those of the last hosts, or one of its writes fails.
-use Rattle.sl_area.specs.Layouts.{layout_of}
+use Rattle.sl_area.specs.AreaSizes.{layout_of}
 use Rattle.sl_direct.proofs.DiskLaws.{on_err}
 use Rattle.sl_direct.proofs.UpgradeLaws.{down_broke, down_wrote}
 use Rattle.sl_direct.proofs.upgrade.write_pairs.Goals as goal

@@ -1,7 +1,7 @@
 -- The pairs of the last hosts were written.
-use Rattle.sl_area.specs.Layouts.{layout_of}
+use Rattle.sl_area.specs.AreaSizes.{layout_of}
 use Rattle.sl_direct.proofs.upgrade.write_pairs.Given as goal
-use Rattle.sl_direct.specs.Steps.{Wrote}
+use Rattle.sl_direct.specs.HalfDone.{Wrote}
 use Rattle.sl_direct.specs.Upgrades.{pairs_down}
 use Rattle.std.proofs.Common.{drop, length, ◌-◌, ◌≤◌}
 

@@ -1,6 +1,6 @@
 -- The sector has zeros.
 use Rattle.sl_area.proofs.SizeLaws.{has_room}
-use Rattle.sl_area.specs.Places.{leader_offset}
+use Rattle.sl_area.specs.AreaLayout.{leader_offset}
 use Rattle.sl_area.specs.Roles.{place_at}
 use Rattle.sl_direct.proofs.UpgradeLaws.{zeros_broke_off, zeros_wrote}
 use Rattle.sl_direct.proofs.upgrade.write_zeros.Goals as goal

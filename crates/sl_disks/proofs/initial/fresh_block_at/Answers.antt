@@ -1,6 +1,6 @@
 use Rattle.sl_area.proofs.FreshRecords.{block_with_pairs, block_without}
-use Rattle.sl_area.specs.Layouts.{layout_of}
-use Rattle.sl_area.specs.Places.{fresh_block, fresh_pair}
+use Rattle.sl_area.specs.AreaSizes.{layout_of}
+use Rattle.sl_area.specs.AreaRecords.{fresh_block, fresh_pair}
 use Rattle.sl_disks.proofs.initial.fresh_block_at.Goals as goal
 use Rattle.sl_sector.specs.declared.sector.Rec.TheVariants.{BlockIs, PairIs}
 use Rattle.std.proofs.Common.{ap, rules, sym, ◌%◌, ◌+◌, ◌-◌, ◌/◌, ◌∙◌, ◌≡◌}

@@ -1,5 +1,5 @@
-use Rattle.sl_area.specs.Layouts.{layout_of}
-use Rattle.sl_area.specs.Places.{leader_record}
+use Rattle.sl_area.specs.AreaSizes.{layout_of}
+use Rattle.sl_area.specs.AreaRecords.{leader_record}
 use Rattle.sl_disks.proofs.FirstRecords.{block_first, leader_first, nothing_first, request_first, value_first}
 use Rattle.sl_disks.proofs.initial.in_resource.Goals as goal
 use Rattle.sl_sector.specs.declared.sector.Rec.TheVariants.{RequestIs, ValueIs}

@@ -1,4 +1,4 @@
-use Rattle.sl_area.specs.Layouts.{layout_of}
+use Rattle.sl_area.specs.AreaSizes.{layout_of}
 use Rattle.sl_disks.proofs.FirstRecords.{in_resource_first}
 use Rattle.sl_disks.proofs.initial.initial_record.Goals as goal
 use Rattle.sl_disks.specs.Initial.{line_at, resource_at}

@@ -1,5 +1,5 @@
 use Rattle.sl_area.proofs.FreshRecords.{leader_with_pairs, leader_without}
-use Rattle.sl_area.specs.Layouts.{layout_of}
+use Rattle.sl_area.specs.AreaSizes.{layout_of}
 use Rattle.sl_disks.proofs.initial.leader_record.Goals as goal
 use Rattle.std.proofs.Common.{sym}
 

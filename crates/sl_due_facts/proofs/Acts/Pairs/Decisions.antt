@@ -1,10 +1,13 @@
 -- What a lease decides in areas of either kind: with pairs a block whose turn would pass its limit is refused, a settling that writes a
 -- block reads the blocks first, and a read may be made once more. So a predicate on decisions has these cases beside the old ones.
 use Rattle.sl_due_facts.specs.Acts.Acts.{next_of_conversion, next_of_release, next_of_settling}
-use Rattle.sl_area.specs.Layouts.{Layout}
-use Rattle.sl_area.specs.Places.{blocks_of, leader_read, needs_again, pair_back}
-use Rattle.sl_due.specs.DueLease.{next_of_lease}
-use Rattle.sl_trace.specs.LeaseWork.{LeasePlace, after_bytes, after_read, asked_again, convert_next, first_step, heard, lease_next, lease_place, owes_block, part_read, read_of_step, refuses, refuses_block, release_next, settle_begin, settle_next, settle_owed, within_turn}
+use Rattle.sl_area.specs.AreaSizes.{Layout}
+use Rattle.sl_area.specs.Pairs.{blocks_of, needs_again, pair_back}
+use Rattle.sl_area.specs.TornLeader.{leader_read}
+use Rattle.sl_due.specs.CarriedLease.{next_of_lease}
+use Rattle.sl_trace.specs.LeaseDecisions.{LeasePlace, after_bytes, after_read, asked_again, first_step, heard, lease_next, lease_place, owes_block, part_read, read_of_step, refuses, refuses_block, settle_begin, settle_next, settle_owed, within_turn}
+use Rattle.sl_trace.specs.Conversions.{convert_next}
+use Rattle.sl_trace.specs.Releases.{release_next}
 use Rattle.sl_trace.specs.Leases.{LeaseKnown, known, lver_written, owed}
 use Rattle.sl_trace.specs.Traces.{Setting, Submitted, Trace}
 use Rattle.sl_trace.specs.declared.effects.Grant.{Grant}

@@ -1,14 +1,17 @@
 -- What a read gives keeps the rules of its kind, whatever bytes came: the leader, and each block, of one sector or of a pair.
-use Rattle.sl_area.specs.Layouts.{Layout}
-use Rattle.sl_area.specs.Places.{BlocksRead, blocks_in, blocks_of, fresh_leader, greatest_lver, later_pair, leader_made, leader_of, leader_read, pair_back, pair_front, pair_kept, pair_merged, pair_read, pairs_kept, pairs_of, read_at, sector_of}
+use Rattle.sl_area.specs.AreaSizes.{Layout}
+use Rattle.sl_area.specs.Pairs.{BlocksRead, blocks_of, later_pair, pair_back, pair_front, pair_kept, pair_merged, pair_read, pairs_kept, pairs_of}
+use Rattle.sl_area.specs.TornLeader.{greatest_lver, leader_made, leader_read}
+use Rattle.sl_area.specs.AreaLayout.{blocks_in, leader_of, read_at, sector_of}
+use Rattle.sl_area.specs.AreaRecords.{fresh_leader}
 use Rattle.sl_words.proofs.Lists.{got_inside}
 use Rattle.sl_sector.proofs.BlockLaws.{block_fits}
 use Rattle.sl_sector.proofs.LeaderLaws.{leader_fits}
 use Rattle.sl_sector.proofs.PairLaws.{pair_fits}
 use Rattle.sl_sector.proofs.RuleLaws.{Hold, ensured, rules_hold}
-use Rattle.sl_sector.specs.Fields.{u32_at}
+use Rattle.sl_sector.specs.FieldBytes.{u32_at}
 use Rattle.sl_sector.specs.Records.{IsBlock, IsLeader, IsPair}
-use Rattle.sl_sector.specs.Spelling.{as_record, block_in, block_of, block_rules, body_of, check_of, decoded, delta_of as delta_in_fields, delta_rules, fields_end, fields_of, is_first_turn, leader_in, leader_of as leader_in_fields, leader_rules, magic, padding_from, pair_in, pair_leader_in, pair_of, pair_rules, request_of, request_rules, under_rules, value_of, value_rules}
+use Rattle.sl_sector.specs.SectorLayouts.{as_record, block_in, block_of, block_rules, body_of, check_of, decoded, delta_of as delta_in_fields, delta_rules, fields_end, fields_of, is_first_turn, leader_in, leader_of as leader_in_fields, leader_rules, magic, padding_from, pair_in, pair_leader_in, pair_of, pair_rules, request_of, request_rules, under_rules, value_of, value_rules}
 use Rattle.sl_sector.specs.declared.sector.Bad.TheVariants.{BadCheck, BadKind, BadMagic}
 use Rattle.sl_sector.specs.declared.sector.Bad.{Bad}
 use Rattle.sl_sector.specs.declared.sector.Block.{Block}

@@ -2,8 +2,10 @@
 -- alone, and what is kept of a first read; all that is given are records.
 use Rattle.sl_due_facts.proofs.Acts.Pairs.DecodedRecords.{AreBlocks, ArePairs, blocks_are, kept_are_pairs, leader_is}
 use Rattle.sl_due_facts.proofs.Acts.Pairs.Records.{read_no_block, read_no_leader}
-use Rattle.sl_area.specs.Layouts.{Layout}
-use Rattle.sl_area.specs.Places.{BlocksRead, blocks_of, blocks_part, leader_read, needs_again, pairs_kept, read_once}
+use Rattle.sl_area.specs.AreaSizes.{Layout}
+use Rattle.sl_area.specs.Pairs.{BlocksRead, blocks_of, needs_again, pairs_kept, read_once}
+use Rattle.sl_area.specs.TornLeader.{leader_read}
+use Rattle.sl_area.specs.AreaLayout.{blocks_part}
 use Rattle.sl_words.proofs.Lists.{got_inside}
 use Rattle.sl_words.proofs.Options.{mapped_value, then_value}
 use Rattle.sl_sector.specs.Records.{IsBlock, IsLeader, IsPair}
@@ -12,7 +14,7 @@ use Rattle.sl_sector.specs.declared.sector.Leader.{Leader}
 use Rattle.sl_sector.specs.declared.sector.Owner.{Owner}
 use Rattle.sl_sector.specs.declared.sector.PairBlock.{PairBlock}
 use Rattle.sl_trace.specs.Ballots.{is_ahead, same_owner, stop_of}
-use Rattle.sl_trace.specs.LeaseWork.{first_step, part_read, read_of_step}
+use Rattle.sl_trace.specs.LeaseDecisions.{first_step, part_read, read_of_step}
 use Rattle.sl_trace.specs.Leases.{Area_read, Phase1_read, Phase2_read, Phase2_write, Read_before_block, Read_before_free, StepKind, block_of_host, block_submitted, block_written, blocks_bytes, blocks_given, concludes, ended_ballot, ended_ballots, first_kept, free_left, freed, given_with, is_again, is_area_read, is_at, is_leader_of, is_phase_read, is_second, kept_before, kind_of_step, last_blocks, leader_given, leader_written, leaders_given, lease_step, may_show_shared, name_sought, open_ballot, read_given, same_kind, settles_free, shows_settled, stop_in, value_in_end, verified_by, verified_name, was_settled, won_by}
 use Rattle.sl_trace.specs.Traces.{Submitted, gave, is_answered_ok, is_heeded}
 use Rattle.sl_trace.specs.declared.effects.LeaseRead.TheVariants.{OfArea, OfBlock, OfFree, OfPhase1, OfPhase2}

@@ -1,7 +1,10 @@
 -- Which pairs a read shows to be whole or torn: where each second sector is whole the read is made once; a block is torn only where the
 -- last answer has neither sector and nothing was kept of the first; a leader only where none is spelled and every block is of instance 0.
-use Rattle.sl_area.specs.Layouts.{Layout}
-use Rattle.sl_area.specs.Places.{BlocksRead, blocks_in, blocks_of, fresh_leader, greatest_lver, later_pair, leader_made, leader_of, leader_read, needs_again, pair_back, pair_merged, pair_read, pairs_of}
+use Rattle.sl_area.specs.AreaSizes.{Layout}
+use Rattle.sl_area.specs.Pairs.{BlocksRead, blocks_of, later_pair, needs_again, pair_back, pair_merged, pair_read, pairs_of}
+use Rattle.sl_area.specs.TornLeader.{greatest_lver, leader_made, leader_read}
+use Rattle.sl_area.specs.AreaLayout.{blocks_in, leader_of}
+use Rattle.sl_area.specs.AreaRecords.{fresh_leader}
 use Rattle.sl_sector.specs.declared.sector.Block.{Block}
 use Rattle.sl_sector.specs.declared.sector.Leader.{Leader}
 use Rattle.sl_sector.specs.declared.sector.PairBlock.{PairBlock}

@@ -1,5 +1,7 @@
 -- The cause of what a read of the area is answered with.
-use Rattle.sl_area.specs.Places.{BlocksRead, blocks_of, blocks_part, leader_read}
+use Rattle.sl_area.specs.Pairs.{BlocksRead, blocks_of}
+use Rattle.sl_area.specs.TornLeader.{leader_read}
+use Rattle.sl_area.specs.AreaLayout.{blocks_part}
 use Rattle.sl_due_law.proofs.Causes.AnsweredJobs.{with_spot}
 use Rattle.sl_due_law.proofs.Causes.Leases.GivenBlocks.{AreaRead, blocks_give, leader_gives}
 use Rattle.sl_due_law.proofs.Causes.Leases.HeardLeases.{IsWell, LeaseHeard, knows, reads, reads_blocks}
@@ -7,7 +9,7 @@ use Rattle.sl_due_law.proofs.Causes.Leases.Limits.{begin_well}
 use Rattle.sl_due_leases.proofs.Ways.GivenReads.{blocks_heard}
 use Rattle.sl_run.specs.Caused.{Answering, AnswersRead, EndsWith, GivesBlocks, GivesLeader, ShowsInstance, after_entry}
 use Rattle.sl_trace.specs.Jobs.{resource_named}
-use Rattle.sl_trace.specs.LeaseWork.{area_next, begin_or_refuse, lease_place, named_area_next, whole_area_next}
+use Rattle.sl_trace.specs.LeaseDecisions.{area_next, begin_or_refuse, lease_place, named_area_next, whole_area_next}
 use Rattle.sl_trace.specs.Leases.{Area_read, blocks_given, instance_for, is_at, is_leader_of, last_blocks, own_known, read_given}
 use Rattle.sl_trace.specs.declared.lease.Aim.{Aim}
 use Rattle.sl_trace.specs.declared.lease.Instance.TheVariants.{Begins, HeldAlready}

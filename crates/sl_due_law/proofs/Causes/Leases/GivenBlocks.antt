@@ -1,5 +1,7 @@
 -- What an answer gives of the leader and the blocks: of a read of the area what it gives with the reads before it.
-use Rattle.sl_area.specs.Places.{BlocksRead, area_blocks, blocks_in, blocks_of, blocks_part, leader_of, leader_read}
+use Rattle.sl_area.specs.Pairs.{BlocksRead, blocks_of}
+use Rattle.sl_area.specs.TornLeader.{leader_read}
+use Rattle.sl_area.specs.AreaLayout.{area_blocks, blocks_in, blocks_part, leader_of}
 use Rattle.sl_due_law.proofs.Causes.NamesBefore.{with_session}
 use Rattle.sl_due_leases.proofs.Ways.GivenReads.{blocks_heard, leader_heard}
 use Rattle.sl_run.specs.Caused.{Answering, BeforeCall, GivesBlocks, GivesLeader, after_entry, the_session}

@@ -7,7 +7,7 @@ use Rattle.sl_due_law.proofs.Causes.LaterSteps.{AnyMove, Going, MayAnswer, MayCa
 use Rattle.sl_due_law.proofs.Causes.Leases.LeaseAnswers.{was_joined}
 use Rattle.sl_due_law.proofs.Causes.NamesBefore.{early_entry, session_then, with_session}
 use Rattle.sl_due_law.specs.Causes.CausedSoFar.{CausedSoFar, HasCause, IsAtOnce, IsCarried, IsConcluded, IsLater, StaysCaused, answering}
-use Rattle.sl_due.specs.DueLease.{carry_lease, convert_holding, grant_for, grant_of, held_otherwise, name_on, next_of_lease, next_turn}
+use Rattle.sl_due.specs.CarriedLease.{carry_lease, convert_holding, grant_for, grant_of, held_otherwise, name_on, next_of_lease, next_turn}
 use Rattle.sl_due.specs.Steps.{Step, add_call_of, add_grant, add_reply, seen, with_effects, with_some}
 use Rattle.sl_due_leases.proofs.Holdings.HoldingFactsBegin.{none_ended}
 use Rattle.sl_due_leases.proofs.Holdings.LeaseCallers.{heard_call, heard_opens, spot_aligned}
@@ -15,12 +15,13 @@ use Rattle.sl_due_leases.proofs.Holdings.LeaseConversions.{after_converting, by_
 use Rattle.sl_due_leases.proofs.Holdings.LeaseNexts.{IsFitNext, IsGrantOf, next_fits}
 use Rattle.sl_due_leases.proofs.Holdings.PlainPlaces.{one_place}
 use Rattle.sl_due_leases.specs.Holdings.Moments.{Known}
-use Rattle.sl_area.specs.Places.{block_place, block_record, leader_offset, leader_record}
+use Rattle.sl_area.specs.AreaLayout.{block_place, leader_offset}
+use Rattle.sl_area.specs.AreaRecords.{block_record, leader_record}
 use Rattle.sl_due_facts.proofs.Jobs.EffectsAreAllowed.{grants_for}
 use Rattle.sl_due_facts.proofs.Jobs.CallsStay.{late}
 use Rattle.sl_run.specs.Caused.{Answering, GrantsTo, IsGrantedFor, WroteAt, before_entry, converting_step, the_session}
 use Rattle.sl_trace.specs.Jobs.{aim_of, aim_of_command, command_numbered}
-use Rattle.sl_trace.specs.LeaseWork.{lease_place}
+use Rattle.sl_trace.specs.LeaseDecisions.{lease_place}
 use Rattle.sl_trace.specs.Leases.{base_turn, block_submitted, verified_name, Leader_freed, Leader_taken, Mode_set, StepKind, block_written, exclusive_on, holdings_on, kind_of_step, known, lease_calls, lease_step, lver_written, same_kind, spot_of, spot_of_call}
 use Rattle.sl_trace.specs.declared.lease.Aim.TheVariants.{Acquires, Converts, Releases, Settles}
 use Rattle.sl_trace.specs.declared.lease.Aim.{Aim}

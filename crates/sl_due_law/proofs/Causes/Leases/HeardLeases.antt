@@ -3,7 +3,7 @@ use Rattle.sl_due_facts.proofs.Acts.Pairs.GivenByReads.{at_kind}
 use Rattle.sl_due_law.proofs.Causes.NamesBefore.{with_session}
 use Rattle.sl_due_leases.proofs.Ways.GivenReads.{heard_by_lease}
 use Rattle.sl_run.specs.Caused.{Answering, AnswersCall, AnswersRead, BlockIsNext, CausedBy, ReadsBlocks, after_entry, known_here, the_session}
-use Rattle.sl_trace.specs.LeaseWork.{asked_again, first_step, read_of_step}
+use Rattle.sl_trace.specs.LeaseDecisions.{asked_again, first_step, read_of_step}
 use Rattle.sl_trace.specs.Leases.{LeaseKnown, StepKind, blocks_given, instance_for, is_at, kind_of_step, known_of, lease_calls, own_block, read_given, same_kind, shared_elsewhere, spot_of_call}
 use Rattle.sl_trace.specs.declared.lease.LeaseNext.TheVariants.{AnswerJob, BecomeExclusive, BecomeShared, GrantJob, Nothing, ReadFor, WriteBlock, WriteLeader}
 use Rattle.sl_trace.specs.declared.lease.LeaseNext.{LeaseNext}

@@ -1,6 +1,8 @@
 -- What a lease's call is answered with has its cause, and keeps it to the entry's end: from then on the lease does nothing more.
 use Rattle.sl_due_facts.proofs.Acts.Pairs.Decisions.{bytes_are, within_cases, writes_own_block}
-use Rattle.sl_area.specs.Places.{blocks_of, blocks_part, leader_read}
+use Rattle.sl_area.specs.Pairs.{blocks_of}
+use Rattle.sl_area.specs.TornLeader.{leader_read}
+use Rattle.sl_area.specs.AreaLayout.{blocks_part}
 use Rattle.sl_due_facts.specs.Acts.Acts.{Has, Hears}
 use Rattle.sl_due_facts.specs.Acts.TraceSoFar.{entry_of}
 use Rattle.sl_due_law.proofs.Causes.AnsweredJobs.{AnswersHere, answers_here, its_command, told_not_waking, with_command, with_spot}
@@ -12,7 +14,7 @@ use Rattle.sl_due_law.proofs.Causes.Leases.NewestWays.{NewestWays, newest_told, 
 use Rattle.sl_due_law.proofs.Causes.Leases.PhaseCauses.{PhaseHeard, no_settling, phase1_well, phase2_well}
 use Rattle.sl_due_law.proofs.Causes.NamesBefore.{session_then, with_session}
 use Rattle.sl_due_law.specs.Causes.CausedSoFar.{HasCause, IsCarried, IsConcluded, IsLater, KeepsLeases, StaysCaused, answering}
-use Rattle.sl_due.specs.DueLease.{next_of_lease}
+use Rattle.sl_due.specs.CarriedLease.{next_of_lease}
 use Rattle.sl_due.specs.Steps.{Step, add_reply, seen, with_effects}
 use Rattle.sl_due_leases.proofs.Holdings.LeaseCallers.{caller_joined, heard_answered, heard_call, heard_session, in_turn_fits}
 use Rattle.sl_due_leases.specs.Holdings.Moments.{Known}
@@ -27,7 +29,7 @@ use Rattle.sl_run.specs.Caused.{Answering, BlockIsNext, CausedBy, WithSpot, afte
 use Rattle.sl_run.specs.LawForms.{IsAnsweredAt}
 use Rattle.sl_trace.specs.Ballots.{instance_of}
 use Rattle.sl_trace.specs.Jobs.{aim_of, aim_of_command, command_numbered, lockspace_named, resource_named}
-use Rattle.sl_trace.specs.LeaseWork.{after_read, after_take, area_next, asked_again, first_step, heard, lease_next, lease_place, part_read, read_of_step, within_turn}
+use Rattle.sl_trace.specs.LeaseDecisions.{after_read, after_take, area_next, asked_again, first_step, heard, lease_next, lease_place, part_read, read_of_step, within_turn}
 use Rattle.sl_trace.specs.Leases.{Area_read, LeaseKnown, Leader_taken, Phase1_read, Phase2_read, StepKind, base_turn, exclusive_on, freed, has_shared_on, kind_of_step, known, known_of, lease_calls, lver_written, owed_free, same_kind, spot_of, spot_of_call, top_lver}
 use Rattle.sl_trace.specs.declared.lease.Aim.TheVariants.{Acquires, Converts, Releases, Settles}
 use Rattle.sl_trace.specs.declared.lease.Aim.{Aim}
@@ -45,7 +47,8 @@ use Rattle.sl_trace.specs.Sightings.{counts_over, evidence_in}
 use Rattle.sl_trace.specs.declared.session.Session.{Session}
 use Rattle.sl_due_facts.specs.Facts.JobFacts.{FitsCommand, SeeksResource}
 use Rattle.sl_due_facts.specs.Facts.AllFacts.{WholeTrace}
-use Rattle.sl_trace.specs.Traces.{Answered, Job, Setting, is_done, Submitted, Trace, answered_in, is_write, bytes_given, job_numbered, job_of, submitted}
+use Rattle.sl_trace.specs.Traces.{Answered, Job, Setting, Submitted, Trace, answered_in, is_write, bytes_given, job_numbered, job_of, submitted}
+use Rattle.sl_trace.specs.KillPrograms.{is_done}
 use Rattle.sl_trace.specs.declared.command.Command.TheVariants.{Acquire, AddLockspace, Convert, GetLvb, HostStatus, InqLockspace, Release, ReleaseOrphan, RemLockspace, Request, RunProgram, SetKillpath, SetLvb, Status, TakeOver}
 use Rattle.sl_trace.specs.declared.command.Command.{Command}
 use Rattle.sl_trace.specs.declared.command.ResourceArg.{ResourceArg}

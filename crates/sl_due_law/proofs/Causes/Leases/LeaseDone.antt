@@ -3,7 +3,7 @@ use Rattle.sl_due_facts.proofs.Acts.Pairs.Decisions.{within_cases}
 use Rattle.sl_due_facts.proofs.Jobs.RepliesComeAfter.{mapped_or, on_bool, on_option}
 use Rattle.sl_due_law.proofs.Causes.Leases.ReadNexts.{bytes_by}
 use Rattle.sl_trace.specs.Ballots.{phase1_block, same_owner, stop_of, value_of}
-use Rattle.sl_trace.specs.LeaseWork.{LeasePlace, after_bytes, after_moding, after_phase1, after_phase2, after_read, after_take, area_next, begin_next, begin_or_refuse, first_step, lease_next, looks_for_shared, lost_next, named_area_next, phase1_next, phase2_next, refuses, settle_next, settle_owed, stop_reply, stopped_next, whole_area_next, within_turn, won_next}
+use Rattle.sl_trace.specs.LeaseDecisions.{LeasePlace, after_bytes, after_moding, after_phase1, after_phase2, after_read, after_take, area_next, begin_next, begin_or_refuse, first_step, lease_next, looks_for_shared, lost_next, named_area_next, phase1_next, phase2_next, refuses, settle_next, settle_owed, stop_reply, stopped_next, whole_area_next, within_turn, won_next}
 use Rattle.sl_trace.specs.Leases.{LeaseKnown, instance_for, is_leader_of, mode_gen_of, owed, owed_free, own_known, shared_elsewhere}
 use Rattle.sl_trace.specs.declared.lease.Owed.TheVariants.{BallotOwed, FreeOwed, ModeOwed}
 use Rattle.sl_trace.specs.declared.lease.Owed.{Owed}
@@ -18,7 +18,7 @@ use Rattle.sl_trace.specs.declared.lease.Stop.TheVariants.{BlockAhead, BlockRiva
 use Rattle.sl_sector.specs.declared.sector.Block.{Block}
 use Rattle.sl_sector.specs.declared.sector.Leader.{Leader}
 use Rattle.sl_sector.specs.declared.sector.Owner.{Owner}
-use Rattle.sl_trace.specs.Traces.{is_done}
+use Rattle.sl_trace.specs.KillPrograms.{is_done}
 use Rattle.sl_trace.specs.declared.effects.LeaseStep.{LeaseStep}
 use Rattle.sl_trace.specs.declared.effects.LeaseStep.TheVariants.{ClearMode, FreeLeader, Phase1Read, Phase1Write, Phase2Read, Phase2Write, ReadAgain, ReadArea, ReadBeforeBlock, ReadBeforeFree, SetMode, TakeLeader}
 use Rattle.sl_trace.specs.declared.effects.Mode.TheVariants.{Exclusive, Shared}

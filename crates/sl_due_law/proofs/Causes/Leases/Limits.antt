@@ -2,7 +2,7 @@
 use Rattle.sl_due_law.proofs.Causes.Leases.HeardLeases.{IsWell, LeaseHeard, knows, reads_blocks}
 use Rattle.sl_run.specs.Caused.{Answering, BeginsAt, CausedBy, next_number}
 use Rattle.sl_trace.specs.Ballots.{in_instance, next_mbal, phase1_block}
-use Rattle.sl_trace.specs.LeaseWork.{begin_next, lease_place, phase1_next, refuses}
+use Rattle.sl_trace.specs.LeaseDecisions.{begin_next, lease_place, phase1_next, refuses}
 use Rattle.sl_trace.specs.Leases.{LeaseKnown, blocks_given, mode_gen_of, own_block}
 use Rattle.sl_trace.specs.declared.lease.Aim.TheVariants.{Acquires, Converts, Releases, Settles}
 use Rattle.sl_trace.specs.declared.lease.Aim.{Aim}

@@ -7,7 +7,7 @@ use Rattle.sl_due_leases.proofs.Ways.GivenReads.{given_heard, heard_by_lease}
 use Rattle.sl_due_leases.proofs.Ways.WayFactsHeld.EffectsLeave.{there_has}
 use Rattle.sl_due_leases.proofs.Ways.WayFactsHeld.HeardStands.{heard_call, heard_has, heard_open}
 use Rattle.sl_due_leases.proofs.Ways.AreasAligned.{spot_aligned}
-use Rattle.sl_trace.specs.LeaseWork.{asked_again, first_step, read_of_step}
+use Rattle.sl_trace.specs.LeaseDecisions.{asked_again, first_step, read_of_step}
 use Rattle.sl_trace.specs.Leases.{lease_calls, lease_step, read_given, spot_of_call}
 use Rattle.sl_trace.specs.Traces.{Submitted, gave}
 use Rattle.sl_trace.specs.declared.effects.LeaseStep.{LeaseStep}

@@ -5,7 +5,7 @@ use Rattle.sl_due_law.proofs.Causes.Leases.Limits.{begin_well}
 use Rattle.sl_run.specs.Caused.{Answering, BlockIsNext, CausedBy, EndsWith, IsStopRead, ReadsBlocks, ShowsInstance, after_entry, job_command, known_here}
 use Rattle.sl_trace.specs.Ballots.{same_owner, stop_of, value_of}
 use Rattle.sl_trace.specs.Jobs.{aim_of_command, wants_shared}
-use Rattle.sl_trace.specs.LeaseWork.{after_phase1, after_phase2, begin_next, lease_place, looks_for_shared, lost_next, phase2_next, stop_reply, stopped_next, won_next}
+use Rattle.sl_trace.specs.LeaseDecisions.{after_phase1, after_phase2, begin_next, lease_place, looks_for_shared, lost_next, phase2_next, stop_reply, stopped_next, won_next}
 use Rattle.sl_trace.specs.Leases.{LeaseKnown, StepKind, Phase1_read, Phase2_read, block_submitted, blocks_given, is_at, is_phase_read, last_blocks, own_block, own_or_read, shared_elsewhere}
 use Rattle.sl_trace.specs.declared.lease.Aim.TheVariants.{Acquires, Converts, Releases, Settles}
 use Rattle.sl_trace.specs.declared.lease.Aim.{Aim}

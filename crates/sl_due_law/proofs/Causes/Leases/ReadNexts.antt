@@ -1,7 +1,8 @@
 -- What a lease does next after a read, by which read it is, whether it is a first one or is made once more.
 use Rattle.sl_due_facts.proofs.Acts.Pairs.Decisions.{asked_is, bytes_are}
-use Rattle.sl_area.specs.Places.{blocks_of, leader_read}
-use Rattle.sl_trace.specs.LeaseWork.{LeasePlace, after_bytes, after_read, first_step, heard, read_of_step, step_of_read}
+use Rattle.sl_area.specs.Pairs.{blocks_of}
+use Rattle.sl_area.specs.TornLeader.{leader_read}
+use Rattle.sl_trace.specs.LeaseDecisions.{LeasePlace, after_bytes, after_read, first_step, heard, read_of_step, step_of_read}
 use Rattle.sl_trace.specs.Leases.{LeaseKnown}
 use Rattle.sl_trace.specs.declared.effects.LeaseRead.TheVariants.{OfArea, OfBlock, OfFree, OfPhase1, OfPhase2}
 use Rattle.sl_trace.specs.declared.effects.LeaseRead.{LeaseRead}

@@ -4,13 +4,13 @@ use Rattle.sl_due_facts.proofs.Acts.LoopsKeep.{for_each_keeps, when_keeps}
 use Rattle.sl_due_facts.proofs.Acts.Pairs.Decisions.{conversion_is, release_is}
 use Rattle.sl_due_facts.proofs.Acts.PlainActs.{line_has}
 use Rattle.sl_due_facts.specs.Acts.Acts.{Acts, Has, Hears, next_of_conversion, next_of_release, next_of_settling}
-use Rattle.sl_area.specs.Places.{request_offset, value_offset}
+use Rattle.sl_area.specs.AreaLayout.{request_offset, value_offset}
 use Rattle.sl_area.specs.Roles.{value}
 use Rattle.sl_due.specs.DueAnswers.{set_reply}
 use Rattle.sl_due.specs.DueCommands.{after_end, answer_line, carry_decision, holding_of}
-use Rattle.sl_due.specs.DueFirst.{begin_recoveries, begin_recovery, begins_now, send, signal_and_refuse}
+use Rattle.sl_due.specs.DueRecovery.{begin_recoveries, begin_recovery, begins_now, send, signal_and_refuse}
 use Rattle.sl_due.specs.DueInputs.{end_holdings, leave_holdings, started_reply, when_running}
-use Rattle.sl_due.specs.DueLease.{carry_lease, convert_holding, goes_on, grant_for, next_of_lease}
+use Rattle.sl_due.specs.CarriedLease.{carry_lease, convert_holding, goes_on, grant_for, next_of_lease}
 use Rattle.sl_due.specs.DueRequests.{after_request_read, after_value_read, bits_due, owner_read, request_refusal, value_reply, write_request}
 use Rattle.sl_due.specs.Steps.{Step, add_call_of, add_end, add_grant, add_move, add_reply, begin_step, seen, with_input}
 use Rattle.sl_due.specs.declared.decision.Decision.{Decision}
@@ -48,7 +48,9 @@ use Rattle.sl_due_leases.proofs.Ways.WayFactsHeld.UnjoinedHaveNone.{its_joining,
 use Rattle.sl_due_leases.proofs.Ways.WayStages.{is_at_in}
 use Rattle.sl_trace.specs.Ballots.{moded_block}
 use Rattle.sl_trace.specs.Jobs.{aim_of, aim_of_command, command_numbered, job_of_start}
-use Rattle.sl_trace.specs.LeaseWork.{convert_next, leader_for, lease_place, release_next}
+use Rattle.sl_trace.specs.Conversions.{convert_next}
+use Rattle.sl_trace.specs.LeaseDecisions.{leader_for, lease_place}
+use Rattle.sl_trace.specs.Releases.{release_next}
 use Rattle.sl_trace.specs.Leases.{Mode_set, block_of_record, exclusive_on, has_shared_on, holdings_on, known, lver_written, open_on, spot_of, spot_of_call, value_of_record}
 use Rattle.sl_trace.specs.declared.lease.Aim.{Aim}
 use Rattle.sl_trace.specs.declared.lease.Aim.TheVariants.{Converts}
@@ -57,14 +59,14 @@ use Rattle.sl_words.proofs.Lists.{contains_none, find_inside, kept_inside}
 use Rattle.sl_sector.specs.declared.sector.Block.{Block}
 use Rattle.sl_sector.specs.declared.sector.Rec.TheVariants.{DeltaIs, ValueIs}
 use Rattle.sl_sector.specs.declared.sector.ValueRec.{ValueRec}
-use Rattle.sl_trace.specs.Deltas.{delta_known, delta_of_session, own_offset}
+use Rattle.sl_trace.specs.DeltaDecisions.{delta_known, delta_of_session, own_offset}
 use Rattle.sl_trace.specs.Sessions.{calls_of, generation_of, holders_of, holdings_of, is_call_of, is_join_call, present_sessions, recovery_of}
 use Rattle.sl_trace.specs.declared.reply.Limited.TheVariants.{Turn as TurnLimit}
 use Rattle.sl_trace.specs.declared.session.Session.{Session}
 use Rattle.sl_due_facts.specs.Facts.HeardCall.{heard_by}
 use Rattle.sl_due_facts.specs.Facts.HoldingFacts.{HoldingFacts}
 use Rattle.sl_due_facts.specs.Facts.AllFacts.{Whole}
-use Rattle.sl_trace.specs.Connections.{is_registered}
+use Rattle.sl_trace.specs.WatchdogConnections.{is_registered}
 use Rattle.sl_trace.specs.Traces.{Submitted, Trace, end_of, holdings, is_running, is_shared, new_call, next_job, record_of, same_place, submitted}
 use Rattle.sl_trace.specs.declared.command.Command.{Command}
 use Rattle.sl_trace.specs.declared.command.Command.TheVariants.{Request}

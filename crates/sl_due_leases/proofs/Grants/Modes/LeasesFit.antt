@@ -3,9 +3,10 @@ use Rattle.sl_due_facts.proofs.Acts.Pairs.Records.{block_no_value, leader_no_blo
 use Rattle.sl_due_leases.proofs.Grants.WorksByLines.{none_shared_on, own_held}
 use Rattle.sl_due_facts.proofs.Acts.LoopsKeep.{with_some_keeps}
 use Rattle.sl_due_facts.specs.Acts.Acts.{Has}
-use Rattle.sl_area.specs.Layouts.{Layout}
-use Rattle.sl_area.specs.Places.{area_sectors, block_offset, block_place, block_record, block_sectors, in_area, leader_offset, leader_record}
-use Rattle.sl_due.specs.DueLease.{carry_lease, convert_for, convert_holding, for_work, held_otherwise, name_on, next_turn, read_for, with_command, write_block, write_leader}
+use Rattle.sl_area.specs.AreaSizes.{Layout}
+use Rattle.sl_area.specs.AreaLayout.{area_sectors, block_offset, block_place, block_sectors, in_area, leader_offset}
+use Rattle.sl_area.specs.AreaRecords.{block_record, leader_record}
+use Rattle.sl_due.specs.CarriedLease.{carry_lease, convert_for, convert_holding, for_work, held_otherwise, name_on, next_turn, read_for, with_command, write_block, write_leader}
 use Rattle.sl_due.specs.Steps.{Step, add_reply, seen}
 use Rattle.sl_due_leases.proofs.Grants.Modes.FitsHolding.{FittingSoFar, bare_fits, call_fits, of_lease, plain_call}
 use Rattle.sl_due_leases.proofs.Holdings.LeaseConversions.{OfOneProcess, converted, only_converted, otherwise}

@@ -1,7 +1,7 @@
 -- The modes of grants and blocks are lawful at each act.
 use Rattle.sl_due_facts.proofs.Acts.ActsTogether.{both}
 use Rattle.sl_due_facts.specs.Acts.TraceSoFar.{entry_of}
-use Rattle.sl_due.specs.DueFirst.{begin_recoveries}
+use Rattle.sl_due.specs.DueRecovery.{begin_recoveries}
 use Rattle.sl_due.specs.Steps.{Step, begin_step, seen}
 use Rattle.sl_due_facts.proofs.Jobs.LessIsKept.{to_less}
 use Rattle.sl_due_leases.proofs.Grants.Modes.FitsHolding.{FittingSoFar}

@@ -7,9 +7,10 @@ use Rattle.sl_due_facts.proofs.Acts.LoopsKeep.{for_each_keeps, when_keeps}
 use Rattle.sl_due_facts.proofs.Acts.PlainActs.{line_has}
 use Rattle.sl_due_facts.specs.Acts.Acts.{Acts, Has, Hears}
 use Rattle.sl_due_facts.specs.Acts.TraceSoFar.{entry_of}
-use Rattle.sl_area.specs.Places.{block_place, block_record, leader_offset, leader_record, request_offset}
-use Rattle.sl_due.specs.DueFirst.{send}
-use Rattle.sl_due.specs.DueLease.{carry_lease, convert_holding, goes_on, grant_for, held_otherwise, name_on, next_of_lease, next_turn, write_block, write_leader}
+use Rattle.sl_area.specs.AreaLayout.{block_place, leader_offset, request_offset}
+use Rattle.sl_area.specs.AreaRecords.{block_record, leader_record}
+use Rattle.sl_due.specs.DueRecovery.{send}
+use Rattle.sl_due.specs.CarriedLease.{carry_lease, convert_holding, goes_on, grant_for, held_otherwise, name_on, next_of_lease, next_turn, write_block, write_leader}
 use Rattle.sl_due.specs.Steps.{Step, add_end, add_grant, add_move, add_reply, seen, with_input, with_some}
 use Rattle.sl_due_leases.proofs.Grants.DeltasKeep.{free_keeps}
 use Rattle.sl_due_leases.proofs.Grants.Modes.SharedStands.{SharedSoFar, call_shared, exited_shared, granted_shared, kill_shared, lines_shared, move_shared, none_shared, one_shared, same_resource, shared_so_far}
@@ -31,7 +32,7 @@ use Rattle.sl_due_leases.proofs.Ways.WayFactsHeld.CallsSame.{reply_leaves}
 use Rattle.sl_due_leases.proofs.Ways.WayFactsHeld.EffectsLeave.{made_call}
 use Rattle.sl_due_leases.proofs.Ways.WayFactsHeld.HeardStands.{heard_has, heard_number, spot_same}
 use Rattle.sl_trace.specs.Jobs.{aim_of, aim_of_command, command_numbered, resource_named}
-use Rattle.sl_trace.specs.LeaseWork.{lease_place}
+use Rattle.sl_trace.specs.LeaseDecisions.{lease_place}
 use Rattle.sl_trace.specs.Leases.{block_submitted, block_written, exclusive_on, holdings_on, is_lease_call, is_on, known, lease_calls, lease_step, lver_written, spot_of, spot_of_call}
 use Rattle.sl_trace.specs.declared.lease.Aim.{Aim}
 use Rattle.sl_trace.specs.declared.lease.Aim.TheVariants.{Acquires, Converts}
@@ -45,14 +46,14 @@ use Rattle.sl_sector.specs.declared.sector.Block.{Block}
 use Rattle.sl_sector.specs.declared.sector.Leader.{Leader}
 use Rattle.sl_sector.specs.declared.sector.DeltaRec.{DeltaRec}
 use Rattle.sl_sector.specs.declared.sector.Rec.TheVariants.{DeltaIs}
-use Rattle.sl_trace.specs.Deltas.{own_offset}
+use Rattle.sl_trace.specs.DeltaDecisions.{own_offset}
 use Rattle.sl_trace.specs.Sessions.{calls_of, generation_in, generation_of, given_number, holders_of, holdings_of, is_call_of, last_delta, session_numbered}
 use Rattle.sl_trace.specs.declared.session.Session.{Session}
 use Rattle.sl_due_facts.specs.Facts.GrantGrounds.{FreedForJob, IsDoneWork, ModedForJob}
 use Rattle.sl_due_facts.specs.Facts.HeardCall.{heard_by}
 use Rattle.sl_due_facts.specs.Facts.HoldingFacts.{HoldingFacts, StandsExclusive}
 use Rattle.sl_due_facts.specs.Facts.JobFacts.{FitsCommand}
-use Rattle.sl_trace.specs.Connections.{is_registered}
+use Rattle.sl_trace.specs.WatchdogConnections.{is_registered}
 use Rattle.sl_trace.specs.Traces.{Submitted, Trace, end_of, holdings, is_ended_by, is_running, is_shared, job_of, new_call, next_job, same_place, spot_of_grant, submitted}
 use Rattle.sl_trace.specs.declared.command.Command.{Command}
 use Rattle.sl_trace.specs.declared.command.ResourceArg.{ResourceArg}

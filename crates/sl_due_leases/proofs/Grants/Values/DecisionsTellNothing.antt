@@ -3,13 +3,14 @@ use Rattle.sl_due.specs.DueCommands.{acquiring, busy_refusal, converting, decide
 use Rattle.sl_due.specs.declared.decision.Decision.{Decision}
 use Rattle.sl_due.specs.declared.decision.Decision.TheVariants.{ConvertsTo, GetsValue, GivesUp, Joins, Leaves, ReadsArea, Replies, Requests, SetsValue, Shares, TakesOver}
 use Rattle.sl_due_facts.proofs.Jobs.RepliesComeAfter.{mapped_or, tells_value}
-use Rattle.sl_trace.specs.Counts.{busy_process, holds_already, is_killpath_limit, limit_met, may_act, next_value_seq, other_holder, pending_call}
+use Rattle.sl_trace.specs.Counts.{busy_process, holds_already, limit_met, may_act, next_value_seq, other_holder, pending_call}
+use Rattle.sl_trace.specs.KillPrograms.{is_killpath_limit}
 use Rattle.sl_trace.specs.Jobs.{wanted_mode}
 use Rattle.sl_trace.specs.Leases.{shared_on, spot_of}
 use Rattle.sl_trace.specs.Sessions.{generation_of, holdings_of, is_active, is_joined, last_renewal, last_seq, present_sessions, session_named, sessions}
 use Rattle.sl_trace.specs.Sightings.{states_seen}
 use Rattle.sl_trace.specs.declared.session.Session.{Session}
-use Rattle.sl_trace.specs.Limits.{most_lockspaces}
+use Rattle.sl_trace.specs.CountLimits.{most_lockspaces}
 use Rattle.sl_trace.specs.Traces.{Setting, Trace, is_orphan, is_shared, no_process}
 use Rattle.sl_trace.specs.declared.command.Command.{Command}
 use Rattle.sl_trace.specs.declared.command.Command.TheVariants.{Acquire, AddLockspace, Convert, GetLvb, HostStatus, InqLockspace, Release, ReleaseOrphan, RemLockspace, Request, RunProgram, SetKillpath, SetLvb, Status, TakeOver}

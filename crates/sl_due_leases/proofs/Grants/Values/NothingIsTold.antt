@@ -19,7 +19,7 @@ use Rattle.sl_trace.specs.declared.lease.LeaseNext.{LeaseNext}
 use Rattle.sl_trace.specs.declared.lease.LeaseNext.TheVariants.{AnswerJob, BecomeExclusive, BecomeShared, GrantJob, Nothing as No_lease, ReadFor, WriteBlock, WriteLeader}
 use Rattle.sl_words.proofs.Lists.{contains_cases, contains_none, find_fails, in_map, kept_inside}
 use Rattle.sl_words.proofs.Numbers.{number_itself}
-use Rattle.sl_trace.specs.Deltas.{next_after_free, next_after_renewal}
+use Rattle.sl_trace.specs.DeltaDecisions.{next_after_free, next_after_renewal}
 use Rattle.sl_trace.specs.Sessions.{calls_of, is_call_of}
 use Rattle.sl_trace.specs.declared.delta.DeltaNext.{DeltaNext}
 use Rattle.sl_trace.specs.declared.delta.DeltaNext.TheVariants.{Disconnect, EndLeaving, Join, MoveConnection, Nothing as No_delta, ReadOwn, RefuseJoin, RegisterAndRead, WriteClaim, WriteFirst, WriteFree, WriteRenewal}

@@ -1,9 +1,10 @@
 -- What a lease decides leaves what stands while a value is read elsewhere.
 use Rattle.sl_due_facts.proofs.Acts.LoopsKeep.{with_some_keeps}
 use Rattle.sl_due_facts.specs.Acts.TraceSoFar.{entry_of}
-use Rattle.sl_area.specs.Places.{area_sectors, block_offset, block_place, block_record, block_sectors, in_area, leader_offset, leader_record}
+use Rattle.sl_area.specs.AreaLayout.{area_sectors, block_offset, block_place, block_sectors, in_area, leader_offset}
+use Rattle.sl_area.specs.AreaRecords.{block_record, leader_record}
 use Rattle.sl_area.specs.Roles.{leader}
-use Rattle.sl_due.specs.DueLease.{carry_lease, convert_for, convert_holding, for_work, grant_for, name_on, next_turn, read_area, read_for, with_command, write_block, write_leader}
+use Rattle.sl_due.specs.CarriedLease.{carry_lease, convert_for, convert_holding, for_work, grant_for, name_on, next_turn, read_area, read_for, with_command, write_block, write_leader}
 use Rattle.sl_due.specs.Steps.{Step, add_call_of, add_end, add_grant, add_reply, seen}
 use Rattle.sl_due_leases.proofs.Grants.OthersGoOn.{granted_on}
 use Rattle.sl_due_leases.proofs.Grants.Values.ReadsBack.{IsRead, ReadsBack, call_reads, end_reads, grant_reads, later_sessions, reads_go_on, reply_reads}

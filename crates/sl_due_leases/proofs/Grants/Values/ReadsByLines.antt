@@ -3,11 +3,11 @@ use Rattle.sl_due_facts.proofs.Acts.Pairs.Decisions.{conversion_is, release_is}
 use Rattle.sl_due_facts.proofs.Acts.DecisionsAreTheirs.{Of}
 use Rattle.sl_due_facts.specs.Acts.Acts.{Has, next_of_conversion, next_of_release}
 use Rattle.sl_due_facts.specs.Acts.TraceSoFar.{entry_of}
-use Rattle.sl_area.specs.Places.{delta_offset, value_offset}
+use Rattle.sl_area.specs.AreaLayout.{delta_offset, value_offset}
 use Rattle.sl_area.specs.Roles.{value}
 use Rattle.sl_due.specs.DueCommands.{after_end, carry_decision}
-use Rattle.sl_due.specs.DueFirst.{signal_and_refuse}
-use Rattle.sl_due.specs.DueLease.{carry_lease}
+use Rattle.sl_due.specs.DueRecovery.{signal_and_refuse}
+use Rattle.sl_due.specs.CarriedLease.{carry_lease}
 use Rattle.sl_due.specs.Steps.{Step, add_call_of, add_end, add_reply, seen, with_input}
 use Rattle.sl_due.specs.declared.decision.Decision.{Decision}
 use Rattle.sl_due.specs.declared.decision.Decision.TheVariants.{ConvertsTo, GetsValue, GivesUp, Joins, Leaves, ReadsArea, Replies, Requests, SetsValue, Shares, TakesOver}
@@ -36,7 +36,9 @@ use Rattle.sl_due_leases.proofs.Ways.WayFactsHeld.LinesReady.{none_open}
 use Rattle.sl_due_leases.proofs.Ways.WayFactsHeld.PlacesStand.{id_in_range, place_is_on, placed_on, spot_is}
 use Rattle.sl_trace.specs.Ballots.{moded_block}
 use Rattle.sl_trace.specs.Jobs.{command_numbered, resource_named}
-use Rattle.sl_trace.specs.LeaseWork.{convert_next, lease_place, release_next}
+use Rattle.sl_trace.specs.Conversions.{convert_next}
+use Rattle.sl_trace.specs.LeaseDecisions.{lease_place}
+use Rattle.sl_trace.specs.Releases.{release_next}
 use Rattle.sl_trace.specs.Leases.{LeaseKnown, holdings_on, is_on, known, spot_of, spot_of_call}
 use Rattle.sl_trace.specs.declared.lease.LeaseNext.{LeaseNext}
 use Rattle.sl_trace.specs.declared.lease.LeaseNext.TheVariants.{AnswerJob, Nothing, WriteBlock}
@@ -50,8 +52,8 @@ use Rattle.sl_trace.specs.declared.reply.Limited.TheVariants.{Turn as TurnLimit}
 use Rattle.sl_trace.specs.declared.session.Session.{Session}
 use Rattle.sl_due_facts.specs.Facts.HeardCall.{IsOpen, heard_by}
 use Rattle.sl_due_facts.specs.Facts.ValueFacts.{IsReading}
-use Rattle.sl_trace.specs.Commands.{IsCommand, IsResourceArg}
-use Rattle.sl_trace.specs.Limits.{most_processes}
+use Rattle.sl_trace.specs.CommandForms.{IsCommand, IsResourceArg}
+use Rattle.sl_trace.specs.CountLimits.{most_processes}
 use Rattle.sl_trace.specs.Traces.{Child, Setting, Submitted, Trace, answered_in, child_numbered, children, end_of, first_child, holdings, is_before_input, is_child, is_orphan, is_write, mark, new_call, next_child, next_job, same_place, spot_of_grant, submitted}
 use Rattle.sl_trace.specs.declared.command.Command.{Command}
 use Rattle.sl_trace.specs.declared.command.Command.TheVariants.{Acquire, AddLockspace, Convert, GetLvb, HostStatus, InqLockspace, Release, ReleaseOrphan, RemLockspace, Request, RunProgram, SetKillpath, SetLvb, Status, TakeOver}

@@ -5,13 +5,14 @@ use Rattle.sl_due_facts.proofs.Acts.LoopsKeep.{for_each_keeps, when_keeps}
 use Rattle.sl_due_facts.proofs.Acts.PlainActs.{line_has}
 use Rattle.sl_due_facts.specs.Acts.Acts.{Has, Hears, next_of_settling}
 use Rattle.sl_due_facts.specs.Acts.TraceSoFar.{entry_of}
-use Rattle.sl_area.specs.Places.{request_offset}
+use Rattle.sl_area.specs.AreaLayout.{request_offset}
 use Rattle.sl_area.specs.Roles.{request}
 use Rattle.sl_due.specs.DueAnswers.{set_reply}
-use Rattle.sl_due.specs.DueDelta.{carry_delta, see_request}
-use Rattle.sl_due.specs.DueFirst.{begin_recoveries, begin_recovery, begins_now, refuse, remove_connection, remove_of_refused, send, signal_and_refuse, signal_holders}
+use Rattle.sl_due.specs.CarriedDelta.{carry_delta, see_request}
+use Rattle.sl_due.specs.DueRecovery.{begin_recoveries, begin_recovery, begins_now, send, signal_and_refuse, signal_holders}
+use Rattle.sl_due.specs.DueTimeOuts.{refuse, remove_connection, remove_of_refused}
 use Rattle.sl_due.specs.DueInputs.{end_holdings, leave_holdings, refuse_jobs_of, started_reply, when_running}
-use Rattle.sl_due.specs.DueLease.{carry_lease, next_of_lease}
+use Rattle.sl_due.specs.CarriedLease.{carry_lease, next_of_lease}
 use Rattle.sl_due.specs.DueRequests.{after_request_read, after_value_read, bits_due, owner_read, request_refusal, value_reply, write_request}
 use Rattle.sl_due.specs.Steps.{Step, add_reply, add_signal, begin_step, seen, with_input}
 use Rattle.sl_due_leases.proofs.Grants.Modes.FitsHolding.{reads_values}
@@ -45,14 +46,14 @@ use Rattle.sl_due_leases.proofs.Ways.WayFactsHeld.PlacesStand.{id_in_range, plac
 use Rattle.sl_due_leases.proofs.Ways.WayFactsHeld.PlainWalks.{DeltaFits}
 use Rattle.sl_due_leases.proofs.Ways.WayFactsHeld.UnjoinedHaveNone.{its_joining, joins_still}
 use Rattle.sl_trace.specs.Jobs.{command_numbered, command_of, job_of_start}
-use Rattle.sl_trace.specs.LeaseWork.{lease_place}
+use Rattle.sl_trace.specs.LeaseDecisions.{lease_place}
 use Rattle.sl_trace.specs.Leases.{known, lver_written, open_on, spot_of, spot_of_call}
 use Rattle.sl_trace.specs.declared.lease.Aim.{Aim}
 use Rattle.sl_trace.specs.declared.lease.LeaseNext.{LeaseNext}
 use Rattle.sl_words.proofs.Lists.{kept_inside}
 use Rattle.sl_words.proofs.Options.{some_of}
 use Rattle.sl_sector.specs.declared.sector.Rec.TheVariants.{DeltaIs, RequestIs}
-use Rattle.sl_trace.specs.Deltas.{delta_known, delta_of_session, next_after_free, next_after_renewal, next_in_joining, next_on_wake, own_offset}
+use Rattle.sl_trace.specs.DeltaDecisions.{delta_known, delta_of_session, next_after_free, next_after_renewal, next_in_joining, next_on_wake, own_offset}
 use Rattle.sl_trace.specs.Sessions.{calls_of, generation_of, holders_of, holdings_of, present_sessions, recovery_of, session_numbered}
 use Rattle.sl_trace.specs.declared.delta.DeltaNext.{DeltaNext}
 use Rattle.sl_trace.specs.declared.session.Session.{Session}

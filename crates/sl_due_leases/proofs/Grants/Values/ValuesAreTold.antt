@@ -3,14 +3,15 @@ use Rattle.sl_due_facts.proofs.Acts.ActsTogether.{both}
 use Rattle.sl_due_facts.proofs.Acts.LoopsKeep.{for_each_keeps, when_keeps}
 use Rattle.sl_due_facts.specs.Acts.Acts.{Acts, Has, Hears, lone_job, next_of_settling}
 use Rattle.sl_due_facts.specs.Acts.TraceSoFar.{entry_of}
-use Rattle.sl_area.specs.Layouts.{record_in}
-use Rattle.sl_area.specs.Places.{request_offset}
+use Rattle.sl_area.specs.AreaSizes.{record_in}
+use Rattle.sl_area.specs.AreaLayout.{request_offset}
 use Rattle.sl_due.specs.DueAnswers.{set_reply}
 use Rattle.sl_due.specs.DueCommands.{carry_decision, decided}
-use Rattle.sl_due.specs.DueDelta.{carry_delta}
-use Rattle.sl_due.specs.DueFirst.{begin_recoveries, begin_recovery, begins_now, refuse, remove_connection, remove_of_refused, send, signal_and_refuse}
+use Rattle.sl_due.specs.CarriedDelta.{carry_delta}
+use Rattle.sl_due.specs.DueRecovery.{begin_recoveries, begin_recovery, begins_now, send, signal_and_refuse}
+use Rattle.sl_due.specs.DueTimeOuts.{refuse, remove_connection, remove_of_refused}
 use Rattle.sl_due.specs.DueInputs.{end_holdings, leave_holdings, refuse_jobs_of, started_reply, when_running}
-use Rattle.sl_due.specs.DueLease.{carry_lease, next_of_lease}
+use Rattle.sl_due.specs.CarriedLease.{carry_lease, next_of_lease}
 use Rattle.sl_due.specs.DueRequests.{after_request_read, after_value_read, bits_due, value_reply}
 use Rattle.sl_due.specs.Steps.{Step, add_call_of, add_move, add_reply, add_signal, begin_step, seen, when, with_input}
 use Rattle.sl_due.specs.declared.decision.Decision.TheVariants.{Joins, Replies}
@@ -38,23 +39,23 @@ use Rattle.sl_run.specs.LawfulValue.{LawfulSetReply, LawfulValueReply}
 use Rattle.sl_due_leases.proofs.Leases.WorkIsActive.{work_is_active}
 use Rattle.sl_due_leases.proofs.Ways.WayFactsHeld.EffectsLeave.{there_has}
 use Rattle.sl_trace.specs.Jobs.{job_of_start}
-use Rattle.sl_trace.specs.LeaseWork.{lease_place}
+use Rattle.sl_trace.specs.LeaseDecisions.{lease_place}
 use Rattle.sl_trace.specs.Leases.{is_on, known, lver_written, spot_of_call, value_written}
 use Rattle.sl_trace.specs.declared.effects.LeaseStep.{LeaseStep}
 use Rattle.sl_trace.specs.declared.lease.LeaseNext.{LeaseNext}
 use Rattle.sl_trace.specs.declared.lease.LeaseNext.TheVariants.{AnswerJob}
 use Rattle.sl_due_facts.proofs.AddedEffects.CallsGrow.{mine_more, others_stay, same_sessions}
 use Rattle.sl_words.proofs.Lists.{contains_more, contains_none}
-use Rattle.sl_sector.specs.Spelling.{value_in}
+use Rattle.sl_sector.specs.SectorLayouts.{value_in}
 use Rattle.sl_sector.specs.declared.sector.Rec.TheVariants.{DeltaIs}
 use Rattle.sl_sector.specs.declared.sector.ValueRec.{ValueRec}
-use Rattle.sl_trace.specs.Deltas.{delta_known, delta_of_session, next_after_free, next_after_renewal, next_in_joining, next_on_wake, own_offset}
+use Rattle.sl_trace.specs.DeltaDecisions.{delta_known, delta_of_session, next_after_free, next_after_renewal, next_in_joining, next_on_wake, own_offset}
 use Rattle.sl_trace.specs.Sessions.{calls_of, generation_of, holders_of, is_active, is_call_of, is_join_call, is_joined, present_sessions, recovery_of}
 use Rattle.sl_trace.specs.declared.delta.DeltaNext.{DeltaNext}
 use Rattle.sl_trace.specs.declared.session.Session.{Session}
 use Rattle.sl_due_facts.specs.Facts.HeardCall.{heard_by}
 use Rattle.sl_due_facts.specs.Facts.ValueFacts.{IsReading}
-use Rattle.sl_trace.specs.Connections.{is_registered}
+use Rattle.sl_trace.specs.WatchdogConnections.{is_registered}
 use Rattle.sl_trace.specs.Traces.{Setting, Submitted, Trace, is_running, is_write, job_of, new_call, next_job}
 use Rattle.sl_trace.specs.declared.command.Command.{Command}
 use Rattle.sl_trace.specs.declared.command.LockspaceArg.{LockspaceArg}

@@ -1,8 +1,9 @@
 -- What is decided after any answer to the lease's newest call fits; and so does what a release and a conversion begin with.
 use Rattle.sl_due_facts.proofs.Acts.Pairs.Decisions.{IsAsked, asked_is, bytes_are}
 use Rattle.sl_due_facts.proofs.Acts.Pairs.GivenByReads.{bytes_at}
-use Rattle.sl_area.specs.Layouts.{Layout}
-use Rattle.sl_area.specs.Places.{BlocksRead, blocks_of, leader_read}
+use Rattle.sl_area.specs.AreaSizes.{Layout}
+use Rattle.sl_area.specs.Pairs.{BlocksRead, blocks_of}
+use Rattle.sl_area.specs.TornLeader.{leader_read}
 use Rattle.sl_due_facts.specs.Facts.WayFacts.{In_conversion, In_release, sectors_of_read}
 use Rattle.sl_due_leases.proofs.Ways.GivenReads.{blocks_heard}
 use Rattle.sl_due_leases.proofs.Ways.WayStages.{read_step}
@@ -14,7 +15,7 @@ use Rattle.sl_due_leases.specs.Ways.Nexts.{IsHeard, Moment, NextIs, calls_at, co
 use Rattle.sl_due_leases.specs.Ways.WayLaws.{AnswersFit, ConversionsFit, ReleasesFit, SettlingsFit}
 use Rattle.sl_sector.specs.declared.sector.Block.{Block}
 use Rattle.sl_trace.specs.Ballots.{moded_block}
-use Rattle.sl_trace.specs.LeaseWork.{after_read, asked_again, first_step, heard, lease_next, part_read, read_of_step, step_of_read}
+use Rattle.sl_trace.specs.LeaseDecisions.{after_read, asked_again, first_step, heard, lease_next, part_read, read_of_step, step_of_read}
 use Rattle.sl_trace.specs.Leases.{block_submitted, known, lver_written, read_given}
 use Rattle.sl_trace.specs.Traces.{Setting}
 use Rattle.sl_trace.specs.declared.effects.LeaseRead.TheVariants.{OfArea, OfBlock, OfFree, OfPhase1, OfPhase2}

@@ -1,7 +1,10 @@
 -- What a lease has heard of a read, and that what is decided after a read of the area fits.
 use Rattle.sl_due_facts.proofs.Acts.Pairs.DecodedRecords.{spelled_leader}
-use Rattle.sl_area.specs.Layouts.{Layout}
-use Rattle.sl_area.specs.Places.{BlocksRead, blocks_of, fresh_leader, greatest_lver, leader_made, leader_of, leader_read, pairs_of}
+use Rattle.sl_area.specs.AreaSizes.{Layout}
+use Rattle.sl_area.specs.Pairs.{BlocksRead, blocks_of, pairs_of}
+use Rattle.sl_area.specs.TornLeader.{greatest_lver, leader_made, leader_read}
+use Rattle.sl_area.specs.AreaRecords.{fresh_leader}
+use Rattle.sl_area.specs.AreaLayout.{leader_of}
 use Rattle.sl_due_facts.specs.Facts.WayFacts.{CallWay, IsVerified, Ways}
 use Rattle.sl_due_leases.proofs.Ways.GivenReads.{area_by, blocks_heard, given_heard, leader_heard}
 use Rattle.sl_due_leases.proofs.Ways.WaysAreLawful.BallotsBegin.{MayBegin, begins_after_read, none_torn}
@@ -13,7 +16,7 @@ use Rattle.sl_run.specs.LawfulBlock.{AreaRead}
 use Rattle.sl_sector.specs.declared.sector.Block.{Block}
 use Rattle.sl_sector.specs.declared.sector.Leader.{Leader}
 use Rattle.sl_sector.specs.declared.sector.PairBlock.{PairBlock}
-use Rattle.sl_trace.specs.LeaseWork.{area_next, asked_again, begin_or_refuse, first_step, heard, named_area_next, part_read, read_of_step, whole_area_next}
+use Rattle.sl_trace.specs.LeaseDecisions.{area_next, asked_again, begin_or_refuse, first_step, heard, named_area_next, part_read, read_of_step, whole_area_next}
 use Rattle.sl_trace.specs.Leases.{Area_read, Read_before_free, first_kept, instance_for, is_leader_of, known, leader_given, name_sought, own_block, read_given, verified_by}
 use Rattle.sl_trace.specs.Traces.{Answered, bytes_given, gave}
 use Rattle.sl_trace.specs.declared.effects.LeaseStep.{LeaseStep}

@@ -6,7 +6,7 @@ use Rattle.sl_due_leases.proofs.Ways.WayNumbers.{ended_concludes, is_verified}
 use Rattle.sl_due_leases.proofs.Ways.WayStages.{ReadBehind, by_at, read_behind, step_way}
 use Rattle.sl_due_leases.specs.Ways.Nexts.{IsHeard, Moment, NextIs, calls_at, context_at, known_at, place_at}
 use Rattle.sl_trace.specs.Ballots.{is_ahead, phase2_block, same_owner, stop_of, value_of}
-use Rattle.sl_trace.specs.LeaseWork.{after_phase1, after_phase2, begin_next, first_step, leader_for, looks_for_shared, lost_next, phase2_next, settle_next, step_of_read, stop_reply, stopped_next, won_next}
+use Rattle.sl_trace.specs.LeaseDecisions.{after_phase1, after_phase2, begin_next, first_step, leader_for, looks_for_shared, lost_next, phase2_next, settle_next, step_of_read, stop_reply, stopped_next, won_next}
 use Rattle.sl_trace.specs.Leases.{Phase2_read, block_submitted, block_written, blocks_given, ended_ballot, ended_ballots, is_shared_by_other, known, mode_gen_of, open_ballot, shared_elsewhere, value_in_end}
 use Rattle.sl_trace.specs.declared.lease.Aim.TheVariants.{Acquires, Converts, Releases, Settles}
 use Rattle.sl_trace.specs.declared.lease.Aim.{Aim}

@@ -4,7 +4,7 @@ use Rattle.sl_due_leases.proofs.Ways.WaysAreLawful.BallotsBegin.{MayBegin, begin
 use Rattle.sl_due_leases.proofs.Ways.WayNumbers.{IsOpened, is_opened, is_verified}
 use Rattle.sl_due_leases.specs.Ways.Nexts.{Moment, NextIs, calls_at, context_at, known_at, place_at}
 use Rattle.sl_trace.specs.Ballots.{moded_block, phase1_block}
-use Rattle.sl_trace.specs.LeaseWork.{begin_next, phase1_next, refuses, settle_begin, settle_next, settle_owed, within_turn}
+use Rattle.sl_trace.specs.LeaseDecisions.{begin_next, phase1_next, refuses, settle_begin, settle_next, settle_owed, within_turn}
 use Rattle.sl_trace.specs.Leases.{block_submitted, known, last_blocks, mode_gen_of, open_ballot, owed_free}
 use Rattle.sl_trace.specs.declared.lease.Aim.TheVariants.{Acquires, Converts, Releases, Settles}
 use Rattle.sl_trace.specs.declared.lease.Aim.{Aim}

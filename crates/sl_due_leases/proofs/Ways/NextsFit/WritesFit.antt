@@ -1,5 +1,5 @@
 -- What is decided after the writes of a lease, and after the read before a free, fits.
-use Rattle.sl_area.specs.Layouts.{Layout}
+use Rattle.sl_area.specs.AreaSizes.{Layout}
 use Rattle.sl_due_leases.proofs.Ways.WaysAreLawful.BallotLaws.{read2, take_concludes, take_won, taken_own, won_own}
 use Rattle.sl_due_leases.proofs.Ways.NewestCall.{block_is, block_is_no_leader, ended_before, ended_here, leader_is_no_block, lver_is, read_writes_no_block, submitted_passed}
 use Rattle.sl_due_leases.proofs.Ways.NextsFit.PhasesFit.{heard_comes, heard_done, heard_read, heard_way}
@@ -7,7 +7,7 @@ use Rattle.sl_due_leases.proofs.Ways.NextsFit.SettlingsFit.{settling_is}
 use Rattle.sl_due_leases.proofs.Ways.WayStages.{ReadBehind, is_at_in, rest_behind, way_behind, whole_kept}
 use Rattle.sl_due_leases.specs.Ways.Nexts.{IsHeard, Moment, NextIs, calls_at, context_at, known_at, place_at}
 use Rattle.sl_trace.specs.Ballots.{moded_block, same_owner}
-use Rattle.sl_trace.specs.LeaseWork.{after_clearing, after_freeing, after_moding, after_take, first_step, leader_for, settle_next}
+use Rattle.sl_trace.specs.LeaseDecisions.{after_clearing, after_freeing, after_moding, after_take, first_step, leader_for, settle_next}
 use Rattle.sl_trace.specs.Leases.{Phase2_write, block_submitted, block_written, concludes, ended_ballot, ended_ballots, exclusive_on, free_left, is_at, known, leader_written, lver_written, open_ballot, owed_free, settles_free, won_by}
 use Rattle.sl_trace.specs.declared.lease.Aim.TheVariants.{Acquires, Converts, Releases, Settles}
 use Rattle.sl_trace.specs.declared.lease.Aim.{Aim}

@@ -1,13 +1,13 @@
 -- Ways and turns are kept by each act, and stand once a step has begun.
 use Rattle.sl_due_facts.specs.Acts.Acts.{Acts, Has, Hears, lone_job, next_of_settling}
 use Rattle.sl_due_facts.specs.Acts.TraceSoFar.{entry_of}
-use Rattle.sl_area.specs.Layouts.{Layout, record_in}
-use Rattle.sl_area.specs.Places.{leader_of, read_at}
+use Rattle.sl_area.specs.AreaSizes.{Layout, record_in}
+use Rattle.sl_area.specs.AreaLayout.{leader_of, read_at}
 use Rattle.sl_request.specs.Requests.{check_request}
 use Rattle.sl_area.specs.Roles.{request}
 use Rattle.sl_due.specs.DueAnswers.{set_reply}
 use Rattle.sl_due.specs.DueInputs.{end_holdings, leave_holdings, started_reply}
-use Rattle.sl_due.specs.DueLease.{carry_lease, goes_on, next_of_lease}
+use Rattle.sl_due.specs.CarriedLease.{carry_lease, goes_on, next_of_lease}
 use Rattle.sl_due.specs.DueRequests.{after_request_read, after_value_read, owner_read, request_refusal, value_reply, write_request}
 use Rattle.sl_due.specs.Steps.{Step, add_reply, seen, with_input}
 use Rattle.sl_run.specs.LawfulArea.{is_area_work}
@@ -31,11 +31,11 @@ use Rattle.sl_due_leases.specs.Ways.Nexts.{NextIs}
 use Rattle.sl_trace.specs.declared.lease.Aim.{Aim}
 use Rattle.sl_trace.specs.declared.lease.LeaseNext.TheVariants.{BecomeShared}
 use Rattle.sl_trace.specs.declared.lease.LeaseNext.{LeaseNext}
-use Rattle.sl_sector.specs.Spelling.{request_in, value_in}
+use Rattle.sl_sector.specs.SectorLayouts.{request_in, value_in}
 use Rattle.sl_sector.specs.declared.sector.Leader.{Leader}
 use Rattle.sl_sector.specs.declared.sector.Request.{Request as RequestRec}
 use Rattle.sl_sector.specs.declared.sector.ValueRec.{ValueRec}
-use Rattle.sl_trace.specs.Deltas.{delta_of_session}
+use Rattle.sl_trace.specs.DeltaDecisions.{delta_of_session}
 use Rattle.sl_trace.specs.Sessions.{calls_of, generation_of, recovery_of}
 use Rattle.sl_trace.specs.declared.session.Session.{Session}
 use Rattle.sl_due_facts.specs.Facts.HeardCall.{heard_by}

@@ -1,6 +1,6 @@
 -- What a lease decides at a moment of a step fits: after an answer, in a settling, in a release and in a conversion.
 use Rattle.sl_due_facts.specs.Acts.Acts.{Hears, next_of_conversion, next_of_release, next_of_settling}
-use Rattle.sl_due.specs.DueLease.{goes_on, next_of_lease}
+use Rattle.sl_due.specs.CarriedLease.{goes_on, next_of_lease}
 use Rattle.sl_due.specs.Steps.{Step, seen}
 use Rattle.sl_due_facts.specs.Facts.WayFacts.{Ways, way_context}
 use Rattle.sl_due_facts.specs.Facts.AllFacts.{Whole}
@@ -10,7 +10,9 @@ use Rattle.sl_due_leases.proofs.Ways.NextsFit.AnswersFit.{answers_fit, conversio
 use Rattle.sl_due_leases.proofs.Ways.NextsFit.SettlingsFit.{beginning_is, within_is}
 use Rattle.sl_due_leases.specs.Ways.Nexts.{NextIs}
 use Rattle.sl_trace.specs.Jobs.{aim_of}
-use Rattle.sl_trace.specs.LeaseWork.{convert_next, lease_next, lease_place, release_next, settle_begin}
+use Rattle.sl_trace.specs.Conversions.{convert_next}
+use Rattle.sl_trace.specs.LeaseDecisions.{lease_next, lease_place, settle_begin}
+use Rattle.sl_trace.specs.Releases.{release_next}
 use Rattle.sl_trace.specs.Leases.{known, lease_calls, lver_written, spot_of_call}
 use Rattle.sl_trace.specs.Traces.{Submitted}
 use Rattle.sl_trace.specs.declared.effects.Grant.{Grant}

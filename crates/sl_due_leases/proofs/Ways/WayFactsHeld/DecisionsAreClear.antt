@@ -2,7 +2,8 @@
 use Rattle.sl_due.specs.DueCommands.{acquiring, busy_refusal, converting, decide_acquire, decide_convert, decide_holder, decide_orphan, decide_report, decide_request, decide_take_over, decided, holding_of, joined_refusal, leave_refusal, limit_refusal, matching_session, orphan_refusal, pending_refusal, process_refusal, serving_orphan, session_refusal, setting_value, unless_refused, with_session}
 use Rattle.sl_due.specs.declared.decision.Decision.TheVariants.{ConvertsTo, GetsValue, GivesUp, Joins, Leaves, ReadsArea, Replies, Requests, SetsValue, Shares, TakesOver}
 use Rattle.sl_due.specs.declared.decision.Decision.{Decision}
-use Rattle.sl_trace.specs.Counts.{holds_already, is_killpath_limit, next_value_seq, other_holder, pending_call}
+use Rattle.sl_trace.specs.Counts.{holds_already, next_value_seq, other_holder, pending_call}
+use Rattle.sl_trace.specs.KillPrograms.{is_killpath_limit}
 use Rattle.sl_trace.specs.declared.lease.Aim.TheVariants.{Converts, Releases}
 use Rattle.sl_trace.specs.Jobs.{aim_of_command, resource_named, wanted_mode}
 use Rattle.sl_trace.specs.Leases.{holdings_on, orphan_on, shared_on, spot_of}
@@ -11,7 +12,7 @@ use Rattle.sl_words.proofs.Options.{then_value}
 use Rattle.sl_trace.specs.Sessions.{generation_of, is_active, is_joined, last_renewal, present_sessions, session_named, sessions}
 use Rattle.sl_trace.specs.Sightings.{states_seen}
 use Rattle.sl_trace.specs.declared.session.Session.{Session}
-use Rattle.sl_trace.specs.Limits.{most_lockspaces}
+use Rattle.sl_trace.specs.CountLimits.{most_lockspaces}
 use Rattle.sl_trace.specs.Traces.{Setting, Trace, is_orphan, is_shared}
 use Rattle.sl_trace.specs.declared.command.Command.TheVariants.{Acquire, AddLockspace, Convert, GetLvb, HostStatus, InqLockspace, Release, ReleaseOrphan, RemLockspace, Request, RunProgram, SetKillpath, SetLvb, Status, TakeOver}
 use Rattle.sl_trace.specs.declared.command.Command.{Command}

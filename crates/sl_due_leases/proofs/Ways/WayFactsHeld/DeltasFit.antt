@@ -4,7 +4,7 @@ use Rattle.sl_due_leases.proofs.Ways.WayFactsHeld.PlainWalks.{DeltaFits}
 use Rattle.sl_due.specs.Steps.{Step, seen}
 use Rattle.sl_sector.specs.declared.sector.DeltaRec.{DeltaRec}
 use Rattle.sl_sector.specs.declared.sector.Rec.TheVariants.{DeltaIs}
-use Rattle.sl_trace.specs.Deltas.{DeltaLease, claim_of, claim_on, delta_known, delta_of_session, delta_record, id_held, id_lost, is_renewal_due, is_watched_out, join_step_of, next_after_deciding, next_after_first, next_after_free, next_after_renewal, next_after_verify, next_after_watch, next_by_time, next_free, next_in_joining, next_on_wake, next_renewal, where_watched, watched}
+use Rattle.sl_trace.specs.DeltaDecisions.{DeltaLease, claim_of, claim_on, delta_known, delta_of_session, delta_record, id_held, id_lost, is_renewal_due, is_watched_out, join_step_of, next_after_deciding, next_after_first, next_after_free, next_after_renewal, next_after_verify, next_after_watch, next_by_time, next_free, next_in_joining, next_on_wake, next_renewal, where_watched, watched}
 use Rattle.sl_trace.specs.Sessions.{generation_of, last_seq}
 use Rattle.sl_trace.specs.declared.delta.DeltaNext.TheVariants.{Nothing, ReadOwn, RefuseJoin, RegisterAndRead, WriteClaim, WriteFirst, WriteFree, WriteRenewal}
 use Rattle.sl_trace.specs.declared.delta.DeltaNext.{DeltaNext}
@@ -17,20 +17,14 @@ use Rattle.sl_trace.specs.declared.input.Answer.TheVariants.{Failed, Read, Writt
 use Rattle.sl_trace.specs.declared.input.Answer.{Answer}
 use Rattle.sl_trace.specs.declared.reply.Reply.TheVariants.{Done, IdLate, IoFault, Limit as LimitReached, TornDelta, WrongDelta}
 use Rattle.sl_trace.specs.declared.reply.Reply.{Reply}
-use Rattle.sl_area.specs.Layouts.{record_in}
-use Rattle.sl_sector.specs.Spelling.{delta_in}
+use Rattle.sl_area.specs.AreaSizes.{record_in, sector_with}
+use Rattle.sl_sector.specs.SectorLayouts.{delta_in}
 use Rattle.sl_trace.specs.Sightings.{is_free_state}
 use Rattle.sl_sector.specs.Bitmaps.{no_bits}
-use Rattle.sl_sector.specs.declared.sector.DeltaState.TheVariants.{Claimed}
-use Rattle.sl_sector.specs.declared.sector.DeltaState.TheVariants.{Live}
-use Rattle.sl_sector.specs.declared.sector.DeltaState.TheVariants.{Free}
-use Rattle.sl_trace.specs.declared.reply.Limited.TheVariants.{Gen as GenLimit}
-use Rattle.sl_trace.specs.declared.reply.Limited.TheVariants.{Seq as SeqLimit}
+use Rattle.sl_sector.specs.declared.sector.DeltaState.TheVariants.{Claimed, Live, Free}
+use Rattle.sl_trace.specs.declared.reply.Limited.TheVariants.{Gen as GenLimit, Seq as SeqLimit}
 use Rattle.sl_words.specs.Bounds.{is_number}
-use Rattle.sl_time.specs.Times.{renew}
-use Rattle.sl_time.specs.Times.{join_max}
-use Rattle.sl_time.specs.Times.{dead}
-use Rattle.sl_area.specs.Layouts.{sector_with}
+use Rattle.sl_time.specs.Times.{renew, join_max, dead}
 use Rattle.sl_words.proofs.CaseLaws.{some_value}
 use Rattle.std.proofs.Common.{ap, inl, refl, sym, ◌∙◌}
 use Rattle.std.specs.Prelude.{Bool, List, None, Option, Some, [], bytes_eq, false, nat_le, nat_lt, true, ℕ, ◌&&◌, ◌+◌, ◌==◌, ◌∷◌, ◌≡◌}

@@ -12,7 +12,7 @@ use Rattle.sl_trace.specs.declared.lease.Aim.{Aim}
 use Rattle.sl_due_facts.proofs.AddedEffects.CallsGrow.{mine_more, others_stay, same_sessions}
 use Rattle.sl_due_facts.specs.AddedEffects.OneMoreEffect.{with_reply}
 use Rattle.sl_trace.specs.Sessions.{calls_of, delta_of_record, generation_in, generation_of, given_number, is_call_of, is_join_call, is_survey_purpose, joined_after, last_delta, session_numbered, sessions}
-use Rattle.sl_area.specs.Places.{sector_of}
+use Rattle.sl_area.specs.AreaLayout.{sector_of}
 use Rattle.sl_trace.specs.Sightings.{evidence, look_of, sightings}
 use Rattle.sl_trace.specs.declared.sighting.Sighting.{Sighting}
 use Rattle.sl_trace.specs.declared.session.Session.{Session}

@@ -6,7 +6,7 @@ use Rattle.sl_due_leases.proofs.Ways.WaysAreLawful.GrantsFollow.{grants_follow}
 use Rattle.sl_due_leases.proofs.Ways.NumbersFollow.{numbers_follow}
 use Rattle.sl_due_leases.specs.Ways.WayFactsHeld.{HasGrantGrounds, HasNumberFacts, HasTurnFacts, HasWayFacts, LeasesStand}
 use Rattle.sl_due_leases.specs.Ways.WayLaws.{GrantGroundsAreKept, GrantGroundsBegin, NumberFactsAreKept, NumberFactsBegin, TurnFactsAreKept, TurnFactsBegin, WayFactsAreKept, WayFactsBegin}
-use Rattle.sl_due.specs.DueFirst.{begin_recoveries}
+use Rattle.sl_due.specs.DueRecovery.{begin_recoveries}
 use Rattle.sl_due.specs.Steps.{Step, begin_step, seen}
 use Rattle.sl_due_facts.specs.Facts.HeardCall.{heard_by}
 use Rattle.sl_due_facts.specs.Facts.AllFacts.{Whole, WholeTrace}

@@ -1,7 +1,7 @@
 -- What is known when an answer has been heard: which call it is of, that a lease's is its newest, and that no other is open on its area.
 use Rattle.sl_due_facts.specs.Acts.Acts.{Has, Hears}
 use Rattle.sl_due_facts.specs.Acts.TraceSoFar.{entry_of}
-use Rattle.sl_due.specs.DueLease.{goes_on}
+use Rattle.sl_due.specs.CarriedLease.{goes_on}
 use Rattle.sl_due.specs.Steps.{Step, seen}
 use Rattle.sl_run.specs.LawfulArea.{is_area_work}
 use Rattle.sl_due_leases.proofs.Ways.AreasAligned.{spot_aligned}

@@ -1,9 +1,10 @@
 -- What a lease decided leaves ways and turns.
 use Rattle.sl_due_facts.specs.Acts.Acts.{Has}
-use Rattle.sl_area.specs.Layouts.{Layout}
-use Rattle.sl_area.specs.Places.{area_sectors, block_offset, block_place, block_record, block_sectors, in_area, leader_offset, leader_record}
+use Rattle.sl_area.specs.AreaSizes.{Layout}
+use Rattle.sl_area.specs.AreaLayout.{area_sectors, block_offset, block_place, block_sectors, in_area, leader_offset}
+use Rattle.sl_area.specs.AreaRecords.{block_record, leader_record}
 use Rattle.sl_area.specs.Roles.{leader}
-use Rattle.sl_due.specs.DueLease.{carry_lease, convert_for, for_work, name_on, next_turn, read_area, read_blocks, read_for, with_command, write_block}
+use Rattle.sl_due.specs.CarriedLease.{carry_lease, convert_for, for_work, name_on, next_turn, read_area, read_blocks, read_for, with_command, write_block}
 use Rattle.sl_due.specs.Steps.{Step, add_reply, seen}
 use Rattle.sl_run.specs.Lawful.{IsSetting}
 use Rattle.sl_run.specs.LawfulArea.{is_area_work}

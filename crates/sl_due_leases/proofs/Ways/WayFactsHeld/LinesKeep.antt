@@ -3,10 +3,10 @@ use Rattle.sl_due_facts.proofs.Acts.DecisionsAreTheirs.{Of, decisions_are_theirs
 use Rattle.sl_due_facts.proofs.Acts.PlainActs.{line_has}
 use Rattle.sl_due_facts.specs.Acts.Acts.{Has, next_of_conversion, next_of_release}
 use Rattle.sl_due_facts.specs.Acts.DueDaemons.{IsDecidedFor}
-use Rattle.sl_area.specs.Places.{in_area, value_offset}
+use Rattle.sl_area.specs.AreaLayout.{in_area, value_offset}
 use Rattle.sl_area.specs.Roles.{leader, value}
 use Rattle.sl_due.specs.DueCommands.{after_end, carry_decision, decided, reply_at_once}
-use Rattle.sl_due.specs.DueLease.{carry_lease}
+use Rattle.sl_due.specs.CarriedLease.{carry_lease}
 use Rattle.sl_due.specs.Steps.{Step, add_end, add_reply, seen, with_input}
 use Rattle.sl_due.specs.declared.decision.Decision.TheVariants.{ConvertsTo, GetsValue, GivesUp, Joins, Leaves, ReadsArea, Replies, Requests, SetsValue, Shares, TakesOver}
 use Rattle.sl_due.specs.declared.decision.Decision.{Decision}
@@ -27,7 +27,9 @@ use Rattle.sl_due_leases.specs.Ways.WayFactsHeld.{LeasesStand}
 use Rattle.sl_trace.specs.Ballots.{moded_block}
 use Rattle.sl_trace.specs.Jobs.{aim_of, aim_of_command, command_numbered, command_of}
 use Rattle.sl_due_facts.proofs.Acts.Pairs.Decisions.{within_cases}
-use Rattle.sl_trace.specs.LeaseWork.{LeasePlace, convert_next, lease_place, refuses, release_next, within_turn}
+use Rattle.sl_trace.specs.LeaseDecisions.{LeasePlace, lease_place, refuses, within_turn}
+use Rattle.sl_trace.specs.Conversions.{convert_next}
+use Rattle.sl_trace.specs.Releases.{release_next}
 use Rattle.sl_trace.specs.Leases.{LeaseKnown, ended_ballots, holdings_on, is_lease_call, is_on, known, lease_step, open_ballot, spot_of}
 use Rattle.sl_trace.specs.declared.lease.Aim.TheVariants.{Acquires, Converts, Releases, Settles}
 use Rattle.sl_trace.specs.declared.lease.Aim.{Aim}

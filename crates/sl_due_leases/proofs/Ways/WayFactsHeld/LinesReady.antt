@@ -1,6 +1,6 @@
 -- Where a command's decision is to work on an area, and where a settling begins, the area is free for a call.
 use Rattle.sl_due_facts.specs.Acts.Acts.{Has}
-use Rattle.sl_area.specs.Places.{is_base}
+use Rattle.sl_area.specs.AreaLayout.{is_base}
 use Rattle.sl_area.specs.Roles.{leader}
 use Rattle.sl_due.specs.Steps.{Step, seen, with_input}
 use Rattle.sl_run.specs.Lawful.{IsSetting}
@@ -13,8 +13,8 @@ use Rattle.sl_trace.specs.Jobs.{resource_named}
 use Rattle.sl_trace.specs.Leases.{is_on, open_on, spot_of, spot_of_call}
 use Rattle.sl_trace.specs.declared.session.Session.{Session}
 use Rattle.sl_due_facts.specs.Facts.CallFacts.{CallFacts}
-use Rattle.sl_area.specs.Layouts.{Layout}
-use Rattle.sl_trace.specs.Commands.{IsCommand, IsResourceArg}
+use Rattle.sl_area.specs.AreaSizes.{Layout}
+use Rattle.sl_trace.specs.CommandForms.{IsCommand, IsResourceArg}
 use Rattle.sl_trace.specs.Traces.{Setting, Submitted, Trace, outstanding, submitted}
 use Rattle.sl_trace.specs.declared.command.Command.TheVariants.{Acquire, AddLockspace, Convert, GetLvb, HostStatus, InqLockspace, Release, ReleaseOrphan, RemLockspace, Request, RunProgram, SetKillpath, SetLvb, Status, TakeOver}
 use Rattle.sl_trace.specs.declared.command.Command.{Command}

@@ -1,12 +1,12 @@
 -- Where the calls of a lease stand: in its area. A session's id is a host's.
 use Rattle.sl_area.proofs.SizeLaws.{places_lie_in_area}
-use Rattle.sl_area.specs.Layouts.{Layout, Sizes, layout_with}
-use Rattle.sl_area.specs.Places.{block_offset, block_place, in_area, pair_offset}
+use Rattle.sl_area.specs.AreaSizes.{Layout, Sizes, layout_with}
+use Rattle.sl_area.specs.AreaLayout.{block_offset, block_place, in_area, pair_offset}
 use Rattle.sl_trace.specs.Leases.{is_on, spot_of_call}
 use Rattle.sl_run_law.proofs.Leases.SpotLaws.{areas_are_apart}
 use Rattle.sl_area.specs.Roles.{IsRole, Role, block, pair, role_offset}
 use Rattle.sl_run.specs.Lawful.{IsGiven, IsSetting}
-use Rattle.sl_sector.specs.Spelling.{is_first_turn}
+use Rattle.sl_sector.specs.SectorLayouts.{is_first_turn}
 use Rattle.sl_trace.specs.Sessions.{added, added_by, begun_in, given_session, is_join_call, joining_session, sessions}
 use Rattle.sl_trace.specs.declared.session.Session.{Session}
 use Rattle.sl_trace.specs.Traces.{Setting, Submitted, Trace, line_in, new_call, next_job}

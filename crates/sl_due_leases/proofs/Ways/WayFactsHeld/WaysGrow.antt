@@ -1,5 +1,5 @@
 -- Ways stay: as more works have their aims and more hosts count as over, by the answer of the newest call, and by one more call.
-use Rattle.sl_area.specs.Layouts.{Layout}
+use Rattle.sl_area.specs.AreaSizes.{Layout}
 use Rattle.sl_trace.specs.declared.lease.Aim.{Aim}
 use Rattle.sl_sector.specs.declared.sector.Owner.{Owner}
 use Rattle.sl_due_facts.specs.Facts.WayFacts.{After_mode, After_take, CallWay, FreeReason, In_conversion, In_release, In_settling, ModeReason, PurposeWay, StepWay, WayContext, Ways}

@@ -1,6 +1,7 @@
 -- What a clear read of the blocks shows of other hosts: each of their blocks is whole.
-use Rattle.sl_area.specs.Layouts.{Layout}
-use Rattle.sl_area.specs.Places.{BlocksRead, blocks_in, blocks_of, pair_merged, pairs_of}
+use Rattle.sl_area.specs.AreaSizes.{Layout}
+use Rattle.sl_area.specs.Pairs.{BlocksRead, blocks_of, pair_merged, pairs_of}
+use Rattle.sl_area.specs.AreaLayout.{blocks_in}
 use Rattle.sl_trace.specs.Ballots.{ballot_blocks, known_block, stop_among, stop_of, torn_host, with_own}
 use Rattle.sl_trace.specs.Leases.{block_of_host, blocks_given, read_given}
 use Rattle.sl_trace.specs.declared.lease.Stop.TheVariants.{BlockTorn}

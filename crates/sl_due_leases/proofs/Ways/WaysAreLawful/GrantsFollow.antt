@@ -9,7 +9,7 @@ use Rattle.sl_due_leases.proofs.Ways.WayNumbers.{ended_below, lver_of, own_lver}
 use Rattle.sl_due_leases.proofs.Ways.WayStages.{ReadBehind, asked1, begun1, begun1_own, by_at, by_inside, by_rest_inside, first_inside, first_of_two, is_at_in, older_inside, prior_at, prior_inside, proposed, proposed_lver, proposed_mbal, read1, rest2, rest_inside, rest_kept, step_way, way_behind, ways_behind, whole_kept, write2, written_before}
 use Rattle.sl_trace.specs.Ballots.{moded_block, stop_of}
 use Rattle.sl_trace.specs.Jobs.{aim_of, aim_of_command, command_numbered}
-use Rattle.sl_trace.specs.LeaseWork.{looks_for_shared}
+use Rattle.sl_trace.specs.LeaseDecisions.{looks_for_shared}
 use Rattle.sl_trace.specs.Leases.{Area_read, Phase1_read, Phase1_write, Phase2_read, Phase2_write, Read_before_block, block_submitted, block_written, blocks_given, ended_ballots, freed, freed_by, is_area_read, is_at, is_block_read, is_free_write, leader_written, lease_calls, lease_step, lver_written, open_ballot, spot_of_call}
 use Rattle.sl_trace.specs.declared.lease.Aim.TheVariants.{Acquires, Converts, Releases, Settles}
 use Rattle.sl_trace.specs.declared.lease.Aim.{Aim}

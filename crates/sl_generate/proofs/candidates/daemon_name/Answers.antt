@@ -1,7 +1,7 @@
 -- The text is a name.
 use Rattle.sl_generate.proofs.NameLaws.{daemon_named, unnamed}
 use Rattle.sl_generate.proofs.candidates.daemon_name.Goals as goal
-use Rattle.sl_report.specs.Generator.{gen_host_name}
+use Rattle.sl_report.specs.GeneratedSchedules.{gen_host_name}
 use Rattle.sl_text.specs.Names.{is_name}
 use Rattle.std.proofs.Common.{append_assoc, arith, subst, sym, true, ◌++◌, ◌∙◌, ◌≡◌}
 use Rattle.std.specs.Prelude.{codes, decimal}

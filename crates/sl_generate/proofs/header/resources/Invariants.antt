@@ -1,6 +1,6 @@
 -- The lines of so many resources stand.
 use Rattle.sl_generate.proofs.header.resources.Given as goal
-use Rattle.sl_report.specs.Generator.{gen_resource}
+use Rattle.sl_report.specs.GeneratedSchedules.{gen_resource}
 use Rattle.std.proofs.Common.{map, ◌-◌, ◌≡◌, ◌≤◌}
 use Rattle.std.specs.List.{range_with_len}
 

@@ -1,6 +1,6 @@
 -- The area stays calm, and one write at most is in flight there.
-use Rattle.sl_area.specs.Layouts.{Layout}
-use Rattle.sl_area.specs.Places.{in_area}
+use Rattle.sl_area.specs.AreaSizes.{Layout}
+use Rattle.sl_area.specs.AreaLayout.{in_area}
 use Rattle.sl_words.proofs.Lists.{kept}
 use Rattle.sl_words.proofs.Numbers.{number_itself, number_turned}
 use Rattle.sl_words.proofs.Options.{none_is}
@@ -15,7 +15,7 @@ use Rattle.sl_run_law.proofs.Place.FoundInLists.{partner, same_text}
 use Rattle.sl_run_law.proofs.Place.Seats.{sized_in}
 use Rattle.sl_run_law.proofs.Place.Sizes.{IsSized}
 use Rattle.sl_run_law.specs.Course.CallStamps.{AnswersAgree, IsCourseOf, courses_of}
-use Rattle.sl_trace.specs.Traces.{Answered}
+use Rattle.sl_trace.specs.Traces.{Answered, Submitted, is_write, submitted}
 use Rattle.sl_trace.specs.declared.effects.Call.{Call}
 use Rattle.sl_words.proofs.CaseLaws.{none_some, one_value, true_is_false}
 use Rattle.sl_words.specs.Words.{some_is}
@@ -31,7 +31,6 @@ use Rattle.sl_run.specs.Safety.{world_at}
 use Rattle.sl_run.specs.Worlds.{Course, Daemon, Machine, World, is_of_running, is_open, is_write_course, machine_at, may_land}
 use Rattle.sl_run.specs.declared.header.Header.{Header}
 use Rattle.sl_run.specs.declared.header.ResourceLine.{ResourceLine}
-use Rattle.sl_trace.specs.Traces.{Submitted, is_write, submitted}
 use Rattle.sl_words.proofs.WordLaws.{and_true, some_is_true}
 use Rattle.std.proofs.Common.{ap, ap₂, inl, inr, refl, subst, sym, ◌∙◌}
 use Rattle.std.specs.Prelude.{Bool, Contains, IsTrue, None, Option, Some, [], bytes_eq, false, is_none, true, ◌%◌, ◌&&◌, ◌++◌, ◌-◌, ◌==◌, ◌||◌, ◌∷◌, ◌≡◌, ◌⊎◌}

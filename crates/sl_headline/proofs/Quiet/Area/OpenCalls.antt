@@ -2,7 +2,8 @@
 use Rattle.sl_words.proofs.Lists.{contains_cases, contains_first, contains_more, find_inside, in_map}
 use Rattle.sl_words.proofs.Numbers.{number_itself}
 use Rattle.sl_headline.specs.Quiet.Area.CalmAreas.{IsMadeNow, OpenCallsGoOn, WasOpen}
-use Rattle.sl_run.specs.Events.{after_step, close_answered, daemon_number, first_change, happens, input_of, machine_of, new_course, next_step, take_step, with_entry}
+use Rattle.sl_run.specs.EventChanges.{after_step, close_answered, daemon_number, first_change, happens, new_course, next_step, take_step, with_entry}
+use Rattle.sl_run.specs.Inputs.{input_of, machine_of}
 use Rattle.sl_run.specs.Runs.{Happening, IsRun}
 use Rattle.sl_run.specs.Safety.{LawfulRun, world_at}
 use Rattle.sl_run.specs.Worlds.{Course, Daemon, Machine, Program, Stamp, World, daemons_on, flight_of, is_of_running, is_open, machine_at, may_land, stamp_now, world_with}

@@ -1,7 +1,10 @@
 -- A place stays where no write is in flight to it.
-use Rattle.sl_area.specs.Layouts.{Layout}
+use Rattle.sl_area.specs.AreaSizes.{Layout}
 use Rattle.sl_headline.specs.Quiet.Area.PlacesStay.{NoneInFlight, PlacesStay}
-use Rattle.sl_run.specs.Events.{add_landing, after_crash, after_effects, after_reset, after_restart, after_start, after_step, after_test, change_call, event_tests, fated, first_change, flight_at, happens, is_placed, machine_of, land_whole, may_happen, next_input, next_step, on_flight, sampled_more, sectors_left, spells_something, take_step, take_steps, torn_bytes, write_bytes}
+use Rattle.sl_run.specs.EventChanges.{add_landing, after_crash, after_effects, after_reset, after_restart, after_start, after_step, after_test, change_call, fated, first_change, flight_at, happens, land_whole, next_input, next_step, sampled_more, take_step, take_steps, write_bytes}
+use Rattle.sl_run.specs.Refusals.{event_tests, is_placed, may_happen, on_flight, sectors_left}
+use Rattle.sl_run.specs.Premises.{spells_something, torn_bytes}
+use Rattle.sl_run.specs.Inputs.{machine_of}
 use Rattle.sl_run.specs.Worlds.{Course, Dropped, Landed, Landing, Machine, Torn, World, change_machine, content, flight_of, initial_bytes, is_in_flight, is_write_course, machine_at, stamp_now}
 use Rattle.sl_run.specs.declared.event.Event.TheVariants.{AnswerCall, Crash, Do, DropWrite, ExitOf, GiveAsk, GiveCommand, GiveLvm, Land, Pass, Reset, Restart, Sample, SpawnedOf, StartDaemon, Tear, Test, WakeUp}
 use Rattle.sl_run.specs.declared.event.Event.{Event}

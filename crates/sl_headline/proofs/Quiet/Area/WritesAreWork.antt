@@ -1,7 +1,7 @@
 -- Whoever wrote on a resource's area did it for its work there, as a session of the resource's lockspace: a delta record is written at the
 -- own sector alone, which is in the area of a lockspace, and before any other record the session has read the resource's leader.
-use Rattle.sl_area.specs.Layouts.{Layout}
-use Rattle.sl_area.specs.Places.{delta_offset, in_area}
+use Rattle.sl_area.specs.AreaSizes.{Layout}
+use Rattle.sl_area.specs.AreaLayout.{delta_offset, in_area}
 use Rattle.sl_safety.specs.Resources.HistoryLaws.{spot_of_line}
 use Rattle.sl_run.specs.LawfulArea.{is_area_work, is_delta_record}
 use Rattle.sl_trace.specs.Leases.{is_on}

@@ -8,8 +8,7 @@ use Rattle.sl_sector.specs.declared.sector.Block.{Block}
 use Rattle.sl_sector.specs.declared.sector.Owner.{Owner}
 use Rattle.sl_words.specs.Words.{choose, greatest, present}
 use Rattle.std.proofs.Common.{ap, arith, inl, inr, refl, subst, sym, tests, ◌∙◌}
-use Rattle.std.specs.List.{AllByRecursion, prefix_len}
-use Rattle.std.specs.List.{cons_option}
+use Rattle.std.specs.List.{AllByRecursion, prefix_len, cons_option}
 use Rattle.std.specs.Option.{option_map_or}
 use Rattle.std.specs.Prelude.{Bool, List, None, Option, Some, [], false, filter, find, fold, if◌then◌else◌, is_none, length, map, max, nat_lt, not, option_map, position, true, unwrap_or, ℕ, ◌&&◌, ◌+◌, ◌<◌, ◌==◌, ◌∷◌, ◌≡◌, ◌≤◌, ◌⊎◌}
 

@@ -1,11 +1,13 @@
 -- What a first read gives where each second sector is whole: it is made once, so the blocks are those of its bytes, and of a read of the
 -- area the leader is the one that is spelled.
 use Rattle.sl_due_facts.proofs.Acts.Pairs.GivenByReads.{again_at, bytes_at}
-use Rattle.sl_area.specs.Layouts.{Layout}
-use Rattle.sl_area.specs.Places.{BlocksRead, blocks_of, leader_made, leader_of, leader_read, needs_again, pairs_of, read_once}
+use Rattle.sl_area.specs.AreaSizes.{Layout}
+use Rattle.sl_area.specs.Pairs.{BlocksRead, blocks_of, needs_again, pairs_of, read_once}
+use Rattle.sl_area.specs.TornLeader.{leader_made, leader_read}
+use Rattle.sl_area.specs.AreaLayout.{leader_of}
 use Rattle.sl_due_leases.proofs.Ways.GivenReads.{area_by, blocks_heard, leader_heard}
 use Rattle.sl_sector.specs.declared.sector.Leader.{Leader}
-use Rattle.sl_trace.specs.LeaseWork.{first_step, part_read, read_of_step}
+use Rattle.sl_trace.specs.LeaseDecisions.{first_step, part_read, read_of_step}
 use Rattle.sl_trace.specs.Leases.{blocks_bytes, blocks_given, given_with, is_second, kept_before, leader_given, read_given}
 use Rattle.sl_trace.specs.Traces.{Submitted, gave}
 use Rattle.sl_trace.specs.declared.effects.LeaseStep.TheVariants.{ReadArea}

@@ -1,8 +1,9 @@
 -- What is known of the lease with one more call.
-use Rattle.sl_area.specs.Layouts.{Layout}
+use Rattle.sl_area.specs.AreaSizes.{Layout}
 use Rattle.sl_due_facts.proofs.Acts.Pairs.GivenByReads.{again_at}
 use Rattle.sl_due_facts.proofs.Acts.Pairs.Records.{read_no_block, written_block, written_no_block}
-use Rattle.sl_area.specs.Places.{blocks_of, blocks_part, needs_again, read_once}
+use Rattle.sl_area.specs.Pairs.{blocks_of, needs_again, read_once}
+use Rattle.sl_area.specs.AreaLayout.{blocks_part}
 use Rattle.sl_trace.specs.Leases.{block_submitted, first_kept, freed, is_second, last_blocks, leader_of_record, own_or_read}
 use Rattle.sl_headline.proofs.Quiet.Course.QuietDecisions.{first_of, quiet_decisions}
 use Rattle.sl_headline.specs.Quiet.Course.CourseOfCalls.{Begins, BlockCall, CourseDecisions, LeaderCall, ReadCall, Same, ShowsOwn, known_with, second_block}

@@ -1,7 +1,9 @@
 -- The decisions.
-use Rattle.sl_area.specs.Places.{BlocksRead, blocks_of, blocks_part, leader_read, needs_again, read_once}
+use Rattle.sl_area.specs.Pairs.{BlocksRead, blocks_of, needs_again, read_once}
+use Rattle.sl_area.specs.TornLeader.{leader_read}
+use Rattle.sl_area.specs.AreaLayout.{blocks_part}
 use Rattle.sl_trace.specs.Ballots.{in_instance, instance_of, moded_block, next_mbal, owner_of, phase1_block, phase2_block, proposing, same_owner, stop_of, value_of, value_to_write}
-use Rattle.sl_trace.specs.LeaseWork.{LeasePlace, after_bytes, after_phase1, after_phase2, after_read, area_next, begin_next, begin_or_refuse, leader_for, first_step, lease_next, lost_next, part_read, read_of_step, won_next, named_area_next, phase1_next, phase2_next, refuses, unstopped_next, whole_area_next}
+use Rattle.sl_trace.specs.LeaseDecisions.{LeasePlace, after_bytes, after_phase1, after_phase2, after_read, area_next, begin_next, begin_or_refuse, leader_for, first_step, lease_next, lost_next, part_read, read_of_step, won_next, named_area_next, phase1_next, phase2_next, refuses, unstopped_next, whole_area_next}
 use Rattle.sl_trace.specs.Leases.{LeaseKnown, instance_for, is_leader_of, is_over_owner, is_shared_by_other, mode_gen_of, own_known, shared_elsewhere, top_lver}
 use Rattle.sl_trace.specs.declared.lease.Aim.TheVariants.{Acquires}
 use Rattle.sl_trace.specs.declared.lease.Aim.{Aim}

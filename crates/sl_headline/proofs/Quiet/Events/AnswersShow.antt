@@ -25,14 +25,16 @@ use Rattle.sl_run_law.specs.Sample.Samples.{sector_place}
 use Rattle.sl_run_law.proofs.Landing.CallLists.{one_call}
 use Rattle.sl_run_law.proofs.Landing.LandingLaws.{landings_are_written}
 use Rattle.sl_run_law.proofs.Place.Areas.{is_within}
-use Rattle.sl_area.specs.Places.{area_sectors, block_offset, block_sectors, blocks_part, in_area, later_pair, leader_of, needs_again, pair_read, sector_of}
+use Rattle.sl_area.specs.AreaLayout.{area_sectors, block_offset, block_sectors, blocks_part, in_area, leader_of, sector_of}
+use Rattle.sl_area.specs.Pairs.{later_pair, needs_again, pair_read}
 use Rattle.sl_run_law.proofs.Sample.SampleLaws.{done_reads_are_whole}
 use Rattle.std.proofs.lemmas.Bool.{cases_lt, eq-eqb, eqb-true}
 use Rattle.sl_headline.specs.Quiet.Reads.ReadsShowArea.{GivesBlocks, ReadStands, blocks_there}
-use Rattle.sl_area.specs.Layouts.{Layout, Sizes}
+use Rattle.sl_area.specs.AreaSizes.{Layout, Sizes}
 use Rattle.sl_run_law.proofs.Place.Sizes.{IsSized, sector_has_bytes, slot_below}
 use Rattle.sl_trace.specs.declared.effects.Call.{Call}
-use Rattle.sl_run.specs.Events.{with_entry, sectors_of}
+use Rattle.sl_run.specs.EventChanges.{with_entry}
+use Rattle.sl_run.specs.Refusals.{sectors_of}
 use Rattle.sl_due_law.proofs.LawfulTraces.TracesHold.{traces_hold}
 use Rattle.sl_headline.proofs.Quiet.Events.HeardFacts.{told_is, mine_heard, same_then}
 use Rattle.sl_headline.proofs.Quiet.Events.CourseLeads.{told_at}
@@ -57,7 +59,7 @@ use Rattle.sl_trace.specs.Traces.{Setting, Submitted, Trace, answer_of, answered
 use Rattle.sl_run.specs.declared.header.ResourceLine.{ResourceLine}
 use Rattle.sl_sector.specs.declared.sector.Rec.{Rec}
 use Rattle.sl_trace.specs.declared.effects.Op.TheVariants.{ReadSectors, WriteRecord}
-use Rattle.sl_trace.specs.LeaseWork.{LeasePlace}
+use Rattle.sl_trace.specs.LeaseDecisions.{LeasePlace}
 use Rattle.sl_run.specs.Safety.{LawfulRun, block_there, pair_there, world_at}
 use Rattle.sl_run.specs.Lawful.{IsSetting}
 use Rattle.sl_run_law.specs.Course.Mirrors.{IsOfWorld}

@@ -2,26 +2,27 @@
 use Rattle.std.specs.List.{range_with_len}
 use Rattle.sl_headline.specs.Quiet.Reads.ReadsShowArea.{blocks_there}
 use Rattle.sl_headline.proofs.Quiet.Reads.ReadsShowArea.{same_on}
-use Rattle.sl_area.specs.Layouts.{Layout}
-use Rattle.sl_area.specs.Places.{block_offset, in_area, later_pair, pair_offset}
+use Rattle.sl_area.specs.AreaSizes.{Layout}
+use Rattle.sl_area.specs.AreaLayout.{block_offset, in_area, pair_offset}
+use Rattle.sl_area.specs.Pairs.{later_pair}
 use Rattle.sl_run_law.proofs.Sessions.SessionNames.{same_name}
 use Rattle.sl_safety.specs.Resources.HistoryLaws.{spot_of_line}
-use Rattle.sl_trace.specs.LeaseWork.{LeasePlace}
+use Rattle.sl_trace.specs.LeaseDecisions.{LeasePlace}
 use Rattle.sl_trace.specs.Leases.{is_on, spot_of}
 use Rattle.sl_words.proofs.Lists.{contains_cases, find_inside}
 use Rattle.sl_headline.proofs.Quiet.Events.Places.{Misses, leader_within, misses_pair, misses_single, pair_within, reads_on, single_within, turned}
 use Rattle.sl_headline.proofs.Quiet.Reads.SameBytes.{SameBytes, same_block, same_leader, same_pair}
-use Rattle.sl_sector.specs.Spelling.{is_first_turn}
+use Rattle.sl_sector.specs.SectorLayouts.{is_first_turn}
 use Rattle.sl_headline.proofs.Quiet.Events.Calls.{CallThere, call_there}
 use Rattle.sl_headline.proofs.Quiet.Area.CalmGoesOn.{calm_goes_on, one_write_in_flight}
 use Rattle.sl_headline.specs.Quiet.Events.CarriedStages.{Asked, Frees_leader, OwnPairAt, PairStands, Reads_area, Reads_first, Reads_second, SectorStands, Sets_mode, Stage, Takes_leader, Writes_first, Writes_second, op_at, own_at, turn_at}
 use Rattle.sl_headline.specs.Quiet.Area.CalmAreas.{IsCalm}
 use Rattle.sl_run.specs.Quiet.{leader_there}
-use Rattle.sl_run.specs.Safety.{block_there, pair_there}
-use Rattle.sl_run.specs.Worlds.{content, initial_bytes, is_write_course}
+use Rattle.sl_run.specs.Safety.{block_there, pair_there, LawfulRun, world_at}
+use Rattle.sl_run.specs.Worlds.{content, initial_bytes, is_write_course, Course, Landing, World, is_open, world_with}
 use Rattle.sl_run_law.proofs.Course.CallsAreDistinct.{running_has}
 use Rattle.sl_run_law.proofs.Course.DaemonsOfWorld.{daemons_are_of_world, last_goes}
-use Rattle.sl_run_law.proofs.Front.RunsFromFronts.{fronts_are_lawful}
+use Rattle.sl_run_law.proofs.Front.RunsFromFronts.{fronts_are_lawful, one_step, run_after, run_rest}
 use Rattle.sl_run_law.proofs.Place.FoundInLists.{place_is}
 use Rattle.sl_run_law.proofs.Place.Seats.{sized_in}
 use Rattle.sl_run_law.proofs.Place.Sizes.{IsSized}
@@ -31,12 +32,10 @@ use Rattle.sl_trace.specs.declared.effects.Call.{Call}
 use Rattle.sl_trace.specs.declared.effects.Spot.{Spot}
 use Rattle.sl_words.proofs.CaseLaws.{none_some}
 use Rattle.sl_headline.specs.Quiet.Events.AreaGoesOn.{AreaGoesOn, LandingsGoOn, LandsNow}
-use Rattle.sl_run.specs.Events.{first_change, happens, input_of, machine_of, next_step}
+use Rattle.sl_run.specs.EventChanges.{first_change, happens, next_step}
+use Rattle.sl_run.specs.Inputs.{input_of, machine_of}
 use Rattle.sl_run.specs.Runs.{IsRun}
-use Rattle.sl_run.specs.Safety.{LawfulRun, world_at}
-use Rattle.sl_run.specs.Worlds.{Course, Landing, World, is_open, world_with}
 use Rattle.sl_run.specs.declared.header.Header.{Header}
-use Rattle.sl_run_law.proofs.Front.RunsFromFronts.{one_step, run_after, run_rest}
 use Rattle.sl_run_law.proofs.Landing.OneArrival.{Arrival, first_lands}
 use Rattle.sl_run_law.proofs.Landing.OneEvent.{step_landings}
 use Rattle.sl_run_law.specs.Front.LawfulFronts.{HasOneStep}

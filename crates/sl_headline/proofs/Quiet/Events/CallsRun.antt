@@ -5,13 +5,13 @@ use Rattle.sl_due_facts.proofs.Acts.StepsKeep.{Fixed, due_is_of, step_keeps}
 use Rattle.sl_due_facts.proofs.Acts.TracesKeep.{due_is_seen}
 use Rattle.sl_due_facts.specs.Acts.Acts.{Acts, next_of_conversion, next_of_release, next_of_settling}
 use Rattle.sl_due_facts.specs.Acts.TraceSoFar.{entry_of}
-use Rattle.sl_area.specs.Places.{delta_offset, request_offset}
+use Rattle.sl_area.specs.AreaLayout.{delta_offset, request_offset}
 use Rattle.sl_due.specs.Due.{IsHostTrace, due_step}
 use Rattle.sl_due.specs.DueAnswers.{set_reply}
 use Rattle.sl_due.specs.DueCommands.{carry_decision}
-use Rattle.sl_due.specs.DueFirst.{begin_recoveries}
+use Rattle.sl_due.specs.DueRecovery.{begin_recoveries}
 use Rattle.sl_due.specs.DueInputs.{end_holdings, leave_holdings, started_reply}
-use Rattle.sl_due.specs.DueLease.{goes_on, next_of_lease}
+use Rattle.sl_due.specs.CarriedLease.{goes_on, next_of_lease}
 use Rattle.sl_due.specs.DueRequests.{after_value_read, bits_due, owner_read, value_reply}
 use Rattle.sl_due.specs.Steps.{Step, add_end, add_reply, begin_step, seen, with_input}
 use Rattle.sl_due.specs.declared.decision.Decision.TheVariants.{ConvertsTo, GetsValue, GivesUp, Joins, Leaves, ReadsArea, Replies, Requests, SetsValue, Shares, TakesOver}
@@ -32,7 +32,7 @@ use Rattle.sl_trace.specs.declared.lease.LeaseNext.TheVariants.{AnswerJob, Becom
 use Rattle.sl_trace.specs.declared.lease.LeaseNext.{LeaseNext}
 use Rattle.sl_words.proofs.Lists.{contains_none, head_is}
 use Rattle.sl_words.proofs.Options.{some_of}
-use Rattle.sl_trace.specs.Deltas.{delta_known, delta_of_session, next_after_free, next_after_renewal, next_free, next_in_joining, next_on_wake, next_renewal}
+use Rattle.sl_trace.specs.DeltaDecisions.{delta_known, delta_of_session, next_after_free, next_after_renewal, next_free, next_in_joining, next_on_wake, next_renewal}
 use Rattle.sl_trace.specs.Sessions.{calls_of, generation_of, recovery_of}
 use Rattle.sl_trace.specs.declared.delta.DeltaNext.TheVariants.{Disconnect, EndLeaving, Join, MoveConnection, Nothing, ReadOwn, RefuseJoin, RegisterAndRead, WriteClaim, WriteFirst, WriteFree, WriteRenewal}
 use Rattle.sl_trace.specs.declared.delta.DeltaNext.{DeltaNext}

@@ -1,12 +1,12 @@
 -- From an answer a quiet acquire comes to its next stage.
-use Rattle.sl_trace.specs.LeaseWork.{LeasePlace}
-use Rattle.sl_run.specs.Events.{with_entry}
+use Rattle.sl_trace.specs.LeaseDecisions.{LeasePlace}
+use Rattle.sl_run.specs.EventChanges.{with_entry}
 use Rattle.sl_headline.proofs.Quiet.Events.HeardFacts.{told_is}
 use Rattle.sl_trace.specs.Leases.{is_leader_of, leader_given, name_sought, spot_of, verified_by}
 use Rattle.sl_sector.proofs.PublicLaws.{spelled_is_read}
 use Rattle.std.proofs.lemmas.Option.{slice_get_within}
 use Rattle.sl_safety.proofs.GivenReads.ShownAtPlace.{plain_place}
-use Rattle.sl_ballots.proofs.Pairs.StepLaws.{alternate}
+use Rattle.sl_ballot_law.proofs.Pairs.StepLaws.{alternate}
 use Rattle.sl_headline.proofs.Quiet.Events.TurnAfterCall.{turn_after}
 use Rattle.sl_run_law.proofs.Place.MadeLeaders.{later_is, pair_in_is}
 use Rattle.sl_run_law.proofs.Place.Seats.{sized_in}
@@ -16,7 +16,7 @@ use Rattle.sl_trace.specs.declared.effects.Spot.{Spot}
 use Rattle.sl_words.proofs.WordLaws.{and_true, choose_some, same_truth_is}
 use Rattle.sl_run_law.proofs.Place.Sizes.{sector_fits}
 use Rattle.sl_run_law.proofs.Sessions.SessionNames.{same_name}
-use Rattle.sl_area.specs.Layouts.{record_in, sector_with, Layout}
+use Rattle.sl_area.specs.AreaSizes.{record_in, sector_with, Layout}
 use Rattle.sl_run_law.proofs.Front.JoinedLists.{placed_at}
 use Rattle.sl_run_law.proofs.Place.FoundInLists.{partner_of, place_is}
 use Rattle.sl_run_law.proofs.Landing.CallLists.{one_call}
@@ -28,8 +28,10 @@ use Rattle.sl_run_law.proofs.Course.CallsAreDistinct.{each_distinct, running_has
 use Rattle.sl_run_law.proofs.Course.CoursesAreCalls.{courses_are_calls}
 use Rattle.sl_words.proofs.Lists.{contains_cases, contains_first, contains_map, contains_more, contains_none, kept_inside}
 use Rattle.std.proofs.lemmas.Bool.{cases_lt, eq-eqb}
-use Rattle.sl_area.specs.Places.{block_offset, block_place, block_record, blocks_part, in_area, later_pair, leader_of, needs_again, pair_offset}
-use Rattle.sl_sector.specs.Spelling.{block_in, is_first_turn, pair_in}
+use Rattle.sl_area.specs.AreaLayout.{block_offset, block_place, blocks_part, in_area, leader_of, pair_offset}
+use Rattle.sl_area.specs.AreaRecords.{block_record}
+use Rattle.sl_area.specs.Pairs.{later_pair, needs_again}
+use Rattle.sl_sector.specs.SectorLayouts.{block_in, is_first_turn, pair_in}
 use Rattle.std.proofs.Common.{ap, ap₂, arith, inl, inr, le-ltb, lt-ltb, refl, subst, sym, ◌∙◌}
 use Rattle.sl_trace.specs.declared.effects.Op.TheVariants.{WriteRecord}
 use Rattle.sl_trace.specs.Traces.{Setting, Submitted, Trace, answer_of, answered_in, bytes_given, is_write, record_of, same_place, submitted, gave}

@@ -3,8 +3,9 @@ use Rattle.sl_words.proofs.CaseLaws.{none_some, some_value, true_is_false}
 use Rattle.sl_due_facts.proofs.Acts.Pairs.Decisions.{within_cases, within_same, writes_own_block}
 use Rattle.sl_due_facts.proofs.Acts.Pairs.GivenByReads.{again_at}
 use Rattle.sl_due_facts.proofs.Acts.Pairs.Records.{block_lver, leader_lver, read_no_block, written_block, written_no_block}
-use Rattle.sl_area.specs.Layouts.{Layout}
-use Rattle.sl_area.specs.Places.{area_sectors, block_sectors, leader_record}
+use Rattle.sl_area.specs.AreaSizes.{Layout}
+use Rattle.sl_area.specs.AreaLayout.{area_sectors, block_sectors}
+use Rattle.sl_area.specs.AreaRecords.{leader_record}
 use Rattle.sl_due_leases.proofs.Ways.GivenReads.{kept_once}
 use Rattle.sl_headline.proofs.Quiet.Events.DecisionsAreCarriedOut.{NotFirst, unnamed}
 use Rattle.sl_headline.proofs.Quiet.Events.CourseLeads.{name_more, told_gives}
@@ -29,7 +30,7 @@ use Rattle.sl_trace.specs.declared.effects.Op.TheVariants.{ReadSectors, WriteRec
 use Rattle.sl_trace.specs.declared.effects.LeaseStep.TheVariants.{ReadArea, FreeLeader, Phase1Read, Phase2Read, TakeLeader}
 use Rattle.sl_trace.specs.declared.input.Answer.TheVariants.{Read, Written}
 use Rattle.std.specs.Prelude.{List, None, Option, Some, false, map, true, ◌<◌, ◌++◌, ◌+◌, ◌≡◌, ◌∷◌, [], ℕ, Bool, ◌⊎◌}
-use Rattle.sl_trace.specs.LeaseWork.{LeasePlace, lease_next, lease_place, leader_for, within_turn}
+use Rattle.sl_trace.specs.LeaseDecisions.{LeasePlace, lease_next, lease_place, leader_for, within_turn}
 use Rattle.sl_sector.specs.declared.sector.Leader.{Leader}
 use Rattle.sl_run.specs.Lawful.{IsSetting}
 use Rattle.sl_due.specs.Due.{IsHostTrace}

@@ -14,7 +14,9 @@ use Rattle.sl_headline.specs.Quiet.Events.CarriedStages.{AreaOnCourse, OnCourse}
 use Rattle.sl_headline.specs.Quiet.Events.DaemonsRunOn.{Rests, RunsAfter, RunsOn, Takes}
 use Rattle.sl_headline.specs.Quiet.Events.AreaGoesOn.{CourseGoesOn, IsHeard, IsWellMade}
 use Rattle.sl_headline.specs.Quiet.Area.CalmAreas.{LeavesCalm}
-use Rattle.sl_run.specs.Events.{done_input, if_running, input_at, input_of, machine_of, ok_input, rest_sampled, sectors_left, with_entry}
+use Rattle.sl_run.specs.Inputs.{done_input, if_running, input_at, input_of, machine_of, ok_input, rest_sampled}
+use Rattle.sl_run.specs.Refusals.{sectors_left}
+use Rattle.sl_run.specs.EventChanges.{with_entry}
 use Rattle.sl_run.specs.Quiet.{AnsweredInTime}
 use Rattle.sl_run.specs.Runs.{EachDaemon}
 use Rattle.sl_run.specs.Safety.{world_at}

@@ -1,11 +1,11 @@
 -- The last answer of a quiet acquire grants it.
 use Rattle.sl_run.specs.Safety.{world_at}
-use Rattle.sl_run.specs.Events.{with_entry}
-use Rattle.sl_headline.specs.Quiet.Events.CourseLeads.{mode_of}
+use Rattle.sl_run.specs.EventChanges.{with_entry}
+use Rattle.sl_headline.specs.Quiet.Events.CourseLeads.{mode_of, GrantsNow, Hears, ShowsAt, decided_then}
 use Rattle.sl_words.specs.Words.{first_of_list}
 use Rattle.sl_words.proofs.Lists.{find_fails, kept}
 use Rattle.sl_words.proofs.CaseLaws.{false_is_true, none_some, some_value, true_is_false}
-use Rattle.sl_run.specs.Quiet.{calls_needed, job_calls}
+use Rattle.sl_run.specs.Quiet.{calls_needed, job_calls, GrantsQuietly}
 use Rattle.std.proofs.Common.{ap, arith, refl, subst, sym, ◌∙◌}
 use Rattle.sl_run.specs.Worlds.{World, reading_now}
 use Rattle.sl_trace.specs.declared.reply.Reply.{Reply}
@@ -24,8 +24,6 @@ use Rattle.sl_headline.proofs.Quiet.Events.Calls.{call_there, of_the_job, CallTh
 use Rattle.sl_due_law.proofs.Causes.CauseFactsHold.{entry_new}
 use Rattle.sl_due_facts.proofs.Jobs.JobsAreNumbered.{command_stays}
 use Rattle.sl_trace.specs.declared.command.Command.TheVariants.{Acquire}
-use Rattle.sl_headline.specs.Quiet.Events.CourseLeads.{GrantsNow, Hears, ShowsAt, decided_then}
-use Rattle.sl_run.specs.Quiet.{GrantsQuietly}
 use Rattle.sl_headline.specs.Quiet.Events.AnswersShow.{CourseIsGranted, CourseIsQuiet, IsGrantedThere, heard_entry}
 
 -- ---- how many calls

@@ -26,16 +26,16 @@ use Rattle.sl_due_facts.specs.Jobs.Acquires.{AcquireFacts}
 use Rattle.sl_trace.specs.declared.command.Command.TheVariants.{Acquire}
 use Rattle.sl_trace.specs.declared.input.Input.TheVariants.{Answer as Told}
 use Rattle.sl_words.specs.Words.{some_is}
-use Rattle.sl_trace.specs.LeaseWork.{LeasePlace}
+use Rattle.sl_trace.specs.LeaseDecisions.{LeasePlace}
 use Rattle.sl_trace.specs.Leases.{LeaseKnown, base_turn, is_lease_call, is_on, known, lease_calls, lease_step, spot_of, verified_by, verified_name}
 use Rattle.sl_due_law.proofs.DueIsLawful.{due_is_lawful}
 use Rattle.sl_words.proofs.Lists.{contains_first, filter_both, kept_inside, contains_map}
-use Rattle.sl_due.specs.DueLease.{carry_lease, grant_for, grant_of, grant_process}
-use Rattle.sl_area.specs.Places.{in_area}
+use Rattle.sl_due.specs.CarriedLease.{carry_lease, grant_for, grant_of, grant_process}
+use Rattle.sl_area.specs.AreaLayout.{in_area}
 use Rattle.sl_headline.proofs.Quiet.Step.BeforeInput.{bare_heard}
 use Rattle.sl_due.specs.Steps.{Step, seen, with_some}
 use Rattle.sl_trace.specs.declared.session.Session.{Session}
-use Rattle.sl_area.specs.Layouts.{Layout, Sizes}
+use Rattle.sl_area.specs.AreaSizes.{Layout, Sizes}
 use Rattle.sl_headline.proofs.Quiet.Events.CallsInTime.{joined_there}
 use Rattle.sl_trace.specs.declared.effects.JobReply.{JobReply}
 use Rattle.sl_trace.specs.Traces.{Replied, Setting, Submitted, Trace, bytes_given, new_call, reply_to, gave, Answered, answer_of, answered_in, is_answered_ok, is_of_job, is_ok_answer, job_of, mark, reply_in, submitted, is_shared}

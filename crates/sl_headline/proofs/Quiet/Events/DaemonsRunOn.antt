@@ -1,7 +1,8 @@
 -- A daemon runs on, with one more entry where an event gives it an input.
 use Rattle.sl_words.proofs.Lists.{contains_first}
 use Rattle.sl_headline.specs.Quiet.Events.DaemonsRunOn.{DaemonsRunOn, Rests, RunsAfter, Takes}
-use Rattle.sl_run.specs.Events.{after_step, first_change, happens, input_of, machine_of, next_step, take_step, with_entry}
+use Rattle.sl_run.specs.EventChanges.{after_step, first_change, happens, next_step, take_step, with_entry}
+use Rattle.sl_run.specs.Inputs.{input_of, machine_of}
 use Rattle.sl_run.specs.Runs.{Happening, IsRun}
 use Rattle.sl_run.specs.Safety.{world_at}
 use Rattle.sl_run.specs.Worlds.{Daemon, Machine, Stamp, World, machine_at, reading_now, stamp_now, world_with}

@@ -7,8 +7,9 @@ use Rattle.sl_trace.specs.Leases.{is_leader_of, leader_given, lease_step, name_s
 use Rattle.sl_words.proofs.CaseLaws.{false_is_true, none_some, one_value, some_value, true_is_false}
 use Rattle.sl_due_law.proofs.DueIsLawful.{due_is_lawful}
 use Rattle.sl_words.proofs.Lists.{contains_cases, contains_none, find_inside, head_is, tail_is, contains_first, contains_more}
-use Rattle.sl_due.specs.DueLease.{carry_lease, name_on, next_of_lease, next_turn, read_blocks, write_block, write_leader}
-use Rattle.sl_area.specs.Places.{block_offset, block_place, block_record, block_sectors, leader_offset, leader_record, pair_offset}
+use Rattle.sl_due.specs.CarriedLease.{carry_lease, name_on, next_of_lease, next_turn, read_blocks, write_block, write_leader}
+use Rattle.sl_area.specs.AreaLayout.{block_offset, block_place, block_sectors, leader_offset, pair_offset}
+use Rattle.sl_area.specs.AreaRecords.{block_record, leader_record}
 use Rattle.sl_headline.proofs.Quiet.Step.BeforeInput.{bare_heard}
 use Rattle.sl_headline.proofs.Quiet.Step.AnswersLeadOn.{answers_lead_on}
 use Rattle.sl_due.specs.Steps.{Step, seen}
@@ -18,7 +19,7 @@ use Rattle.sl_trace.specs.declared.effects.Purpose.{Purpose}
 use Rattle.sl_trace.specs.declared.effects.Op.{Op}
 use Rattle.sl_trace.specs.declared.effects.LeaseStep.{LeaseStep}
 use Rattle.sl_trace.specs.declared.effects.Purpose.TheVariants.{Lease}
-use Rattle.sl_area.specs.Layouts.{Layout}
+use Rattle.sl_area.specs.AreaSizes.{Layout}
 use Rattle.sl_headline.proofs.Quiet.Events.CallsInTime.{JobThere, job_there}
 use Rattle.sl_trace.specs.declared.effects.JobReply.{JobReply}
 use Rattle.sl_trace.specs.Traces.{Job, Replied, Setting, Submitted, Trace, is_before_input, is_running, job_numbered, new_call, next_call, reply_to}
@@ -33,7 +34,7 @@ use Rattle.sl_headline.specs.Quiet.Step.AnswersLeadOn.{DoesAs, IsBare, heard, le
 use Rattle.sl_run.specs.Caused.{CausedBy, IsCaused}
 use Rattle.sl_trace.specs.declared.effects.Call.{Call}
 use Rattle.std.specs.Prelude.{Bool, Contains, List, None, Option, Some, [], cond, false, filter, find, fold, is_none, is_some, length, option_map, true, ℕ, ◌&&◌, ◌++◌, ◌+◌, ◌==◌, ◌∷◌, ◌≡◌, ◌⊎◌}
-use Rattle.sl_sector.specs.Spelling.{is_first_turn}
+use Rattle.sl_sector.specs.SectorLayouts.{is_first_turn}
 use Rattle.sl_sector.specs.declared.sector.Block.{Block}
 use Rattle.sl_sector.specs.declared.sector.Rec.TheVariants.{BlockIs, PairIs}
 use Rattle.sl_sector.specs.declared.sector.Rec.{Rec}

@@ -14,7 +14,7 @@ use Rattle.sl_headline.proofs.Quiet.Start.FewerCounts.{all_pass}
 use Rattle.sl_headline.proofs.Quiet.Leases.CallsStay.{left_alone, none_new, same_call}
 use Rattle.sl_headline.specs.Quiet.Events.AnswersShow.{GrantsStay, IsGrantedThere}
 use Rattle.sl_headline.specs.Quiet.Events.DaemonsRunOn.{Rests, RunsAfter, RunsOn, Takes}
-use Rattle.sl_run.specs.Events.{with_entry}
+use Rattle.sl_run.specs.EventChanges.{with_entry}
 use Rattle.sl_run.specs.Quiet.{job_calls}
 use Rattle.sl_run.specs.Safety.{world_at}
 use Rattle.sl_run.specs.Worlds.{Daemon, Stamp, World, reading_now}

@@ -1,7 +1,7 @@
 -- What an acquire's step finds when the answer of its call is seen.
 use Rattle.sl_due_facts.specs.Facts.WorkFacts.{IsAtWork}
 use Rattle.sl_trace.specs.declared.command.Command.TheVariants.{Acquire}
-use Rattle.sl_trace.specs.Connections.{unregisters}
+use Rattle.sl_trace.specs.WatchdogConnections.{unregisters}
 use Rattle.sl_due_law.specs.Causes.LineCauses.{IsBeforeInput}
 use Rattle.sl_trace.specs.declared.lease.Aim.TheVariants.{Acquires}
 use Rattle.sl_trace.specs.declared.effects.Mode.TheVariants.{Shared, Exclusive}
@@ -21,7 +21,7 @@ use Rattle.sl_due_facts.proofs.Jobs.SessionsArePresent.{joined_present}
 use Rattle.sl_due_law.proofs.LawfulTraces.TracesHold.{traces_hold}
 use Rattle.sl_run.specs.Lawful.{IsSetting}
 use Rattle.sl_trace.specs.Jobs.{aim_of, command_numbered, command_of, aim_of_command}
-use Rattle.sl_trace.specs.LeaseWork.{lease_place, LeasePlace}
+use Rattle.sl_trace.specs.LeaseDecisions.{lease_place, LeasePlace}
 use Rattle.sl_trace.specs.Leases.{holdings_on, is_lease_call, is_on, known, known_of, lease_calls, spot_of, spot_of_call, lease_step, LeaseKnown}
 use Rattle.sl_words.proofs.Lists.{contains_first, contains_more, kept_inside, got_inside}
 use Rattle.sl_headline.proofs.Quiet.Events.Calls.{CallThere, call_there}

@@ -1,6 +1,6 @@
 -- Along quiet events an acquire on its course stays on it until it is granted.
 use Rattle.sl_headline.specs.Quiet.Events.AnswersShow.{IsGrantedThere}
-use Rattle.sl_run.specs.Events.{happens}
+use Rattle.sl_run.specs.EventChanges.{happens}
 use Rattle.std.proofs.Common.{ap, inl, inr, refl, subst, sym}
 use Rattle.sl_run.specs.Quiet.{StaysQuiet, QuietStep}
 use Rattle.sl_run.specs.Worlds.{Program, world_with}

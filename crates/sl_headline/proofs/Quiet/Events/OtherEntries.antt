@@ -1,5 +1,6 @@
 -- An entry that doesn't concern the acquire's call leaves it on its course.
-use Rattle.sl_due.specs.Due.{IsHostTrace, NoIdleJob}
+use Rattle.sl_due.specs.Due.{IsHostTrace}
+use Rattle.sl_due.specs.IdleJobs.{NoIdleJob}
 use Rattle.sl_due_law.proofs.Causes.NamesBefore.{session_then}
 use Rattle.sl_due_facts.proofs.Jobs.JobsAreNumbered.{command_read, command_stays, numbered_stays}
 use Rattle.sl_due_law.proofs.LawfulTraces.AcquiresKeep.{acquires_keep_to_theirs}

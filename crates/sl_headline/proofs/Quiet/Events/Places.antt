@@ -1,9 +1,9 @@
 -- Where the calls of the course are: inside the area, and what they write is no other host's block, nor the own block that stands.
-use Rattle.sl_area.specs.Layouts.{Layout, Sizes}
-use Rattle.sl_area.specs.Places.{block_offset, block_place, block_sectors, in_area, pair_offset}
+use Rattle.sl_area.specs.AreaSizes.{Layout, Sizes}
+use Rattle.sl_area.specs.AreaLayout.{block_offset, block_place, block_sectors, in_area, pair_offset}
 use Rattle.sl_safety.proofs.GivenReads.ShownAtPlace.{plain_place}
 use Rattle.sl_safety.proofs.Pairs.Places.{area_number, below_number, blocks_number, pair_place, same_sides}
-use Rattle.sl_ballots.proofs.Pairs.StepLaws.{alternate}
+use Rattle.sl_ballot_law.proofs.Pairs.StepLaws.{alternate}
 use Rattle.sl_words.proofs.Numbers.{at_least_first, refl_le}
 use Rattle.sl_headline.specs.Quiet.Events.CarriedStages.{Asked, Frees_leader, IsCallAt, Reads_area, Reads_first, Reads_second, Sets_mode, Stage, Takes_leader, Writes_first, Writes_second, block_at, offset_at, op_at, turn_at}
 use Rattle.sl_run_law.proofs.Place.Areas.{is_within}
@@ -11,7 +11,7 @@ use Rattle.sl_run_law.proofs.Place.Blocks.{blocks_within}
 use Rattle.sl_run_law.proofs.Place.Checks.{behind, same_block}
 use Rattle.sl_run_law.proofs.Place.MadeLeaders.{sectors_of_pairs}
 use Rattle.sl_run_law.proofs.Place.Sizes.{IsSized, area_has_bytes, one_slot, sector_has_bytes, slot_below}
-use Rattle.sl_sector.specs.Spelling.{is_first_turn}
+use Rattle.sl_sector.specs.SectorLayouts.{is_first_turn}
 use Rattle.sl_trace.specs.Traces.{Submitted, is_write}
 use Rattle.sl_words.proofs.CaseLaws.{true_is_false}
 use Rattle.std.proofs.Common.{ap, arith, inl, inr, refl, subst, sym, ◌∙◌}

@@ -1,15 +1,16 @@
 -- The turn of the own block that a lease has been shown, from call to call of a quiet acquire.
 use Rattle.sl_due_facts.proofs.Acts.Pairs.GivenByReads.{bytes_at}
 use Rattle.sl_due_facts.proofs.Acts.Pairs.Records.{read_no_turn, written_no_turn, written_turn}
-use Rattle.sl_area.specs.Layouts.{Layout}
-use Rattle.sl_area.specs.Places.{blocks_part, pair_read}
+use Rattle.sl_area.specs.AreaSizes.{Layout}
+use Rattle.sl_area.specs.AreaLayout.{blocks_part}
+use Rattle.sl_area.specs.Pairs.{pair_read}
 use Rattle.sl_headline.proofs.Quiet.Events.DecisionsAreCarriedOut.{NotFirst}
 use Rattle.sl_headline.proofs.Quiet.Events.CourseLeads.{told_at, told_gives, told_ok}
 use Rattle.sl_headline.specs.Quiet.Events.CarriedStages.{Asked, DaemonOnCourse, Frees_leader, IsAskedOf, IsCallAt, Reads_area, Reads_first, Reads_second, Sets_mode, Stage, Takes_leader, Writes_first, Writes_second, block_op, first_of_asked, leader_of_asked, op_at, second_of_asked, stage_next, step_at, third_of_asked, turn_at}
 use Rattle.sl_headline.specs.Quiet.Events.CourseLeads.{ShowsAt, ShowsBlocks}
 use Rattle.sl_sector.specs.declared.sector.Block.{Block}
 use Rattle.sl_sector.specs.declared.sector.PairBlock.{PairBlock}
-use Rattle.sl_trace.specs.LeaseWork.{LeasePlace, first_step, part_read, read_of_step}
+use Rattle.sl_trace.specs.LeaseDecisions.{LeasePlace, first_step, part_read, read_of_step}
 use Rattle.sl_trace.specs.Leases.{base_turn, blocks_bytes, is_area_read, is_block_read, turn_written}
 use Rattle.sl_trace.specs.Traces.{Setting, Submitted, Trace, answered_in, bytes_given, gave, is_answered_ok, is_ok_answer}
 use Rattle.sl_trace.specs.declared.effects.Entry.{Entry}

@@ -1,5 +1,5 @@
 -- A lease's calls stay while one of them is unanswered.
-use Rattle.sl_area.specs.Layouts.{Layout}
+use Rattle.sl_area.specs.AreaSizes.{Layout}
 use Rattle.sl_run.specs.Lawful.{Lawful}
 use Rattle.sl_run.specs.LawfulArea.{IsLeaseRead, IsRightRead, LawfulLeaseRead, is_area_work, is_block_work, open_block_work}
 use Rattle.sl_run.specs.LawForms.{cut_at}

@@ -1,5 +1,5 @@
 -- A sample of a place where nothing landed after the read was made is of the newest landing.
-use Rattle.sl_area.specs.Places.{sector_of}
+use Rattle.sl_area.specs.AreaLayout.{sector_of}
 use Rattle.sl_words.proofs.Lists.{contains_first, there_is}
 use Rattle.sl_words.proofs.Numbers.{both_next}
 use Rattle.sl_headline.specs.Quiet.Reads.ReadsShowArea.{ReadsGiveWhatStands, StandsSince}

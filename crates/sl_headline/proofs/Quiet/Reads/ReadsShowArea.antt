@@ -1,6 +1,7 @@
 -- A read of an area shows what stands there.
-use Rattle.sl_area.specs.Layouts.{Layout, record_in}
-use Rattle.sl_area.specs.Places.{area_sectors, block_offset, block_sectors, blocks_in, blocks_of, blocks_part, later_pair, leader_of, leader_spelled, pair_back, pair_front, pair_merged, pairs_of, read_at, read_once, sector_of}
+use Rattle.sl_area.specs.AreaSizes.{Layout, record_in}
+use Rattle.sl_area.specs.AreaLayout.{area_sectors, block_offset, block_sectors, blocks_in, blocks_part, leader_of, leader_spelled, read_at, sector_of}
+use Rattle.sl_area.specs.Pairs.{blocks_of, later_pair, pair_back, pair_front, pair_merged, pairs_of, read_once}
 use Rattle.sl_headline.proofs.Quiet.Reads.NewestIsRead.{reads_give_what_stands}
 use Rattle.sl_headline.specs.Quiet.Reads.ReadsShowArea.{GivesBlocks, ReadStands, ReadsShowTheArea, blocks_there}
 use Rattle.sl_run.specs.Quiet.{leader_there}
@@ -9,7 +10,7 @@ use Rattle.sl_run.specs.Safety.{LawfulRun, block_there, pair_there, world_at}
 use Rattle.sl_run.specs.Worlds.{Course, Machine, Program, World, content, machine_at}
 use Rattle.sl_run.specs.declared.header.Header.{Header}
 use Rattle.sl_run_law.specs.Sample.Samples.{sector_place}
-use Rattle.sl_sector.specs.Spelling.{block_in, pair_in}
+use Rattle.sl_sector.specs.SectorLayouts.{block_in, pair_in}
 use Rattle.sl_sector.specs.declared.sector.Block.{Block}
 use Rattle.sl_sector.specs.declared.sector.PairBlock.{PairBlock}
 use Rattle.sl_trace.specs.declared.effects.Spot.{Spot}

@@ -1,6 +1,7 @@
 -- What stands of an area's blocks and its leader is by the bytes at their places alone.
-use Rattle.sl_area.specs.Layouts.{Layout, record_in}
-use Rattle.sl_area.specs.Places.{block_offset, later_pair, leader_offset, leader_spelled, pair_offset}
+use Rattle.sl_area.specs.AreaSizes.{Layout, record_in}
+use Rattle.sl_area.specs.AreaLayout.{block_offset, leader_offset, leader_spelled, pair_offset}
+use Rattle.sl_area.specs.Pairs.{later_pair}
 use Rattle.sl_safety.proofs.GivenReads.FirstIsUnwritten.{block_in_is}
 use Rattle.sl_safety.proofs.GivenReads.GivenNames.{pair_names}
 use Rattle.sl_words.proofs.Options.{mapped_value}
@@ -8,7 +9,7 @@ use Rattle.sl_run.specs.Quiet.{leader_there}
 use Rattle.sl_run.specs.Safety.{block_there, pair_there}
 use Rattle.sl_run.specs.Worlds.{World, content}
 use Rattle.sl_run_law.proofs.Place.MadeLeaders.{later_is}
-use Rattle.sl_sector.specs.Spelling.{block_in, pair_in}
+use Rattle.sl_sector.specs.SectorLayouts.{block_in, pair_in}
 use Rattle.sl_sector.specs.declared.sector.Block.{Block}
 use Rattle.sl_sector.specs.declared.sector.PairBlock.{PairBlock}
 use Rattle.sl_trace.specs.declared.effects.Spot.{Spot}

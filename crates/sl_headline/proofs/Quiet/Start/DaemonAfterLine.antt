@@ -1,7 +1,7 @@
 -- The daemon after the line of a quiet acquire: it is at the read of the area.
-use Rattle.sl_area.specs.Places.{area_sectors, in_area}
+use Rattle.sl_area.specs.AreaLayout.{area_sectors, in_area}
 use Rattle.sl_due.specs.Due.{IsHostTrace}
-use Rattle.sl_due.specs.DueLease.{read_area}
+use Rattle.sl_due.specs.CarriedLease.{read_area}
 use Rattle.sl_due.specs.Steps.{Step, seen, with_input}
 use Rattle.sl_due_law.proofs.Causes.HeadsAreEarly.{heads_are_early}
 use Rattle.sl_due_law.proofs.DueIsLawful.{due_is_lawful}
@@ -13,7 +13,7 @@ use Rattle.sl_due_facts.specs.Facts.AllFacts.{Facts}
 use Rattle.sl_due_facts.specs.Jobs.Acquires.{AcquireFacts}
 use Rattle.sl_run.specs.Lawful.{IsSetting, Lawful}
 use Rattle.sl_trace.specs.Jobs.{command_numbered, command_of}
-use Rattle.sl_trace.specs.LeaseWork.{LeasePlace, lease_place}
+use Rattle.sl_trace.specs.LeaseDecisions.{LeasePlace, lease_place}
 use Rattle.sl_trace.specs.Leases.{is_lease_call, is_on, lease_calls, lease_step, spot_of}
 use Rattle.sl_words.proofs.Lists.{contains_first, contains_more, filter_both, kept_inside}
 use Rattle.sl_words.proofs.Numbers.{number_itself}

@@ -1,9 +1,9 @@
 -- Of a resource's history in which no block above n was ever answered ok: no block is of an instance above the next, and in that one nothing
 -- is accepted.
-use Rattle.sl_ballots.specs.Ballots.{BallotEnded, BeginReason, Begun, Freed_before, IsFoundBlock, IsLastWrite, IsLawful, LeaderSubmitted, Leads_itself, Lost_before, Mode_only, Never_led, Owner_over, Phase, Phase_1, Phase_2}
-use Rattle.sl_ballots.specs.Disk.{Wrote}
-use Rattle.sl_ballots.specs.History.{History, Owner}
-use Rattle.sl_ballots.specs.Instances.{LeadersHaveWon}
+use Rattle.sl_ballot_law.specs.Ballots.{BallotEnded, BeginReason, Begun, Freed_before, IsFoundBlock, IsLastWrite, IsLawful, LeaderSubmitted, Leads_itself, Lost_before, Mode_only, Never_led, Owner_over, Phase, Phase_1, Phase_2}
+use Rattle.sl_ballot_law.specs.Disk.{Wrote}
+use Rattle.sl_ballot_law.specs.History.{History, Owner}
+use Rattle.sl_ballot_law.specs.Instances.{LeadersHaveWon}
 use Rattle.sl_words.proofs.OrderLaws.{by_smaller}
 use Rattle.std.proofs.Common.{ap, arith, inl, inr, subst, sym, ◌∙◌}
 use Rattle.std.proofs.lemmas.Bool.{cases_lt}

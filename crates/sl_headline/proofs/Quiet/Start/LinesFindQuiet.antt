@@ -13,7 +13,7 @@ use Rattle.sl_trace.specs.Jobs.{is_asking_lease, is_command_that, is_granted_job
 use Rattle.sl_trace.specs.Leases.{lease_spots, open_on, spot_of}
 use Rattle.sl_words.proofs.Lists.{contains_none, find_fails, find_inside}
 use Rattle.sl_headline.proofs.Quiet.Start.FewerCounts.{all_pass, all_same, count_of_fewer, found_before, sum_of_fewer}
-use Rattle.sl_due.specs.DueLease.{read_area}
+use Rattle.sl_due.specs.CarriedLease.{read_area}
 use Rattle.sl_headline.proofs.Quiet.Step.LinesBegin.{lines_begin}
 use Rattle.sl_headline.specs.Quiet.Start.CourseStarts.{IsQuietBefore, LinesFindQuiet, StartsReadTheArea}
 use Rattle.sl_run.specs.Worlds.{reading_now}
@@ -22,8 +22,8 @@ use Rattle.sl_trace.specs.declared.effects.Work.TheVariants.{ForJob}
 use Rattle.sl_headline.specs.Quiet.Step.AnswersLeadOn.{AsksQuietly, DoesAs, begun}
 use Rattle.sl_trace.specs.Sessions.{has_open_write, is_active, is_join_done, is_joined, is_present, joined_after, leaving_job, present_sessions, recovery_of, refused_after, removed_after, session_named, sessions}
 use Rattle.sl_trace.specs.declared.session.Session.{Session}
-use Rattle.sl_trace.specs.Connections.{unregisters}
-use Rattle.sl_trace.specs.Limits.{most_holders, most_processes, most_resources}
+use Rattle.sl_trace.specs.WatchdogConnections.{unregisters}
+use Rattle.sl_trace.specs.CountLimits.{most_holders, most_processes, most_resources}
 use Rattle.sl_trace.specs.Traces.{Child, Job, Replied, Setting, Trace, child_after, children, holdings, is_before_input, is_child, is_ended_by, is_running, jobs, new_child, next_job, reply_in, reply_to, same_place, same_spot}
 use Rattle.sl_trace.specs.declared.command.ResourceArg.{ResourceArg}
 use Rattle.sl_trace.specs.declared.effects.Call.{Call}

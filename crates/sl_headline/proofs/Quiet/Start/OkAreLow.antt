@@ -1,7 +1,7 @@
 -- A block that was answered ok is of no later instance than the one that stands in its host's place now.
-use Rattle.sl_ballots.proofs.BlockLaws.{blocks_grow}
-use Rattle.sl_ballots.specs.Disk.{Wrote}
-use Rattle.sl_ballots.specs.History.{Block as HistoryBlock, History}
+use Rattle.sl_ballot_law.proofs.BlockLaws.{blocks_grow}
+use Rattle.sl_ballot_law.specs.Disk.{Wrote}
+use Rattle.sl_ballot_law.specs.History.{Block as HistoryBlock, History}
 use Rattle.sl_safety.proofs.GivenReads.ReadsAreGiven.{reads_are_given}
 use Rattle.sl_safety.proofs.Resources.BlockOrigins.{block_by}
 use Rattle.sl_safety.proofs.Resources.AtSteps.{IsBlockAt, block_at, ok_is, wrote}

@@ -11,7 +11,7 @@ use Rattle.sl_headline.specs.Quiet.Events.AreaGoesOn.{IsLineOf, IsWellMade}
 use Rattle.sl_headline.specs.Quiet.Events.LeadsToGrants.{AreWellMade, Comes, Is_on_course, Was_granted}
 use Rattle.sl_headline.specs.Quiet.Start.QuietIsGranted.{QuietAcquiresAreGranted}
 use Rattle.sl_headline.specs.Quiet.Start.CourseStarts.{IsAskedAt, IsLow}
-use Rattle.sl_run.specs.Events.{happens}
+use Rattle.sl_run.specs.EventChanges.{happens}
 use Rattle.sl_run.specs.Quiet.{IsGrantedQuietly, QuietStep, StaysQuiet}
 use Rattle.sl_run.specs.Runs.{EachDaemon, Happening}
 use Rattle.sl_run.specs.Safety.{LawfulRun, world_at}

@@ -1,5 +1,5 @@
 -- What a quiet acquire's session has submitted on the area, and what it freed there, is of no later instance than the next.
-use Rattle.sl_ballots.specs.History.{Block as HistoryBlock, History, Leader as HistoryLeader}
+use Rattle.sl_ballot_law.specs.History.{Block as HistoryBlock, History, Leader as HistoryLeader}
 use Rattle.sl_safety.proofs.Resources.Calls.{there_sent}
 use Rattle.sl_safety.proofs.Resources.StepsNameCalls.{block_at_step, leader_at_step}
 use Rattle.sl_safety.specs.Resources.Histories.{history_block, history_leader, no_leader}

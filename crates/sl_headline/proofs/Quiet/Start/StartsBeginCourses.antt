@@ -1,15 +1,16 @@
 -- The event that brings the line of a quiet acquire begins its course.
-use Rattle.sl_area.specs.Layouts.{Layout, record_in}
-use Rattle.sl_area.specs.Places.{block_offset, later_pair, leader_offset, pair_offset}
+use Rattle.sl_area.specs.AreaSizes.{Layout, record_in}
+use Rattle.sl_area.specs.AreaLayout.{block_offset, leader_offset, pair_offset}
+use Rattle.sl_area.specs.Pairs.{later_pair}
 use Rattle.sl_due.specs.Due.{IsHostTrace}
-use Rattle.sl_due.specs.DueLease.{read_area}
+use Rattle.sl_due.specs.CarriedLease.{read_area}
 use Rattle.sl_due.specs.Steps.{with_input}
 use Rattle.sl_due_leases.proofs.Ways.WayFactsHeld.PlacesStand.{id_in_range}
 use Rattle.sl_due_leases.proofs.Holdings.PlainPlaces.{text_is}
 use Rattle.sl_due_facts.proofs.Jobs.SessionsArePresent.{present_is, session_has}
 use Rattle.sl_run.specs.Lawful.{IsSetting}
 use Rattle.sl_trace.specs.Ballots.{in_instance, next_mbal}
-use Rattle.sl_trace.specs.LeaseWork.{lease_place}
+use Rattle.sl_trace.specs.LeaseDecisions.{lease_place}
 use Rattle.sl_trace.specs.Leases.{block_of_host, block_submitted, is_lease_call, is_leader_of, is_on, known, lease_calls, own_or_read, spot_of}
 use Rattle.sl_words.proofs.Lists.{contains_cases, contains_first, contains_map, contains_more, contains_none, find_inside, kept, kept_inside}
 use Rattle.sl_headline.proofs.Quiet.Events.CourseGoesOn.{made_well}
@@ -30,7 +31,7 @@ use Rattle.sl_trace.specs.declared.effects.Work.TheVariants.{ForJob}
 use Rattle.sl_words.proofs.Numbers.{number_itself}
 use Rattle.sl_run_law.proofs.Sessions.CallOwners.{session_more}
 use Rattle.sl_headline.specs.Quiet.Start.CourseStarts.{StartsBeginCourses}
-use Rattle.sl_run.specs.Events.{with_entry}
+use Rattle.sl_run.specs.EventChanges.{with_entry}
 use Rattle.sl_run.specs.Quiet.{blocks_needed, leader_there}
 use Rattle.sl_run.specs.Safety.{LawfulRun, block_there, pair_there, world_at}
 use Rattle.sl_run.specs.Worlds.{Daemon, Machine, World, content, reading_now}
@@ -44,7 +45,7 @@ use Rattle.sl_run_law.proofs.Place.MadeLeaders.{later_is}
 use Rattle.sl_run_law.proofs.Watchdog.Stamps.{same_length}
 use Rattle.sl_run_law.specs.Course.CallStamps.{stamp_in}
 use Rattle.sl_run_law.specs.Moment.MomentsFollowSteps.{Of_landing}
-use Rattle.sl_sector.specs.Spelling.{block_in}
+use Rattle.sl_sector.specs.SectorLayouts.{block_in}
 use Rattle.sl_sector.specs.declared.sector.Block.{Block}
 use Rattle.sl_sector.specs.declared.sector.PairBlock.{PairBlock}
 use Rattle.sl_trace.specs.Sessions.{calls_of, is_call_of, is_joined, leaving_job, me, present_sessions, recovery_of, session_numbered, sessions}

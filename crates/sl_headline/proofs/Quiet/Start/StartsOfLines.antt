@@ -1,6 +1,6 @@
 -- A leader stands on the areas of resources alone.
-use Rattle.sl_area.specs.Layouts.{record_in}
-use Rattle.sl_area.specs.Places.{in_area, is_base, leader_offset}
+use Rattle.sl_area.specs.AreaSizes.{record_in}
+use Rattle.sl_area.specs.AreaLayout.{in_area, is_base, leader_offset}
 use Rattle.sl_run.specs.Lawful.{IsSetting}
 use Rattle.sl_words.proofs.Lists.{contains_first}
 use Rattle.sl_headline.proofs.Quiet.Events.CourseGoesOn.{made_well}
@@ -23,7 +23,7 @@ use Rattle.sl_headline.proofs.Quiet.Events.Places.{leader_within}
 use Rattle.sl_run_law.specs.Place.Homes.{In_lockspace, In_resource, IsAtHome}
 use Rattle.sl_run.specs.Quiet.{leader_there}
 use Rattle.sl_run_law.proofs.Place.VerifiedAreas.{leader_in_is, pair_leader_in_is}
-use Rattle.sl_sector.specs.Spelling.{leader_in, pair_leader_in}
+use Rattle.sl_sector.specs.SectorLayouts.{leader_in, pair_leader_in}
 use Rattle.sl_sector.specs.declared.sector.DeltaRec.{DeltaRec}
 use Rattle.sl_trace.specs.declared.effects.Spot.{Spot}
 use Rattle.sl_sector.specs.declared.sector.Bad.{Bad}

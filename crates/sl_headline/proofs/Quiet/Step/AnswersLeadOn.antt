@@ -2,7 +2,7 @@
 use Rattle.sl_due.specs.Due.{after_input, before_input, due, due_step}
 use Rattle.sl_due.specs.DueAnswers.{after_answer, after_answer_of}
 use Rattle.sl_due.specs.DueInputs.{take_input}
-use Rattle.sl_due.specs.DueLease.{after_lease_answer, carry_lease, next_of_lease}
+use Rattle.sl_due.specs.CarriedLease.{after_lease_answer, carry_lease, next_of_lease}
 use Rattle.sl_due.specs.DueWake.{finish}
 use Rattle.sl_due.specs.Steps.{Step, begin_step, seen, when, with_some}
 use Rattle.sl_trace.specs.Jobs.{aim_of}

@@ -1,13 +1,14 @@
 -- What a step does before its input: signals, replies and moves.
 use Rattle.sl_due.specs.Due.{before_input}
-use Rattle.sl_due.specs.DueFirst.{begin_recoveries, begin_recovery, begins_now, is_overdue, kill_holders, kills, kills_holders, refuse, refuse_jobs, remove_connection, remove_of_refused, send, signal_and_refuse, signal_holders, tell_to_stop, time_out, time_outs}
+use Rattle.sl_due.specs.DueRecovery.{begin_recoveries, begin_recovery, begins_now, kill_holders, kills, kills_holders, refuse_jobs, send, signal_and_refuse, signal_holders, tell_to_stop}
+use Rattle.sl_due.specs.DueTimeOuts.{is_overdue, refuse, remove_connection, remove_of_refused, time_out, time_outs}
 use Rattle.sl_due.specs.Steps.{Step, add_move, add_reply, add_signal, add_start, begin_step, for_each, seen, when, with_some}
-use Rattle.sl_trace.specs.Counts.{stopper_of}
+use Rattle.sl_trace.specs.KillPrograms.{stopper_of}
 use Rattle.sl_trace.specs.Jobs.{jobs_of_session}
 use Rattle.sl_headline.specs.Quiet.Step.AnswersLeadOn.{IsBare, heard}
 use Rattle.sl_trace.specs.declared.session.Session.{Session}
 use Rattle.sl_trace.specs.Sessions.{has_open_write, holders_of, last_renewal, present_sessions, recovery_of, refused_after, session_of_job}
-use Rattle.sl_trace.specs.Connections.{is_registered}
+use Rattle.sl_trace.specs.WatchdogConnections.{is_registered}
 use Rattle.sl_trace.specs.declared.effects.JobReply.{JobReply}
 use Rattle.std.specs.List.{AllByRecursion}
 use Rattle.sl_trace.specs.Traces.{is_before_input, Job, Setting, Trace, next_child, running_jobs, waiting_call}

@@ -4,7 +4,7 @@ use Rattle.sl_due.specs.declared.decision.Decision.{Decision}
 use Rattle.sl_due.specs.declared.decision.Decision.TheVariants.{ReadsArea, Replies, Shares}
 use Rattle.sl_due.specs.DueCommands.{acquiring, busy_refusal, carry_command, carry_decision, carry_line, decided, limit_refusal, on_line, pending_refusal, process_refusal, session_refusal, unless_refused, with_session}
 use Rattle.sl_due.specs.DueInputs.{take_input}
-use Rattle.sl_due.specs.DueLease.{read_area}
+use Rattle.sl_due.specs.CarriedLease.{read_area}
 use Rattle.sl_due.specs.DueWake.{finish}
 use Rattle.sl_due.specs.Steps.{Step, seen, with_input}
 use Rattle.sl_trace.specs.Counts.{busy_among, held_here}

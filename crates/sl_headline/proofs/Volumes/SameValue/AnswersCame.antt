@@ -4,7 +4,7 @@ use Rattle.sl_safety.specs.Resources.SentCalls.{Sent, sender_of}
 use Rattle.sl_id_safety.proofs.OverIsQuiet.{GoesOn, goes_on, old_stamp}
 use Rattle.sl_id_safety.proofs.State.TracesInTime.{stamp_below}
 use Rattle.sl_words.proofs.Lists.{contains_none, kept_inside}
-use Rattle.sl_run.specs.Events.{first_change}
+use Rattle.sl_run.specs.EventChanges.{first_change}
 use Rattle.sl_run.specs.Runs.{Happening}
 use Rattle.sl_run.specs.Safety.{Found, IsSession, LawfulRun, SessionId, is_course_of, session_of_world, trace_of, world_at}
 use Rattle.sl_run.specs.Worlds.{Course, Daemon, Machine, Program, Stamp, World, is_of_running, is_open, machine_at, may_land}

@@ -7,9 +7,11 @@ use Rattle.sl_run.specs.declared.turn.LvmOut.TheVariants.{Ask, Quiet, Reply as L
 use Rattle.sl_run.specs.declared.turn.LvmOut.{LvmOut}
 use Rattle.sl_words.proofs.Lists.{contains_first, find_inside}
 use Rattle.sl_words.proofs.Options.{mapped_value, then_value}
-use Rattle.sl_run.specs.Events.{after_step, event_tests, first_change, happens, if_running, input_at, input_of, machine_of, may_happen, next_step, ok_input, rest_sampled, sectors_left, take_step, with_entry}
+use Rattle.sl_run.specs.EventChanges.{after_step, first_change, happens, next_step, take_step, with_entry}
+use Rattle.sl_run.specs.Refusals.{event_tests, may_happen, sectors_left}
+use Rattle.sl_run.specs.Inputs.{if_running, input_at, input_of, machine_of, ok_input, rest_sampled}
 use Rattle.sl_run.specs.Locks.{Locks, Told, after_turn, is_lock_exit, locks_after, numbered_locks, replied_locks, turned_locks}
-use Rattle.sl_run.specs.HeldOverTime.{TellsSame}
+use Rattle.sl_run.specs.LvmPromises.{TellsSame}
 use Rattle.sl_run.specs.Runs.{Happening}
 use Rattle.sl_run.specs.Safety.{world_at}
 use Rattle.sl_run.specs.Worlds.{Course as MadeCall, Daemon, Machine, Program, Stamp, World, daemons_on, machine_at, stamp_now, world_with}

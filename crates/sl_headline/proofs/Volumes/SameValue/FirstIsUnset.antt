@@ -1,6 +1,7 @@
 -- What stands at a value's place at first has no seq.
-use Rattle.sl_area.specs.Layouts.{Layout, layout_with, record_in}
-use Rattle.sl_area.specs.Places.{area_sectors, fresh_block, fresh_block_at, fresh_leader, fresh_pair, in_area, leader_record, no_request, no_value}
+use Rattle.sl_area.specs.AreaSizes.{Layout, layout_with, record_in}
+use Rattle.sl_area.specs.AreaLayout.{area_sectors, in_area}
+use Rattle.sl_area.specs.AreaRecords.{fresh_block, fresh_block_at, fresh_leader, fresh_pair, leader_record, no_request, no_value}
 use Rattle.sl_run.specs.Runs.{Happening}
 use Rattle.sl_run.specs.Safety.{LawfulRun, world_at}
 use Rattle.sl_run.specs.Worlds.{Program, World, first_landing, initial_of_lockspace, initial_of_resource, initial_record}
@@ -8,7 +9,7 @@ use Rattle.sl_run.specs.declared.header.Header.{Header}
 use Rattle.sl_run.specs.declared.header.LockspaceLine.{LockspaceLine}
 use Rattle.sl_run.specs.declared.header.ResourceLine.{ResourceLine}
 use Rattle.sl_safety.proofs.Ballot.ReasonLeaders.{first_spells}
-use Rattle.sl_sector.specs.Spelling.{value_in}
+use Rattle.sl_sector.specs.SectorLayouts.{value_in}
 use Rattle.sl_sector.specs.declared.sector.Bad.{Bad}
 use Rattle.sl_sector.specs.declared.sector.Block.{Block}
 use Rattle.sl_sector.specs.declared.sector.Leader.{Leader}

@@ -1,13 +1,13 @@
 -- Where lvmlockd is told that a group's value is the one that it knows, no other machine's write of it was answered since it was told.
-use Rattle.sl_area.specs.Layouts.{Layout}
-use Rattle.sl_area.specs.Places.{value_offset}
+use Rattle.sl_area.specs.AreaSizes.{Layout}
+use Rattle.sl_area.specs.AreaLayout.{value_offset}
 use Rattle.sl_safety.proofs.Sessions.OrderedFronts.{steps_grow}
 use Rattle.sl_id_safety.proofs.State.CallLaws.{is_place}
 use Rattle.sl_run.specs.LockNames.{group_lock, group_path, resource_of}
 use Rattle.sl_run.specs.Lvm.{Lvm, SeenValue, is_seen, lock_process}
 use Rattle.sl_words.proofs.Lists.{any_found, contains_first, next_before}
-use Rattle.sl_run.specs.Events.{machine_of}
-use Rattle.sl_run.specs.HeldOverTime.{HasSeen, IsSetElsewhere, TellsSame}
+use Rattle.sl_run.specs.Inputs.{machine_of}
+use Rattle.sl_run.specs.LvmPromises.{HasSeen, IsSetElsewhere, TellsSame}
 use Rattle.sl_run.specs.Runs.{AfterEachFront, Happening}
 use Rattle.sl_run.specs.Safety.{LawfulRun, world_at}
 use Rattle.sl_run.specs.Values.{IsSet, IsSetBefore}
@@ -40,7 +40,7 @@ use Rattle.sl_headline.proofs.Volumes.SameValue.WritesSinceTold.{AnsweredLate, r
 use Rattle.sl_headline.proofs.Volumes.VersionsWereTold.{versions_were_told}
 use Rattle.sl_headline.proofs.Volumes.LocksAreTaken.{locks_are_taken}
 use Rattle.sl_headline.specs.Volumes.FittingRuns.{AnsweredRun, IsJobOf}
-use Rattle.sl_headline.specs.Volumes.SameIsUnchanged.{SameIsUnchangedInRuns, VolumesAreSafeInRuns, VolumesAreSafeWhenDue}
+use Rattle.sl_headline.specs.Volumes.SameInRuns.{SameIsUnchangedInRuns, VolumesAreSafeInRuns, VolumesAreSafeWhenDue}
 use Rattle.sl_headline.specs.Volumes.VersionsWereTold.{IsTold, WasTold}
 use Rattle.sl_words.proofs.CaseLaws.{one_value, some_value}
 use Rattle.sl_words.proofs.WordLaws.{and_true}

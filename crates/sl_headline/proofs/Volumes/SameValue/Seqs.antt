@@ -1,5 +1,5 @@
 -- Of the values that a session submits on an area under one instance each has a greater seq than those before it.
-use Rattle.sl_area.specs.Layouts.{Layout}
+use Rattle.sl_area.specs.AreaSizes.{Layout}
 use Rattle.sl_run.specs.Lawful.{Orderly}
 use Rattle.sl_run.specs.LawfulValue.{LawfulValueWrite}
 use Rattle.sl_run.specs.LawForms.{cut_at}

@@ -1,6 +1,6 @@
 -- What told a version: the answer of a call on the group's value, which read it or wrote it.
-use Rattle.sl_area.specs.Layouts.{Layout}
-use Rattle.sl_area.specs.Places.{value_offset}
+use Rattle.sl_area.specs.AreaSizes.{Layout}
+use Rattle.sl_area.specs.AreaLayout.{value_offset}
 use Rattle.sl_safety.proofs.Resources.OneSessionStands.{head_pairs, tail_pairs}
 use Rattle.sl_id_safety.proofs.State.CallLaws.{is_place}
 use Rattle.sl_id_safety.proofs.State.LaterFrames.{numbered_found}

@@ -1,6 +1,6 @@
 -- The version of a value tells its write: an instance has one exclusive holder, and of a session's writes under it each has a greater seq.
-use Rattle.sl_ballots.proofs.AgreementLaws.{one_winner}
-use Rattle.sl_ballots.specs.Ballots.{BallotEnded}
+use Rattle.sl_ballot_law.proofs.AgreementLaws.{one_winner}
+use Rattle.sl_ballot_law.specs.Ballots.{BallotEnded}
 use Rattle.sl_safety.proofs.Resources.Calls.{Newer, Older, Order, Same, found_of, order, owned, owner_found, there_sent}
 use Rattle.sl_safety.proofs.Sessions.NamesAreApart.{names_are_apart}
 use Rattle.sl_safety.specs.Resources.HistoryLaws.{history_of_line, spot_of_line}

@@ -1,6 +1,6 @@
 -- A write of the group's value that was answered after a version was told came after the write of that version.
-use Rattle.sl_area.specs.Layouts.{Layout}
-use Rattle.sl_area.specs.Places.{value_offset}
+use Rattle.sl_area.specs.AreaSizes.{Layout}
+use Rattle.sl_area.specs.AreaLayout.{value_offset}
 use Rattle.sl_safety.proofs.Resources.Calls.{IsOwned, found_of, owned, owner_found, there_sent}
 use Rattle.sl_safety.proofs.Resources.StepsNameEntries.{call_timed}
 use Rattle.sl_safety.specs.Resources.SentCalls.{Sent, sender_of}

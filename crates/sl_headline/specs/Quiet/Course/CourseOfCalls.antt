@@ -1,9 +1,10 @@
 -- The course of a quiet acquire on the lease's own list of calls, the newest first: what is known of the lease when each call is
 -- answered follows from the calls themselves.
-use Rattle.sl_area.specs.Layouts.{Layout}
-use Rattle.sl_area.specs.Places.{block_record, blocks_part, leader_of, leader_record}
+use Rattle.sl_area.specs.AreaSizes.{Layout}
+use Rattle.sl_area.specs.AreaRecords.{block_record, leader_record}
+use Rattle.sl_area.specs.AreaLayout.{blocks_part, leader_of}
 use Rattle.sl_trace.specs.Ballots.{in_instance, moded_block, next_mbal}
-use Rattle.sl_trace.specs.LeaseWork.{LeasePlace, leader_for, lease_next}
+use Rattle.sl_trace.specs.LeaseDecisions.{LeasePlace, leader_for, lease_next}
 use Rattle.sl_trace.specs.Leases.{LeaseKnown, block_submitted, freed, is_leader_of, known_of, own_or_read}
 use Rattle.sl_trace.specs.declared.lease.Aim.TheVariants.{Acquires}
 use Rattle.sl_trace.specs.declared.lease.LeaseNext.TheVariants.{WriteBlock, WriteLeader}

@@ -4,7 +4,7 @@ use Rattle.sl_run.specs.Lawful.{IsSetting}
 use Rattle.sl_trace.specs.Leases.{spot_of}
 use Rattle.sl_headline.specs.Quiet.Events.CarriedStages.{AreaOnCourse, Asked, DaemonOnCourse, IsAskedOf, OnCourse, Stage}
 use Rattle.sl_headline.specs.Quiet.Area.CalmAreas.{LeavesCalm}
-use Rattle.sl_run.specs.Events.{with_entry}
+use Rattle.sl_run.specs.EventChanges.{with_entry}
 use Rattle.sl_run.specs.Quiet.{QuietStep}
 use Rattle.sl_run.specs.Runs.{EachDaemon, Happening}
 use Rattle.sl_run.specs.Safety.{LawfulRun, world_at}

@@ -1,10 +1,12 @@
 -- What is carried from event to event of a quiet acquire: at which call of its course it is, what that call is, and what the area holds.
-use Rattle.sl_area.specs.Places.{area_sectors, block_offset, block_place, block_record, block_sectors, in_area, is_base, later_pair, leader_offset, leader_record}
+use Rattle.sl_area.specs.AreaLayout.{area_sectors, block_offset, block_place, block_sectors, in_area, is_base, leader_offset}
+use Rattle.sl_area.specs.AreaRecords.{block_record, leader_record}
+use Rattle.sl_area.specs.Pairs.{later_pair}
 use Rattle.sl_due.specs.Due.{IsHostTrace}
 use Rattle.sl_run.specs.Lawful.{IsSetting}
 use Rattle.sl_trace.specs.Ballots.{in_instance, moded_block, next_mbal}
 use Rattle.sl_trace.specs.Jobs.{command_numbered}
-use Rattle.sl_trace.specs.LeaseWork.{lease_place}
+use Rattle.sl_trace.specs.LeaseDecisions.{lease_place}
 use Rattle.sl_trace.specs.Leases.{base_turn, block_submitted, freed, is_leader_of, lease_calls, own_or_read, spot_of, verified_name}
 use Rattle.sl_headline.specs.Quiet.Area.CalmAreas.{IsCalm}
 use Rattle.sl_headline.specs.Quiet.Course.CourseOfCalls.{Same, first_block, second_block}
@@ -17,7 +19,7 @@ use Rattle.sl_run.specs.Worlds.{Daemon, Landing, Machine, Stamp, World, machine_
 use Rattle.sl_run_law.specs.Course.CallStamps.{stamp_in}
 use Rattle.sl_sector.specs.declared.sector.Block.{Block}
 use Rattle.sl_sector.specs.declared.sector.Leader.{Leader}
-use Rattle.sl_sector.specs.Spelling.{is_first_turn}
+use Rattle.sl_sector.specs.SectorLayouts.{is_first_turn}
 use Rattle.sl_sector.specs.declared.sector.PairBlock.{PairBlock}
 use Rattle.sl_trace.specs.declared.session.Session.{Session}
 use Rattle.sl_trace.specs.Sessions.{is_active, me, session_numbered}

@@ -1,13 +1,14 @@
 -- From the answer of the acquire's call to its next call, or to the grant.
 use Rattle.sl_sector.specs.declared.sector.Block.{Block}
-use Rattle.sl_area.specs.Places.{blocks_part, leader_of, pair_read}
+use Rattle.sl_area.specs.AreaLayout.{blocks_part, leader_of}
+use Rattle.sl_area.specs.Pairs.{pair_read}
 use Rattle.sl_sector.specs.declared.sector.PairBlock.{PairBlock}
 use Rattle.sl_trace.specs.declared.input.Answer.TheVariants.{Read, Written}
 use Rattle.sl_headline.specs.Quiet.Course.QuietDecisions.{StandsAlone, NoneShared, ShowsWhole}
 use Rattle.sl_due.specs.Due.{IsHostTrace}
 use Rattle.sl_due.specs.Steps.{seen}
 use Rattle.sl_run.specs.Lawful.{IsSetting}
-use Rattle.sl_trace.specs.LeaseWork.{lease_next, lease_place, within_turn}
+use Rattle.sl_trace.specs.LeaseDecisions.{lease_next, lease_place, within_turn}
 use Rattle.sl_trace.specs.Leases.{base_turn, known, lver_written, spot_of, verified_by, LeaseKnown}
 use Rattle.sl_trace.specs.declared.lease.Aim.TheVariants.{Acquires}
 use Rattle.sl_trace.specs.declared.lease.LeaseNext.TheVariants.{GrantJob, Nothing, ReadFor, WriteBlock, WriteLeader}

@@ -1,5 +1,6 @@
 -- What an event makes of the daemon that runs on a machine.
-use Rattle.sl_run.specs.Events.{input_of, machine_of, with_entry}
+use Rattle.sl_run.specs.Inputs.{input_of, machine_of}
+use Rattle.sl_run.specs.EventChanges.{with_entry}
 use Rattle.sl_run.specs.Runs.{Happening}
 use Rattle.sl_run.specs.Safety.{LawfulRun, world_at}
 use Rattle.sl_run.specs.Worlds.{Daemon, Machine, Program, Stamp, World, machine_at, reading_now}

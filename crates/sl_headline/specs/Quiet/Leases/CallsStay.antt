@@ -1,6 +1,6 @@
 -- While a call of a lease is unanswered, an entry that does not answer it leaves the lease's calls as they are, whatever else it does. It
 -- is the law of areas alone that says so: no step of a host is looked into.
-use Rattle.sl_area.specs.Places.{is_base}
+use Rattle.sl_area.specs.AreaLayout.{is_base}
 use Rattle.sl_run.specs.Lawful.{Lawful}
 use Rattle.sl_run.specs.LawfulArea.{is_block_work}
 use Rattle.sl_trace.specs.Leases.{lease_calls}

@@ -1,5 +1,6 @@
 -- What a read gives of places where nothing has landed since it was made.
-use Rattle.sl_area.specs.Places.{area_sectors, block_offset, block_sectors, blocks_of, blocks_part, leader_of, pair_back, pair_front, read_once, sector_of}
+use Rattle.sl_area.specs.AreaLayout.{area_sectors, block_offset, block_sectors, blocks_part, leader_of, sector_of}
+use Rattle.sl_area.specs.Pairs.{blocks_of, pair_back, pair_front, read_once}
 use Rattle.sl_run.specs.Quiet.{leader_there}
 use Rattle.sl_run.specs.Runs.{Happening}
 use Rattle.sl_run.specs.Safety.{LawfulRun, block_there, pair_there, world_at}

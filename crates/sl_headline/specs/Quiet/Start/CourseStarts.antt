@@ -1,6 +1,6 @@
 -- Where a quiet acquire begins: what stands before its line, and what the line finds there.
 use Rattle.sl_due.specs.Due.{IsHostTrace, due}
-use Rattle.sl_due.specs.DueLease.{read_area}
+use Rattle.sl_due.specs.CarriedLease.{read_area}
 use Rattle.sl_due.specs.Steps.{begin_step, seen, with_input}
 use Rattle.sl_run.specs.Lawful.{IsSetting}
 use Rattle.sl_trace.specs.Counts.{held_here, limit_met, may_act}
@@ -8,7 +8,7 @@ use Rattle.sl_trace.specs.Leases.{freed, known, lease_calls, open_on, spot_of}
 use Rattle.sl_headline.specs.Quiet.Step.AnswersLeadOn.{AsksQuietly, DoesAs, begun}
 use Rattle.sl_headline.specs.Quiet.Events.CarriedStages.{Asked, OnCourse, Reads_area}
 use Rattle.sl_headline.specs.Quiet.Events.AreaGoesOn.{IsLineOf, IsWellMade}
-use Rattle.sl_run.specs.Events.{input_of, machine_of}
+use Rattle.sl_run.specs.Inputs.{input_of, machine_of}
 use Rattle.sl_run.specs.Quiet.{QuietStart, QuietStep}
 use Rattle.sl_run.specs.Runs.{EachDaemon, Happening}
 use Rattle.sl_run.specs.Safety.{LawfulRun, world_at}

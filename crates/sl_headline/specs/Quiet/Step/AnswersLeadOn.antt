@@ -1,7 +1,7 @@
 -- What the answer of a call that works on a lease for a job makes due: exactly what the lease decides. What a step does before its input
 -- makes no call, no grant and no end; what it does after its input makes no call of a lease, no reply and no grant.
 use Rattle.sl_due.specs.Due.{before_input, due}
-use Rattle.sl_due.specs.DueLease.{carry_lease, next_of_lease, read_area}
+use Rattle.sl_due.specs.CarriedLease.{carry_lease, next_of_lease, read_area}
 use Rattle.sl_due.specs.Steps.{Step, begin_step, seen, with_input}
 use Rattle.sl_trace.specs.Jobs.{aim_of}
 use Rattle.sl_trace.specs.Counts.{held_here, limit_met, may_act}

@@ -1,10 +1,6 @@
 //! Where a quiet acquire begins.
 
-ghost use Rattle.sl_headline.specs.Quiet.Start.QuietIsGranted.{QuietAcquiresAreGranted};
-ghost use Rattle.sl_headline.specs.Quiet.Start.MadeRunsQuiet.{MadeRunsAreQuiet};
 ghost use Rattle.sl_headline.specs.Quiet.Start.CourseStarts.{LinesFindQuiet, StartIsLow, StartsAreOfLines, StartsBeginCourses, StartsReadTheArea};
-
-use sl_world_state::Daemon;
 
 /// What stands before the acquire's line, the line finds.
 pub fn lines_find_quiet()
@@ -29,14 +25,4 @@ pub fn starts_begin_courses()
 /// The session's blocks and frees of before a quiet start are of no later instance than the next, and nothing is accepted in that one.
 pub fn start_is_low()
     ensures { StartIsLow }
-{}
-
-/// So a quiet acquire is granted: by then, or it waits for an answer, whatever comes later.
-pub fn quiet_acquires_are_granted()
-    ensures { QuietAcquiresAreGranted }
-{}
-
-/// So it is in a run of daemons of one kind, where one stood for each trace after each of its events.
-pub fn made_runs_are_quiet<D: Daemon>()
-    ensures { MadeRunsAreQuiet D.stands }
 {}

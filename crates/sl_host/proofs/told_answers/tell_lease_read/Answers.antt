@@ -1,5 +1,5 @@
-use Rattle.sl_area.specs.Layouts.{Sizes, layout_of}
-use Rattle.sl_area.specs.Places.{pairs_kept}
+use Rattle.sl_area.specs.AreaSizes.{Sizes, layout_of}
+use Rattle.sl_area.specs.Pairs.{pairs_kept}
 use Rattle.sl_host.proofs.AnswersTold.{again_paired}
 use Rattle.sl_host.proofs.told_answers.tell_lease_read.Goals as goal
 use Rattle.sl_host.specs.HeardAnswers.{turn_to}
@@ -7,7 +7,7 @@ use Rattle.sl_lease.specs.Reads.{HasRead}
 use Rattle.sl_member.specs.Leases.{kept_shown, read_shown}
 use Rattle.sl_member.specs.Members.{lease_changed}
 use Rattle.sl_member.specs.HostMembers.{MembersState, changed_member, side_with}
-use Rattle.sl_trace.specs.LeaseWork.{first_step, part_read}
+use Rattle.sl_trace.specs.LeaseDecisions.{first_step, part_read}
 use Rattle.std.proofs.Common.{subst, sym, ◌∙◌, ◌≡◌}
 
 pub returns-then-again-clause-members : goal.returns-then-again-clause-members

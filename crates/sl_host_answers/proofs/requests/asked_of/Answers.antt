@@ -1,5 +1,5 @@
-use Rattle.sl_area.specs.Layouts.{layout_of}
-use Rattle.sl_area.specs.Places.{leader_of}
+use Rattle.sl_area.specs.AreaSizes.{layout_of}
+use Rattle.sl_area.specs.AreaLayout.{leader_of}
 use Rattle.sl_host_answers.proofs.requests.asked_of.Goals as goal
 use Rattle.std.proofs.Common.{ap, rules, ◌∙◌, ◌≡◌}
 

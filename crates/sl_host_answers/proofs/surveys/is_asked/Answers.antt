@@ -1,4 +1,4 @@
-use Rattle.sl_area.specs.Layouts.{Sizes, layout_of}
+use Rattle.sl_area.specs.AreaSizes.{Sizes, layout_of}
 use Rattle.sl_host_answers.proofs.surveys.is_asked.Goals as goal
 use Rattle.sl_host_law.specs.Answers.Surveys.{is_asked_by}
 use Rattle.std.proofs.Common.{ap, ◌∙◌}

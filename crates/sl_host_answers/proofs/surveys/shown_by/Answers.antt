@@ -1,4 +1,4 @@
-use Rattle.sl_area.specs.Layouts.{Sizes}
+use Rattle.sl_area.specs.AreaSizes.{Sizes}
 use Rattle.sl_host_answers.proofs.surveys.shown_by.Goals as goal
 use Rattle.std.proofs.Common.{ap, subst, sym, ◌∙◌}
 use Rattle.std.specs.Prelude.{IsTrue, length, ◌*◌, ◌≡◌}

@@ -2,7 +2,8 @@
 use Rattle.sl_host_law.proofs.SharedFacts.PlainLists.{filter_as, filter_whole}
 use Rattle.sl_trace.specs.Sessions.{has_open_write, is_join_done, is_joined, is_present, joined_after, leaving_job, present_sessions, refused_after, removed_after, sessions}
 use Rattle.sl_trace.specs.declared.session.Session.{Session}
-use Rattle.sl_trace.specs.Traces.{Child, Job, KillProgram, Replied, Setting, Trace, children, holdings, is_running, jobs, kill_programs, no_effects, reply_to, running_jobs}
+use Rattle.sl_trace.specs.Traces.{Child, Job, Replied, Setting, Trace, children, holdings, is_running, jobs, no_effects, reply_to, running_jobs}
+use Rattle.sl_trace.specs.KillPrograms.{KillProgram, kill_programs}
 use Rattle.sl_trace.specs.declared.effects.Entry.{Entry}
 use Rattle.sl_trace.specs.declared.effects.Grant.{Grant}
 use Rattle.sl_trace.specs.declared.input.Input.TheVariants.{Wake}

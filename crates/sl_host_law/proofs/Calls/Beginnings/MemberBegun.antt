@@ -4,7 +4,7 @@ use Rattle.sl_host_law.proofs.Calls.MemberCalls.KnownMore.{known_by}
 use Rattle.sl_host_state.specs.HeardInputs.{beginning, counted, is_late, member_begun, with_renewing}
 use Rattle.sl_host_state.specs.KeptState.{Config, HostState, MemberState}
 use Rattle.sl_host_state.specs.HostStands.{Keeps, MemberStands}
-use Rattle.sl_trace.specs.Deltas.{delta_known}
+use Rattle.sl_trace.specs.DeltaDecisions.{delta_known}
 use Rattle.sl_trace.specs.Sessions.{calls_of, leaving_job, recovers, renewing, renewing_after}
 use Rattle.sl_trace.specs.declared.delta.DeltaKnown.{DeltaKnown}
 use Rattle.sl_trace.specs.declared.session.Begun.{Begun}

@@ -3,7 +3,8 @@ use Rattle.sl_host_law.proofs.Calls.Beginnings.IdleEntry.{idle, same_presents, s
 use Rattle.sl_host_law.proofs.Calls.Beginnings.MemberBegun.{member_stands}
 use Rattle.sl_host_law.proofs.Calls.Beginnings.QuietBegun.{moments_have, not_late}
 use Rattle.sl_due.specs.Due.{before_input}
-use Rattle.sl_due.specs.DueFirst.{begin_recoveries, begin_recovery, begins_now, is_first_at, is_kill_due, is_overdue, kill_holders, kills, kills_holders, refuse, signal_and_refuse, signal_holders, time_out, time_outs}
+use Rattle.sl_due.specs.DueRecovery.{begin_recoveries, begin_recovery, begins_now, is_first_at, is_kill_due, kill_holders, kills, kills_holders, signal_and_refuse, signal_holders}
+use Rattle.sl_due.specs.DueTimeOuts.{is_overdue, refuse, time_out, time_outs}
 use Rattle.sl_due.specs.Steps.{Step, begin_step, for_each, seen, when, with_some}
 use Rattle.sl_host_law.proofs.SharedFacts.PlainLists.{at_some}
 use Rattle.sl_host_law.proofs.SharedFacts.QuietMoments.{job_quiet, member_quiet}

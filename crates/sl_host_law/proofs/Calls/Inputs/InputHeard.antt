@@ -11,13 +11,14 @@ use Rattle.sl_host_state.specs.declared.kept_parts.JobState.{JobState}
 use Rattle.sl_trace.specs.Counts.{values_on}
 use Rattle.sl_trace.specs.Leases.{spots_in}
 use Rattle.sl_words.proofs.Numbers.{trans_le}
-use Rattle.sl_trace.specs.Deltas.{delta_known}
+use Rattle.sl_trace.specs.DeltaDecisions.{delta_known}
 use Rattle.sl_trace.specs.Sessions.{calls_of, ended_after, is_call_of, is_delta_purpose, joined_after, leaving_job, leaving_of, recovery_of, renewing, sessions}
 use Rattle.sl_trace.specs.declared.delta.DeltaKnown.{DeltaKnown}
 use Rattle.sl_trace.specs.declared.session.Begun.{Begun}
 use Rattle.sl_trace.specs.declared.session.Renewing.{Renewing}
 use Rattle.sl_trace.specs.declared.session.Session.{Session}
-use Rattle.sl_trace.specs.Traces.{Child, Job, KillProgram, Setting, Submitted, Trace, children, first_child, is_write, job_numbered, job_of, kill_programs, next_job, running_jobs, submitted, unanswered}
+use Rattle.sl_trace.specs.Traces.{Child, Job, Setting, Submitted, Trace, children, first_child, is_write, job_numbered, job_of, next_job, running_jobs, submitted, unanswered}
+use Rattle.sl_trace.specs.KillPrograms.{KillProgram, kill_programs}
 use Rattle.sl_trace.specs.declared.effects.Effects.{Effects}
 use Rattle.sl_trace.specs.declared.effects.Entry.{Entry}
 use Rattle.sl_trace.specs.declared.input.Input.TheVariants.{Answer as Told, Exit, Line, Number, Spawned, Wake}

@@ -11,11 +11,12 @@ use Rattle.sl_host_state.specs.HeardInputs.{answered_line, program_answered}
 use Rattle.sl_host_state.specs.KeptState.{Config, HostState, MemberState}
 use Rattle.sl_host_state.specs.HostStands.{Keeps, MemberStands, kept_job}
 use Rattle.sl_words.proofs.Numbers.{equal_is_most, less_is_other, number_itself}
-use Rattle.sl_trace.specs.Deltas.{delta_known}
+use Rattle.sl_trace.specs.DeltaDecisions.{delta_known}
 use Rattle.sl_trace.specs.Sessions.{has_open_write, is_join_done, is_joined, is_present, joined_after, leaves, leaving_job, present_sessions, refused_after, removed_after, sessions}
 use Rattle.sl_trace.specs.declared.delta.DeltaKnown.{DeltaKnown}
 use Rattle.sl_trace.specs.declared.session.Session.{Session}
-use Rattle.sl_trace.specs.Traces.{Child, Job, Replied, Setting, Submitted, Trace, children, is_done, is_running, job_of, jobs, kill_program_in, kill_programs, next_job, numbers_taken, reply_in, reply_to, running_jobs, submitted, with_program, without_program}
+use Rattle.sl_trace.specs.Traces.{Child, Job, Replied, Setting, Submitted, Trace, children, is_running, job_of, jobs, next_job, numbers_taken, reply_in, reply_to, running_jobs, submitted}
+use Rattle.sl_trace.specs.KillPrograms.{is_done, kill_program_in, kill_programs, with_program, without_program}
 use Rattle.sl_trace.specs.declared.effects.Effects.{Effects}
 use Rattle.sl_trace.specs.declared.effects.JobReply.{JobReply}
 use Rattle.sl_trace.specs.declared.input.Input.TheVariants.{Line, Wake}

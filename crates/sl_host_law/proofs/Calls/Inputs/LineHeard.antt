@@ -18,7 +18,8 @@ use Rattle.sl_trace.specs.Sessions.{added_by, is_join_call, joining_session, ses
 use Rattle.sl_trace.specs.declared.delta.DeltaKnown.{DeltaKnown}
 use Rattle.sl_trace.specs.declared.session.Begun.{Begun}
 use Rattle.sl_trace.specs.declared.session.Session.{Session}
-use Rattle.sl_trace.specs.Traces.{Job, KillProgram, Setting, Trace, is_before_input, is_done, is_running, jobs, kill_program_in, kill_programs, next_job, numbers_taken, reply_in, reply_to, running_jobs, waiting_call, with_program, without_program}
+use Rattle.sl_trace.specs.Traces.{Job, Setting, Trace, is_before_input, is_running, jobs, next_job, numbers_taken, reply_in, reply_to, running_jobs, waiting_call}
+use Rattle.sl_trace.specs.KillPrograms.{KillProgram, is_done, kill_program_in, kill_programs, with_program, without_program}
 use Rattle.sl_trace.specs.declared.command.Command.{Command}
 use Rattle.sl_trace.specs.declared.effects.Call.{Call}
 use Rattle.sl_trace.specs.declared.effects.Effects.{Effects}

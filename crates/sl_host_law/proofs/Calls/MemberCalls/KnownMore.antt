@@ -1,5 +1,5 @@
 -- What is asked of a session's calls on its id's sector, and of its requests and looks, after one more call without an answer.
-use Rattle.sl_area.specs.Layouts.{Layout}
+use Rattle.sl_area.specs.AreaSizes.{Layout}
 use Rattle.sl_due.specs.DueRequests.{is_asked, owner_asked}
 use Rattle.sl_host_law.proofs.SharedFacts.PlainLists.{all_from, none_any}
 use Rattle.sl_host_state.specs.KeptState.{JoinState}

@@ -1,5 +1,5 @@
 -- A lease after one more call of its own: each thing asked of its calls, one by one.
-use Rattle.sl_area.specs.Layouts.{Layout}
+use Rattle.sl_area.specs.AreaSizes.{Layout}
 use Rattle.sl_host_state.specs.KeptState.{LeaseState}
 use Rattle.sl_host_state.specs.declared.kept_parts.TopNumber.{TopNumber}
 use Rattle.sl_host_state.specs.MadeEffects.{ballot_calling, kept_lease_call, lease_calling, pair_calling}

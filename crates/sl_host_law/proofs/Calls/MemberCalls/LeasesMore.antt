@@ -1,6 +1,6 @@
 -- The leases of a session after one more call of it: the one on the call's area takes it, its first call perhaps; the others stand as
 -- they did.
-use Rattle.sl_area.specs.Layouts.{Layout}
+use Rattle.sl_area.specs.AreaSizes.{Layout}
 use Rattle.sl_host_law.proofs.Calls.MemberCalls.LeaseMore.{FollowsFirst, FollowsRead, lease_more}
 use Rattle.sl_host_law.proofs.Calls.MemberCalls.SpotsMore.{AreOnce, found_once, on_its_area, on_own, one_spot, spot_itself, spot_there, spots_once, valued_spot}
 use Rattle.sl_host_law.specs.Calls.MemberCalls.{fits_again, fits_lease, follows_read}

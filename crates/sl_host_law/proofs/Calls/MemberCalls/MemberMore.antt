@@ -1,5 +1,5 @@
 -- A member after one more call: its own, or another's.
-use Rattle.sl_area.specs.Layouts.{Layout}
+use Rattle.sl_area.specs.AreaSizes.{Layout}
 use Rattle.sl_host_law.proofs.Calls.MemberCalls.KnownMore.{asked_more, joining_more, known_by, known_more, seen_more, turn_more}
 use Rattle.sl_host_law.proofs.Calls.MemberCalls.LeasesMore.{calls_on, leases_may, leases_stand}
 use Rattle.sl_host_law.proofs.Calls.MemberCalls.SpotsMore.{spots_more}

@@ -1,5 +1,5 @@
 -- The areas of a session's leases: each is that of a lease call of it, each stands once; and what one more call makes of them.
-use Rattle.sl_area.specs.Layouts.{Layout}
+use Rattle.sl_area.specs.AreaSizes.{Layout}
 use Rattle.sl_host_law.proofs.SharedFacts.PlainLists.{all_from, any_mapped, each_of, none_any}
 use Rattle.sl_host_law.proofs.SharedFacts.PlainOrders.{put_first, put_inside, put_mapped, put_old}
 use Rattle.sl_host_state.specs.KeptState.{LeaseState}

@@ -1,5 +1,5 @@
 -- The values that a session submitted, after one more call of it: each is on the area of a lease, and the last of each area is kept.
-use Rattle.sl_area.specs.Layouts.{Layout}
+use Rattle.sl_area.specs.AreaSizes.{Layout}
 use Rattle.sl_host_law.proofs.Calls.MemberCalls.SpotsMore.{any_stays, on_its_area, spot_itself, spots_more, valued_spot}
 use Rattle.sl_host_law.specs.Calls.MemberCalls.{fits_value}
 use Rattle.sl_host_law.proofs.SharedFacts.PlainLists.{all_as, any_mapped, each_of}

@@ -3,10 +3,9 @@ use Rattle.sl_host_law.proofs.SharedFacts.PlainLists.{each_of, range_last}
 use Rattle.sl_host_state.specs.KeptState.{HostState}
 use Rattle.sl_host_state.specs.declared.kept_parts.OpenCall.{OpenCall}
 use Rattle.sl_host_state.specs.HostStands.{Keeps, kept_call}
-use Rattle.sl_words.proofs.Lists.{contains_cases, contains_none, find_fails, find_inside, in_map, kept_inside}
+use Rattle.sl_words.proofs.Lists.{contains_cases, contains_none, find_fails, find_inside, in_map, kept_inside, head_is, tail_is}
 use Rattle.sl_words.proofs.Numbers.{number_itself}
 use Rattle.sl_words.proofs.Options.{none_is}
-use Rattle.sl_words.proofs.Lists.{head_is, tail_is}
 use Rattle.sl_trace.specs.Traces.{Setting, Submitted, Trace, outstanding, submitted}
 use Rattle.sl_words.proofs.CaseLaws.{not_both, some_value}
 use Rattle.std.proofs.Common.{ap, arith, inl, inr, refl, subst, suc, sym, ◌∙◌}

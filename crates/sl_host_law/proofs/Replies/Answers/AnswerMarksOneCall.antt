@@ -2,7 +2,7 @@
 -- their answers stays.
 use Rattle.sl_host_law.proofs.SharedFacts.PlainLists.{kept_if}
 use Rattle.sl_trace.specs.Leases.{is_lease_call, spot_of_call, spots_in, with_spot}
-use Rattle.sl_area.specs.Layouts.{Layout}
+use Rattle.sl_area.specs.AreaSizes.{Layout}
 use Rattle.sl_sector.specs.declared.sector.DeltaRec.{DeltaRec}
 use Rattle.sl_trace.specs.Sessions.{delta_written, free_write, generation_in, given_number, is_free_purpose, is_renewal, last_delta, renewal_in, seq_in}
 use Rattle.sl_trace.specs.declared.session.Session.{Session}

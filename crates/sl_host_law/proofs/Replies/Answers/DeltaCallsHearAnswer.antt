@@ -1,8 +1,8 @@
 -- What a session's calls on delta sectors have with an answer to one of them: it is the newest, for they come one after another. And the
 -- owners asked, with an answered write of a request.
 use Rattle.sl_host_law.proofs.SharedFacts.PlainLists.{each_of, kept_if}
-use Rattle.sl_area.specs.Layouts.{Layout, Sizes, layout_of, record_in}
-use Rattle.sl_area.specs.Places.{sector_of}
+use Rattle.sl_area.specs.AreaSizes.{Layout, Sizes, layout_of, record_in}
+use Rattle.sl_area.specs.AreaLayout.{sector_of}
 use Rattle.sl_due.specs.DueRequests.{is_asked, is_fresh, owner_asked}
 use Rattle.sl_host_state.specs.HeardInputs.{answered_at, asked_at, asked_hearing, joining_hearing, watch_hearing}
 use Rattle.sl_host_state.proofs.LooksStay.{looks_stay}
@@ -16,7 +16,7 @@ use Rattle.sl_host_law.proofs.Replies.Answers.AnswerFindsItsCall.{IsOr}
 use Rattle.sl_host_law.proofs.Replies.Answers.AnswerMarksOneCall.{all_answered, answered_still, found_heard, hear, hear_by, not_its, picked, same_call, told}
 use Rattle.sl_host_law.specs.Replies.Answers.{AreIdSectors, FitsCall}
 use Rattle.sl_host_law.proofs.Replies.PlainFilters.{found_kept, given_kept}
-use Rattle.sl_trace.specs.Deltas.{claim_of, join_step_of}
+use Rattle.sl_trace.specs.DeltaDecisions.{claim_of, join_step_of}
 use Rattle.sl_trace.specs.Sessions.{delta_written, is_delta_purpose, is_join_call, is_survey_purpose, join_call}
 use Rattle.sl_trace.specs.Sightings.{look_of, seen_records, sightings}
 use Rattle.sl_trace.specs.declared.sighting.Sighting.{Sighting}

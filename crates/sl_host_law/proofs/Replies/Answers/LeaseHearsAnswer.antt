@@ -1,6 +1,6 @@
 -- A lease that hears the answer to its newest call stands for its calls with the answer.
-use Rattle.sl_area.specs.Layouts.{Layout}
-use Rattle.sl_area.specs.Places.{blocks_of}
+use Rattle.sl_area.specs.AreaSizes.{Layout}
+use Rattle.sl_area.specs.Pairs.{blocks_of}
 use Rattle.sl_host_state.proofs.Pairs.{PairStands, at_phase, at_step, blocks_are_shown, last_kind, leader_is_shown, pair_hears, second_finds}
 use Rattle.sl_host_state.specs.HeardInputs.{blocks_shown, concludes_at, is_free_step, is_last_phase, is_phase_step, leader_shown, lease_hearing, pair_hearing, read_heard, settles_at, stop_shown, top_hearing, verified_at, won_at, won_hearing}
 use Rattle.sl_host_state.specs.KeptState.{LeaseState}

@@ -1,5 +1,5 @@
 -- A member that hears the answer to a call of its own stands for its session; any other member stands as it is.
-use Rattle.sl_area.specs.Layouts.{Layout}
+use Rattle.sl_area.specs.AreaSizes.{Layout}
 use Rattle.sl_host_law.proofs.SharedFacts.PlainLists.{all_as, all_from, any_as, any_mapped, at_mapped, each_of}
 use Rattle.sl_host_state.specs.HeardInputs.{asked_hearing, watch_hearing, is_heeded_by, lease_hearing, member_hearing, others, renewing_hearing, still_busy}
 use Rattle.sl_host_state.specs.KeptState.{Config, HostState, LeaseState, MemberState}
@@ -19,7 +19,7 @@ use Rattle.sl_host_law.proofs.Replies.OpenCallsAreKept.{open_delta_is}
 use Rattle.sl_host_law.proofs.Replies.PlainFilters.{all_kept}
 use Rattle.sl_host_law.proofs.Replies.Answers.RenewingHearsAnswer.{renewing_other, renewing_own}
 use Rattle.sl_host_law.specs.Replies.Answers.{FitsCall}
-use Rattle.sl_trace.specs.Deltas.{delta_known}
+use Rattle.sl_trace.specs.DeltaDecisions.{delta_known}
 use Rattle.sl_trace.specs.Sessions.{calls_of, free_write, generation_in, generation_of, has_open_delta, is_call_of, is_delta_purpose, is_present, leaving_job, me, renewal_in, renewing, seq_in}
 use Rattle.sl_trace.specs.declared.delta.DeltaKnown.{DeltaKnown}
 use Rattle.sl_trace.specs.declared.session.Renewing.{Renewing}

@@ -1,5 +1,5 @@
 -- How a session stands with its renewals after an answer: by the call that is answered, and only where it is the session's own.
-use Rattle.sl_area.specs.Places.{delta_of}
+use Rattle.sl_area.specs.AreaLayout.{delta_of}
 use Rattle.sl_host_state.specs.HeardInputs.{renewed_of, renewing_hearing, setting_of, shows_other_by}
 use Rattle.sl_host_state.specs.KeptState.{Config, HostState, MemberState}
 use Rattle.sl_host_state.specs.HostStands.{config_of, kept_call}

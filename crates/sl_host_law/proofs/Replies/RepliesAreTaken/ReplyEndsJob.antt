@@ -8,7 +8,8 @@ use Rattle.sl_host_law.specs.Replies.Answers.{IsOfOther}
 use Rattle.sl_host_law.specs.Replies.RepliesAreTaken.{LeavesHeed, is_plain_line}
 use Rattle.sl_trace.specs.Sessions.{is_join_done, is_joined, joined_after, leaves, leaving_in, leaving_job, refused_after}
 use Rattle.sl_trace.specs.declared.session.Session.{Session}
-use Rattle.sl_trace.specs.Traces.{Job, KillProgram, Replied, Setting, Submitted, Trace, answered_in, exited_by, is_before_input, is_done, is_going_on, is_of_job, is_running, job_of, kill_program_in, kill_programs, mark, new_call, next_job, program_set_in, reply_to, submitted, with_program, without_program}
+use Rattle.sl_trace.specs.Traces.{Job, Replied, Setting, Submitted, Trace, answered_in, exited_by, is_before_input, is_going_on, is_of_job, is_running, job_of, mark, new_call, next_job, reply_to, submitted}
+use Rattle.sl_trace.specs.KillPrograms.{KillProgram, is_done, kill_program_in, kill_programs, program_set_in, with_program, without_program}
 use Rattle.sl_trace.specs.declared.command.Command.TheVariants.{RemLockspace, SetKillpath}
 use Rattle.sl_trace.specs.declared.command.Command.{Command}
 use Rattle.sl_trace.specs.declared.effects.Call.{Call}

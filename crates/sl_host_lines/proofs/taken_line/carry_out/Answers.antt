@@ -1,4 +1,4 @@
-use Rattle.sl_area.specs.Layouts.{layout_of}
+use Rattle.sl_area.specs.AreaSizes.{layout_of}
 use Rattle.sl_due.specs.declared.decision.Decision.{Decision}
 use Rattle.sl_host_law.specs.Decisions.CommandDecisions.{decision_of}
 use Rattle.sl_host_law.specs.Steps.LineSteps.{deciding}
@@ -7,7 +7,7 @@ use Rattle.sl_host_lines.proofs.taken_line.carry_out.Goals as goal
 use Rattle.sl_host_lines.specs.LineFacts.{DecisionKnown}
 use Rattle.sl_host_lines.specs.Seats.{HasSeat}
 use Rattle.sl_host_state.specs.KeptState.{state_of}
-use Rattle.sl_trace.specs.Commands.{IsCommand}
+use Rattle.sl_trace.specs.CommandForms.{IsCommand}
 use Rattle.sl_trace.specs.declared.command.Command.{Command}
 use Rattle.sl_host.specs.BookQuestions.{state_in}
 use Rattle.std.proofs.Common.{ap, subst, sym, ◌∙◌}

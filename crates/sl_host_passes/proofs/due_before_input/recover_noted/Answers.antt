@@ -9,7 +9,7 @@ use Rattle.sl_host_passes.proofs.due_before_input.recover_noted.Goals as goal
 use Rattle.sl_host_passes.specs.PassesLessen.{holders_among}
 use Rattle.sl_host_state.specs.KeptState.{HostState, state_of}
 use Rattle.sl_host_work.proofs.ListPasses.{drop_next, over_end, over_next}
-use Rattle.sl_host_work.specs.Kills.{count_under}
+use Rattle.sl_host_work.specs.KilledMembers.{count_under}
 use Rattle.std.proofs.Common.{ap, arith, refl, sym, ◌≡◌, ◌∙◌}
 use Rattle.std.specs.Prelude.{Err, drop, length, ◌+◌}
 

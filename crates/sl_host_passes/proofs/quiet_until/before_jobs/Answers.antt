@@ -1,7 +1,7 @@
 use Rattle.sl_host_passes.proofs.Moments.{least_next}
 use Rattle.sl_host_passes.proofs.quiet_until.before_jobs.Goals as goal
 use Rattle.sl_host_passes.specs.NextMoment.{found_moments}
-use Rattle.sl_host_work.specs.Kills.{unread}
+use Rattle.sl_host_work.specs.KilledMembers.{unread}
 use Rattle.std.proofs.Common.{◌∙◌}
 use Rattle.std.specs.Prelude.{find, ◌==◌}
 

@@ -2,7 +2,7 @@ use Rattle.sl_host_passes.proofs.Moments.{least_next}
 use Rattle.sl_host_passes.proofs.quiet_until.before_members.Goals as goal
 use Rattle.sl_host_state.specs.KeptState.{MemberState}
 use Rattle.sl_host_state.specs.HostStands.{member_moments}
-use Rattle.sl_host_work.specs.Kills.{unread}
+use Rattle.sl_host_work.specs.KilledMembers.{unread}
 use Rattle.std.proofs.Common.{ap, sym, ◌∙◌}
 use Rattle.std.specs.Prelude.{List, slice_get}
 

@@ -6,7 +6,7 @@ use Rattle.sl_host_passes.specs.PassPremises.{JobsApart}
 use Rattle.sl_host_state.specs.HeardInputs.{quiet_to}
 use Rattle.sl_host_state.specs.KeptState.{HostKept, HostState, state_of}
 use Rattle.sl_host_state.specs.HostStands.{IsQuiet, job_moments, member_moments}
-use Rattle.sl_host_work.specs.Kills.{unread}
+use Rattle.sl_host_work.specs.KilledMembers.{unread}
 use Rattle.sl_host.specs.ChosenJobs.{chosen_among}
 use Rattle.sl_host.specs.Host.{Becomes, HostView}
 use Rattle.sl_host.specs.Notes.{NotesState}

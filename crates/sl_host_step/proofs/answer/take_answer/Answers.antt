@@ -4,7 +4,7 @@ use Rattle.sl_host_step.proofs.LinePremises.{answer_leaves}
 use Rattle.sl_host_step.proofs.AnswerPremises.{can_answer}
 use Rattle.sl_host_step.proofs.answer.take_answer.Goals as goal
 use Rattle.sl_host_step.specs.InputReach.{reach_at}
-use Rattle.sl_host_step.specs.Rooms.{ScratchState}
+use Rattle.sl_host_step.specs.StepMemory.{ScratchState}
 use Rattle.std.proofs.Common.{subst, sym}
 
 pub answer-requires-clause-can : goal.answer-requires-clause-can

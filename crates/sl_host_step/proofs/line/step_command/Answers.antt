@@ -1,7 +1,7 @@
 use Rattle.sl_host_step.proofs.LinePremises.{may_be_seated}
 use Rattle.sl_host_step.proofs.line.step_command.Goals as goal
-use Rattle.sl_host_step.specs.Rooms.{HasLeft}
-use Rattle.sl_host_step.specs.declared.rooms.Reach.{Reach}
+use Rattle.sl_host_step.specs.StepMemory.{HasLeft}
+use Rattle.sl_host_step.specs.declared.step_memory.Reach.{Reach}
 use Rattle.sl_trace.specs.declared.input.Input.TheVariants.{Line}
 use Rattle.std.proofs.Common.{subst}
 

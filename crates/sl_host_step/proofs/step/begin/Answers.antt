@@ -4,9 +4,9 @@ use Rattle.sl_host_step.proofs.MomentsFollow.{begins}
 use Rattle.sl_host_step.proofs.KnownPasses.{begin_known}
 use Rattle.sl_host_step.proofs.step.begin.Goals as goal
 use Rattle.sl_host_step.proofs.RoomsStand.{few_is_not_all, le_on}
-use Rattle.sl_host_step.specs.Rooms.{HasLeft, HasRoom, IsFarEnough, calls_for, calls_near, effects_near, left_for, reached}
-use Rattle.sl_host_step.specs.declared.rooms.Reach.TheVariants.{All, Few}
-use Rattle.sl_host_step.specs.declared.rooms.Reach.{Reach}
+use Rattle.sl_host_step.specs.StepMemory.{HasLeft, HasRoom, IsFarEnough, calls_for, calls_near, effects_near, left_for, reached}
+use Rattle.sl_host_step.specs.declared.step_memory.Reach.TheVariants.{All, Few}
+use Rattle.sl_host_step.specs.declared.step_memory.Reach.{Reach}
 use Rattle.sl_host.specs.Host.{HostView, SameMost, Spends}
 use Rattle.std.proofs.Common.{ap, arith, subst, sym, ◌∙◌}
 use Rattle.std.proofs.Math.Nat.{lt_of_not-le}

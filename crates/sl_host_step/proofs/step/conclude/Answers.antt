@@ -1,6 +1,6 @@
 use Rattle.sl_host_step.proofs.step.conclude.Goals as goal
 use Rattle.sl_host_step.proofs.RoomsStand.{fewer_still}
-use Rattle.sl_host_step.specs.Rooms.{calls_for, left_for}
+use Rattle.sl_host_step.specs.StepMemory.{calls_for, left_for}
 use Rattle.std.proofs.Common.{subst, sym, ◌∙◌}
 use Rattle.std.specs.Prelude.{◌≤◌}
 

@@ -2,7 +2,7 @@ use Rattle.sl_host_passes.specs.NextMoment.{next_moment}
 use Rattle.sl_host_step.proofs.StepsMayCome.{moment_when_done}
 use Rattle.sl_host_step.proofs.MomentsFollow.{grows_calm, stays_calm}
 use Rattle.sl_host_step.proofs.KnownPasses.{jobs_apart}
-use Rattle.sl_host_work.specs.Kills.{unread}
+use Rattle.sl_host_work.specs.KilledMembers.{unread}
 use Rattle.sl_host_step.proofs.step.grow_calm.Goals as goal
 
 pub calm-requires-clause-apart : goal.calm-requires-clause-apart

@@ -2,8 +2,8 @@ use Rattle.sl_host_state.specs.KeptState.{HostKept}
 use Rattle.sl_host_step.proofs.step.start.Goals as goal
 use Rattle.sl_host_step.proofs.RoomsStand.{far_still, left_for_input}
 use Rattle.sl_host_step.specs.Moments.{AtInput, StepComes}
-use Rattle.sl_host_step.specs.Rooms.{HasLeft}
-use Rattle.sl_host_step.specs.declared.rooms.Reach.{Reach}
+use Rattle.sl_host_step.specs.StepMemory.{HasLeft}
+use Rattle.sl_host_step.specs.declared.step_memory.Reach.{Reach}
 use Rattle.std.proofs.Common.{ap, subst, sym}
 use Rattle.std.specs.Prelude.{nat_le}
 

@@ -1,4 +1,4 @@
-use Rattle.sl_due.specs.DueLease.{grant_of}
+use Rattle.sl_due.specs.CarriedLease.{grant_of}
 use Rattle.sl_host_state.specs.KeptState.{HostState, state_of}
 use Rattle.sl_host_state.specs.MadeEffects.{with_grant, with_start}
 use Rattle.sl_host_work.proofs.grants.start.Goals as goal

@@ -1,4 +1,4 @@
-use Rattle.sl_area.specs.Layouts.{layout_of}
+use Rattle.sl_area.specs.AreaSizes.{layout_of}
 use Rattle.sl_host_work.proofs.BlocksStand.{block_as}
 use Rattle.sl_host_work.proofs.lease_work.block_record.Goals as goal
 use Rattle.std.proofs.Common.{◌∙◌}

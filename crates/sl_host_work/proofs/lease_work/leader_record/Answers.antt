@@ -1,4 +1,4 @@
-use Rattle.sl_area.specs.Layouts.{layout_of}
+use Rattle.sl_area.specs.AreaSizes.{layout_of}
 use Rattle.sl_host_work.proofs.BlocksStand.{leader_as}
 use Rattle.sl_host_work.proofs.lease_work.leader_record.Goals as goal
 use Rattle.std.specs.Prelude.{false, true}

@@ -3,7 +3,7 @@ use Rattle.sl_host_law.specs.StepParts.Signals.{over}
 use Rattle.sl_host_state.specs.KeptState.{state_of}
 use Rattle.sl_host_work.proofs.recoveries.kill_all.Given as goal
 use Rattle.sl_host_work.specs.Holders.{SameButSignals}
-use Rattle.sl_host_work.specs.Kills.{holders_of_all}
+use Rattle.sl_host_work.specs.KilledMembers.{holders_of_all}
 use Rattle.sl_trace.specs.declared.command.Command.{Command}
 use Rattle.sl_host.specs.Host.{SameRun}
 use Rattle.std.proofs.Common.{List, Result, drop, ℕ, ◌+◌, ◌≡◌, ◌≤◌}

@@ -1,7 +1,7 @@
 use Rattle.sl_host_state.specs.KeptState.{state_of}
 use Rattle.sl_host_work.proofs.RefusalsStand.{cost_is, no_recovery_is, recovery_is}
 use Rattle.sl_host_work.proofs.refusals.recover.Goals as goal
-use Rattle.sl_host_work.specs.Kills.{unread}
+use Rattle.sl_host_work.specs.KilledMembers.{unread}
 use Rattle.sl_host_work.specs.Stops.{recovering_of}
 use Rattle.sl_member.specs.HostMembers.{member_with}
 use Rattle.std.proofs.Common.{arith, ◌∙◌}

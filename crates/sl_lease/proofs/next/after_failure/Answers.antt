@@ -1,6 +1,6 @@
 use Rattle.sl_lease.proofs.KnownLaws.{refusals_are_within}
 use Rattle.sl_lease.proofs.next.after_failure.Goals as goal
-use Rattle.sl_trace.specs.LeaseWork.{within_turn}
+use Rattle.sl_trace.specs.LeaseDecisions.{within_turn}
 use Rattle.sl_trace.specs.declared.reply.Reply.TheVariants.{IoFault}
 use Rattle.std.proofs.Common.{ap, sym, ◌∙◌}
 

@@ -1,4 +1,4 @@
-use Rattle.sl_area.specs.Places.{later_pair}
+use Rattle.sl_area.specs.Pairs.{later_pair}
 use Rattle.sl_lease.proofs.pairs.merge.Goals as goal
 use Rattle.sl_sector.specs.Records.{IsPair}
 use Rattle.sl_sector.specs.declared.sector.PairBlock.{PairBlock}

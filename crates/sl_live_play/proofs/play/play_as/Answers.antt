@@ -2,9 +2,9 @@ use Rattle.sl_reader.specs.Scopes.{scope_of}
 use Rattle.sl_live_play.proofs.MachineBeginnings.{beginnings}
 use Rattle.sl_live_play.proofs.LivePlayOwed.{owes_run, puts_so}
 use Rattle.sl_live_play.proofs.play.play_as.Goals as goal
-use Rattle.sl_live_locks.specs.LocksAlong.{begun_along}
+use Rattle.sl_live_lines.specs.LocksAlong.{begun_along}
 use Rattle.sl_live_play.specs.LiveOwed.{PutsEnded}
-use Rattle.sl_reader.specs.Scripts.{ReadsScript}
+use Rattle.sl_reader.specs.ScriptReading.{ReadsScript}
 use Rattle.sl_reader.specs.HeaderBegins.{HeaderBegins}
 use Rattle.sl_run.specs.Worlds.{first_numbers}
 use Rattle.std.proofs.Common.{IfOk, ap, subst, sym, ◌∙◌}

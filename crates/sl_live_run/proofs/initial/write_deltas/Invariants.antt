@@ -1,5 +1,5 @@
 -- The records of the ids so far were written.
-use Rattle.sl_direct.specs.Steps.{Wrote}
+use Rattle.sl_direct.specs.HalfDone.{Wrote}
 use Rattle.sl_live_run.proofs.initial.write_deltas.Given as goal
 use Rattle.sl_live_run.specs.Areas.{delta_write}
 use Rattle.std.proofs.Common.{map, ◌≤◌}

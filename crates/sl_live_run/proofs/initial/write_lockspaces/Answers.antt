@@ -1,5 +1,5 @@
 -- What lies on the disk of one line more stands behind the rest.
-use Rattle.sl_direct.specs.Steps.{Wrote}
+use Rattle.sl_direct.specs.HalfDone.{Wrote}
 use Rattle.sl_live_run.proofs.WriteLaws.{item_inside, wrote_all, wrote_more}
 use Rattle.sl_live_run.proofs.initial.write_lockspaces.Goals as goal
 use Rattle.sl_live_run.specs.Areas.{lockspace_writes_at}

@@ -1,5 +1,5 @@
 -- What lies on the disk of the lines so far was written.
-use Rattle.sl_direct.specs.Steps.{Wrote}
+use Rattle.sl_direct.specs.HalfDone.{Wrote}
 use Rattle.sl_live_run.proofs.initial.write_resources.Given as goal
 use Rattle.sl_live_run.specs.Areas.{resource_writes_at}
 use Rattle.std.proofs.Common.{take, ◌≤◌}

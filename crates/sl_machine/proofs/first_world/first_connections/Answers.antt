@@ -2,7 +2,7 @@ use Rattle.sl_machine.proofs.PlainFilled.{map_given, one_more_given, take_past}
 use Rattle.sl_machine.proofs.first_world.first_connections.Goals as goal
 use Rattle.sl_run.specs.Worlds.{given_of}
 use Rattle.sl_run.specs.declared.header.SessionLine.{SessionLine}
-use Rattle.sl_trace.specs.Connections.{Connection, given_connection}
+use Rattle.sl_trace.specs.WatchdogConnections.{Connection, given_connection}
 use Rattle.std.proofs.Common.{List, Option, ap, option_map, ◌++◌, ◌∙◌}
 use Rattle.std.specs.List.{filter_map}
 use Rattle.std.specs.Option.{option_to_list}

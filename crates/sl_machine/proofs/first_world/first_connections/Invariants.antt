@@ -1,6 +1,6 @@
 use Rattle.sl_machine.proofs.first_world.first_connections.Given as goal
 use Rattle.sl_run.specs.Worlds.{given_of}
-use Rattle.sl_trace.specs.Connections.{given_connection}
+use Rattle.sl_trace.specs.WatchdogConnections.{given_connection}
 use Rattle.std.proofs.Common.{option_map, take, ◌≡◌}
 use Rattle.std.specs.List.{filter_map}
 

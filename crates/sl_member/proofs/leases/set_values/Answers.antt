@@ -1,4 +1,4 @@
-use Rattle.sl_area.specs.Layouts.{layout_of}
+use Rattle.sl_area.specs.AreaSizes.{layout_of}
 use Rattle.sl_member.proofs.leases.set_values.Goals as goal
 use Rattle.sl_member.specs.Leases.{value_set}
 use Rattle.std.proofs.Common.{rules}

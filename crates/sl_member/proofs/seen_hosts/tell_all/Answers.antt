@@ -1,5 +1,5 @@
-use Rattle.sl_area.specs.Layouts.{layout_of}
-use Rattle.sl_area.specs.Places.{read_at}
+use Rattle.sl_area.specs.AreaSizes.{layout_of}
+use Rattle.sl_area.specs.AreaLayout.{read_at}
 use Rattle.sl_member.proofs.Ranges.{told_more}
 use Rattle.sl_member.proofs.seen_hosts.tell_all.Goals as goal
 use Rattle.sl_watch.specs.ToldLooks.{told_at}

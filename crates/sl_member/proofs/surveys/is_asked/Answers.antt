@@ -1,4 +1,4 @@
-use Rattle.sl_area.specs.Layouts.{layout_of}
+use Rattle.sl_area.specs.AreaSizes.{layout_of}
 use Rattle.sl_member.proofs.Ranges.{none_more, one_asks}
 use Rattle.sl_member.proofs.surveys.is_asked.Goals as goal
 use Rattle.sl_member.specs.SeenSessions.{asks_by}

@@ -1,4 +1,4 @@
-use Rattle.sl_area.specs.Layouts.{layout_of}
+use Rattle.sl_area.specs.AreaSizes.{layout_of}
 use Rattle.sl_member.proofs.surveys.is_asked.Given as goal
 use Rattle.sl_member.specs.SeenSessions.{asks_by}
 use Rattle.std.proofs.Common.{false, ◌≡◌}

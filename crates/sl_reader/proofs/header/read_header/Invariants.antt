@@ -1,6 +1,6 @@
-use Rattle.sl_report.specs.ScheduleLines.{HeaderLine}
+use Rattle.sl_report.specs.HeaderLines.{HeaderLine}
 use Rattle.sl_report.specs.Schedules.{greatest_source}
-use Rattle.sl_schedule.specs.Headers.{Stands}
+use Rattle.sl_schedule.specs.HeadersSoFar.{Stands}
 use Rattle.sl_reader.proofs.HeaderSteps.{IsWithin}
 use Rattle.sl_reader.proofs.header.read_header.Given as goal
 use Rattle.sl_reader.specs.LineReads.{EndStands}

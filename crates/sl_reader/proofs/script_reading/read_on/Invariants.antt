@@ -1,5 +1,5 @@
 use Rattle.sl_reader.proofs.script_reading.read_on.Given as goal
-use Rattle.sl_reader.specs.Scripts.{Passes, ScriptLine}
+use Rattle.sl_reader.specs.ScriptReading.{Passes, ScriptLine}
 use Rattle.sl_report.specs.Schedules.{greatest_source}
 use Rattle.sl_reader.specs.LineReads.{EndStands, ReaderState}
 use Rattle.std.proofs.Common.{List, Option, ℕ, ◌-◌, ◌≤◌}

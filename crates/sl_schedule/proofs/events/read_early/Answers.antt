@@ -1,4 +1,4 @@
-use Rattle.sl_report.specs.ScheduleLines.{event_forms}
+use Rattle.sl_report.specs.EventLines.{event_forms}
 use Rattle.sl_run.specs.declared.event.Event.TheVariants.{AnswerCall, Do, DropWrite, Land, Sample, WakeUp}
 use Rattle.sl_schedule.proofs.EventLaws.{pass_made, tear_made}
 use Rattle.sl_schedule.proofs.ReadLaws.{made_of_none, made_of_one, made_of_three, made_of_two, no_words}

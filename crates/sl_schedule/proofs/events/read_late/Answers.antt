@@ -1,4 +1,4 @@
-use Rattle.sl_report.specs.ScheduleLines.{event_forms}
+use Rattle.sl_report.specs.EventLines.{event_forms}
 use Rattle.sl_run.specs.declared.event.Event.TheVariants.{Crash, ExitOf, Reset, Restart, SpawnedOf, StartDaemon, Test}
 use Rattle.sl_schedule.proofs.ReadLaws.{made_of_none, made_of_one, made_of_three, made_of_two, no_words}
 use Rattle.sl_schedule.proofs.events.read_late.Goals as goal

@@ -1,4 +1,4 @@
-use Rattle.sl_report.specs.ScheduleLines.{AreaLine, BeginLine, ClockLine, DiskLine, GeometryLine, HostsLine, IdsLine, LeaseLine, LvmLine, MemberLine, TimeLine, VersionLine, header_forms}
+use Rattle.sl_report.specs.HeaderLines.{AreaLine, BeginLine, ClockLine, DiskLine, GeometryLine, HostsLine, IdsLine, LeaseLine, LvmLine, MemberLine, TimeLine, VersionLine, header_forms}
 use Rattle.sl_schedule.proofs.HeaderReadLaws.{seen_made}
 use Rattle.sl_schedule.proofs.ReadLaws.{made_behind_verb, made_of_five, made_of_four, made_of_none, made_of_one, made_of_three, made_of_two, no_words}
 use Rattle.sl_schedule.proofs.header_line.header_line.Goals as goal

@@ -1,6 +1,6 @@
 use Rattle.sl_schedule.proofs.ScheduleLaws.{told}
 use Rattle.sl_schedule.proofs.schedule.pass_header.Goals as goal
-use Rattle.sl_schedule.specs.Headers.{lines_after}
+use Rattle.sl_schedule.specs.HeadersSoFar.{lines_after}
 use Rattle.sl_schedule.specs.Lines.{line_seen}
 use Rattle.sl_schedule.specs.declared.header.Added.TheVariants.{Begun, More, Refused}
 use Rattle.std.proofs.Common.{sym, ◌∙◌}

@@ -1,8 +1,8 @@
 use Rattle.sl_report.specs.Languages.{whole_language}
-use Rattle.sl_report.specs.ScheduleLines.{HeaderLine}
+use Rattle.sl_report.specs.HeaderLines.{HeaderLine}
 use Rattle.sl_report.specs.Schedules.{read_header}
 use Rattle.sl_schedule.proofs.schedule.pass_header.Given as goal
-use Rattle.sl_schedule.specs.Headers.{Stands}
+use Rattle.sl_schedule.specs.HeadersSoFar.{Stands}
 use Rattle.std.proofs.Common.{List, [], length, ◌≡◌}
 
 abbrev pub invariant-loop-line : goal.invariant-loop-line

@@ -1,7 +1,7 @@
 use Rattle.sl_cell.proofs.KeptLaws.{core_on, may_come, within}
 use Rattle.sl_cell.proofs.daemon_history.Core.step.Goals as goal
 use Rattle.sl_cell.specs.Cells.{IsCore}
-use Rattle.sl_cell.specs.Rooms.{Holds}
+use Rattle.sl_cell.specs.CopyRoom.{Holds}
 use Rattle.sl_world_state.specs.Daemons.{MayCome, entry_of}
 use Rattle.sl_trace.specs.Traces.{takes_number}
 use Rattle.std.proofs.Common.{ap, ap₂, if◌then◌else◌, length, reverse, subst, sym, ◌++◌, ◌+◌, ◌∙◌, ◌∷◌, ◌≤◌, []}

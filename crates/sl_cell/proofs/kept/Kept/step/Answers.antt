@@ -2,7 +2,7 @@ use Rattle.sl_cell.proofs.KeptLaws.{connections_on, kept_grown, left_grown, queu
 use Rattle.sl_cell.proofs.kept.Kept.step.Goals as goal
 use Rattle.sl_cell.specs.Cells.{KeptState, Stepped, made_entry, with_entry}
 use Rattle.sl_cell.specs.declared.seat.Part.TheVariants.{Delta, Resource}
-use Rattle.sl_trace.specs.Connections.{after_move, connections}
+use Rattle.sl_trace.specs.WatchdogConnections.{after_move, connections}
 use Rattle.std.proofs.Common.{ap, ap₂, fold, length, reverse, subst, sym, ◌+◌, ◌∙◌}
 
 pub invariant_of-self-2 : goal.invariant_of-self-2

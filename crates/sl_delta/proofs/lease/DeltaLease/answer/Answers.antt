@@ -1,4 +1,4 @@
-use Rattle.sl_area.specs.Layouts.{IsGeometry}
+use Rattle.sl_area.specs.AreaSizes.{IsGeometry}
 use Rattle.sl_delta.proofs.StepLaws.{sized_is, survey_is}
 use Rattle.sl_delta.proofs.lease.DeltaLease.answer.Goals as goal
 use Rattle.sl_delta.specs.Steps.{after_told, begun, given_told, is_late, with_recovery}

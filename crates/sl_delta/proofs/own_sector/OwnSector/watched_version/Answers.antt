@@ -1,7 +1,7 @@
-use Rattle.sl_area.specs.Layouts.{layout_of}
+use Rattle.sl_area.specs.AreaSizes.{layout_of}
 use Rattle.sl_delta.proofs.own_sector.OwnSector.watched_version.Goals as goal
 use Rattle.sl_delta.specs.DeltaDecisions.{watched_in}
-use Rattle.sl_trace.specs.Deltas.{version_in}
+use Rattle.sl_trace.specs.DeltaDecisions.{version_in}
 use Rattle.std.proofs.Common.{ap, ◌∙◌}
 
 pub returns : goal.returns

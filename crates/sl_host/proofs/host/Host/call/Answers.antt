@@ -1,9 +1,9 @@
-use Rattle.sl_area.specs.Layouts.{Sizes, layout_of}
+use Rattle.sl_area.specs.AreaSizes.{Sizes, layout_of}
 use Rattle.sl_host_state.specs.KeptState.{HostState, state_of}
 use Rattle.sl_host_state.specs.MadeEffects.{with_call}
 use Rattle.sl_member.specs.Members.{IsOwnCall, member_called}
 use Rattle.sl_member.specs.HostMembers.{changed_member}
-use Rattle.sl_trace.specs.Limits.{most_lockspaces}
+use Rattle.sl_trace.specs.CountLimits.{most_lockspaces}
 use Rattle.sl_trace.specs.Traces.{Submitted, new_call}
 use Rattle.sl_trace.specs.declared.effects.Call.{Call}
 use Rattle.sl_host.proofs.HostStands.{lowered_room, same_run}

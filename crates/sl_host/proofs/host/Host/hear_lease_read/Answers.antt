@@ -1,4 +1,4 @@
-use Rattle.sl_area.specs.Layouts.{layout_of}
+use Rattle.sl_area.specs.AreaSizes.{layout_of}
 use Rattle.sl_member.specs.Laws.{area_of_call}
 use Rattle.sl_member.specs.Members.{RunOf, lease_changed}
 use Rattle.sl_trace.specs.declared.effects.Spot.{Spot}

@@ -1,10 +1,10 @@
-use Rattle.sl_area.specs.Layouts.{Sizes, layout_of}
+use Rattle.sl_area.specs.AreaSizes.{Sizes, layout_of}
 use Rattle.sl_host_state.specs.KeptState.{HostState, MemberState, state_of}
 use Rattle.sl_host_state.specs.MadeEffects.{with_joining, with_member}
 use Rattle.sl_member.specs.Members.{IsOwnCall, RunOf, blank_member, member_called}
 use Rattle.sl_member.specs.HostMembers.{changed_member, member_with}
 use Rattle.sl_trace.specs.Sessions.{joining_session}
-use Rattle.sl_trace.specs.Limits.{most_lockspaces}
+use Rattle.sl_trace.specs.CountLimits.{most_lockspaces}
 use Rattle.sl_trace.specs.Traces.{Submitted, new_call}
 use Rattle.sl_trace.specs.declared.effects.Call.{Call}
 use Rattle.sl_trace.specs.declared.effects.JoinStep.TheVariants.{FirstRead}

@@ -1,7 +1,7 @@
 use Rattle.sl_lease.proofs.KnownLaws.{decides}
 use Rattle.sl_lease.proofs.lease.Lease.convert.Goals as goal
 use Rattle.sl_lease.specs.Side.{layout_in}
-use Rattle.sl_trace.specs.LeaseWork.{convert_next}
+use Rattle.sl_trace.specs.Conversions.{convert_next}
 use Rattle.sl_trace.specs.Leases.{last_blocks}
 use Rattle.sl_trace.specs.declared.lease.Aim.TheVariants.{Converts}
 

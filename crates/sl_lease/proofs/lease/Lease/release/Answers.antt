@@ -1,7 +1,7 @@
 use Rattle.sl_lease.proofs.KnownLaws.{decides}
 use Rattle.sl_lease.proofs.lease.Lease.release.Goals as goal
 use Rattle.sl_lease.specs.Side.{layout_in, place_of}
-use Rattle.sl_trace.specs.LeaseWork.{release_next}
+use Rattle.sl_trace.specs.Releases.{release_next}
 use Rattle.sl_trace.specs.Leases.{last_blocks}
 use Rattle.sl_trace.specs.declared.lease.Aim.TheVariants.{Releases}
 

@@ -1,7 +1,7 @@
 use Rattle.sl_lease.proofs.KnownLaws.{decides}
 use Rattle.sl_lease.proofs.lease.Lease.settle.Goals as goal
 use Rattle.sl_lease.specs.Side.{layout_in, place_of}
-use Rattle.sl_trace.specs.LeaseWork.{settle_begin}
+use Rattle.sl_trace.specs.LeaseDecisions.{settle_begin}
 use Rattle.sl_trace.specs.Leases.{last_blocks}
 use Rattle.sl_trace.specs.declared.lease.Aim.TheVariants.{Settles}
 

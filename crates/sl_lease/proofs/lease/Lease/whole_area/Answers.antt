@@ -1,6 +1,6 @@
 use Rattle.sl_lease.proofs.lease.Lease.whole_area.Goals as goal
 use Rattle.sl_lease.specs.Side.{known_with, place_of}
-use Rattle.sl_trace.specs.LeaseWork.{LeasePlace, begin_or_refuse}
+use Rattle.sl_trace.specs.LeaseDecisions.{LeasePlace, begin_or_refuse}
 use Rattle.sl_trace.specs.Leases.{LeaseKnown, instance_for}
 use Rattle.sl_trace.specs.declared.lease.LeaseNext.TheVariants.{Nothing}
 use Rattle.std.proofs.Common.{ap, sym, ◌∙◌}

@@ -1,4 +1,4 @@
-use Rattle.sl_area.specs.Layouts.{layout_of}
+use Rattle.sl_area.specs.AreaSizes.{layout_of}
 use Rattle.sl_member.proofs.CallsWork.{lease_works, nothing_works}
 use Rattle.sl_member.proofs.leases.Leases.calling.Goals as goal
 use Rattle.sl_trace.specs.Traces.{new_call}

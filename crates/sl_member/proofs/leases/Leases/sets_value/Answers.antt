@@ -1,4 +1,4 @@
-use Rattle.sl_area.specs.Layouts.{layout_of}
+use Rattle.sl_area.specs.AreaSizes.{layout_of}
 use Rattle.sl_member.proofs.CallsWork.{mapped_rises, value_stays}
 use Rattle.sl_member.proofs.leases.Leases.sets_value.Goals as goal
 use Rattle.sl_member.specs.Leases.{AreByPlace, value_set}

@@ -1,4 +1,4 @@
-use Rattle.sl_area.specs.Layouts.{layout_of}
+use Rattle.sl_area.specs.AreaSizes.{layout_of}
 use Rattle.sl_delta.proofs.EnoughLaws.{hosts_keep_the_same}
 use Rattle.sl_delta.specs.OwnSector.{OwnState, after_call}
 use Rattle.sl_host_state.specs.KeptState.{JoinState, MemberState}

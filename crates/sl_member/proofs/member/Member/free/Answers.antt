@@ -2,7 +2,7 @@ use Rattle.sl_delta.specs.OwnSector.{known_with}
 use Rattle.sl_member.proofs.MemberParts.{lease_is}
 use Rattle.sl_member.proofs.member.Member.free.Goals as goal
 use Rattle.sl_member.specs.Members.{MemberKept, delta_lease}
-use Rattle.sl_trace.specs.Deltas.{next_free}
+use Rattle.sl_trace.specs.DeltaDecisions.{next_free}
 use Rattle.std.proofs.Common.{ap, is_some, ◌∙◌}
 
 pub returns-clause-exact : goal.returns-clause-exact

@@ -1,4 +1,4 @@
-use Rattle.sl_area.specs.Layouts.{layout_of}
+use Rattle.sl_area.specs.AreaSizes.{layout_of}
 use Rattle.sl_member.proofs.CalledMembers.{called_kept, called_members, nobody_called, one_item, room_at}
 use Rattle.sl_member.proofs.MembersByNumber.{has_number}
 use Rattle.sl_member.proofs.members.Members.calling.Goals as goal

@@ -1,7 +1,7 @@
 -- What was read of a script.
 use Rattle.sl_reader.proofs.ScriptLaws.{reads_script}
 use Rattle.sl_reader.proofs.script.ScriptLines.close.Goals as goal
-use Rattle.sl_reader.specs.Scripts.{ScriptState}
+use Rattle.sl_reader.specs.ScriptReading.{ScriptState}
 use Rattle.std.proofs.Common.{ap, sym, ◌∙◌}
 
 pub returns-clause-script : goal.returns-clause-script

@@ -1,7 +1,7 @@
 -- The next line is given, or the script ends.
 use Rattle.sl_reader.proofs.ScriptNext.{script_next}
 use Rattle.sl_reader.proofs.script.ScriptLinesLiveLines.next.Goals as goal
-use Rattle.sl_reader.specs.Scripts.{IsScript}
+use Rattle.sl_reader.specs.ScriptReading.{IsScript}
 use Rattle.std.proofs.Common.{subst}
 
 pub invariant_of-self : goal.invariant_of-self

@@ -1,6 +1,6 @@
 use Rattle.sl_schedule.proofs.HeaderLaws.{answer_is, stands_after}
 use Rattle.sl_schedule.proofs.header.HeaderReader.add.Goals as goal
-use Rattle.sl_schedule.specs.Headers.{HeaderSoFar, Stands, lines_after}
+use Rattle.sl_schedule.specs.HeadersSoFar.{HeaderSoFar, Stands, lines_after}
 use Rattle.std.proofs.Common.{subst, sym, ◌∙◌}
 use Rattle.std.proofs.lemmas.Result.{IfOk-weaker, on_ok_weaker}
 

@@ -1,8 +1,8 @@
-use Rattle.sl_report.specs.ScheduleLines.{header_tests}
+use Rattle.sl_report.specs.HeaderRefusals.{header_tests}
 use Rattle.sl_run.specs.Worlds.{first_that}
 use Rattle.sl_schedule.proofs.header.HeaderReader.value_refusal.Goals as goal
 use Rattle.sl_schedule.specs.HeaderReads.{header_seen}
-use Rattle.sl_schedule.specs.Headers.{header_now}
+use Rattle.sl_schedule.specs.HeadersSoFar.{header_now}
 use Rattle.std.proofs.Common.{ap, sym, ◌∙◌}
 
 pub returns-in-Times-clause-exact : goal.returns-in-Times-clause-exact

@@ -1,6 +1,6 @@
 use Rattle.sl_world_state.specs.Refusals.{refusal_in}
 use Rattle.sl_machine.specs.KeptParts.{kept_state}
-use Rattle.sl_run.specs.Events.{refusal_of}
+use Rattle.sl_run.specs.Refusals.{refusal_of}
 use Rattle.sl_world.proofs.RefusedEvents.{is_refused, nothing_refuses, refuses}
 use Rattle.sl_world.proofs.world.World.apply.Goals as goal
 use Rattle.sl_world_law.proofs.EventsStand.{refusals_stand}

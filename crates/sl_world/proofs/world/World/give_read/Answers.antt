@@ -1,6 +1,6 @@
 use Rattle.sl_world_state.specs.Daemons.{read_of}
 use Rattle.sl_machine.specs.KeptParts.{kept_state}
-use Rattle.sl_locks.specs.declared.step.LockInput.TheVariants.{Nothing}
+use Rattle.sl_locks.specs.declared.line_steps.LockInput.TheVariants.{Nothing}
 use Rattle.sl_world.proofs.GivenSteps.{is_given, taken_up, takes_step}
 use Rattle.sl_world.proofs.ToldSteps.{heard_part, step_told}
 use Rattle.sl_world.proofs.world.World.give_read.Goals as goal

@@ -1,5 +1,0 @@
-use Rattle.sl_ballots.proofs.Grantings.GrantsMeet.{kept_is_open}
-use Rattle.sl_ballots.proofs.laws.holdings.kept_is_open.Goals as goal
-
-pub returns : goal.returns
-returns c = kept_is_open

@@ -1,5 +1,0 @@
-use Rattle.sl_ballots.proofs.Grantings.GrantsMeet.{marks_last}
-use Rattle.sl_ballots.proofs.laws.holdings.marks_last.Goals as goal
-
-pub returns : goal.returns
-returns c = marks_last

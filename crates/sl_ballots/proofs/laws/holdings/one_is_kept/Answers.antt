@@ -1,5 +1,0 @@
-use Rattle.sl_ballots.proofs.Grantings.GrantsMeet.{one_is_kept}
-use Rattle.sl_ballots.proofs.laws.holdings.one_is_kept.Goals as goal
-
-pub returns : goal.returns
-returns c = one_is_kept

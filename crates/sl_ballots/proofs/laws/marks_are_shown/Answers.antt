@@ -1,5 +1,0 @@
-use Rattle.sl_ballots.proofs.HoldingLaws.{marks_shown}
-use Rattle.sl_ballots.proofs.laws.marks_are_shown.Goals as goal
-
-pub returns : goal.returns
-returns c = marks_shown

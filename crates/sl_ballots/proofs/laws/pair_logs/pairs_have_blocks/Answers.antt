@@ -1,5 +1,0 @@
-use Rattle.sl_ballots.proofs.PairLogs.RegistersAreRead.{pairs_have_blocks}
-use Rattle.sl_ballots.proofs.laws.pair_logs.pairs_have_blocks.Goals as goal
-
-pub returns : goal.returns
-returns c = pairs_have_blocks

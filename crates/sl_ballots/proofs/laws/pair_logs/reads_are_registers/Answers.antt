@@ -1,5 +1,0 @@
-use Rattle.sl_ballots.proofs.PairLogs.RegistersAreRead.{reads_are_registers}
-use Rattle.sl_ballots.proofs.laws.pair_logs.reads_are_registers.Goals as goal
-
-pub returns : goal.returns
-returns c = reads_are_registers

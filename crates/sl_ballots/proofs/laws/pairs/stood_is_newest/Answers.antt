@@ -1,5 +1,0 @@
-use Rattle.sl_ballots.proofs.Pairs.ReadLaws.{stood_newest}
-use Rattle.sl_ballots.proofs.laws.pairs.stood_is_newest.Goals as goal
-
-pub returns : goal.returns
-returns c = stood_newest

@@ -1,0 +1,13 @@
+-- The records of the ids so far were written.
+use Rattle.sl_area.specs.AreaSizes.{layout_of}
+use Rattle.sl_direct.proofs.fresh_areas.write_lockspace.Given as goal
+use Rattle.sl_direct.specs.FreshAreas.{delta_write}
+use Rattle.sl_direct.specs.HalfDone.{Wrote}
+use Rattle.std.proofs.Common.{map, ◌≤◌}
+use Rattle.std.specs.List.{range_with_len}
+
+abbrev pub invariant-loop-before : goal.invariant-loop-before
+invariant-loop-before g l = record {
+  wrote : Wrote (map (delta_write (layout_of l.geometry) l.lockspace l.base) (range_with_len 1 l.before)) (g.A.Area.content l.fn.area) (g.A.Area.content l.area);
+  later : g.A.Area.faults l.fn.area ≤ g.A.Area.faults l.area;
+}

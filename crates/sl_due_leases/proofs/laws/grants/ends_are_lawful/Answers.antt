@@ -1,5 +1,0 @@
-use Rattle.sl_due_leases.proofs.Grants.EndsAreLawful as its
-use Rattle.sl_due_leases.proofs.laws.grants.ends_are_lawful.Goals as goal
-
-pub returns : goal.returns
-returns c = its.ends_are_lawful

@@ -1,5 +1,0 @@
-use Rattle.sl_headline.proofs.Quiet.Start.MadeRunsQuiet.{made_runs_are_quiet}
-use Rattle.sl_headline.proofs.laws.quiet.start.made_runs_are_quiet.Goals as goal
-
-pub returns : goal.returns
-returns g c = made_runs_are_quiet g.D.Daemon.stands

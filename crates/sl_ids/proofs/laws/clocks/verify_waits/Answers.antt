@@ -1,5 +1,0 @@
-use Rattle.sl_ids.proofs.Clocks.WatchdogLaws.{verify}
-use Rattle.sl_ids.proofs.laws.clocks.verify_waits.Goals as goal
-
-pub returns : goal.returns
-returns c = verify

@@ -1,0 +1,51 @@
+-- A step of the locks by what they take of an entry is that by the entry.
+use Rattle.sl_live_lines.specs.LocksAlong.{AlongState, asked_along, heard_in, lock_of}
+use Rattle.sl_locks.specs.Steps.{heard_by, lock_input}
+use Rattle.sl_run.specs.Locks.{Locks, ended_locks, locks_after, numbered_locks, replied_locks}
+use Rattle.sl_trace.specs.declared.effects.Effects.{Effects}
+use Rattle.sl_trace.specs.declared.effects.Entry.{Entry}
+use Rattle.sl_trace.specs.declared.effects.JobReply.{JobReply}
+use Rattle.sl_trace.specs.declared.input.Input.TheVariants.{Answer as Told_of, Exit, Line, Number, Spawned, Wake}
+use Rattle.sl_trace.specs.declared.input.Input.{Input}
+use Rattle.std.proofs.Common.{List, None, Option, Some, [], ap, cond, refl, ℕ, ◌≡◌, ◌∙◌, ◌∷◌}
+use Rattle.std.specs.List.{find}
+use Rattle.std.specs.Option.{option_to_list}
+use Rattle.std.specs.Prelude.{Bool, false, true, ◌==◌}
+
+-- ---- the reply to the ask
+
+-- What was found is found again where it stands alone.
+again : (n : ℕ) (r : JobReply) (rest : Option JobReply) (b : Bool) → (r.job == n) ≡ b → find (λ x. x.job == n) (option_to_list rest) ≡ rest
+    → find (λ x. x.job == n) (option_to_list (cond b (Some r) rest)) ≡ cond b (Some r) rest
+again n r rest true is same = ap (λ t. cond t (Some r) None) is
+again n r rest false is same = same
+
+found_again : (n : ℕ) (rs : List JobReply) → find (λ r. r.job == n) (option_to_list (find (λ r. r.job == n) rs)) ≡ find (λ r. r.job == n) rs
+found_again n [] = refl
+found_again n (r ∷ rs) = again n r (find (λ x. x.job == n) rs) (r.job == n) refl (found_again n rs)
+
+heard_again : (asked : Option ℕ) (rs : List JobReply) → heard_in asked (option_to_list (heard_in asked rs)) ≡ heard_in asked rs
+heard_again None rs = refl
+heard_again (Some n) rs = found_again n rs
+
+replied_same : (fx fx' : Effects) (k : Locks) → heard_in k.asked fx'.replies ≡ heard_in k.asked fx.replies → replied_locks fx' k ≡ replied_locks fx k
+replied_same fx fx' k same = ap (λ o. heard_by o k) same
+
+-- ---- a step
+
+after_same : (n : ℕ) (i : Input) (fx fx' : Effects) (k : Locks) → heard_in (numbered_locks n i k).asked fx'.replies ≡ heard_in (numbered_locks n i k).asked fx.replies
+    → locks_after n (lock_input (lock_of i)) fx' k ≡ locks_after n i fx k
+unfolding locks_after
+after_same n (Line text) fx fx' k same = replied_same fx fx' (numbered_locks n (Line text) k) same
+after_same n (Number text) fx fx' k same = refl
+after_same n (Exit p) fx fx' k same = ap (ended_locks (Exit p)) (replied_same fx fx' k same)
+after_same n (Told_of call answer) fx fx' k same = replied_same fx fx' k same
+after_same n Wake fx fx' k same = replied_same fx fx' k same
+after_same n (Spawned process ok) fx fx' k same = replied_same fx fx' k same
+
+-- With the one reply alone.
+pub after_heard : (a : AlongState) (e : Entry) (asked : Option ℕ) (fx : Effects) (heard : List JobReply) → asked ≡ asked_along a e → heard ≡ option_to_list (heard_in asked e.effects.replies)
+    → fx.replies ≡ heard → locks_after a.job (lock_input (lock_of e.input)) fx a.locks ≡ locks_after a.job e.input e.effects a.locks
+after_heard a e asked fx heard asked_is heard_is is =
+    after_same a.job e.input e.effects fx a.locks
+    (ap (heard_in (asked_along a e)) (is ∙ heard_is ∙ ap (λ n. option_to_list (heard_in n e.effects.replies)) asked_is) ∙ heard_again (asked_along a e) e.effects.replies)

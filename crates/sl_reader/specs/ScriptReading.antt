@@ -1,0 +1,156 @@
+-- What reading a live script from a source gives.
+use Rattle.sl_reader.specs.LiveLines.{live_line}
+use Rattle.sl_reader.specs.Scopes.{scope_of}
+use Rattle.sl_reader.specs.declared.live_lines.LiveLine.{LiveLine}
+use Rattle.sl_reader.specs.declared.live_lines.NoLine.TheVariants as no_line_for
+use Rattle.sl_reader.specs.declared.live_lines.NoLine.{NoLine}
+use Rattle.sl_reader.specs.declared.scope.Scope.{Scope}
+use Rattle.sl_reader.specs.declared.script_reading.Came.TheVariants as came
+use Rattle.sl_reader.specs.declared.script_reading.Came.{Came}
+use Rattle.sl_reader.specs.declared.script_reading.ScriptEnd.TheVariants.{End, NoMemory, ReadFault, Refused}
+use Rattle.sl_reader.specs.declared.script_reading.ScriptEnd.{ScriptEnd}
+use Rattle.sl_report.specs.Languages.{whole_language}
+use Rattle.sl_report.specs.Schedules.{Header_read, NumberedLine, numbered_from, numbered_lines, read_header}
+use Rattle.sl_run.specs.declared.event.Refusal.{Refusal}
+use Rattle.sl_run.specs.declared.header.Header.{Header}
+use Rattle.sl_reader.specs.HeaderBegins.{AreWholeLines}
+use Rattle.sl_reader.specs.LineReads.{EndStands, Gives, MayFollow, ReaderState}
+use Rattle.sl_reader.specs.declared.reader.ReadError.TheVariants as read_error
+use Rattle.sl_reader.specs.declared.reader.ReadError.{ReadError}
+use Rattle.sl_text.specs.Forms.{is_free_of, lines_of}
+use Rattle.sl_io.specs.FaultCauses.{Rose}
+use Rattle.std.specs.Io.KnownBytes.{Consumes, IsAtEnd}
+use Rattle.std.specs.Prelude.{Bool, Err, IsTrue, List, None, Ok, Option, Result, Some, false, filter_map, length, map, true, [], ℕ, ◌++◌, ◌+◌, ◌∷◌, ◌≡◌, ◌≤◌, ◌⊎◌}
+
+-- ---- what lines say
+
+-- What a line behind the header says: its number, and a live line, or why it is refused.
+abbrev pub ScriptLine : Type 0
+ScriptLine = ℕ × Result LiveLine Refusal
+
+-- What lines say, in their order; empty ones and comments say nothing.
+abbrev pub script_lines : Scope → List NumberedLine → List ScriptLine
+script_lines s ls = filter_map (live_line s) ls
+
+-- A live line with its number, as what a line says.
+abbrev pub spoken : ℕ × LiveLine → ScriptLine
+spoken x = (x.0, Ok x.1)
+
+-- What a source says that has this header: these, and then others.
+pub record Says (h : Header) (source : List ℕ) (told others : List ScriptLine) : Type 0 where
+  pub behind : List NumberedLine
+  pub header : read_header whole_language [] 1 (numbered_lines source) ≡ Header_read h behind
+  pub lines : script_lines (scope_of h) behind ≡ told ++ others
+
+-- ---- what was read
+
+-- What the lines that were given leave, where the script ended so: at the end nothing, and at a refused line that line first.
+abbrev pub Leaves : Option ScriptEnd → List ScriptLine → Type 0
+Leaves (Some End) others = others ≡ []
+Leaves (Some (Refused number why)) others = (more : List ScriptLine) × (others ≡ (number, Err why) ∷ more)
+Leaves end others = Unit {0}
+
+-- The lines that were given are all that the complete lines of what was read say, up to the last line feed.
+pub record SaysComplete (h : Header) (read : List ℕ) (told : List ScriptLine) : Type 0 where
+  pub complete : List ℕ
+  pub partial : List ℕ
+  pub cut : read ≡ complete ++ partial
+  pub whole : AreWholeLines complete
+  pub free : IsTrue (is_free_of 10 partial)
+  pub says : Says h complete told []
+
+-- A script was read so far, or to where it ended. The k-th line that was given is what the k-th line that says something says, whatever
+-- follows what was read.
+pub record ReadsScript (first now : Option (List ℕ)) (faults later : ℕ) (h : Header) (given : List LiveLine) (end : Option ScriptEnd) : Type 0 where
+  pub read : List ℕ
+  -- whether the source ended with them
+  pub ended : Bool
+  pub reads : Consumes first now read
+  pub at_end : IsTrue ended → IsAtEnd now
+  -- the lines that were given, with their numbers
+  pub numbered : List (ℕ × LiveLine)
+  pub given_are : given ≡ map (λ x. x.1) numbered
+  pub says : (rest : List ℕ) → MayFollow ended rest → (others : List ScriptLine) × Says h (read ++ rest) (map spoken numbered) others × Leaves end others
+  -- at its end the source was read to its end; a read fault was counted, and no complete line was kept back
+  pub to_end : end ≡ Some End → ended ≡ true
+  pub fault : end ≡ Some ReadFault → Rose faults later × SaysComplete h read (map spoken numbered)
+
+-- ---- behind the header
+
+-- The lines behind those that a reader has read, where these bytes follow.
+abbrev pub following : ReaderState → List ℕ → List NumberedLine
+following r bytes = numbered_from (r.behind + length bytes) r.behind (r.number + 1) (lines_of bytes)
+
+-- Whole lines were read, and this is what they say, whatever follows.
+pub record Passes (s : Scope) (first now : Option (List ℕ)) (began r : ReaderState) (told : List ScriptLine) : Type 0 where
+  pub consumed : List ℕ
+  pub gives : Gives first now began.left (consumed ++ r.left)
+  pub behind : r.behind ≡ began.behind + length consumed
+  pub still : r.ended ≡ false → (began.ended ≡ false) × AreWholeLines consumed
+  pub follows : (rest : List ℕ) → MayFollow r.ended rest → MayFollow began.ended (consumed ++ rest)
+  pub says : (rest : List ℕ) → MayFollow r.ended rest → script_lines s (following began (consumed ++ rest)) ≡ told ++ script_lines s (following r rest)
+
+-- These bytes were read, and say these and then others, whatever follows.
+pub record Tells (s : Scope) (first now : Option (List ℕ)) (began : ReaderState) (ended : Bool) (told : List ScriptLine) (Then : List ScriptLine → Type 0) : Type 0 where
+  pub bytes : List ℕ
+  pub gives : Gives first now began.left bytes
+  pub at_end : IsTrue ended → IsAtEnd now
+  pub follows : (rest : List ℕ) → MayFollow ended rest → MayFollow began.ended (bytes ++ rest)
+  pub says : (rest : List ℕ) → MayFollow ended rest → (others : List ScriptLine) × (script_lines s (following began (bytes ++ rest)) ≡ told ++ others) × Then others
+
+-- The complete ones among these lines say these, and no more.
+pub record TellsComplete (s : Scope) (began : ReaderState) (bytes : List ℕ) (told : List ScriptLine) : Type 0 where
+  pub complete : List ℕ
+  pub partial : List ℕ
+  pub cut : bytes ≡ complete ++ partial
+  pub open_still : began.ended ≡ false
+  pub whole : AreWholeLines complete
+  pub free : IsTrue (is_free_of 10 partial)
+  pub says : script_lines s (following began complete) ≡ told
+
+-- Reading has ended so behind these.
+pub record Ends (s : Scope) (first now : Option (List ℕ)) (faults later : ℕ) (began : ReaderState) (told : List ScriptLine) (end : ScriptEnd) : Type 0 where
+  pub ended : Bool
+  pub tells : Tells s first now began ended told (Leaves (Some end))
+  pub to_end : end ≡ End → ended ≡ true
+  pub fault : end ≡ ReadFault → Rose faults later × TellsComplete s began tells.bytes told
+
+-- What a line says, as what came next.
+abbrev pub came_of : ScriptLine → Came
+came_of (number, Ok l) = came.Line number l
+came_of (number, Err why) = came.Refused number why
+
+-- What came next.
+abbrev pub Comes : Scope → Option (List ℕ) → Option (List ℕ) → ℕ → ℕ → ReaderState → ReaderState → List ScriptLine → Result Came ReadError → Type 0
+Comes s first now faults later began r told (Ok (came.Line number l)) = Passes s first now began r (told ++ (number, Ok l) ∷ [])
+Comes s first now faults later began r told (Ok came.End) = Ends s first now faults later began told End
+Comes s first now faults later began r told (Ok (came.Refused number why)) = Ends s first now faults later began told (Refused number why)
+Comes s first now faults later began r told (Err read_error.Failed) = Ends s first now faults later began told ReadFault
+Comes s first now faults later began r told (Err read_error.NoMemory) = Ends s first now faults later began told NoMemory
+
+-- What is answered when this came, and why the script ended, if it did.
+abbrev pub Keeps : Result Came ReadError → Result (Option LiveLine) NoLine → Option ScriptEnd → Type 0
+Keeps (Ok (came.Line number l)) answer end = ((answer ≡ Ok (Some l)) × (end ≡ None)) ⊎ ((answer ≡ Err no_line_for.NoMemory) × (end ≡ Some NoMemory))
+Keeps (Ok came.End) answer end = (answer ≡ Ok None) × (end ≡ Some End)
+Keeps (Ok (came.Refused number why)) answer end = (answer ≡ Err no_line_for.Refused) × (end ≡ Some (Refused number why))
+Keeps (Err read_error.Failed) answer end = (answer ≡ Err no_line_for.ReadFault) × (end ≡ Some ReadFault)
+Keeps (Err read_error.NoMemory) answer end = (answer ≡ Err no_line_for.NoMemory) × (end ≡ Some NoMemory)
+
+-- ---- a script that is being read
+
+-- The lines that were given, and why it ended, if it did.
+pub record ScriptState : Type 0 where
+  pub given : List LiveLine
+  pub end : Option ScriptEnd
+
+-- How far it is read.
+abbrev pub Stands : Scope → Option (List ℕ) → Option (List ℕ) → ℕ → ℕ → ReaderState → ReaderState → List ScriptLine → Option ScriptEnd → Type 0
+Stands s first now faults later began r told None = Passes s first now began r told × EndStands now r
+Stands s first now faults later began r told (Some end) = Ends s first now faults later began told end
+
+pub record IsScript (first now : Option (List ℕ)) (faults later : ℕ) (began : ReaderState) (s scope : Scope) (r : ReaderState) (given : List LiveLine) (end : Option ScriptEnd) : Type 0 where
+  pub scope_is : scope ≡ s
+  pub more : faults ≤ later
+  pub numbered : List (ℕ × LiveLine)
+  pub given_are : given ≡ map (λ x. x.1) numbered
+  pub stands : Stands s first now faults later began r (map spoken numbered) end

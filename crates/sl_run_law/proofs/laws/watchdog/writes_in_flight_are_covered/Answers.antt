@@ -1,5 +1,0 @@
-use Rattle.sl_run_law.proofs.Watchdog.WatchdogLaws.{writes_in_flight_are_covered}
-use Rattle.sl_run_law.proofs.laws.watchdog.writes_in_flight_are_covered.Goals as goal
-
-pub returns : goal.returns
-returns c = writes_in_flight_are_covered

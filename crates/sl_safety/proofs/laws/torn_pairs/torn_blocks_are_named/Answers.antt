@@ -1,5 +1,0 @@
-use Rattle.sl_safety.proofs.Torn.TornBlocksNamed.{torn_blocks_are_named}
-use Rattle.sl_safety.proofs.laws.torn_pairs.torn_blocks_are_named.Goals as goal
-
-pub returns : goal.returns
-returns c = torn_blocks_are_named

@@ -1,0 +1,101 @@
+-- What each status tells of a run.
+use Rattle.sl_area.specs.AreaSizes.{Sizes}
+use Rattle.sl_cli.specs.declared.command_words.Words.TheVariants.{Direct, Replay}
+use Rattle.sl_cli.specs.declared.command_words.Words.{Words}
+use Rattle.sl_direct.specs.Laws.{can_upgrade, sector_at}
+use Rattle.sl_direct.specs.Lines.{is_its_leader, leader_in_sector}
+use Rattle.sl_direct.specs.declared.action.Action.TheVariants.{ReadLeader, Upgrade}
+use Rattle.sl_host_step.specs.HostServes.{Serves, whole_commands}
+use Rattle.sl_reader.specs.declared.live_lines.LiveLine.{LiveLine}
+use Rattle.sl_live_play.specs.DifferenceLines.{differ_text}
+use Rattle.sl_live_play.specs.LiveOwed.{Differing, Lives}
+use Rattle.sl_live_run.specs.declared.compare.LiveDiffer.{LiveDiffer}
+use Rattle.sl_report.specs.Languages.{whole_language}
+use Rattle.sl_run.specs.Caused.{IsCaused}
+use Rattle.sl_run.specs.Lawful.{Lawful}
+use Rattle.sl_run.specs.declared.header.Header.{Header}
+use Rattle.sl_sound.specs.Reports.FollowedSchedules.{IsAccepted}
+use Rattle.sl_top.specs.Runs.{IsCutShort, IsDirect, IsLive, Outside, Owes}
+use Rattle.sl_top.specs.declared.status.Status.TheVariants.{AreaFault, BadWords, Differs, Done, NoMemory, NotTheLeader, ReadFault, Refused, WriteFault}
+use Rattle.sl_top.specs.declared.status.Status.{Status}
+use Rattle.sl_trace.specs.declared.command.ResourceArg.{ResourceArg}
+use Rattle.sl_world_state.specs.Daemons.{begun_with}
+use Rattle.sl_world_state.specs.declared.daemon.Site.{Site}
+use Rattle.sl_trace.specs.declared.effects.Entry.{Entry}
+use Rattle.sl_io.specs.FaultCauses.{Rose}
+use Rattle.std.specs.Io.KnownBytes.{Appends}
+use Rattle.std.specs.Prelude.{Bool, List, None, Option, Some, false, reverse, slice_get, ℕ, ◌≡◌, ◌⊎◌}
+
+-- Whether the disk's sector of so many bytes at a resource's offset spells its leader.
+abbrev pub has_leader : ResourceArg → ℕ → List ℕ → Bool
+has_leader r size content = is_its_leader r (leader_in_sector (sector_at size r.offset content))
+
+-- A leader was to be read, and the sector was not the resource's leader, where the disk is told.
+pub record IsNotTheLeader (w : Option Words) (x : Outside) : Type 0 where
+  pub resource : ResourceArg
+  pub geometry : Sizes
+  pub asked : w ≡ Some (Direct (ReadLeader resource geometry))
+  pub other : (content : List ℕ) → x.disks resource.path ≡ Some content → has_leader resource geometry.sector content ≡ false
+
+-- An area was to be upgraded, and it could not be, where the disk is told: the sector was not the resource's leader of an area without
+-- pairs for so many hosts, or a block was torn.
+pub record CantBeUpgraded (w : Option Words) (x : Outside) : Type 0 where
+  pub resource : ResourceArg
+  pub geometry : Sizes
+  pub asked : w ≡ Some (Direct (Upgrade resource geometry))
+  pub other : (content : List ℕ) → x.disks resource.path ≡ Some content → can_upgrade resource geometry content ≡ false
+
+-- A case was put out that holds of a machine of a live run.
+pub record SomeDiffer (x y : Outside) : Type 0 where
+  pub header : Header
+  pub given : List LiveLine
+  pub machine : ℕ
+  pub differ : LiveDiffer
+  pub holds : Differing Serves whole_commands header given machine differ
+  pub told : Appends x.taken y.taken (differ_text machine differ)
+
+-- Each status but 0 and want of memory comes only with its cause.
+pub record HasItsCause (w : Option Words) (x y : Outside) (s : Status) : Type 0 where
+  pub refused : s ≡ Refused → (w ≡ Some Replay) ⊎ IsLive w
+  pub bad_words : s ≡ BadWords → w ≡ None
+  pub read_fault : s ≡ ReadFault → ((w ≡ Some Replay) ⊎ IsLive w) × Rose x.source_faults y.source_faults
+  pub write_fault : s ≡ WriteFault → Rose x.sink_faults y.sink_faults
+  pub area_fault : s ≡ AreaFault → (IsDirect w ⊎ IsLive w) × Rose x.device_faults y.device_faults
+  pub not_the_leader : s ≡ NotTheLeader → IsNotTheLeader w x ⊎ CantBeUpgraded w x
+  -- records of a live machine differ: the case that is put out holds
+  pub differs : s ≡ Differs → IsLive w × SomeDiffer x y
+
+abbrev pub StatusesHaveCauses : Type 0
+StatusesHaveCauses = (w : Option Words) (x y : Outside) (s : Status) → Owes w x y s → HasItsCause w x y s
+
+-- And where its cause stands, the status comes, if nothing cut the run short.
+pub record CausesHaveStatuses : Type 0 where
+  pub bad_words : (x y : Outside) (s : Status) → Owes None x y s → (s ≡ BadWords) ⊎ IsCutShort s
+  pub not_the_leader : (r : ResourceArg) (g : Sizes) (content : List ℕ) (x y : Outside) (s : Status) → Owes (Some (Direct (ReadLeader r g))) x y s
+      → x.disks r.path ≡ Some content → has_leader r g.sector content ≡ false → (s ≡ NotTheLeader) ⊎ (s ≡ AreaFault) ⊎ IsCutShort s
+  pub cant_be_upgraded : (r : ResourceArg) (g : Sizes) (content : List ℕ) (x y : Outside) (s : Status) → Owes (Some (Direct (Upgrade r g))) x y s
+      → x.disks r.path ≡ Some content → can_upgrade r g content ≡ false → (s ≡ NotTheLeader) ⊎ (s ≡ AreaFault) ⊎ IsCutShort s
+
+-- Nothing failed: neither the source nor the sink counts more faults than before.
+pub record NothingFailed (x y : Outside) : Type 0 where
+  pub source : Rose x.source_faults y.source_faults → ⊥
+  pub sink : Rose x.sink_faults y.sink_faults → ⊥
+
+-- A schedule that is read and allowed from its first line to its last is done, if nothing fails and memory lasts; and no other schedule is.
+pub record AcceptedSchedulesEndWell : Type 0 where
+  pub well : (source : List ℕ) (x y : Outside) (s : Status) → Owes (Some Replay) x y s → x.left ≡ Some source → IsAccepted whole_language source → NothingFailed x y
+      → (s ≡ Done) ⊎ (s ≡ NoMemory)
+  pub only : (source : List ℕ) (x y : Outside) (s : Status) → Owes (Some Replay) x y s → x.left ≡ Some source → s ≡ Done → IsAccepted whole_language source
+
+-- Any other is refused, if nothing fails and memory lasts; and none that is accepted is.
+pub record OtherSchedulesAreRefused : Type 0 where
+  pub well : (source : List ℕ) (x y : Outside) (s : Status) → Owes (Some Replay) x y s → x.left ≡ Some source → (IsAccepted whole_language source → ⊥) → NothingFailed x y
+      → (s ≡ Refused) ⊎ (s ≡ NoMemory)
+  pub only : (source : List ℕ) (x y : Outside) (s : Status) → Owes (Some Replay) x y s → x.left ≡ Some source → s ≡ Refused → IsAccepted whole_language source → ⊥
+
+-- The history of each machine of a live run is a lawful trace, and each reply in it has its cause.
+abbrev pub LiveHistoriesAreGood : Type 0
+LiveHistoriesAreGood =
+    (h : Header) (given : List LiveLine) (hs : List (List Entry)) → (l : Lives Serves whole_commands h given hs)
+    → (place : ℕ) (site : Site) (history : List Entry) → slice_get l.begun.sites place ≡ Some site → slice_get hs place ≡ Some history
+    → Lawful (begun_with whole_commands l.begun.header site) (reverse history) × IsCaused (begun_with whole_commands l.begun.header site) (reverse history)
