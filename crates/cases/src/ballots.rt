@@ -1,7 +1,8 @@
 //! Ballots.
 ghost use Rattle.std.specs.Prelude.{IsTrue, ◌<◌, ◌^◌, ◌≤◌};
 
-use crate::output_words::{said, said_two};
+use crate::output_words::Piece::{Number, Word};
+use crate::output_words::{row, row_with, said, said_two};
 use crate::word_values::{number_at, number_of, numbers_from, part, short_at, short_of, word};
 use sl_ballot::{
     Ballot, BallotStep, Limit, ballot_run, instance_of, next_mbal, stop_of, value_after_read,
@@ -66,7 +67,21 @@ fn block_text(alloc: Global, block: Block) -> Result<String, AllocError> {
         inp_gen,
         ..
     } = block;
-    format!(in alloc; "{host}/{lver}/{mbal}/{bal}/{inp} gen {inp_gen}")
+    let numbers = row_with(
+        alloc,
+        "/",
+        &[
+            Number(u64::from(host)),
+            Number(lver),
+            Number(mbal),
+            Number(bal),
+            Number(u64::from(inp)),
+        ],
+    )?;
+    row(
+        alloc,
+        &[Word(numbers.as_str()), Word("gen"), Number(inp_gen)],
+    )
 }
 
 /// The session whose id and generation the first two words are.
@@ -133,7 +148,7 @@ pub fn mbal(alloc: Global, text: &str) -> Result<String, AllocError> {
         return String::from_str(alloc, "none");
     }
     match next_mbal(hosts, short_at(text, 1), &seen) {
-        Ok(number) => format!(in alloc; "{number}"),
+        Ok(number) => row(alloc, &[Number(number)]),
         Err(Limit) => String::from_str(alloc, "limit"),
     }
 }
@@ -166,7 +181,10 @@ pub fn accepted(alloc: Global, text: &str) -> Result<String, AllocError> {
         &block_of(word(text, 3)),
         &read,
     );
-    format!(in alloc; "{} {}", value.id, value.generation)
+    row(
+        alloc,
+        &[Number(u64::from(value.id)), Number(value.generation)],
+    )
 }
 
 /// The instance that an acquire of host 2 in generation 1 begins behind this leader, and by whom the resource is held, if it is.

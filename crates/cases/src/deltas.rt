@@ -1,6 +1,7 @@
 //! A delta lease of id 1 of two, with io 100, fire 600, land 100 and rho 0.
 
-use crate::output_words::{add, said};
+use crate::output_words::Piece::{Number, Word};
+use crate::output_words::{add, row, said};
 use crate::records::sector_of;
 use crate::watches::sector_named;
 use crate::word_values::{number_of, part};
@@ -74,23 +75,26 @@ fn state_text(state: DeltaState) -> &'static str {
 
 /// What is done with a record: its state, generation, seq and stamp.
 fn record_text(alloc: Global, done: &str, record: &DeltaRec) -> Result<String, AllocError> {
-    format!(in alloc;
-        "{done}{} {} {} {}",
-        state_text(record.state),
-        record.generation,
-        record.seq,
-        record.stamp
+    row(
+        alloc,
+        &[
+            Word(done),
+            Word(state_text(record.state)),
+            Number(record.generation),
+            Number(record.seq),
+            Number(record.stamp),
+        ],
     )
 }
 
 /// A call.
 fn call_text(alloc: Global, call: &DeltaCall) -> Result<String, AllocError> {
     match call {
-        DeltaCall::ReadOwn(step) => format!(in alloc; " read {}", step_text(*step)),
-        DeltaCall::WriteOwn { step: _, record } => record_text(alloc, " write ", record),
-        DeltaCall::RenewOwn(record) => record_text(alloc, " renew ", record),
+        DeltaCall::ReadOwn(step) => row(alloc, &[Word(" read"), Word(step_text(*step))]),
+        DeltaCall::WriteOwn { step: _, record } => record_text(alloc, " write", record),
+        DeltaCall::RenewOwn(record) => record_text(alloc, " renew", record),
         DeltaCall::ReadAll => String::from_str(alloc, " read all"),
-        DeltaCall::FreeOwn(record) => record_text(alloc, " free ", record),
+        DeltaCall::FreeOwn(record) => record_text(alloc, " free", record),
     }
 }
 
@@ -131,8 +135,8 @@ fn reply_text(reply: &Reply) -> &'static str {
 fn outcome_text(alloc: Global, outcome: &Outcome) -> Result<String, AllocError> {
     match outcome {
         Outcome::Joined { generation } => said(alloc, " joined", *generation),
-        Outcome::NotJoined(reply) => format!(in alloc; " refused {}", reply_text(reply)),
-        Outcome::Left(reply) => format!(in alloc; " left {}", reply_text(reply)),
+        Outcome::NotJoined(reply) => row(alloc, &[Word(" refused"), Word(reply_text(reply))]),
+        Outcome::Left(reply) => row(alloc, &[Word(" left"), Word(reply_text(reply))]),
     }
 }
 

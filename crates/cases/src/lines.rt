@@ -1,6 +1,7 @@
 //! Lines of schedules.
 
-use crate::output_words::{add, said, said_two};
+use crate::output_words::Piece::{Number, Word};
+use crate::output_words::{Piece, add, row, said, said_two, truth_word};
 use crate::word_values::{number_at, short_at, shown, word};
 use sl_run::{Event, Header, Refusal};
 use sl_schedule::{
@@ -18,6 +19,20 @@ fn line_text(alloc: Global, line: &[u8]) -> Result<String, AllocError> {
 /// What is done with a call.
 fn of_call(alloc: Global, done: &str, machine: u32, call: u64) -> Result<String, AllocError> {
     said_two(alloc, done, u64::from(machine), call)
+}
+
+/// What is done with a call, and a piece behind it.
+fn of_call_and<'a>(
+    alloc: Global,
+    done: &'a str,
+    machine: u32,
+    call: u64,
+    piece: Piece<'a>,
+) -> Result<String, AllocError> {
+    row(
+        alloc,
+        &[Word(done), Number(u64::from(machine)), Number(call), piece],
+    )
 }
 
 /// What is done with a machine.
@@ -54,16 +69,22 @@ fn longer_call_event(alloc: Global, event: &Event) -> Result<String, AllocError>
             machine,
             call,
             sectors,
-        } => format!(in alloc; "sample {machine} {call} {sectors}"),
+        } => of_call_and(
+            alloc,
+            "sample",
+            *machine,
+            *call,
+            Number(u64::from(*sectors)),
+        ),
         Event::Tear {
             machine,
             call,
             kept,
             bytes,
         } => { format!(in alloc; "tear {machine} {call} {kept} {:?}", bytes.as_slice()) }
-        Event::AnswerCall { machine, call, ok } => format!(in alloc;
-            "answer {machine} {call} {ok}"
-        ),
+        Event::AnswerCall { machine, call, ok } => {
+            of_call_and(alloc, "answer", *machine, *call, Word(truth_word(*ok)))
+        }
         _ => longer_machine_event(alloc, event),
     }
 }
@@ -85,7 +106,13 @@ fn longer_machine_event(alloc: Global, event: &Event) -> Result<String, AllocErr
             machine,
             process,
             ok,
-        } => format!(in alloc; "spawned {machine} {process} {ok}"),
+        } => of_call_and(
+            alloc,
+            "spawned",
+            *machine,
+            u64::from(*process),
+            Word(truth_word(*ok)),
+        ),
         Event::StartDaemon { machine, name } => format!(in alloc; "start {machine} {name}"),
         _ => String::from_str(alloc, "another event"),
     }
@@ -131,9 +158,22 @@ fn source_of(alloc: Global, text: &str) -> Result<Vec<u8>, AllocError> {
 fn header_text(alloc: Global, header: &Header) -> Result<String, AllocError> {
     let (io, grace, hosts) = (header.timing.io(), header.grace, header.geometry.hosts());
     let (disks, sessions) = (header.disks.len(), header.sessions.len());
-    format!(in alloc;
-        "io {io} grace {grace} hosts {} ids {hosts} disks {disks} sessions {sessions}",
-        header.machines
+    row(
+        alloc,
+        &[
+            Word("io"),
+            Number(io),
+            Word("grace"),
+            Number(grace),
+            Word("hosts"),
+            Number(u64::from(header.machines)),
+            Word("ids"),
+            Number(u64::from(hosts)),
+            Word("disks"),
+            Number(disks as u64),
+            Word("sessions"),
+            Number(sessions as u64),
+        ],
     )
 }
 
@@ -184,7 +224,10 @@ pub fn line(alloc: Global, text: &str) -> Result<String, AllocError> {
         number_at(text, 1) as usize,
         word(text, 2) == "past",
     );
-    format!(in alloc; "refused {}", refusal.is_some())
+    row(
+        alloc,
+        &[Word("refused"), Word(truth_word(refusal.is_some()))],
+    )
 }
 
 const REFUSALS: [Refusal; 27] = [

@@ -1,6 +1,7 @@
 //! A clock, times, a watchdog daemon, a recovery.
 
-use crate::output_words::{add, said, truth};
+use crate::output_words::Piece::{Number, Word};
+use crate::output_words::{add, row, said, truth, truth_word};
 use crate::word_values::{number_at, number_of, numbers_from, part, short_of, word};
 use sl_escalate::Recovery;
 use sl_text::Name;
@@ -11,14 +12,22 @@ use std::alloc::{AllocError, Global};
 
 /// The times.
 fn times(alloc: Global, timing: &Timing) -> Result<String, AllocError> {
-    format!(in alloc;
-        "renew {} fail {} gone {} dead {} join_max {} take {}",
-        timing.renew(),
-        timing.fail(),
-        timing.gone(),
-        timing.dead(),
-        timing.join_max(),
-        timing.take()
+    row(
+        alloc,
+        &[
+            Word("renew"),
+            Number(timing.renew()),
+            Word("fail"),
+            Number(timing.fail()),
+            Word("gone"),
+            Number(timing.gone()),
+            Word("dead"),
+            Number(timing.dead()),
+            Word("join_max"),
+            Number(timing.join_max()),
+            Word("take"),
+            Number(timing.take()),
+        ],
     )
 }
 
@@ -146,7 +155,7 @@ pub fn recovery(alloc: Global, text: &str) -> Result<String, AllocError> {
     let now = number_at(text, 1);
     let early = recovery.step(now).is_none() && recovery.clear();
     recovery.begin(now, &holders)?;
-    let mut told = format!(in alloc; "{early} ")?;
+    let mut told = row(alloc, &[Word(truth_word(early)), Word("")])?;
     for word in text.split(' ').skip(3) {
         add(&mut told, recovered(alloc, &mut recovery, word)?, ", ")?;
     }

@@ -3,6 +3,7 @@
 //!
 //! - `texts`: words with their columns, numbers, hexadecimal digits, names and paths.
 //! - `records`: sectors, told by the places and digits of their bytes, the rest being zeros; places of an area; values and requests.
+//! - `readings`: a sector read many times, and its digest taken as often.
 //! - `commands`: commands, replies and default names.
 //! - `lines`: lines of schedules, and what is refused of them.
 //! - `ballots`: ballots, with blocks as `host/lver/mbal/bal/inp`, a list's parts set apart by commas, and `-` where a block is torn.
@@ -19,6 +20,7 @@ mod deltas;
 mod lines;
 mod machines;
 mod output_words;
+mod readings;
 mod records;
 mod replies;
 mod texts;
@@ -49,11 +51,20 @@ fn records_of(alloc: Global, kind: &str, text: &str) -> Result<String, AllocErro
     match kind {
         "sector" => records::sector(alloc, text),
         "large" => records::large(alloc, text),
+        "decode" => readings::decoded(alloc, text),
+        "digest" => readings::digested(alloc, text),
         "block_of" => records::block_of(alloc, text),
         "pair_of" => records::pair_of(alloc, text),
         "leader_of" => records::leader_of(alloc, text),
         "value" => records::value(alloc, text),
         "next_seq" => records::next_seq(alloc, text),
+        _ => areas_of(alloc, kind, text),
+    }
+}
+
+/// What a kind of area, of request or of what follows here makes of a text.
+fn areas_of(alloc: Global, kind: &str, text: &str) -> Result<String, AllocError> {
+    match kind {
         "geometry" => records::geometry(alloc, text),
         "places" => records::places(alloc, text),
         "paired" => records::paired(alloc, text),
@@ -80,7 +91,7 @@ fn lines_of(alloc: Global, kind: &str, text: &str) -> Result<String, AllocError>
     }
 }
 
-/// What a kind of machine makes of a text.
+/// What a kind of machine, or of what follows here, makes of a text.
 fn machines_of(alloc: Global, kind: &str, text: &str) -> Result<String, AllocError> {
     match kind {
         "timing" => machines::timing(alloc, text),
@@ -89,6 +100,13 @@ fn machines_of(alloc: Global, kind: &str, text: &str) -> Result<String, AllocErr
         "recovery" => machines::recovery(alloc, text),
         "watch" => watches::watch(alloc, text),
         "delta" => deltas::delta(alloc, text),
+        _ => ballots_of(alloc, kind, text),
+    }
+}
+
+/// What a kind of ballot makes of a text.
+fn ballots_of(alloc: Global, kind: &str, text: &str) -> Result<String, AllocError> {
+    match kind {
         "ballot" => ballots::ballot(alloc, text),
         "begin" => ballots::begin(alloc, text),
         "mbal" => ballots::mbal(alloc, text),

@@ -1,6 +1,7 @@
 //! Sectors, areas, values, requests.
 
-use crate::output_words::{number_or_none, said, said_two, truth};
+use crate::output_words::Piece::{Number, Word};
+use crate::output_words::{number_or_none, row, said, said_two, truth};
 use crate::word_values::{digits_of, number_at, number_of, part, short_at, short_of, shown, word};
 use sl_area::{Geometry, Place};
 use sl_request::{Act, Bitmap, check_request};
@@ -135,9 +136,16 @@ pub fn value(alloc: Global, text: &str) -> Result<String, AllocError> {
     };
     let value = sl_value::get(&record);
     let digits = digits_of(alloc, value.bytes.as_slice())?;
-    format!(in alloc;
-        "lver {} seq {} bytes {digits}",
-        value.version.lver, value.version.seq
+    row(
+        alloc,
+        &[
+            Word("lver"),
+            Number(value.version.lver),
+            Word("seq"),
+            Number(value.version.seq),
+            Word("bytes"),
+            Word(digits.as_str()),
+        ],
     )
 }
 
@@ -189,10 +197,15 @@ pub fn pairs(alloc: Global, text: &str) -> Result<String, AllocError> {
     };
     let (base, id) = (number_at(text, 3), short_at(text, 4));
     match pair_places(run, base, id) {
-        Some((first, second)) => {
-            let (first, second) = (first.offset(), second.offset());
-            format!(in alloc; "first {first} second {second}")
-        }
+        Some((first, second)) => row(
+            alloc,
+            &[
+                Word("first"),
+                Number(first.offset()),
+                Word("second"),
+                Number(second.offset()),
+            ],
+        ),
         None => String::from_str(alloc, "none"),
     }
 }
@@ -219,13 +232,20 @@ pub fn places(alloc: Global, text: &str) -> Result<String, AllocError> {
     };
     let (base, id) = (number_at(text, 3), short_at(text, 4));
     match area_places(run, base, id) {
-        Some((delta, block, leader, request, value)) => format!(in alloc;
-            "delta {} leader {} asked {} block {} value {}",
-            delta.offset(),
-            leader.offset(),
-            request.offset(),
-            block.offset(),
-            value.offset()
+        Some((delta, block, leader, request, value)) => row(
+            alloc,
+            &[
+                Word("delta"),
+                Number(delta.offset()),
+                Word("leader"),
+                Number(leader.offset()),
+                Word("asked"),
+                Number(request.offset()),
+                Word("block"),
+                Number(block.offset()),
+                Word("value"),
+                Number(value.offset()),
+            ],
         ),
         None => String::from_str(alloc, "none"),
     }
@@ -238,7 +258,14 @@ pub fn place(alloc: Global, text: &str) -> Result<String, AllocError> {
         None => None,
     };
     match place {
-        Some(place) => format!(in alloc; "{} of {}", place.offset(), place.size()),
+        Some(place) => row(
+            alloc,
+            &[
+                Number(place.offset()),
+                Word("of"),
+                Number(u64::from(place.size())),
+            ],
+        ),
         None => String::from_str(alloc, "none"),
     }
 }

@@ -2,6 +2,8 @@
 
 ghost use Rattle.std.specs.Prelude.{IfOk, false, ◌≡◌};
 
+use crate::rows::Seen::{Number, Truth};
+use crate::rows::push_row;
 use sl_area::{Area, FileArea, Geometry, MemArea, Place};
 use std::alloc::Global;
 use std::io::{ErrorKind, Read, Seek, Write};
@@ -68,29 +70,32 @@ fn write_and_read<A: Area>(area: &mut A, run: Geometry) -> Round
     }
 }
 
-/// The bytes of a round, in words.
-fn ends_text(alloc: Global, [first, second, third, fourth]: [u8; 4]) -> io::Result<String> {
-    Ok(format!(in alloc; "{first} {second} {third} {fourth}")?)
+/// Adds the bytes of a round.
+fn push_ends(told: &mut String, ends: &[u8; 4]) -> io::Result<()> {
+    for end in ends.iter() {
+        push_row(told, &[Number(u64::from(*end))])?;
+    }
+    Ok(())
 }
 
 /// A round in an area of three sectors, of which a call fails: how many calls went well, the faults, the first and last byte of both sectors
 /// that were read; and whether the first sector of the area is zeros still.
-fn a_call_fails(alloc: Global, call: u64) -> io::Result<String> {
+fn a_call_fails(alloc: Global, told: &mut String, call: u64) -> io::Result<()> {
     let mut area = MemArea::new(alloc, 1536, vec![in alloc; call]?)?;
     let Round { done, ends } = write_and_read(&mut area, small()?);
     let untouched = area.content().get(..512) == Some([0; 512].as_slice());
-    let faults = area.faults();
-    let ends = ends_text(alloc, ends)?;
-    Ok(format!(in alloc; "{done} {faults} {ends} {untouched};")?)
+    push_row(told, &[Number(u64::from(done)), Number(area.faults())])?;
+    push_ends(told, &ends)?;
+    push_row(told, &[Truth(untouched)])?;
+    Ok(told.push_str(";")?)
 }
 
 /// A round for each of four calls that fails.
-pub fn each_call_fails(alloc: Global) -> io::Result<String> {
-    let mut text = String::new(alloc);
+pub fn each_call_fails(alloc: Global, told: &mut String) -> io::Result<()> {
     for call in 1..=4u64 {
-        text.push_str(a_call_fails(alloc, call)?.as_str())?;
+        a_call_fails(alloc, told, call)?;
     }
-    Ok(text)
+    Ok(())
 }
 
 /// An area that is a byte short of its third sector.
@@ -100,22 +105,36 @@ fn a_short_area(alloc: Global) -> io::Result<MemArea> {
 
 /// A round in an area that is a byte short of its third sector: how many calls went well, the faults, and the first byte; how a read of another
 /// sector went, and the faults.
-pub fn past_the_room(alloc: Global) -> io::Result<String> {
+pub fn past_the_room(alloc: Global, told: &mut String) -> io::Result<()> {
     let run = small()?;
     let mut area = a_short_area(alloc)?;
     let Round { done, ends } = write_and_read(&mut area, run);
-    let before = area.faults();
+    push_row(
+        told,
+        &[
+            Number(u64::from(done)),
+            Number(area.faults()),
+            Number(u64::from(ends[0])),
+        ],
+    )?;
     let past = is_read(&mut area, run.value_place(0));
-    Ok(format!(in alloc; "{done} {before} {} {past} {}", ends[0], area.faults())?)
+    Ok(push_row(told, &[Truth(past), Number(area.faults())])?)
 }
 
 /// A file that isn't there: the faults, how many calls of a round went well, and the faults then.
-pub fn a_missing_file<R: Files>(rt: &R, alloc: Global) -> io::Result<String> {
+pub fn a_missing_file<R: Files>(rt: &R, told: &mut String) -> io::Result<()> {
     let run = small()?;
     let mut area = FileArea::open(rt, "no_such_area");
     let before = area.faults();
     let done = write_and_read(&mut area, run).done;
-    Ok(format!(in alloc; "{before} {done} {}", area.faults())?)
+    Ok(push_row(
+        told,
+        &[
+            Number(before),
+            Number(u64::from(done)),
+            Number(area.faults()),
+        ],
+    )?)
 }
 
 /// Whether the bytes are these: 700 sevens, zeros up to 1536, and 512 fives.
@@ -128,61 +147,73 @@ fn is_extended(bytes: &[u8]) -> bool {
 
 /// In a file of 700 sevens: whether its first sector is read; whether the next, which it ends in, and the fourth are; and the faults.
 fn while_short<F: Read + Write + Seek + Drop>(
-    alloc: Global,
+    told: &mut String,
     area: &mut FileArea<F>,
     run: Geometry,
-) -> io::Result<String>
+) -> io::Result<()>
     requires { run ≡ record { sector = 512; area = 1048576; hosts = 3; paired = false } }
 {
     let first = reads(area, run.leader_place(0), 7);
     let cut = is_read(area, run.request_place(0));
     let past = is_read(area, run.block_place(0, 3));
-    Ok(format!(in alloc; "{first} {cut} {past} {}", area.faults())?)
+    Ok(push_row(
+        told,
+        &[Truth(first), Truth(cut), Truth(past), Number(area.faults())],
+    )?)
 }
 
 /// Once the fourth sector is written: whether it is read; and a round with its faults.
 fn once_extended<F: Read + Write + Seek + Drop>(
-    alloc: Global,
+    told: &mut String,
     area: &mut FileArea<F>,
     run: Geometry,
-) -> io::Result<String>
+) -> io::Result<()>
     requires { run ≡ record { sector = 512; area = 1048576; hosts = 3; paired = false } }
 {
     let back = reads(area, run.block_place(0, 2), 5);
     let Round { done, ends } = write_and_read(area, run);
-    Ok(format!(in alloc; "{back} {done} {} {} {}", ends[0], ends[3], area.faults())?)
+    Ok(push_row(
+        told,
+        &[
+            Truth(back),
+            Number(u64::from(done)),
+            Number(u64::from(ends[0])),
+            Number(u64::from(ends[3])),
+            Number(area.faults()),
+        ],
+    )?)
 }
 
 /// Whether a write of a sector of fives goes well, and extends the file of 700 sevens with zeros before it.
 fn extends<R: Files + AllocGlobal, A: Area>(
     rt: &R,
+    told: &mut String,
     area: &mut A,
     at: Place,
-) -> io::Result<(bool, bool)>
+) -> io::Result<()>
     requires { at.size ≡ 512 }
 {
     let written = writes(area, at, 5);
-    Ok((written, is_extended(fs::read(rt, "short_area")?.as_slice())))
+    let extended = is_extended(fs::read(rt, "short_area")?.as_slice());
+    Ok(push_row(told, &[Truth(written), Truth(extended)])?)
 }
 
 /// What comes of the reads and writes of a file of 700 sevens. Between those before it is extended and those after it: whether a write of the
 /// fourth sector goes well, and extends it with zeros.
 fn of_short_file<R: Files + AllocGlobal, F: Read + Write + Seek + Drop>(
     rt: &R,
-    alloc: Global,
+    told: &mut String,
     area: &mut FileArea<F>,
-) -> io::Result<String> {
+) -> io::Result<()> {
     let run = small()?;
-    let before = while_short(alloc, area, run)?;
-    let (written, extended) = extends(rt, area, run.block_place(0, 2))?;
-    let after = once_extended(alloc, area, run)?;
-    Ok(format!(in alloc; "{before} {written} {extended} {after}")?)
+    while_short(told, area, run)?;
+    extends(rt, told, area, run.block_place(0, 2))?;
+    once_extended(told, area, run)
 }
 
 /// Makes a file of 700 sevens, and takes it away in the end.
-pub fn a_short_file<R: Files + AllocGlobal>(rt: &R, alloc: Global) -> io::Result<String> {
+pub fn a_short_file<R: Files + AllocGlobal>(rt: &R, told: &mut String) -> io::Result<()> {
     fs::write(rt, "short_area", [7; 700].as_slice())?;
-    let text = of_short_file(rt, alloc, &mut FileArea::open(rt, "short_area"))?;
-    fs::remove_file(rt, "short_area")?;
-    Ok(text)
+    of_short_file(rt, told, &mut FileArea::open(rt, "short_area"))?;
+    fs::remove_file(rt, "short_area")
 }

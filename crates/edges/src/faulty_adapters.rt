@@ -1,8 +1,9 @@
 //! Adapters over a reader and a writer that misbehave.
 
-use crate::streams::{count_word, went};
+use crate::rows::Seen::{Number, Word};
+use crate::rows::push_row;
+use crate::streams::{count_seen, went};
 use sl_io::{ReadSource, Sink, Source, WriteSink, write_all};
-use std::alloc::Global;
 use std::io;
 use std::io::{ErrorKind, Read, Write};
 
@@ -43,46 +44,44 @@ impl Write for Stuck {
 }
 
 /// Reads once: what came of it, with the faults behind it.
-fn read_once(
-    alloc: Global,
+fn push_read(
+    told: &mut String,
     source: &mut ReadSource<Restless>,
     buffer: &mut [u8],
-) -> io::Result<String> {
-    let word = count_word(alloc, &source.read(buffer))?;
-    Ok(format!(in alloc; "{word} {} ", source.faults())?)
+) -> io::Result<()> {
+    let count = count_seen(&source.read(buffer));
+    Ok(push_row(told, &[count, Number(source.faults())])?)
 }
 
 /// Three reads: what came of each, with the faults behind it; the first is interrupted within, the second fails.
-pub fn an_interrupted_read(alloc: Global) -> io::Result<String> {
+pub fn an_interrupted_read(told: &mut String) -> io::Result<()> {
     let mut source = ReadSource::new(Restless(0));
     let mut buffer = [0; 4];
-    let mut text = String::new(alloc);
     for _ in 0..3 {
-        text.push_str(read_once(alloc, &mut source, &mut buffer)?.as_str())?;
+        push_read(told, &mut source, &mut buffer)?;
     }
-    text.push_str(if buffer[0] == b'x' { "x" } else { "?" })?;
-    Ok(text)
+    let word = if buffer[0] == b'x' { "x" } else { "?" };
+    Ok(push_row(told, &[Word(word)])?)
 }
 
 /// A write of three bytes and one of none: what came of each, and the faults.
-fn taken(alloc: Global, sink: &mut WriteSink<Stuck>) -> io::Result<String> {
-    let some = count_word(alloc, &sink.write(b"abc"))?;
-    let none = count_word(alloc, &sink.write(b""))?;
-    Ok(format!(in alloc; "{some} {none} {}", sink.faults())?)
+fn push_taken(told: &mut String, sink: &mut WriteSink<Stuck>) -> io::Result<()> {
+    let some = count_seen(&sink.write(b"abc"));
+    let none = count_seen(&sink.write(b""));
+    Ok(push_row(told, &[some, none, Number(sink.faults())])?)
 }
 
 /// A write that takes none, and a flush: what came of each, with the faults behind it.
-fn flushed(alloc: Global, sink: &mut WriteSink<Stuck>) -> io::Result<String> {
+fn push_flushed(told: &mut String, sink: &mut WriteSink<Stuck>) -> io::Result<()> {
     let written = went(&write_all(sink, b"c"));
-    let between = sink.faults();
+    push_row(told, &[Word(written), Number(sink.faults())])?;
     let flush = went(&sink.flush());
-    Ok(format!(in alloc; "{written} {between} {flush} {}", sink.faults())?)
+    Ok(push_row(told, &[Word(flush), Number(sink.faults())])?)
 }
 
 /// A write of three bytes and one of none; then one that takes none, and a flush.
-pub fn a_write_of_nothing(alloc: Global) -> io::Result<String> {
+pub fn a_write_of_nothing(told: &mut String) -> io::Result<()> {
     let mut sink = WriteSink::new(Stuck(0));
-    let first = taken(alloc, &mut sink)?;
-    let then = flushed(alloc, &mut sink)?;
-    Ok(format!(in alloc; "{first} {then}")?)
+    push_taken(told, &mut sink)?;
+    push_flushed(told, &mut sink)
 }

@@ -1,6 +1,8 @@
 //! A gate that holds a call of one thread until another's has left, and a disk in memory that both share.
 
 use crate::areas::small;
+use crate::rows::Seen::{Number, Truth};
+use crate::rows::push_row;
 use sl_area::Area;
 use sl_outside::{AreaPlan, Devices, Gate, LiveDevices, SharedDevices, SharedPlan, Turn, TurnGate};
 use std::alloc::Global;
@@ -101,38 +103,41 @@ fn shared<R: Wait + Threads + Clock + Copy + Drop + Send + Sync>(
 
 /// How two reads of an area went whose first call fails, and its faults.
 fn fails_once<R: Wait + Clock + Copy + Drop>(
-    alloc: Global,
+    told: &mut String,
     devices: &mut SharedDevices<R>,
-) -> io::Result<String> {
+) -> io::Result<()> {
     let mut area = devices.area(1, 2, "f/d");
     let mut sector = [9; 512];
     let fails = read_first(&mut area, &mut sector);
     let again = read_first(&mut area, &mut sector);
-    Ok(format!(in alloc; "{fails} {again} {}", area.faults())?)
+    Ok(push_row(told, &[Truth(fails), Truth(again), Number(area.faults())])?)
 }
 
 /// Makes the disk, and has two threads share it: whether it was made, whether the read and the write went well, and whether what was read is
-/// what was written; and how two reads of an area went whose first call fails, and its faults.
-fn on_devices<R: Wait + Threads + Clock + Copy + Drop + Send + Sync>(
+/// what was written.
+fn in_two_threads<R: Wait + Threads + Clock + Copy + Drop + Send + Sync>(
     rt: &R,
-    alloc: Global,
+    told: &mut String,
     devices: &mut SharedDevices<R>,
-) -> io::Result<(String, String)> {
+) -> io::Result<()> {
     let made = devices.make("f", "/d", 2048).is_ok();
     let (read, written, same) = shared(rt, devices);
-    let threads = format!(in alloc; "{made} {read} {written} {same}")?;
-    Ok((threads, fails_once(alloc, devices)?))
+    Ok(push_row(
+        told,
+        &[Truth(made), Truth(read), Truth(written), Truth(same)],
+    )?)
 }
 
-/// The call of machine 1 is held until that of machine 2 has left. What comes of the disk; and between the words of both threads and those of the
-/// area whose first call fails: whether the gate held the call, and gave up.
+/// The call of machine 1 is held until that of machine 2 has left: what comes of the disk, whether the gate held the call, and gave up; and
+/// how two reads of an area went whose first call fails, and its faults.
 pub fn two_threads<R: Wait + Threads + Clock + Copy + Drop + Send + Sync>(
     rt: R,
     alloc: Global,
-) -> io::Result<String> {
+    told: &mut String,
+) -> io::Result<()> {
     let seen = turn_gate(rt, alloc)?;
     let mut devices = devices(rt, alloc, seen.share()?)?;
-    let (threads, failing) = on_devices(&rt, alloc, &mut devices)?;
-    let (held, gave_up) = (seen.was_held(), seen.gave_up());
-    Ok(format!(in alloc; "{threads} {held} {gave_up} {failing}")?)
+    in_two_threads(&rt, told, &mut devices)?;
+    push_row(told, &[Truth(seen.was_held()), Truth(seen.gave_up())])?;
+    fails_once(told, &mut devices)
 }

@@ -9,6 +9,7 @@ mod faulty_adapters;
 mod gates;
 mod outside;
 mod planned;
+mod rows;
 mod streams;
 
 use sl_outside::{FileDevices, LiveDevices};
@@ -19,84 +20,82 @@ use std::sync::Wait;
 use std::thread::Threads;
 use std::time::Clock;
 
-/// What comes of a case of streams.
-fn of_streams<R: Files + AllocGlobal>(rt: &R, case: &str) -> Option<io::Result<String>> {
+/// Adds what comes of a case of streams; whether it is one.
+fn of_streams<R: Files + AllocGlobal>(rt: &R, case: &str, told: &mut String) -> io::Result<bool> {
     let alloc = rt.alloc();
     match case {
-        "each read fails in turn" => Some(streams::each_read_fails(alloc)),
-        "each write fails in turn" => Some(streams::each_write_fails(alloc)),
-        "a full sink fails" => Some(streams::a_full_sink(alloc)),
-        "an interrupted read" => Some(faulty_adapters::an_interrupted_read(alloc)),
-        "a write of nothing" => Some(faulty_adapters::a_write_of_nothing(alloc)),
-        "files of the system" => Some(streams::files_of_the_system(rt, alloc)),
-        _ => None,
+        "each read fails in turn" => streams::each_read_fails(alloc, told)?,
+        "each write fails in turn" => streams::each_write_fails(alloc, told)?,
+        "a full sink fails" => streams::a_full_sink(alloc, told)?,
+        "an interrupted read" => faulty_adapters::an_interrupted_read(told)?,
+        "a write of nothing" => faulty_adapters::a_write_of_nothing(told)?,
+        "files of the system" => streams::files_of_the_system(rt, alloc, told)?,
+        _ => return Ok(false),
     }
+    Ok(true)
 }
 
-/// What comes of a case of areas.
-fn of_areas<R: Files + AllocGlobal>(rt: &R, case: &str) -> Option<io::Result<String>> {
+/// Adds what comes of a case of areas; whether it is one.
+fn of_areas<R: Files + AllocGlobal>(rt: &R, case: &str, told: &mut String) -> io::Result<bool> {
     let alloc = rt.alloc();
     match case {
-        "each call of an area fails in turn" => Some(areas::each_call_fails(alloc)),
-        "a call past the room" => Some(areas::past_the_room(alloc)),
-        "a missing file" => Some(areas::a_missing_file(rt, alloc)),
-        "a short file" => Some(areas::a_short_file(rt, alloc)),
-        _ => None,
+        "each call of an area fails in turn" => areas::each_call_fails(alloc, told)?,
+        "a call past the room" => areas::past_the_room(alloc, told)?,
+        "a missing file" => areas::a_missing_file(rt, told)?,
+        "a short file" => areas::a_short_file(rt, told)?,
+        _ => return Ok(false),
     }
+    Ok(true)
 }
 
-/// What comes of a case of child programs.
+/// Adds what comes of a case of child programs; whether it is one.
 fn of_children<R: Files + Processes + Clock + Wait + AllocGlobal + Copy + Drop>(
     rt: &R,
     case: &str,
-) -> Option<io::Result<String>> {
+    told: &mut String,
+) -> io::Result<bool> {
     let alloc = rt.alloc();
     match case {
-        "a child ends" => Some(outside::a_child_ends(rt, alloc)),
-        "children are signalled" => Some(outside::children_are_signalled(rt, alloc)),
-        "a planned spawner" => Some(planned::a_planned_spawner(alloc)),
-        _ => None,
+        "a child ends" => outside::a_child_ends(rt, alloc, told)?,
+        "children are signalled" => outside::children_are_signalled(rt, alloc, told)?,
+        "a planned spawner" => planned::a_planned_spawner(alloc, told)?,
+        _ => return Ok(false),
     }
+    Ok(true)
 }
 
-/// What comes of a case of other devices.
+/// Adds what comes of a case of other devices.
 fn of_devices<
     R: Files + Clock + Wait + Threads + AllocGlobal + Copy + Drop + Send + Sync,
     D: LiveDevices,
->(rt: &R, devices: &mut D, case: &str) -> io::Result<String> {
-    let alloc = rt.alloc();
+>(rt: &R, devices: &mut D, case: &str, told: &mut String) -> io::Result<()> {
     match case {
-        "files are made" => outside::files_are_made(rt, devices),
-        "the clock goes on" => outside::the_clock_goes_on(rt, devices, alloc),
-        "words differ" => outside::words_differ(devices, alloc),
-        "a gate and a disk of two threads" => gates::two_threads(*rt, alloc),
-        _ => Ok(format!(in alloc; "no such case")?),
+        "files are made" => outside::files_are_made(rt, devices, told),
+        "the clock goes on" => outside::the_clock_goes_on(rt, devices, told),
+        "words differ" => outside::words_differ(devices, told),
+        "a gate and a disk of two threads" => gates::two_threads(*rt, rt.alloc(), told),
+        _ => Ok(told.push_str("no such case")?),
     }
 }
 
-/// What comes of a case.
-fn told<
+/// Adds what comes of a case.
+fn push_told<
     R: Files + Processes + Clock + Wait + Threads + AllocGlobal + Copy + Drop + Send + Sync,
     D: LiveDevices,
->(rt: &R, devices: &mut D, case: &str) -> io::Result<String> {
-    if let Some(text) = of_streams(rt, case) {
-        return text;
+>(rt: &R, devices: &mut D, case: &str, told: &mut String) -> io::Result<()> {
+    if of_streams(rt, case, told)? || of_areas(rt, case, told)? || of_children(rt, case, told)? {
+        return Ok(());
     }
-    if let Some(text) = of_areas(rt, case) {
-        return text;
-    }
-    if let Some(text) = of_children(rt, case) {
-        return text;
-    }
-    of_devices(rt, devices, case)
+    of_devices(rt, devices, case, told)
 }
 
 fn main(rt: HostRuntime) -> io::Result<()> {
     let mut devices = FileDevices::new(rt, rt.alloc());
     for line in rt.lines(rt.alloc()) {
         let line = line?;
-        let text = told(&rt, &mut devices, line.as_str())?;
-        println!(rt; "{line}: {text}")?;
+        let mut told = String::new(rt.alloc());
+        push_told(&rt, &mut devices, line.as_str(), &mut told)?;
+        println!(rt; "{line}: {told}")?;
     }
     Ok(())
 }

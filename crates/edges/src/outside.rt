@@ -3,6 +3,8 @@
 ghost use Rattle.std.specs.Prelude.{◌≡◌};
 
 use crate::areas::{reads, small, writes};
+use crate::rows::Seen::{Number, Truth};
+use crate::rows::push_row;
 use sl_area::{Area, Place};
 use sl_outside::{ChildSpawner, LiveDevices, Spawner, Words};
 use sl_time::Clock;
@@ -44,22 +46,24 @@ fn starts<S: Spawner>(spawner: &mut S) -> (bool, bool) {
 /// Whether a program starts, whether a missing one does, the faults, the child that exits, and whether another does.
 fn ends<R: Processes + Wait + time::Clock + Drop>(
     rt: &R,
-    alloc: Global,
+    told: &mut String,
     spawner: &mut ChildSpawner<R>,
-) -> io::Result<String> {
+) -> io::Result<()> {
     let (started, missing) = starts(spawner);
     let faults = spawner.faults();
+    push_row(told, &[Truth(started), Truth(missing), Number(faults)])?;
     let exited = next_exit(rt, spawner);
     let other = spawner.poll().is_some();
-    Ok(format!(in alloc; "{started} {missing} {faults} {exited} {other}")?)
+    Ok(push_row(told, &[Number(u64::from(exited)), Truth(other)])?)
 }
 
 /// Children of which one ends by itself.
 pub fn a_child_ends<R: Processes + Wait + time::Clock + Copy + Drop>(
     rt: &R,
     alloc: Global,
-) -> io::Result<String> {
-    ends(rt, alloc, &mut ChildSpawner::new(*rt, alloc))
+    told: &mut String,
+) -> io::Result<()> {
+    ends(rt, told, &mut ChildSpawner::new(*rt, alloc))
 }
 
 /// Signals a child: the next that has exited.
@@ -84,29 +88,31 @@ fn sleep_on<S: Spawner>(spawner: &mut S) -> (bool, bool, bool) {
 /// the faults, also of a signal to none.
 fn two_sleepers<R: Processes + Wait + time::Clock + Drop>(
     rt: &R,
-    alloc: Global,
+    told: &mut String,
     spawner: &mut ChildSpawner<R>,
-) -> io::Result<String> {
+) -> io::Result<()> {
     let (first, second, early) = sleep_on(spawner);
+    push_row(told, &[Truth(first), Truth(second), Truth(early)])?;
     let killed = exit_after(rt, spawner, 9, Signal::Kill);
     let termed = exit_after(rt, spawner, 7, Signal::Term);
+    push_row(
+        told,
+        &[Number(u64::from(killed)), Number(u64::from(termed))],
+    )?;
     spawner.signal(7, Signal::Kill);
-    Ok(format!(in alloc;
-        "{first} {second} {early} {killed} {termed} {}",
-        spawner.faults()
-    )?)
+    Ok(push_row(told, &[Number(spawner.faults())])?)
 }
 
 /// Makes the program that sleeps, and takes it away in the end.
 pub fn children_are_signalled<R: Files + Processes + Wait + time::Clock + Copy + Drop>(
     rt: &R,
     alloc: Global,
-) -> io::Result<String> {
+    told: &mut String,
+) -> io::Result<()> {
     fs::write(rt, "sleeper", b"#!/bin/sh\nexec sleep 30\n".as_slice())?;
     fs::set_permissions(rt, "sleeper", Permissions::from_mode(0o755))?;
-    let text = two_sleepers(rt, alloc, &mut ChildSpawner::new(*rt, alloc))?;
-    fs::remove_file(rt, "sleeper")?;
-    Ok(text)
+    two_sleepers(rt, told, &mut ChildSpawner::new(*rt, alloc))?;
+    fs::remove_file(rt, "sleeper")
 }
 
 /// Whether a sector is zeros, whether sevens are written to it, and whether they are read back.
@@ -119,54 +125,54 @@ fn sevens<A: Area>(area: &mut A, at: Place) -> (bool, bool, bool)
 }
 
 /// Makes a disk, and writes a sector of sevens to it: whether it was made, whether the sector was zeros, whether it is written, and read back.
-fn made<D: LiveDevices>(devices: &mut D, alloc: Global) -> io::Result<String> {
+fn made<D: LiveDevices>(devices: &mut D, told: &mut String) -> io::Result<()> {
     let third = small()?.delta_place(0, 3);
     let made = devices.make("made", "/a/b/disk", 4096).is_ok();
     let mut area = devices.area(1, 1, "made/a/b/disk");
     let (zeros, written, read) = sevens(&mut area, third);
     devices.back(area);
-    Ok(format!(in alloc; "{made} {zeros} {written} {read}")?)
+    Ok(push_row(
+        told,
+        &[Truth(made), Truth(zeros), Truth(written), Truth(read)],
+    )?)
 }
 
-/// What comes of a disk that is made twice, which is emptied then.
-fn made_twice<D: LiveDevices>(devices: &mut D, alloc: Global) -> io::Result<String> {
-    let first = made(devices, alloc)?;
-    let second = made(devices, alloc)?;
-    Ok(format!(in alloc; "{first} {second}")?)
-}
-
-/// Whether a disk is made in a folder that isn't there; what comes of one that is made twice; and how long its file is.
+/// Whether a disk is made in a folder that isn't there; what comes of one that is made twice, which is emptied then; and how long its file is.
 pub fn files_are_made<R: Files + AllocGlobal, D: LiveDevices>(
     rt: &R,
     devices: &mut D,
-) -> io::Result<String> {
-    let alloc = rt.alloc();
+    told: &mut String,
+) -> io::Result<()> {
     let nowhere = devices.make("no_folder", "/a/disk", 4096).is_ok();
+    push_row(told, &[Truth(nowhere)])?;
     fs::create_dir(rt, "made")?;
-    let disks = made_twice(devices, alloc)?;
+    made(devices, told)?;
+    made(devices, told)?;
     let len = fs::metadata(rt, "made/a/b/disk")?.len();
     fs::remove_dir_all(rt, "made")?;
-    Ok(format!(in alloc; "{nowhere} {disks} {len}")?)
+    Ok(push_row(told, &[Number(len)])?)
 }
 
 /// Whether 20 milliseconds have passed after a sleep of so many, by the clock of another thread; and whether the first is not behind it.
 pub fn the_clock_goes_on<R: Wait + time::Clock, D: LiveDevices>(
     rt: &R,
     devices: &mut D,
-    alloc: Global,
-) -> io::Result<String> {
+    told: &mut String,
+) -> io::Result<()> {
     let mut clock = devices.clock(1, 1);
     let mut other = devices.clock(1, 2);
     let first = clock.now();
     sleep(rt, Duration::from_millis(20));
     let second = other.now();
     let passed = second >= first.saturating_add(20);
-    Ok(format!(in alloc; "{passed} {}", clock.now() >= second)?)
+    let is_behind = clock.now() < second;
+    Ok(push_row(told, &[Truth(passed), Truth(!is_behind)])?)
 }
 
 /// Whether two lots of 128 bits differ.
-pub fn words_differ<D: LiveDevices>(devices: &mut D, alloc: Global) -> io::Result<String> {
+pub fn words_differ<D: LiveDevices>(devices: &mut D, told: &mut String) -> io::Result<()> {
     let mut words = devices.words(1);
     let first = words.bits();
-    Ok(format!(in alloc; "{}", first != words.bits())?)
+    let differ = first != words.bits();
+    Ok(push_row(told, &[Truth(differ)])?)
 }

@@ -1,5 +1,7 @@
 //! The spawner in memory, as its plan has it.
 
+use crate::rows::Seen::{Number, Size, Truth, Word};
+use crate::rows::push_row;
 use crate::streams::went;
 use sl_outside::{MemPlan, MemSpawner, PlannedSpawner, Spawner};
 use sl_trace::Signal;
@@ -42,25 +44,33 @@ fn acts_told(spawner: &MemSpawner) -> usize {
 }
 
 /// How three starts went, and which child exits at the first look and at the second.
-fn started<S: Spawner>(alloc: Global, spawner: &mut S) -> io::Result<String> {
+fn push_started<S: Spawner>(told: &mut String, spawner: &mut S) -> io::Result<()> {
     let (first, second, third) = (start(spawner, 7), start(spawner, 9), start(spawner, 8));
+    push_row(told, &[Word(first), Word(second), Word(third)])?;
     let (early, none) = (exited(spawner), exited(spawner));
-    Ok(format!(in alloc; "{first} {second} {third} {early} {none}")?)
+    Ok(push_row(told, &[Number(u64::from(early)), Number(u64::from(none))])?)
 }
 
 /// Which child exits once the other is termed, and once it is killed; how many acts were told between; whether they still are; and the faults.
-fn signalled(alloc: Global, spawner: &mut MemSpawner) -> io::Result<String> {
+fn push_signalled(told: &mut String, spawner: &mut MemSpawner) -> io::Result<()> {
     let termed = exited_after(spawner, 9, Signal::Term);
     let acts = acts_told(spawner);
     let killed = exited_after(spawner, 9, Signal::Kill);
-    let told = spawner.acts().is_some();
-    Ok(format!(in alloc; "{termed} {killed} {acts} {told} {}", spawner.faults())?)
+    push_row(
+        told,
+        &[
+            Number(u64::from(termed)),
+            Number(u64::from(killed)),
+            Size(acts),
+        ],
+    )?;
+    let are_told = spawner.acts().is_some();
+    Ok(push_row(told, &[Truth(are_told), Number(spawner.faults())])?)
 }
 
 /// Three starts, of which the third is to fail, and signals to the child that is left.
-pub fn a_planned_spawner(alloc: Global) -> io::Result<String> {
+pub fn a_planned_spawner(alloc: Global, told: &mut String) -> io::Result<()> {
     let mut spawner = PlannedSpawner::new(alloc, 1, plan(alloc)?)?.into_spawner();
-    let starts = started(alloc, &mut spawner)?;
-    let signals = signalled(alloc, &mut spawner)?;
-    Ok(format!(in alloc; "{starts} {signals}")?)
+    push_started(told, &mut spawner)?;
+    push_signalled(told, &mut spawner)
 }

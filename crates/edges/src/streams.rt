@@ -1,5 +1,7 @@
 //! The loops that read and write whole streams, with each call failing in turn, and the adapters over files of the system.
 
+use crate::rows::Seen::{self, Number, Size, Truth, Word};
+use crate::rows::push_row;
 use sl_io::{
     MemSink, MemSource, ReadAll, ReadAllError, ReadSource, Sink, WriteSink, read_all, write_all,
 };
@@ -31,19 +33,26 @@ fn failing_source(alloc: Global, call: u64) -> io::Result<MemSource> {
 }
 
 /// How all of three bytes are read of which one read fails, the faults, and how many bytes are left.
-fn a_read_fails(alloc: Global, call: u64) -> io::Result<String> {
+fn a_read_fails(alloc: Global, told: &mut String, call: u64) -> io::Result<()> {
     let mut source = failing_source(alloc, call)?;
     let word = read_word(&read_all(alloc, &mut source, 9));
-    Ok(format!(in alloc; "{word} {} {};", source.faults(), source.left().len())?)
+    push_row(
+        told,
+        &[
+            Word(word),
+            Number(source.faults()),
+            Size(source.left().len()),
+        ],
+    )?;
+    Ok(told.push_str(";")?)
 }
 
 /// Three bytes for each of four reads that fails.
-pub fn each_read_fails(alloc: Global) -> io::Result<String> {
-    let mut text = String::new(alloc);
+pub fn each_read_fails(alloc: Global, told: &mut String) -> io::Result<()> {
     for call in 1..=4u64 {
-        text.push_str(a_read_fails(alloc, call)?.as_str())?;
+        a_read_fails(alloc, told, call)?;
     }
-    Ok(text)
+    Ok(())
 }
 
 /// Room for nine bytes, which are taken two at a time, and of which one write fails.
@@ -59,64 +68,61 @@ fn taken_after(sink: &mut MemSink, piece: &[u8]) -> (&'static str, usize) {
 
 /// How all of five bytes is written of which one write fails, the faults, how many bytes were taken, and how another is written and how many
 /// are taken then.
-fn a_write_fails(alloc: Global, call: u64) -> io::Result<String> {
+fn a_write_fails(alloc: Global, told: &mut String, call: u64) -> io::Result<()> {
     let mut sink = failing_sink(alloc, call)?;
     let (done, taken) = taken_after(&mut sink, b"block");
+    push_row(told, &[Word(done), Number(sink.faults()), Size(taken)])?;
     let (again, more) = taken_after(&mut sink, b"!");
-    Ok(format!(in alloc; "{done} {} {taken} {again} {more};", sink.faults())?)
+    push_row(told, &[Word(again), Size(more)])?;
+    Ok(told.push_str(";")?)
 }
 
 /// Five bytes for each of three writes that fails.
-pub fn each_write_fails(alloc: Global) -> io::Result<String> {
-    let mut text = String::new(alloc);
+pub fn each_write_fails(alloc: Global, told: &mut String) -> io::Result<()> {
     for call in 1..=3u64 {
-        text.push_str(a_write_fails(alloc, call)?.as_str())?;
+        a_write_fails(alloc, told, call)?;
     }
-    Ok(text)
+    Ok(())
 }
 
 /// The number of what was taken, or what went wrong.
-pub fn count_word<E>(alloc: Global, taken: &Result<usize, E>) -> io::Result<String> {
+pub fn count_seen<E>(taken: &Result<usize, E>) -> Seen<'static> {
     match taken {
-        Ok(count) => Ok(format!(in alloc; "{count}")?),
-        Err(_) => Ok(format!(in alloc; "failed")?),
+        Ok(count) => Size(*count),
+        Err(_) => Word("failed"),
     }
-}
-
-/// Writes a piece to a sink: what was taken.
-fn count_taken(alloc: Global, sink: &mut MemSink, piece: &str) -> io::Result<String> {
-    let word = count_word(alloc, &sink.write(piece.as_bytes()))?;
-    Ok(format!(in alloc; "{word} ")?)
 }
 
 /// Writes pieces of 2, 3, 0, 1 and 1 bytes to a sink: what was taken of each.
-fn counts_taken(alloc: Global, sink: &mut MemSink) -> io::Result<String> {
-    let mut text = String::new(alloc);
+fn push_counts_taken(told: &mut String, sink: &mut MemSink) -> io::Result<()> {
     for piece in ["ab", "cde", "", "e", "e"].iter() {
-        text.push_str(count_taken(alloc, sink, piece)?.as_str())?;
+        push_row(told, &[count_seen(&sink.write(piece.as_bytes()))])?;
     }
-    Ok(text)
+    Ok(())
 }
 
 /// Pieces to a sink that has room for four bytes: what was taken of each, the faults, the room and whether it has the first four bytes.
-pub fn a_full_sink(alloc: Global) -> io::Result<String> {
+pub fn a_full_sink(alloc: Global, told: &mut String) -> io::Result<()> {
     let mut sink = MemSink::new(alloc, 4, Vec::new(alloc), Vec::new(alloc))?;
-    let counts = counts_taken(alloc, &mut sink)?;
+    push_counts_taken(told, &mut sink)?;
     let whole = sink.taken() == b"abcd".as_slice();
-    Ok(format!(in alloc; "{counts}{} {} {whole}", sink.faults(), sink.room())?)
+    Ok(push_row(
+        told,
+        &[Number(sink.faults()), Size(sink.room()), Truth(whole)],
+    )?)
 }
 
 /// Writes three bytes: how it went, how the flush went, and the faults.
-fn flushed<W: Write>(alloc: Global, sink: &mut WriteSink<W>) -> io::Result<String> {
+fn push_flushed<W: Write>(told: &mut String, sink: &mut WriteSink<W>) -> io::Result<()> {
     let done = went(&write_all(sink, b"abc"));
     let flushed = went(&sink.flush());
-    Ok(format!(in alloc; "{done} {flushed} {}", sink.faults())?)
+    Ok(push_row(told, &[Word(done), Word(flushed), Number(sink.faults())])?)
 }
 
 /// What comes of writes to a file of the system.
-fn written<R: Files>(rt: &R, alloc: Global, path: &str) -> io::Result<String> {
+fn push_written<R: Files>(rt: &R, told: &mut String, path: &str) -> io::Result<()> {
     let file = File::options().write(true).open(rt, path)?;
-    flushed(alloc, &mut WriteSink::new(file))
+    push_flushed(told, &mut WriteSink::new(file))
 }
 
 /// How reading the empty file of the system ended.
@@ -126,9 +132,8 @@ fn read<R: Files>(rt: &R, alloc: Global) -> io::Result<&'static str> {
 }
 
 /// How reading the empty file of the system ended, and how writes to the full one and to the empty one went.
-pub fn files_of_the_system<R: Files>(rt: &R, alloc: Global) -> io::Result<String> {
-    let ended = read(rt, alloc)?;
-    let full = written(rt, alloc, "/dev/full")?;
-    let null = written(rt, alloc, "/dev/null")?;
-    Ok(format!(in alloc; "{ended} {full} {null}")?)
+pub fn files_of_the_system<R: Files>(rt: &R, alloc: Global, told: &mut String) -> io::Result<()> {
+    push_row(told, &[Word(read(rt, alloc)?)])?;
+    push_written(rt, told, "/dev/full")?;
+    push_written(rt, told, "/dev/null")
 }

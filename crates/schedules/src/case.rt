@@ -20,6 +20,8 @@ pub struct Case {
     pub due: Option<Vec<u8>>,
     /// Whether all that is asked is that no conflict is counted.
     pub calm: bool,
+    /// Whether scripted daemons play the source.
+    pub scripted: bool,
 }
 
 /// The number behind this word at the front of a line, and the rest of the line.
@@ -32,6 +34,14 @@ fn option<'a>(line: &'a str, word: &str) -> (Option<u64>, &'a str) {
     }
     let (number, rest) = rest.split_once(' ').unwrap_or((rest, ""));
     (number.parse().ok(), rest)
+}
+
+/// Whether this mark stands at the front of a line, and the rest of the line.
+fn marked<'a>(line: &'a str, mark: &str) -> (bool, &'a str) {
+    match line.strip_prefix(mark) {
+        Some(rest) => (true, rest),
+        None => (false, line),
+    }
 }
 
 /// The words of a line.
@@ -129,10 +139,8 @@ pub fn read_case<R: Files + AllocGlobal>(rt: &R, line: &str) -> io::Result<Case>
     let (reads, line) = option(line, "reads");
     let (writes, line) = option(line, "writes");
     let (memory, line) = option(line, "memory");
-    let (calm, line) = match line.strip_prefix("calm ") {
-        Some(rest) => (true, rest),
-        None => (false, line),
-    };
+    let (calm, line) = marked(line, "calm ");
+    let (scripted, line) = marked(line, "scripted ");
     let (words, source, due) = parts(rt, line)?;
     Ok(Case {
         reads,
@@ -142,5 +150,6 @@ pub fn read_case<R: Files + AllocGlobal>(rt: &R, line: &str) -> io::Result<Case>
         source,
         due,
         calm,
+        scripted,
     })
 }

@@ -7,6 +7,8 @@
 //! - `behind COUNT NAME TEXT` replays so many lines of that schedule, and behind them the line `TEXT`;
 //! - `lives NAME FOLDER` runs live machines by the script `NAME.script`, with disks in files below that folder.
 //!
+//! `scripted` in front of a schedule has it played by daemons that follow a script (`scripted`), and not by the top call.
+//!
 //! What goes wrong on the outside is told in front, in this order: `reads N`, where the source gives 30 bytes a read and its Nth read fails;
 //! `writes N`, where the sink takes 16 bytes a write and its Nth write fails; `memory N`, where the disks `/f` and `/g` are zeros in memory,
 //! and the Nth call of each fails (with 0 none). Else the disks are files.
@@ -14,9 +16,11 @@
 
 mod case;
 mod outcome;
+mod scripted;
 
 use case::{Case, read_case};
 use outcome::{Outcome, push_outcome, run_case};
+use scripted::play_scripted;
 use sl_io::{WriteSink, write_all};
 use sl_outside::{AreaPlan, LiveDevices, SharedDevices, SharedPlan};
 use sl_top::FileDevices;
@@ -66,9 +70,10 @@ fn main(rt: HostRuntime) -> io::Result<()> {
     for line in rt.lines(alloc) {
         let line = line?;
         let case = read_case(&rt, line.as_str())?;
-        let outcome = match case.memory {
-            Some(call) => run_case(&rt, alloc, &case, disks(rt, alloc, call)?)?,
-            None => run_case(&rt, alloc, &case, FileDevices::new(rt, alloc))?,
+        let outcome = match (case.scripted, case.memory) {
+            (true, _) => play_scripted(alloc, &case.source)?,
+            (false, Some(call)) => run_case(&rt, alloc, &case, disks(rt, alloc, call)?)?,
+            (false, None) => run_case(&rt, alloc, &case, FileDevices::new(rt, alloc))?,
         };
         let text = told(alloc, line.as_str(), &case, &outcome)?;
         if write_all(&mut sink, &text).is_err() {

@@ -3,7 +3,7 @@
 use crate::case::Case;
 use sl_io::{MemSink, MemSource};
 use sl_text::number::push_number;
-use sl_top::{LiveDevices, Status, run};
+use sl_top::{LiveDevices, run};
 use std::alloc::{AllocError, Global};
 use std::sync::Wait;
 use std::thread::Threads;
@@ -16,13 +16,13 @@ const READ: usize = 30;
 const WRITTEN: usize = 16;
 
 /// The most bytes that are put out.
-const ROOM: usize = 262_144;
+pub const ROOM: usize = 262_144;
 
-/// The status that a run ended with, and what it put out.
+/// The number of the status that a run ended with, and what it put out.
 #[derive(Drop)]
 pub struct Outcome {
-    status: Status,
-    output: Vec<u8>,
+    pub code: u8,
+    pub output: Vec<u8>,
 }
 
 /// The sizes of calls of which this one is to fail, and its number.
@@ -53,7 +53,7 @@ where
     let mut sink = MemSink::new(alloc, ROOM, pieces, failing)?;
     let (status, _source, _devices) = run(rt, alloc, &case.words, source, &mut sink, devices);
     Ok(Outcome {
-        status,
+        code: status.code(),
         output: sink.into_taken(),
     })
 }
@@ -75,7 +75,7 @@ pub fn push_outcome(
 ) -> Result<(), AllocError> {
     out.extend_from_slice(line.as_bytes())?;
     out.extend_from_slice(b": ")?;
-    push_number(out, u64::from(outcome.status.code()))?;
+    push_number(out, u64::from(outcome.code))?;
     if is_due(case, outcome) {
         return out.extend_from_slice(b", as due\n");
     }

@@ -117,6 +117,3 @@ pub moded_neither : (p q : Bool) (v : ResourceArg) → choose p v ≡ None → c
 moded_neither true q v h k = absurd cc
 moded_neither false true v h k = absurd cc
 moded_neither false false v h k = refl
-
--- What reading modes uses.
-pub ruleset modes = (moded_first, moded_second, moded_neither)

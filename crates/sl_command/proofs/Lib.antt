@@ -6,4 +6,5 @@ pub mod LineLaws
 pub mod PartTexts
 pub mod SharedTests
 pub mod VerbLaws
+pub mod WordSteps
 pub mod WrittenCommands

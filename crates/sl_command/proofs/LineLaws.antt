@@ -1,7 +1,9 @@
 -- Words and lines that are written one behind another.
 use Rattle.sl_command.specs.OutputLines.{behind, class_text, counted, line_text}
 use Rattle.sl_sector.proofs.TextLaws.{join_with_byte-cons}
-use Rattle.sl_sector.specs.RecordTexts.{dash_for_none}
+use Rattle.sl_sector.specs.RecordTexts.{dash_for_none, record_words}
+use Rattle.sl_sector.specs.declared.sector.Rec.TheVariants.{BlockIs, DeltaIs, LeaderIs, PairIs, PairLeaderIs, RequestIs, ValueIs}
+use Rattle.sl_sector.specs.declared.sector.Rec.{Rec}
 use Rattle.sl_text.specs.Forms.{as_bytes, spaced}
 use Rattle.sl_text.specs.Numbers.{hex_text}
 use Rattle.sl_trace.specs.EffectTexts.{answer_words, machine_line, reply_text, reply_words}
@@ -9,10 +11,12 @@ use Rattle.sl_trace.specs.declared.effects.JobReply.{JobReply}
 use Rattle.sl_trace.specs.declared.reply.Reply.TheVariants.{Ahead, BadCommand as Misread, Busy, Done, Generation, Granted, Held as HeldBy, Hosts, IdHeld, IdLate, IdLost, IoFault, IoTimeout, Joined, Joining as StillJoining, Limit as LimitReached, NoOrphan, NoProcess, NoSession, NotHeld, Pending, Recovering, RequestOld, Rival, Sessions, Shared as SharedBy, SpawnFault, Started, TornBlock, TornDelta, TornLeader, Value, ValueSet, ValueTorn, WrongArea, WrongDelta}
 use Rattle.sl_trace.specs.declared.reply.Reply.{Reply}
 use Rattle.sl_words.specs.Words.{is_empty}
-use Rattle.std.proofs.Common.{List, [], ap, codes, decimal, false, map, refl, sym, ℕ, ◌++◌, ◌≡◌, ◌∙◌, ◌∷◌}
+use Rattle.std.proofs.Common.{List, [], ap, append-nil, codes, decimal, false, length, map, refl, slice_index_or, sym, take, ℕ, ◌+◌, ◌++◌, ◌<◌, ◌≡◌, ◌∙◌, ◌∷◌}
+use Rattle.std.proofs.lemmas.List.Concat.{flat_map-append}
 use Rattle.std.proofs.lemmas.List.Folds.{flat_map-map}
-use Rattle.std.proofs.lemmas.List.{append_assoc}
+use Rattle.std.proofs.lemmas.List.{append_assoc, take_more}
 use Rattle.std.specs.List.{flat_map}
+use Rattle.std.specs.Prelude.{Err, Ok, OnOk, Result}
 
 -- A first word, and others behind it.
 pub spaced-cons : (word : List ℕ) (ws : List (List ℕ)) → spaced (word ∷ ws) ≡ word ++ behind ws
@@ -110,6 +114,45 @@ pub class_written : {A : Type 0} (machine : ℕ) (words : A → List (List ℕ))
     → new ≡ old ++ as_bytes (map (machine_line machine) (front ++ map words xs))
 class_written machine words xs ys old a new front first same then =
     written_behind old a new _ _ _ first (then ∙ ap (λ zs. a ++ class_text machine words zs) same) (class_behind machine words xs front)
+
+-- One entry more of a list.
+pub one_read : {A : Type 0} (text : A → List ℕ) (xs : List A) (k : ℕ) (d : A) (old a new : List ℕ) → k < length xs → a ≡ old ++ flat_map text (take k xs)
+    → new ≡ a ++ text (slice_index_or xs k d) → new ≡ old ++ flat_map text (take (k + 1) xs)
+one_read text xs k d old a new inside first then =
+    let x = slice_index_or xs k d in
+    written_behind old a new (flat_map text (take k xs)) (text x) (flat_map text (take (k + 1) xs)) first then
+    (ap (flat_map text) (take_more xs k d inside) ∙ flat_map-append text (take k xs) (x ∷ []) ∙ ap (λ bs. flat_map text (take k xs) ++ bs) (append-nil (text x)))
+
+pub one_more : {A : Type 0} (text : A → List ℕ) (xs : List A) (k : ℕ) (x : A) (old a new : List ℕ) → k < length xs → x ≡ slice_index_or xs k x
+    → a ≡ old ++ flat_map text (take k xs) → new ≡ a ++ text x → new ≡ old ++ flat_map text (take (k + 1) xs)
+one_more text xs k x old a new inside is first then = one_read text xs k x old a new inside first (then ∙ ap (λ y. a ++ text y) is)
+
+-- One word more of a list, behind a space.
+pub one_word_more : {A : Type 0} (word : A → List ℕ) (xs : List A) (k : ℕ) (x : A) (old a new : List ℕ) → k < length xs → x ≡ slice_index_or xs k x
+    → a ≡ old ++ behind (map word (take k xs)) → new ≡ a ++ 32 ∷ word x → new ≡ old ++ behind (map word (take (k + 1) xs))
+one_word_more word xs k x old a new inside is first then =
+    one_more (λ y. 32 ∷ word y) xs k x old a new inside is (first ∙ ap (λ bs. old ++ bs) (flat_map-map (λ w. 32 ∷ w) word (take k xs))) then
+    ∙ ap (λ bs. old ++ bs) (sym (flat_map-map (λ w. 32 ∷ w) word (take (k + 1) xs)))
+
+-- A record has words.
+record_has_words : (r : Rec) → is_empty (record_words r) ≡ false
+record_has_words (DeltaIs d) = refl
+record_has_words (LeaderIs l) = refl
+record_has_words (BlockIs b) = refl
+record_has_words (RequestIs r) = refl
+record_has_words (ValueIs v) = refl
+record_has_words (PairIs p) = refl
+record_has_words (PairLeaderIs l) = refl
+
+-- The line of a write.
+pub write_written : {E : Type 0} (done : Result (Unit {0}) E) (old a b c new path : List ℕ) (machine number offset : ℕ) (r : Rec)
+    → a ≡ old ++ machine_line machine (codes "call" ∷ decimal number ∷ codes "write" ∷ path ∷ decimal offset ∷ [])
+    → b ≡ a ++ 32 ∷ [] → c ≡ b ++ spaced (record_words r) → OnOk done (new ≡ c ++ 10 ∷ [])
+    → OnOk done (new ≡ old ++ line_text machine (codes "call" ∷ decimal number ∷ codes "write" ∷ path ∷ decimal offset ∷ record_words r))
+write_written (Err e) old a b c new path machine number offset r front space text feed = tt
+write_written (Ok x) old a b c new path machine number offset r front space text feed =
+    let words = spaced-front (decimal offset) (record_words r) (record_has_words r) in
+    feed ∙ rw (text, space, front) (simp (append_assoc, words))
 
 -- What writing numbers behind a word uses.
 pub ruleset numbers = (numbers_written)

@@ -6,7 +6,7 @@ use Rattle.sl_command.specs.VerbReads.{acquire_read, acquiring, asking_tests, cl
 use Rattle.sl_text.proofs.FormLaws.{read_by-end, read_by-one, read_by-other, read_by-verb, read_by-verbs, read_each-map, read_from-is}
 use Rattle.sl_text.specs.Forms.{Form, bad_column, exactly, made_by, pieces, word_at, words_of}
 use Rattle.sl_text.specs.Numbers.{hex_bytes, is_number_text, number_of}
-use Rattle.sl_text.specs.Walks.{Unread, at_end, form_with, forms_behind, going_on, next_as, next_passes, past_word, read_by, read_each, read_from, unread}
+use Rattle.sl_text.specs.Walks.{NoneFits, Unread, at_end, form_with, forms_behind, going_on, next_as, next_passes, past_word, read_by, read_each, read_from, unread}
 use Rattle.sl_trace.specs.CommandForms.{asked_of_word, command_in, command_or, forms, is_lockspace_word, is_process_word, is_resource_front, is_resource_word, is_shared_word, lockspace_of_word, option_words, resource_of_word}
 use Rattle.sl_trace.specs.declared.command.Command.TheVariants.{AddLockspace, Convert, GetLvb, HostStatus, InqLockspace, Release, ReleaseOrphan, RemLockspace, Request, RunProgram, SetKillpath, SetLvb, Status}
 use Rattle.sl_trace.specs.declared.command.Command.{Command}
@@ -16,7 +16,7 @@ use Rattle.sl_words.proofs.CaseLaws.{is_false, not_both}
 use Rattle.sl_words.proofs.WordLaws.{and_true}
 use Rattle.sl_words.specs.Results.{◌>>=◌}
 use Rattle.sl_words.specs.Words.{is_empty}
-use Rattle.std.proofs.Common.{Bool, List, [], ap, arith, eqb, false, length, map, refl, subst, sym, true, ℕ, ◌&&◌, ◌++◌, ◌-◌, ◌^◌, ◌≡◌, ◌∙◌, ◌∷◌}
+use Rattle.std.proofs.Common.{Bool, List, [], ap, arith, drop, eqb, false, length, map, refl, subst, sym, take, true, ℕ, ◌&&◌, ◌++◌, ◌-◌, ◌^◌, ◌≡◌, ◌∙◌, ◌∷◌}
 use Rattle.std.proofs.lemmas.Bool.{eqb-true}
 use Rattle.std.proofs.lemmas.Bool.Decides.{nat_tests}
 use Rattle.std.proofs.lemmas.Slice.Eq.{bytes_eq-Decides}
@@ -313,18 +313,34 @@ request_verb g u next =
     (λ f w v h. clearing_force (resource_of_word w) (asked_of_word w) v (clearing_lver g w h) ∙ sym (read_by-one clearing_tests (λ ws. clears (f ∷ w ∷ ws)) v))
     (λ f w v h. asking_force (resource_of_word w) (asked_of_word w) v (asking_lver g w h) ∙ sym (read_by-one asking_tests (λ ws. asks (f ∷ w ∷ ws)) v)))
 
+-- No verb of the first forms is next.
+pub no_first_verb : (g : Layout) (u : Unread) → next_passes (exactly (codes "acquire")) u ≡ false → next_passes (exactly (codes "add_lockspace")) u ≡ false
+    → next_passes (exactly (codes "rem_lockspace")) u ≡ false → next_passes (exactly (codes "inq_lockspace")) u ≡ false
+    → next_passes (exactly (codes "host_status")) u ≡ false → NoneFits u (take 12 (forms g))
+unfolding forms
+no_first_verb g u acquire add rem inq host =
+    let a = acquire in (a, (a, (a, (a, (a, (a, (a, (a, (add, (rem, (inq, (host, tt))))))))))))
+
+-- No verb of the next forms.
+pub no_middle_verb : (g : Layout) (u : Unread) → next_passes (exactly (codes "release")) u ≡ false → next_passes (exactly (codes "convert")) u ≡ false
+    → next_passes (exactly (codes "command")) u ≡ false → next_passes (exactly (codes "request")) u ≡ false → NoneFits u (take 8 (drop 12 (forms g)))
+unfolding forms
+no_middle_verb g u release convert run request = (release, (release, (convert, (convert, (run, (run, (request, (request, tt))))))))
+
+-- Forms that do not fit, one list behind another.
+none_fits-append : {A : Type 0} (u : Unread) (fs gs : List (Form A)) → NoneFits u fs → NoneFits u gs → NoneFits u (fs ++ gs)
+none_fits-append u [] gs front rest = rest
+none_fits-append u (f ∷ fs) gs front rest = (front.0, none_fits-append u fs gs front.1 rest)
+
 -- No verb is next.
-pub no_verb : (g : Layout) (u : Unread) → next_passes (exactly (codes "add_lockspace")) u ≡ false → next_passes (exactly (codes "rem_lockspace")) u ≡ false
-    → next_passes (exactly (codes "inq_lockspace")) u ≡ false → next_passes (exactly (codes "host_status")) u ≡ false → next_passes (exactly (codes "acquire")) u ≡ false
-    → next_passes (exactly (codes "release")) u ≡ false → next_passes (exactly (codes "convert")) u ≡ false → next_passes (exactly (codes "command")) u ≡ false
-    → next_passes (exactly (codes "request")) u ≡ false → next_passes (exactly (codes "get_lvb")) u ≡ false → next_passes (exactly (codes "set_lvb")) u ≡ false
+pub no_verb : (g : Layout) (u : Unread) → NoneFits u (take 12 (forms g)) → NoneFits u (take 8 (drop 12 (forms g)))
+    → next_passes (exactly (codes "get_lvb")) u ≡ false → next_passes (exactly (codes "set_lvb")) u ≡ false
     → next_passes (exactly (codes "set_killpath")) u ≡ false → next_passes (exactly (codes "status")) u ≡ false
     → read_by (forms g) u ≡ Err u.column
 unfolding forms
-no_verb g u add rem inq host acquire release convert run request get set killpath status =
-    let a = acquire in
-    read_by-other (forms g) u
-    (a, (a, (a, (a, (a, (a, (a, (a, (add, (rem, (inq, (host, (release, (release, (convert, (convert, (run, (run, (request, (request, (get, (set, (killpath, (status, tt))))))))))))))))))))))))
+no_verb g u front middle get set killpath status =
+    let last : NoneFits u (drop 20 (forms g)) = (get, (set, (killpath, (status, tt)))) in
+    read_by-other (forms g) u (none_fits-append u (take 12 (forms g)) (take 8 (drop 12 (forms g)) ++ drop 20 (forms g)) front (none_fits-append u (take 8 (drop 12 (forms g))) (drop 20 (forms g)) middle last))
 
 -- The whole text.
 same_answer : (o : Option Command) (column : ℕ) → ok_or o column ≡ command_or o column
@@ -334,7 +350,26 @@ same_answer (Some c) column = refl
 pub read_whole : (g : Layout) (text : List ℕ) → read_by (forms g) (unread 32 text) ≡ command_in (forms g) text
 read_whole g text = read_from-is (forms g) (words_of text) ∙ same_answer (made_by (forms g) (words_of text)) (bad_column (forms g) (words_of text))
 
--- What reading a command uses.
-pub ruleset verbs = (add_lockspace_verb, rem_lockspace_verb, inq_lockspace_verb, host_status_verb, acquire_verb, release_verb, convert_verb, program_verb, request_verb, get_lvb_verb, set_lvb_verb, set_killpath_verb, status_verb, no_verb)
+-- ---- verbs, tried one after another
 
+-- A verb that is not next leaves the reader where it stands.
+pub stays : (t : Bool) (u v : Unread) → v ≡ (if t then past_word u else u) → t ≡ false → v ≡ u
+stays true u v left failed = absurd cc
+stays false u v left failed = left
+
+goes : (t : Bool) (u v : Unread) → v ≡ (if t then past_word u else u) → t ≡ true → v ≡ past_word u
+goes true u v left taken = left
+goes false u v left taken = absurd cc
+
+-- It is not next where the verbs were begun with.
+pub fails : (p : List ℕ → Bool) (t : Bool) (u v : Unread) → v ≡ u → t ≡ next_passes p v → t ≡ false → next_passes p u ≡ false
+fails p t u v at passes failed = ap (next_passes p) (sym at) ∙ sym passes ∙ failed
+
+-- Behind a verb that is next, what is read is what its forms make of all words.
+pub read_behind : (p : List ℕ → Bool) (whole read : Unread → Result Command ℕ) → ((u : Unread) → next_passes p u ≡ true → whole u ≡ read (past_word u))
+    → (t : Bool) (u v w : Unread) (r : Result Command ℕ) → v ≡ u → t ≡ next_passes p v → w ≡ (if t then past_word v else v) → t ≡ true → r ≡ read w → r ≡ whole u
+read_behind p whole read law t u v w r at passes left taken reads =
+    reads ∙ ap read (goes t v w left taken) ∙ sym (law v (sym passes ∙ taken)) ∙ ap whole at
+
+-- What reading a whole text uses.
 pub ruleset whole = (read_whole)

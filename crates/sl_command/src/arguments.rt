@@ -145,7 +145,6 @@ fn shared_of(word: &[u8], geometry: &Geometry) -> Option<ResourceArg>
 }
 
 /// The resource that a word names, and whether in the shared mode.
-#[tactic(auto, using(crate::proofs::ArgumentLaws::modes))]
 fn moded_of(word: &[u8], geometry: &Geometry) -> Option<(ResourceArg, bool)>
     ensures { result ≡ choose (arguments.is_moded_word (layout_of geometry.now) word.now) (arguments.moded_of_word (layout_of geometry.now) word.now) }
 {
@@ -167,7 +166,8 @@ pub(crate) fn lockspace(words: &mut Words<'_>, geometry: &Geometry) -> Result<Lo
     ensures exact { result ≡ next_as (commands.is_lockspace_word (layout_of geometry.now)) commands.lockspace_of_word words.old }
     ensures left { words.new ≡ left_after result words.old }
 {
-    words.accept(words.peek().and_then(|word| lockspace_of(word, geometry)))
+    let word = words.peek().ok_or(words.column())?;
+    words.accept(lockspace_of(word, geometry))
 }
 
 /// Reads the next word as a resource; else gives its column.
@@ -175,7 +175,8 @@ pub(crate) fn resource(words: &mut Words<'_>, geometry: &Geometry) -> Result<Res
     ensures exact { result ≡ next_as (commands.is_resource_word (layout_of geometry.now)) commands.resource_of_word words.old }
     ensures left { words.new ≡ left_after result words.old }
 {
-    words.accept(words.peek().and_then(|word| resource_of(word, geometry)))
+    let word = words.peek().ok_or(words.column())?;
+    words.accept(resource_of(word, geometry))
 }
 
 /// Reads the next word as a resource in one mode or the other; else gives its column.
@@ -198,7 +199,8 @@ pub(crate) fn request(
     ensures exact { result ≡ next_as (arguments.is_request_word (layout_of geometry.now)) arguments.request_of_word words.old }
     ensures left { words.new ≡ left_after result words.old }
 {
-    words.accept(words.peek().and_then(|word| request_of(word, geometry)))
+    let word = words.peek().ok_or(words.column())?;
+    words.accept(request_of(word, geometry))
 }
 
 /// Reads the next word as a process; else gives its column.

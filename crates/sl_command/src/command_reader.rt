@@ -4,13 +4,14 @@
 //! word; here they are followed from the left. Each function reads what stands behind a verb, and gives the column of the first word
 //! that no form takes there: one past the end where a word is missing.
 
-ghost use Rattle.std.specs.Prelude.{IfOk, Ok, false, true, ◌==◌, ◌↔◌, ◌≡◌};
+ghost use Rattle.std.specs.Prelude.{IfOk, Ok, drop, false, take, true, ◌==◌, ◌↔◌, ◌≡◌};
 ghost use Rattle.sl_area.specs.AreaSizes.{layout_of};
 ghost use Rattle.sl_command.specs.VerbReads as verbs;
-ghost use Rattle.sl_text.specs.Walks.{read_by};
+ghost use Rattle.sl_text.specs.Walks.{at_end, NoneFits, read_by};
 ghost use Rattle.sl_trace.specs.CommandForms as commands;
 ghost use Rattle.sl_trace.specs.declared.command.Command.{Command};
-ghost use Rattle.sl_trace.specs.declared.command.Command.TheVariants.{GetLvb};
+ghost use Rattle.sl_trace.specs.declared.command.Command.TheVariants.{AddLockspace, GetLvb, HostStatus, InqLockspace, RemLockspace, Status};
+ghost use Rattle.sl_words.specs.Results as results;
 
 use crate::arguments;
 use sl_area::Geometry;
@@ -261,26 +262,68 @@ fn set_lvb(words: &mut Words<'_>, geometry: &Geometry) -> Result<Command, usize>
     })
 }
 
-/// Reads the words of a command; else gives the column of the first word that no form takes.
-#[tactic(auto, using(crate::proofs::VerbLaws::verbs))]
-fn command(words: &mut Words<'_>, geometry: &Geometry) -> Result<Command, usize>
+/// Reads what stands behind `add_lockspace`.
+fn add_lockspace(words: &mut Words<'_>, geometry: &Geometry) -> Result<Command, usize>
+    ensures { result ≡ results.◌>>=◌ (verbs.lockspace_behind (layout_of geometry.now) words.old) (λ a. Ok (AddLockspace a)) }
+{
+    Ok(Command::AddLockspace(lockspace(words, geometry)?))
+}
+
+/// Reads what stands behind `rem_lockspace`.
+fn rem_lockspace(words: &mut Words<'_>, geometry: &Geometry) -> Result<Command, usize>
+    ensures { result ≡ results.◌>>=◌ (verbs.lockspace_behind (layout_of geometry.now) words.old) (λ a. Ok (RemLockspace a)) }
+{
+    Ok(Command::RemLockspace(lockspace(words, geometry)?))
+}
+
+/// Reads what stands behind `inq_lockspace`.
+fn inq_lockspace(words: &mut Words<'_>, geometry: &Geometry) -> Result<Command, usize>
+    ensures { result ≡ results.◌>>=◌ (verbs.lockspace_behind (layout_of geometry.now) words.old) (λ a. Ok (InqLockspace a)) }
+{
+    Ok(Command::InqLockspace(lockspace(words, geometry)?))
+}
+
+/// Reads what stands behind `host_status`.
+fn host_status(words: &mut Words<'_>, geometry: &Geometry) -> Result<Command, usize>
+    ensures { result ≡ results.◌>>=◌ (verbs.lockspace_behind (layout_of geometry.now) words.old) (λ a. Ok (HostStatus a)) }
+{
+    Ok(Command::HostStatus(lockspace(words, geometry)?))
+}
+
+/// Reads what stands behind `status`, which is nothing.
+fn status(words: &Words<'_>) -> Result<Command, usize>
+    ensures { result ≡ results.◌>>=◌ (at_end words.now) (λ _. Ok Status) }
+{
+    words.finish()?;
+    Ok(Command::Status)
+}
+
+/// Reads the words of a command with one of the last four verbs, where no form before theirs takes the next word.
+fn last_command(words: &mut Words<'_>, geometry: &Geometry) -> Result<Command, usize>
+    requires front { NoneFits words.old (take 12 (commands.forms (layout_of geometry.now))) }
+    requires middle { NoneFits words.old (take 8 (drop 12 (commands.forms (layout_of geometry.now)))) }
     ensures { result ≡ read_by (commands.forms (layout_of geometry.now)) words.old }
 {
-    if words.skip(b"add_lockspace") {
-        return Ok(Command::AddLockspace(lockspace(words, geometry)?));
+    if words.skip(b"get_lvb") {
+        return get_lvb(words, geometry);
     }
-    if words.skip(b"rem_lockspace") {
-        return Ok(Command::RemLockspace(lockspace(words, geometry)?));
+    if words.skip(b"set_lvb") {
+        return set_lvb(words, geometry);
     }
-    if words.skip(b"inq_lockspace") {
-        return Ok(Command::InqLockspace(lockspace(words, geometry)?));
+    if words.skip(b"set_killpath") {
+        return set_killpath(words);
     }
-    if words.skip(b"host_status") {
-        return Ok(Command::HostStatus(lockspace(words, geometry)?));
+    if words.skip(b"status") {
+        return status(words);
     }
-    if words.skip(b"acquire") {
-        return acquire(words, geometry);
-    }
+    Err(words.column())
+}
+
+/// Reads the words of a command with a verb from `release` on, where no form before that one's takes the next word.
+fn later_command(words: &mut Words<'_>, geometry: &Geometry) -> Result<Command, usize>
+    requires { NoneFits words.old (take 12 (commands.forms (layout_of geometry.now))) }
+    ensures { result ≡ read_by (commands.forms (layout_of geometry.now)) words.old }
+{
     if words.skip(b"release") {
         return release(words, geometry);
     }
@@ -293,18 +336,29 @@ fn command(words: &mut Words<'_>, geometry: &Geometry) -> Result<Command, usize>
     if words.skip(b"request") {
         return request(words, geometry);
     }
-    if words.skip(b"get_lvb") {
-        return get_lvb(words, geometry);
+    last_command(words, geometry)
+}
+
+/// Reads the words of a command; else gives the column of the first word that no form takes.
+fn command(words: &mut Words<'_>, geometry: &Geometry) -> Result<Command, usize>
+    ensures { result ≡ read_by (commands.forms (layout_of geometry.now)) words.old }
+{
+    if words.skip(b"acquire") {
+        return acquire(words, geometry);
     }
-    if words.skip(b"set_lvb") {
-        return set_lvb(words, geometry);
+    if words.skip(b"add_lockspace") {
+        return add_lockspace(words, geometry);
     }
-    if words.skip(b"set_killpath") {
-        return set_killpath(words);
+    if words.skip(b"rem_lockspace") {
+        return rem_lockspace(words, geometry);
     }
-    words.expect(b"status")?;
-    words.finish()?;
-    Ok(Command::Status)
+    if words.skip(b"inq_lockspace") {
+        return inq_lockspace(words, geometry);
+    }
+    if words.skip(b"host_status") {
+        return host_status(words, geometry);
+    }
+    later_command(words, geometry)
 }
 
 /// The command that a text says; else the column of the first word that no form takes.

@@ -1,17 +1,27 @@
 //! A command's one text: its words with one space between, and the parts of a word with colons between.
 
-ghost use Rattle.std.specs.Prelude.{IfOk, IsSome, OnErr, OnOk, codes, decimal, false, true, string_bytes, ◌++◌, ◌∷◌, ◌≡◌, []};
+ghost use Rattle.std.specs.Prelude.{IsSome, OnErr, OnOk, codes, decimal, false, true, ◌++◌, ◌∷◌, ◌≡◌, []};
 ghost use Rattle.sl_text.specs.Forms.{coloned, spaced};
 ghost use Rattle.sl_text.specs.Numbers.{hex_text};
 ghost use Rattle.sl_trace.specs.CommandForms as commands;
 ghost use Rattle.sl_trace.specs.Jobs.{process_named};
 ghost use Rattle.sl_trace.specs.declared.command.Command.TheVariants.{Acquire, ReleaseOrphan, SetKillpath, TakeOver};
 
-use crate::words::push_text;
+use crate::words::{push_behind, push_number_part, push_part, push_text, push_word};
 use sl_text::hex::push_hex;
 use sl_text::{Data, FilePath};
 use sl_trace::{Command, LockspaceArg, ResourceArg};
-use std::alloc::{AllocError, Global};
+use std::alloc::AllocError;
+
+/// Adds the word of a lockspace behind a space.
+fn push_lockspace(out: &mut Vec<u8>, lockspace: &LockspaceArg) -> Result<(), AllocError>
+    ensures { OnOk result (out.new.items ≡ out.old.items ++ 32 ∷ commands.lockspace_word lockspace.now) }
+{
+    push_word(out, lockspace.name.as_slice())?;
+    push_number_part(out, u64::from(lockspace.id))?;
+    push_part(out, lockspace.path.as_slice())?;
+    push_number_part(out, lockspace.offset)
+}
 
 /// Adds a command that names a lockspace.
 fn push_on_lockspace(
@@ -21,42 +31,52 @@ fn push_on_lockspace(
 ) -> Result<(), AllocError>
     ensures { OnOk result (out.new.items ≡ out.old.items ++ spaced (verb.now ∷ codes "-s" ∷ commands.lockspace_word lockspace.now ∷ [])) }
 {
-    let text = format!(in *out.allocator();
-        "{verb} -s {}:{}:{}:{}",
-        lockspace.name, lockspace.id, lockspace.path, lockspace.offset
-    )?;
-    push_text(out, text.as_bytes())
+    push_text(out, verb.as_bytes())?;
+    push_word(out, b"-s")?;
+    push_lockspace(out, lockspace)
 }
 
-/// The word of a resource that is meant in the exclusive mode.
-fn exclusive_word(alloc: Global, resource: &ResourceArg) -> Result<String, AllocError>
-    ensures { IfOk result (λ word. string_bytes word ≡ commands.moded_word resource.now false) }
+/// Adds the word of a resource behind a space.
+fn push_resource(out: &mut Vec<u8>, resource: &ResourceArg) -> Result<(), AllocError>
+    ensures { OnOk result (out.new.items ≡ out.old.items ++ 32 ∷ coloned (commands.resource_parts resource.now)) }
 {
-    format!(in alloc;
-        "{}:{}:{}:{}",
-        resource.lockspace, resource.name, resource.path, resource.offset
-    )
+    push_word(out, resource.lockspace.as_slice())?;
+    push_part(out, resource.name.as_slice())?;
+    push_part(out, resource.path.as_slice())?;
+    push_number_part(out, resource.offset)
 }
 
-/// The word of a resource that is meant in the shared mode.
-fn shared_word(alloc: Global, resource: &ResourceArg) -> Result<String, AllocError>
-    ensures { IfOk result (λ word. string_bytes word ≡ commands.moded_word resource.now true) }
+/// Adds the word of a resource that is meant in the shared mode, behind a space.
+fn push_shared(out: &mut Vec<u8>, resource: &ResourceArg) -> Result<(), AllocError>
+    ensures { OnOk result (out.new.items ≡ out.old.items ++ 32 ∷ commands.moded_word resource.now true) }
 {
-    format!(in alloc;
-        "{}:{}:{}:{}:SH",
-        resource.lockspace, resource.name, resource.path, resource.offset
-    )
+    push_resource(out, resource)?;
+    push_part(out, b"SH")
 }
 
-/// The word of a resource and a mode.
-fn resource_word(alloc: Global, resource: &ResourceArg, shared: bool) -> Result<String, AllocError>
-    ensures { IfOk result (λ word. string_bytes word ≡ commands.moded_word resource.now shared) }
+/// Adds the word of a resource and a mode behind a space.
+fn push_moded(out: &mut Vec<u8>, resource: &ResourceArg, shared: bool) -> Result<(), AllocError>
+    ensures { OnOk result (out.new.items ≡ out.old.items ++ 32 ∷ commands.moded_word resource.now shared) }
 {
     if shared {
-        shared_word(alloc, resource)
+        push_shared(out, resource)
     } else {
-        exclusive_word(alloc, resource)
+        push_resource(out, resource)
     }
+}
+
+/// Adds a verb, and the word of a resource and a mode.
+fn push_on_resource(
+    out: &mut Vec<u8>,
+    verb: &str,
+    resource: &ResourceArg,
+    shared: bool,
+) -> Result<(), AllocError>
+    ensures { OnOk result (out.new.items ≡ out.old.items ++ spaced (verb.now ∷ codes "-r" ∷ commands.moded_word resource.now shared ∷ [])) }
+{
+    push_text(out, verb.as_bytes())?;
+    push_word(out, b"-r")?;
+    push_moded(out, resource, shared)
 }
 
 /// Adds a command that names a resource, a mode and a process.
@@ -70,9 +90,9 @@ fn push_for_process(
     ensures { OnOk result (out.new.items ≡ out.old.items
         ++ spaced (verb.now ∷ codes "-r" ∷ commands.moded_word resource.now shared ∷ codes "-p" ∷ decimal process ∷ [])) }
 {
-    let word = resource_word(*out.allocator(), resource, shared)?;
-    let text = format!(in *out.allocator(); "{verb} -r {word} -p {process}")?;
-    push_text(out, text.as_bytes())
+    push_on_resource(out, verb, resource, shared)?;
+    push_word(out, b"-p")?;
+    push_behind(out, u64::from(process))
 }
 
 /// Adds an acquire, with its option where it is persistent.
@@ -112,17 +132,18 @@ fn push_take_over(
 fn push_release_orphan(out: &mut Vec<u8>, resource: &ResourceArg) -> Result<(), AllocError>
     ensures { OnOk result (out.new.items ≡ out.old.items ++ spaced (commands.command_words (ReleaseOrphan resource.now))) }
 {
-    let word = exclusive_word(*out.allocator(), resource)?;
-    let text = format!(in *out.allocator(); "release -r {word} -O 1")?;
-    push_text(out, text.as_bytes())
+    push_on_resource(out, "release", resource, false)?;
+    push_text(out, b" -O 1")
 }
 
 /// Adds a command that sets a kill program.
 fn push_set_killpath(out: &mut Vec<u8>, process: u32, program: &FilePath) -> Result<(), AllocError>
     ensures { OnOk result (out.new.items ≡ out.old.items ++ spaced (commands.command_words (SetKillpath process program.now))) }
 {
-    let text = format!(in *out.allocator(); "set_killpath -p {process} -c {program}")?;
-    push_text(out, text.as_bytes())
+    push_text(out, b"set_killpath -p")?;
+    push_behind(out, u64::from(process))?;
+    push_word(out, b"-c")?;
+    push_word(out, program.as_slice())
 }
 
 /// Adds a command that runs a program under a resource.
@@ -135,19 +156,17 @@ fn push_for_program(
     ensures { OnOk result (out.new.items ≡ out.old.items
         ++ spaced (codes "command" ∷ codes "-r" ∷ commands.moded_word resource.now shared ∷ codes "-c" ∷ program.now ∷ [])) }
 {
-    let word = resource_word(*out.allocator(), resource, shared)?;
-    let text = format!(in *out.allocator(); "command -r {word} -c {program}")?;
-    push_text(out, text.as_bytes())
+    push_on_resource(out, "command", resource, shared)?;
+    push_word(out, b"-c")?;
+    push_word(out, program.as_slice())
 }
 
-/// The word of a resource and an lver that is asked for.
-fn asked_word(alloc: Global, resource: &ResourceArg, lver: u64) -> Result<String, AllocError>
-    ensures { IfOk result (λ word. string_bytes word ≡ coloned (commands.resource_parts resource.now ++ decimal lver ∷ [])) }
+/// Adds the word of a resource and an lver that is asked for, behind a space.
+fn push_asked(out: &mut Vec<u8>, resource: &ResourceArg, lver: u64) -> Result<(), AllocError>
+    ensures { OnOk result (out.new.items ≡ out.old.items ++ 32 ∷ coloned (commands.resource_parts resource.now ++ decimal lver ∷ [])) }
 {
-    format!(in alloc;
-        "{}:{}:{}:{}:{lver}",
-        resource.lockspace, resource.name, resource.path, resource.offset
-    )
+    push_resource(out, resource)?;
+    push_number_part(out, lver)
 }
 
 /// Adds a request for an lver.
@@ -160,9 +179,10 @@ fn push_request(
     ensures { OnOk result (out.new.items ≡ out.old.items
         ++ spaced (codes "request" ∷ codes "-r" ∷ coloned (commands.resource_parts resource.now ++ decimal lver ∷ []) ∷ codes "-f" ∷ decimal force ∷ [])) }
 {
-    let word = asked_word(*out.allocator(), resource, lver)?;
-    let text = format!(in *out.allocator(); "request -r {word} -f {force}")?;
-    push_text(out, text.as_bytes())
+    push_text(out, b"request -r")?;
+    push_asked(out, resource, lver)?;
+    push_word(out, b"-f")?;
+    push_behind(out, u64::from(force))
 }
 
 /// Adds a command that sets a value.
@@ -177,8 +197,7 @@ fn push_set_lvb(
 {
     push_for_process(out, "set_lvb", resource, false, process)?;
     push_text(out, b" -d ")?;
-    push_hex(out, value.as_slice())?;
-    Ok(())
+    push_hex(out, value.as_slice())
 }
 
 /// Adds the words of a command that is given for a process.

@@ -3,26 +3,48 @@
 ghost use Rattle.std.specs.Prelude.{OnErr, OnOk, codes, decimal, ◌++◌, ◌∷◌, ◌≡◌, []};
 ghost use Rattle.sl_command.specs.OutputLines.{class_text, line_text};
 ghost use Rattle.sl_sector.specs.RecordTexts.{record_words};
-ghost use Rattle.sl_text.specs.Forms.{as_bytes};
+ghost use Rattle.sl_text.specs.Forms.{as_bytes, spaced};
 ghost use Rattle.sl_trace.specs.EffectTexts as texts;
 
-use crate::replies;
-use crate::words::{push_text, push_word};
+use crate::replies::push_reply_behind;
+use crate::words::{push_behind, push_part, push_text, push_word};
 use sl_sector::{Rec, push_record_text};
 use sl_text::Name;
-use sl_text::write::push_line;
+use sl_text::number::push_number;
 use sl_trace::{Call, Effects, End, Grant, JobReply, Mode, Move, Op, Sent, Signal, Start};
 use std::alloc::AllocError;
+
+/// Adds the front of a machine's line: its number, and a word.
+fn push_machine(out: &mut Vec<u8>, machine: u32, word: &str) -> Result<(), AllocError>
+    ensures { OnOk result (out.new.items ≡ out.old.items ++ texts.machine_line machine (word.now ∷ [])) }
+{
+    push_number(out, u64::from(machine))?;
+    push_word(out, word.as_bytes())
+}
+
+/// Adds the front of a machine's line that has a number: of a process, of a job or of a call.
+fn push_numbered(out: &mut Vec<u8>, machine: u32, word: &str, number: u64) -> Result<(), AllocError>
+    ensures { OnOk result (out.new.items ≡ out.old.items ++ texts.machine_line machine (word.now ∷ decimal number ∷ [])) }
+{
+    push_machine(out, machine, word)?;
+    push_behind(out, number)
+}
+
+/// Adds a resource with its lockspace, behind a space.
+fn push_resource(out: &mut Vec<u8>, lockspace: &Name, resource: &Name) -> Result<(), AllocError>
+    ensures { OnOk result (out.new.items ≡ out.old.items ++ 32 ∷ texts.of_resource lockspace.now resource.now) }
+{
+    push_word(out, lockspace.as_slice())?;
+    push_part(out, resource.as_slice())
+}
 
 /// Adds the line of an end.
 fn push_end(out: &mut Vec<u8>, machine: u32, end: &End) -> Result<(), AllocError>
     ensures { OnOk result (out.new.items ≡ out.old.items ++ line_text machine (texts.end_words end.now)) }
 {
-    let line = format!(in *out.allocator();
-        "{machine} end {} {}:{}",
-        end.process, end.lockspace, end.resource
-    )?;
-    push_line(out, line.as_bytes())
+    push_numbered(out, machine, "end", u64::from(end.process))?;
+    push_resource(out, &end.lockspace, &end.resource)?;
+    push_text(out, b"\n")
 }
 
 /// Adds the lines of ends.
@@ -49,9 +71,9 @@ fn signal_word(signal: Signal) -> &'static str
 fn push_signal(out: &mut Vec<u8>, machine: u32, sent: &Sent) -> Result<(), AllocError>
     ensures { OnOk result (out.new.items ≡ out.old.items ++ line_text machine (texts.sent_words sent.now)) }
 {
-    let signal = signal_word(sent.signal);
-    let line = format!(in *out.allocator(); "{machine} signal {} {signal}", sent.process)?;
-    push_line(out, line.as_bytes())
+    push_numbered(out, machine, "signal", u64::from(sent.process))?;
+    push_word(out, signal_word(sent.signal).as_bytes())?;
+    push_text(out, b"\n")
 }
 
 /// Adds the lines of signals.
@@ -64,6 +86,20 @@ fn push_signals(out: &mut Vec<u8>, machine: u32, signals: &[Sent]) -> Result<(),
     Ok(())
 }
 
+/// Adds the front of a connection's line: what becomes of it, and its lockspace.
+fn push_connection(
+    out: &mut Vec<u8>,
+    machine: u32,
+    verb: &str,
+    lockspace: &Name,
+) -> Result<(), AllocError>
+    ensures { OnOk result (out.new.items ≡ out.old.items ++ texts.machine_line machine (codes "wdmd" ∷ verb.now ∷ lockspace.now ∷ [])) }
+{
+    push_machine(out, machine, "wdmd")?;
+    push_word(out, verb.as_bytes())?;
+    push_word(out, lockspace.as_slice())
+}
+
 /// Adds the line of a connection that begins or renews, with its expiry.
 fn push_expiry(
     out: &mut Vec<u8>,
@@ -74,16 +110,17 @@ fn push_expiry(
 ) -> Result<(), AllocError>
     ensures { OnOk result (out.new.items ≡ out.old.items ++ line_text machine (codes "wdmd" ∷ verb.now ∷ lockspace.now ∷ decimal expiry ∷ [])) }
 {
-    let line = format!(in *out.allocator(); "{machine} wdmd {verb} {lockspace} {expiry}")?;
-    push_line(out, line.as_bytes())
+    push_connection(out, machine, verb, lockspace)?;
+    push_behind(out, expiry)?;
+    push_text(out, b"\n")
 }
 
 /// Adds the line of a connection that ends.
 fn push_unregister(out: &mut Vec<u8>, machine: u32, lockspace: &Name) -> Result<(), AllocError>
     ensures { OnOk result (out.new.items ≡ out.old.items ++ line_text machine (codes "wdmd" ∷ codes "unregister" ∷ lockspace.now ∷ [])) }
 {
-    let line = format!(in *out.allocator(); "{machine} wdmd unregister {lockspace}")?;
-    push_line(out, line.as_bytes())
+    push_connection(out, machine, "unregister", lockspace)?;
+    push_text(out, b"\n")
 }
 
 /// Adds the line of a connection's move.
@@ -119,16 +156,22 @@ fn mode_word(mode: Mode) -> &'static str
     }
 }
 
+/// Adds the mode and the lver of a grant, each behind a space.
+fn push_granted(out: &mut Vec<u8>, mode: Mode, lver: u64) -> Result<(), AllocError>
+    ensures { OnOk result (out.new.items ≡ out.old.items ++ 32 ∷ spaced (texts.mode_word mode ∷ decimal lver ∷ [])) }
+{
+    push_word(out, mode_word(mode).as_bytes())?;
+    push_behind(out, lver)
+}
+
 /// Adds the line of a grant.
 fn push_grant(out: &mut Vec<u8>, machine: u32, grant: &Grant) -> Result<(), AllocError>
     ensures { OnOk result (out.new.items ≡ out.old.items ++ line_text machine (texts.grant_words grant.now)) }
 {
-    let mode = mode_word(grant.mode);
-    let line = format!(in *out.allocator();
-        "{machine} grant {} {}:{} {mode} {}",
-        grant.process, grant.lockspace, grant.resource, grant.lver
-    )?;
-    push_line(out, line.as_bytes())
+    push_numbered(out, machine, "grant", u64::from(grant.process))?;
+    push_resource(out, &grant.lockspace, &grant.resource)?;
+    push_granted(out, grant.mode, grant.lver)?;
+    push_text(out, b"\n")
 }
 
 /// Adds the lines of grants.
@@ -145,8 +188,9 @@ fn push_grants(out: &mut Vec<u8>, machine: u32, grants: &[Grant]) -> Result<(), 
 fn push_start(out: &mut Vec<u8>, machine: u32, start: &Start) -> Result<(), AllocError>
     ensures { OnOk result (out.new.items ≡ out.old.items ++ line_text machine (texts.start_words start.now)) }
 {
-    let line = format!(in *out.allocator(); "{machine} start {} {}", start.process, start.program)?;
-    push_line(out, line.as_bytes())
+    push_numbered(out, machine, "start", u64::from(start.process))?;
+    push_word(out, start.program.as_slice())?;
+    push_text(out, b"\n")
 }
 
 /// Adds the lines of children's starts.
@@ -164,13 +208,9 @@ fn push_starts(out: &mut Vec<u8>, machine: u32, starts: &[Start]) -> Result<(), 
 fn push_answer(out: &mut Vec<u8>, machine: u32, answer: &JobReply) -> Result<(), AllocError>
     ensures { OnOk result (out.new.items ≡ out.old.items ++ line_text machine (texts.answer_words answer.now)) }
 {
-    let alloc = *out.allocator();
-    let front = format!(in alloc; "{machine} reply {}", answer.job)?;
-    let reply = replies::text_of(alloc, &answer.reply)?;
-    push_text(out, front.as_bytes())?;
-    push_word(out, &reply)?;
-    push_text(out, b"\n")?;
-    Ok(())
+    push_numbered(out, machine, "reply", answer.job)?;
+    push_reply_behind(out, &answer.reply)?;
+    push_text(out, b"\n")
 }
 
 /// Adds the lines of replies to jobs.
@@ -183,16 +223,25 @@ fn push_answers(out: &mut Vec<u8>, machine: u32, answers: &[JobReply]) -> Result
     Ok(())
 }
 
+/// Adds the front of a call's line: what is done, and where.
+fn push_place(out: &mut Vec<u8>, machine: u32, call: &Call, verb: &str) -> Result<(), AllocError>
+    ensures { OnOk result (out.new.items ≡ out.old.items
+        ++ texts.machine_line machine (codes "call" ∷ decimal call.now.number ∷ verb.now ∷ call.now.path ∷ decimal call.now.offset ∷ [])) }
+{
+    push_numbered(out, machine, "call", call.number)?;
+    push_word(out, verb.as_bytes())?;
+    push_word(out, call.path.as_slice())?;
+    push_behind(out, call.offset)
+}
+
 /// Adds the line of a read.
 fn push_read(out: &mut Vec<u8>, machine: u32, call: &Call, sectors: u32) -> Result<(), AllocError>
     ensures { OnOk result (out.new.items ≡ out.old.items
         ++ line_text machine (codes "call" ∷ decimal call.now.number ∷ codes "read" ∷ call.now.path ∷ decimal call.now.offset ∷ decimal sectors ∷ [])) }
 {
-    let line = format!(in *out.allocator();
-        "{machine} call {} read {} {} {sectors}",
-        call.number, call.path, call.offset
-    )?;
-    push_line(out, line.as_bytes())
+    push_place(out, machine, call, "read")?;
+    push_behind(out, u64::from(sectors))?;
+    push_text(out, b"\n")
 }
 
 /// Adds the line of a write.
@@ -200,15 +249,10 @@ fn push_write(out: &mut Vec<u8>, machine: u32, call: &Call, written: &Rec) -> Re
     ensures { OnOk result (out.new.items ≡ out.old.items
         ++ line_text machine (codes "call" ∷ decimal call.now.number ∷ codes "write" ∷ call.now.path ∷ decimal call.now.offset ∷ record_words written.now)) }
 {
-    let line = format!(in *out.allocator();
-        "{machine} call {} write {} {}",
-        call.number, call.path, call.offset
-    )?;
-    push_text(out, line.as_bytes())?;
+    push_place(out, machine, call, "write")?;
     push_text(out, b" ")?;
     push_record_text(out, written)?;
-    push_text(out, b"\n")?;
-    Ok(())
+    push_text(out, b"\n")
 }
 
 /// Adds the line of a call.

@@ -3,19 +3,19 @@
 //! A reply is a word and what it tells, with one space between: numbers, names, states. What a later read should have told and
 //! could not is `torn`.
 
-ghost use Rattle.std.specs.Prelude.{IfOk, OnErr, OnOk, codes, decimal, false, map, ◌++◌, ◌∷◌, ◌≡◌, []};
-ghost use Rattle.sl_command.specs.OutputLines.{behind, host_word, host_words, session_word};
+ghost use Rattle.std.specs.Prelude.{OnErr, OnOk, codes, decimal, false, map, ◌++◌, ◌∷◌, ◌≡◌, []};
+ghost use Rattle.sl_command.specs.OutputLines.{behind, counted, host_word, host_words, session_word};
 ghost use Rattle.sl_sector.specs.RecordTexts.{dash_for_none};
 ghost use Rattle.sl_text.specs.Forms.{spaced};
 ghost use Rattle.sl_text.specs.Numbers.{hex_text};
 ghost use Rattle.sl_trace.specs.EffectTexts as texts;
 
-use crate::words::{push_counted, push_word};
+use crate::words::{push_behind, push_counted, push_number_part, push_part, push_text, push_word};
 use sl_sector::Owner;
 use sl_text::hex::push_hex;
 use sl_text::{Data, Name};
 use sl_trace::{DeltaOwner, DeltaVersion, HostState, Limited, Reply, SessionOf, StateOf};
-use std::alloc::{AllocError, Global};
+use std::alloc::AllocError;
 
 /// Lockspaces of a machine, at most.
 const MOST_LOCKSPACES: u64 = 8;
@@ -59,9 +59,8 @@ fn is_free(state: HostState) -> bool
 fn push_state(out: &mut Vec<u8>, host: &StateOf) -> Result<(), AllocError>
     ensures { OnOk result (out.new.items ≡ out.old.items ++ 32 ∷ host_word host.now) }
 {
-    let state = state_word(host.state);
-    let text = format!(in *out.allocator(); "{}:{state}", host.id)?;
-    push_word(out, text.as_bytes())
+    push_behind(out, u64::from(host.id))?;
+    push_part(out, state_word(host.state).as_bytes())
 }
 
 /// Adds the ids that are not free, each behind a space.
@@ -82,8 +81,7 @@ fn push_states(out: &mut Vec<u8>, hosts: &[StateOf]) -> Result<(), AllocError>
     ensures { OnOk result (out.new.items ≡ out.old.items ++ spaced (codes "ok" ∷ host_words hosts.now)) }
 {
     out.extend_from_slice(b"ok")?;
-    push_each_state(out, hosts)?;
-    Ok(())
+    push_each_state(out, hosts)
 }
 
 /// Adds the sessions, each behind a space.
@@ -102,19 +100,16 @@ fn push_sessions(out: &mut Vec<u8>, sessions: &[SessionOf]) -> Result<(), AllocE
     ensures { OnOk result (out.new.items ≡ out.old.items ++ spaced (codes "ok" ∷ map session_word sessions.now)) }
 {
     out.extend_from_slice(b"ok")?;
-    push_each_session(out, sessions)?;
-    Ok(())
+    push_each_session(out, sessions)
 }
 
 /// Adds a session behind a space.
 fn push_session(out: &mut Vec<u8>, session: &SessionOf) -> Result<(), AllocError>
     ensures { OnOk result (out.new.items ≡ out.old.items ++ 32 ∷ session_word session.now) }
 {
-    let text = format!(in *out.allocator();
-        "{}:{}:{}",
-        session.lockspace, session.id, session.generation
-    )?;
-    push_word(out, text.as_bytes())
+    push_word(out, session.lockspace.as_slice())?;
+    push_number_part(out, u64::from(session.id))?;
+    push_number_part(out, session.generation)
 }
 
 /// Adds the digits of a value's bytes, and a dash where there are none.
@@ -125,8 +120,7 @@ fn push_digits(out: &mut Vec<u8>, bytes: &[u8]) -> Result<(), AllocError>
     if bytes.is_empty() {
         return out.extend_from_slice(b"-");
     }
-    push_hex(out, bytes)?;
-    Ok(())
+    push_hex(out, bytes)
 }
 
 /// Adds the lver and the seq of a value, and its bytes.
@@ -146,16 +140,19 @@ fn push_versions(
 ) -> Result<(), AllocError>
     ensures { OnOk result (out.new.items ≡ out.old.items ++ spaced (codes "IdHeld" ∷ texts.version_words first ++ texts.or_torn texts.version_words later)) }
 {
-    let text = match later {
-        Some(later) => {
-            format!(in *out.allocator();
-                "IdHeld {} {} {} {}",
-                first.generation, first.seq, later.generation, later.seq
-            )?
-        }
-        None => format!(in *out.allocator(); "IdHeld {} {} torn", first.generation, first.seq)?,
-    };
-    out.extend_from_slice(text.as_bytes())
+    push_counted(out, "IdHeld", &[first.generation, first.seq])?;
+    match later {
+        Some(later) => push_version(out, later),
+        None => push_word(out, b"torn"),
+    }
+}
+
+/// Adds what a delta sector spells, behind a space.
+fn push_version(out: &mut Vec<u8>, version: DeltaVersion) -> Result<(), AllocError>
+    ensures { OnOk result (out.new.items ≡ out.old.items ++ 32 ∷ spaced (texts.version_words version)) }
+{
+    push_behind(out, version.generation)?;
+    push_behind(out, version.seq)
 }
 
 /// Adds the session that should own an id, and what was found in its place.
@@ -166,27 +163,31 @@ fn push_owners(
 ) -> Result<(), AllocError>
     ensures { OnOk result (out.new.items ≡ out.old.items ++ spaced (codes "IdLost" ∷ texts.owner_words own ++ texts.or_torn texts.owner_words found)) }
 {
-    let text = match found {
-        Some(found) => {
-            format!(in *out.allocator();
-                "IdLost {} {} {} {}",
-                own.generation, own.name, found.generation, found.name
-            )?
-        }
-        None => format!(in *out.allocator(); "IdLost {} {} torn", own.generation, own.name)?,
-    };
-    out.extend_from_slice(text.as_bytes())
+    push_text(out, b"IdLost")?;
+    push_owner(out, own)?;
+    match found {
+        Some(found) => push_owner(out, found),
+        None => push_word(out, b"torn"),
+    }
+}
+
+/// Adds a session that owns an id, behind a space.
+fn push_owner(out: &mut Vec<u8>, owner: DeltaOwner) -> Result<(), AllocError>
+    ensures { OnOk result (out.new.items ≡ out.old.items ++ 32 ∷ spaced (texts.owner_words owner)) }
+{
+    push_behind(out, owner.generation)?;
+    push_word(out, owner.name.as_slice())
 }
 
 /// Adds the lver that a request held, and the one that is stored.
 fn push_stored(out: &mut Vec<u8>, held: u64, stored: Option<u64>) -> Result<(), AllocError>
     ensures { OnOk result (out.new.items ≡ out.old.items ++ spaced (codes "RequestOld" ∷ decimal held ∷ texts.number_word stored ∷ [])) }
 {
-    let text = match stored {
-        Some(stored) => format!(in *out.allocator(); "RequestOld {held} {stored}")?,
-        None => format!(in *out.allocator(); "RequestOld {held} torn")?,
-    };
-    out.extend_from_slice(text.as_bytes())
+    push_number_behind(out, "RequestOld", held)?;
+    match stored {
+        Some(stored) => push_behind(out, stored),
+        None => push_word(out, b"torn"),
+    }
 }
 
 /// Adds an area's lockspace and resource and its number of hosts.
@@ -198,16 +199,66 @@ fn push_area(
 ) -> Result<(), AllocError>
     ensures { OnOk result (out.new.items ≡ out.old.items ++ spaced (codes "WrongArea" ∷ lockspace.now ∷ resource.now ∷ decimal hosts ∷ [])) }
 {
-    let text = format!(in *out.allocator(); "WrongArea {lockspace} {resource} {hosts}")?;
-    out.extend_from_slice(text.as_bytes())
+    push_text(out, b"WrongArea")?;
+    push_word(out, lockspace.as_slice())?;
+    push_word(out, resource.as_slice())?;
+    push_behind(out, u64::from(hosts))
 }
 
 /// Adds a delta sector's lockspace and id.
 fn push_delta(out: &mut Vec<u8>, lockspace: &Name, id: u32) -> Result<(), AllocError>
     ensures { OnOk result (out.new.items ≡ out.old.items ++ spaced (codes "WrongArea" ∷ lockspace.now ∷ decimal id ∷ [])) }
 {
-    let text = format!(in *out.allocator(); "WrongArea {lockspace} {id}")?;
-    out.extend_from_slice(text.as_bytes())
+    push_text(out, b"WrongArea")?;
+    push_word(out, lockspace.as_slice())?;
+    push_behind(out, u64::from(id))
+}
+
+/// Adds a word alone.
+fn push_alone(out: &mut Vec<u8>, word: &str) -> Result<(), AllocError>
+    ensures { OnOk result (out.new.items ≡ out.old.items ++ counted word.now []) }
+{
+    push_text(out, word.as_bytes())
+}
+
+/// Adds a word, and a number behind it.
+fn push_number_behind(out: &mut Vec<u8>, word: &str, number: u64) -> Result<(), AllocError>
+    ensures { OnOk result (out.new.items ≡ out.old.items ++ counted word.now (number ∷ [])) }
+{
+    push_counted(out, word, &[number])
+}
+
+/// Adds a word, and an id or a process behind it.
+fn push_id_behind(out: &mut Vec<u8>, word: &str, id: u32) -> Result<(), AllocError>
+    ensures { OnOk result (out.new.items ≡ out.old.items ++ counted word.now (id ∷ [])) }
+{
+    push_number_behind(out, word, u64::from(id))
+}
+
+/// Adds a word, and two numbers behind it.
+fn push_both_behind(
+    out: &mut Vec<u8>,
+    word: &str,
+    first: u64,
+    second: u64,
+) -> Result<(), AllocError>
+    ensures { OnOk result (out.new.items ≡ out.old.items ++ counted word.now (first ∷ second ∷ [])) }
+{
+    push_counted(out, word, &[first, second])
+}
+
+/// Adds a word, and a host and a number behind it.
+fn push_host_behind(out: &mut Vec<u8>, word: &str, host: u32, number: u64) -> Result<(), AllocError>
+    ensures { OnOk result (out.new.items ≡ out.old.items ++ counted word.now (host ∷ number ∷ [])) }
+{
+    push_both_behind(out, word, u64::from(host), number)
+}
+
+/// Adds a call that got no answer in time, and from when to when it had.
+fn push_timeout(out: &mut Vec<u8>, call: u64, from: u64, to: u64) -> Result<(), AllocError>
+    ensures { OnOk result (out.new.items ≡ out.old.items ++ counted (codes "IoTimeout") (call ∷ from ∷ to ∷ [])) }
+{
+    push_counted(out, "IoTimeout", &[call, from, to])
 }
 
 /// Adds the lver that is held, and its owner.
@@ -250,28 +301,28 @@ fn push_refusal(out: &mut Vec<u8>, reply: &Reply) -> Result<(), AllocError>
     ensures { OnOk result (out.new.items ≡ out.old.items ++ texts.reply_text reply.now) }
 {
     match reply {
-        Reply::NoSession => push_counted(out, "NoSession", &[]),
-        Reply::Joining => push_counted(out, "Joining", &[]),
-        Reply::Recovering { renewed } => push_counted(out, "Recovering", &[*renewed]),
+        Reply::NoSession => push_alone(out, "NoSession"),
+        Reply::Joining => push_alone(out, "Joining"),
+        Reply::Recovering { renewed } => push_number_behind(out, "Recovering", *renewed),
         Reply::IdHeld { first, later } => push_versions(out, *first, *later),
         Reply::IdLost { own, found } => push_owners(out, *own, *found),
-        Reply::IdLate { claimed, now } => push_counted(out, "IdLate", &[*claimed, *now]),
-        Reply::TornDelta => push_counted(out, "TornDelta", &[]),
-        Reply::TornLeader => push_counted(out, "TornLeader", &[]),
-        Reply::TornBlock { host } => push_counted(out, "TornBlock", &[u64::from(*host)]),
+        Reply::IdLate { claimed, now } => push_both_behind(out, "IdLate", *claimed, *now),
+        Reply::TornDelta => push_alone(out, "TornDelta"),
+        Reply::TornLeader => push_alone(out, "TornLeader"),
+        Reply::TornBlock { host } => push_id_behind(out, "TornBlock", *host),
         Reply::Held { lver, owner } => push_held(out, *lver, *owner),
         Reply::Shared { owner } => push_shared(out, *owner),
-        Reply::Rival { host, mbal } => push_counted(out, "Rival", &[u64::from(*host), *mbal]),
-        Reply::Ahead { host, lver } => push_counted(out, "Ahead", &[u64::from(*host), *lver]),
-        Reply::IoTimeout { call, from, to } => push_counted(out, "IoTimeout", &[*call, *from, *to]),
-        Reply::IoFault { call } => push_counted(out, "IoFault", &[*call]),
-        Reply::Pending { call } => push_counted(out, "Pending", &[*call]),
-        Reply::Busy { process } => push_counted(out, "Busy", &[u64::from(*process)]),
-        Reply::NoOrphan => push_counted(out, "NoOrphan", &[]),
-        Reply::NotHeld => push_counted(out, "NotHeld", &[]),
-        Reply::SpawnFault => push_counted(out, "SpawnFault", &[]),
-        Reply::ValueTorn => push_counted(out, "ValueTorn", &[]),
-        Reply::BadCommand { column } => push_counted(out, "BadCommand", &[*column]),
+        Reply::Rival { host, mbal } => push_host_behind(out, "Rival", *host, *mbal),
+        Reply::Ahead { host, lver } => push_host_behind(out, "Ahead", *host, *lver),
+        Reply::IoTimeout { call, from, to } => push_timeout(out, *call, *from, *to),
+        Reply::IoFault { call } => push_number_behind(out, "IoFault", *call),
+        Reply::Pending { call } => push_number_behind(out, "Pending", *call),
+        Reply::Busy { process } => push_id_behind(out, "Busy", *process),
+        Reply::NoOrphan => push_alone(out, "NoOrphan"),
+        Reply::NotHeld => push_alone(out, "NotHeld"),
+        Reply::SpawnFault => push_alone(out, "SpawnFault"),
+        Reply::ValueTorn => push_alone(out, "ValueTorn"),
+        Reply::BadCommand { column } => push_number_behind(out, "BadCommand", *column),
         Reply::Limit { which } => push_limit(out, *which),
         Reply::RequestOld { held, stored } => push_stored(out, *held, *stored),
         Reply::WrongArea {
@@ -280,8 +331,8 @@ fn push_refusal(out: &mut Vec<u8>, reply: &Reply) -> Result<(), AllocError>
             hosts,
         } => push_area(out, lockspace, resource, *hosts),
         Reply::WrongDelta { lockspace, id } => push_delta(out, lockspace, *id),
-        Reply::NoProcess { process } => push_counted(out, "NoProcess", &[u64::from(*process)]),
-        Reply::Joined { generation } => push_counted(out, "Joined", &[*generation]),
+        Reply::NoProcess { process } => push_id_behind(out, "NoProcess", *process),
+        Reply::Joined { generation } => push_number_behind(out, "Joined", *generation),
         _ => unreachable!(),
     }
 }
@@ -292,25 +343,24 @@ fn push_reply(out: &mut Vec<u8>, reply: &Reply) -> Result<(), AllocError>
     ensures { OnOk result (out.new.items ≡ out.old.items ++ texts.reply_text reply.now) }
 {
     match reply {
-        Reply::Done => push_counted(out, "ok", &[]),
-        Reply::Generation { generation } => push_counted(out, "ok", &[*generation]),
-        Reply::Granted { lver } => push_counted(out, "ok", &[*lver]),
+        Reply::Done => push_alone(out, "ok"),
+        Reply::Generation { generation } => push_number_behind(out, "ok", *generation),
+        Reply::Granted { lver } => push_number_behind(out, "ok", *lver),
         Reply::Started { lver, process } => push_counted(out, "ok", &[*lver, u64::from(*process)]),
         Reply::Value { lver, seq, bytes } => push_value(out, *lver, *seq, bytes),
-        Reply::ValueSet { .. } => push_counted(out, "ok", &[]),
+        Reply::ValueSet { .. } => push_alone(out, "ok"),
         Reply::Hosts(states) => push_states(out, states.as_slice()),
         Reply::Sessions(sessions) => push_sessions(out, sessions.as_slice()),
         _ => push_refusal(out, reply),
     }
 }
 
-/// The text of a reply.
-pub(crate) fn text_of(alloc: Global, reply: &Reply) -> Result<Vec<u8>, AllocError>
-    ensures { IfOk result (λ text. text.items ≡ texts.reply_text reply.now) }
+/// Adds the text of a reply behind a space.
+pub(crate) fn push_reply_behind(out: &mut Vec<u8>, reply: &Reply) -> Result<(), AllocError>
+    ensures { OnOk result (out.new.items ≡ out.old.items ++ 32 ∷ texts.reply_text reply.now) }
 {
-    let mut text = Vec::new(alloc);
-    push_reply(&mut text, reply)?;
-    Ok(text)
+    out.push(b' ')?;
+    push_reply(out, reply)
 }
 
 /// Adds the text of a reply, without a line feed. An `Err` is want of memory, and `out` stays as it was.
@@ -318,6 +368,7 @@ pub fn push_reply_text(out: &mut Vec<u8>, reply: &Reply) -> Result<(), AllocErro
     ensures ok { OnOk result (out.new.items ≡ out.old.items ++ texts.reply_text reply.now) }
     ensures err { OnErr result (out.new.items ≡ out.old.items) }
 {
-    let text = text_of(*out.allocator(), reply)?;
+    let mut text = Vec::new(*out.allocator());
+    push_reply(&mut text, reply)?;
     out.extend_from_slice(&text)
 }

@@ -7,7 +7,7 @@ use sl_text::number::push_number;
 use std::alloc::AllocError;
 
 /// Adds a number behind a space.
-fn push_behind(out: &mut Vec<u8>, number: u64) -> Result<(), AllocError>
+pub(crate) fn push_behind(out: &mut Vec<u8>, number: u64) -> Result<(), AllocError>
     ensures { OnOk result (out.new.items ≡ out.old.items ++ 32 ∷ decimal number) }
 {
     out.push(b' ')?;
@@ -30,8 +30,7 @@ pub(crate) fn push_counted(out: &mut Vec<u8>, word: &str, numbers: &[u64]) -> Re
     ensures { OnOk result (out.new.items ≡ out.old.items ++ counted word.now numbers.now) }
 {
     out.extend_from_slice(word.as_bytes())?;
-    push_each(out, numbers)?;
-    Ok(())
+    push_each(out, numbers)
 }
 
 /// Adds a word behind a space.
@@ -40,6 +39,22 @@ pub(crate) fn push_word(out: &mut Vec<u8>, word: &[u8]) -> Result<(), AllocError
 {
     out.push(b' ')?;
     out.extend_from_slice(word)
+}
+
+/// Adds a part of a word behind a colon.
+pub(crate) fn push_part(out: &mut Vec<u8>, part: &[u8]) -> Result<(), AllocError>
+    ensures { OnOk result (out.new.items ≡ out.old.items ++ 58 ∷ part.now) }
+{
+    out.push(b':')?;
+    out.extend_from_slice(part)
+}
+
+/// Adds a number behind a colon.
+pub(crate) fn push_number_part(out: &mut Vec<u8>, number: u64) -> Result<(), AllocError>
+    ensures { OnOk result (out.new.items ≡ out.old.items ++ 58 ∷ decimal number) }
+{
+    out.push(b':')?;
+    push_number(out, number)
 }
 
 /// Adds a text.
