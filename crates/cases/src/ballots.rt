@@ -1,7 +1,7 @@
 //! Ballots.
 ghost use Rattle.std.specs.Prelude.{IsTrue, ◌<◌, ◌^◌, ◌≤◌};
 
-use crate::output_words::Piece::{Number, Word};
+use crate::output_words::Seen::{Number, Word};
 use crate::output_words::{row, row_with, said, said_two};
 use crate::word_values::{number_at, number_of, numbers_from, part, short_at, short_of, word};
 use sl_ballot::{

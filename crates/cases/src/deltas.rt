@@ -1,6 +1,6 @@
 //! A delta lease of id 1 of two, with io 100, fire 600, land 100 and rho 0.
 
-use crate::output_words::Piece::{Number, Word};
+use crate::output_words::Seen::{Number, Word};
 use crate::output_words::{add, row, said};
 use crate::records::sector_of;
 use crate::watches::sector_named;

@@ -1,7 +1,7 @@
 //! Lines of schedules.
 
-use crate::output_words::Piece::{Number, Word};
-use crate::output_words::{Piece, add, row, said, said_two, truth_word};
+use crate::output_words::Seen::{Number, Word};
+use crate::output_words::{Seen, add, row, said, said_two, truth_word};
 use crate::word_values::{number_at, short_at, shown, word};
 use sl_run::{Event, Header, Refusal};
 use sl_schedule::{
@@ -27,7 +27,7 @@ fn of_call_and<'a>(
     done: &'a str,
     machine: u32,
     call: u64,
-    piece: Piece<'a>,
+    piece: Seen<'a>,
 ) -> Result<String, AllocError> {
     row(
         alloc,

@@ -1,6 +1,6 @@
 //! A clock, times, a watchdog daemon, a recovery.
 
-use crate::output_words::Piece::{Number, Word};
+use crate::output_words::Seen::{Number, Word};
 use crate::output_words::{add, row, said, truth, truth_word};
 use crate::word_values::{number_at, number_of, numbers_from, part, short_of, word};
 use sl_escalate::Recovery;

@@ -1,5 +1,6 @@
 //! Prints what is read of texts: each line of standard input is a kind and a text, and is printed again with what that kind makes of the
 //! text. So a case is a line of data, and its answer a line of the file that the output is compared with; answers come from outside.
+//! The text of the kind `edge` is the name of a case of the system.
 //!
 //! - `texts`: words with their columns, numbers, hexadecimal digits, names and paths.
 //! - `records`: sectors, told by the places and digits of their bytes, the rest being zeros; places of an area; values and requests.
@@ -7,28 +8,42 @@
 //! - `commands`: commands, replies and default names.
 //! - `lines`: lines of schedules, and what is refused of them.
 //! - `ballots`: ballots, with blocks as `host/lver/mbal/bal/inp`, a list's parts set apart by commas, and `-` where a block is torn.
+//! - `edges`: adapters over the system, and streams with faults: `areas`, `faulty_adapters`, `gates`, `outside`, `planned`, `streams`.
 //! - `machines`: a clock, times, a watchdog daemon, a recovery, a watch, a delta lease.
 //!
-//! `word_values` has what the others read of words, and `output_words` how they print numbers.
+//! `word_values` has what the others read of words, and `output_words` how they print words and numbers.
 //!
 //! In a text of several words single spaces keep them apart; a word that is left out is read as the empty word or as 0.
 #![tactic(auto)]
 
+mod areas;
 mod ballots;
 mod commands;
 mod deltas;
+mod edges;
+mod faulty_adapters;
+mod gates;
 mod lines;
 mod machines;
 mod output_words;
+mod outside;
+mod planned;
 mod readings;
 mod records;
 mod replies;
+mod streams;
 mod texts;
 mod watches;
 mod word_values;
 
+use sl_outside::{FileDevices, LiveDevices};
 use std::alloc::{AllocError, Global};
 use std::io;
+use std::process::Processes;
+use std::rt::Files;
+use std::sync::Wait;
+use std::thread::Threads;
+use std::time::Clock;
 
 /// What a kind of text, or of what follows here, makes of a text.
 fn texts_of(alloc: Global, kind: &str, text: &str) -> Result<String, AllocError> {
@@ -118,15 +133,25 @@ fn ballots_of(alloc: Global, kind: &str, text: &str) -> Result<String, AllocErro
 }
 
 /// What a line's kind makes of its text.
-fn told(alloc: Global, line: &str) -> Result<String, AllocError> {
+fn told<
+    R: Files + Processes + Clock + Wait + Threads + AllocGlobal + Copy + Drop + Send + Sync,
+    D: LiveDevices,
+>(rt: &R, devices: &mut D, line: &str) -> io::Result<String> {
+    let alloc = rt.alloc();
     let (kind, text) = line.split_once(' ').unwrap_or((line, ""));
-    texts_of(alloc, kind, text)
+    if kind != "edge" {
+        return Ok(texts_of(alloc, kind, text)?);
+    }
+    let mut told = String::new(alloc);
+    edges::push_told(rt, devices, text, &mut told)?;
+    Ok(told)
 }
 
 fn main(rt: HostRuntime) -> io::Result<()> {
+    let mut devices = FileDevices::new(rt, rt.alloc());
     for line in rt.lines(rt.alloc()) {
         let line = line?;
-        let text = told(rt.alloc(), line.as_str())?;
+        let text = told(&rt, &mut devices, line.as_str())?;
         println!(rt; "{line}: {text}")?;
     }
     Ok(())

@@ -1,6 +1,6 @@
 //! A sector that is read many times, and one whose digest is taken as often: what reading costs beside the digest is measured by them.
 
-use crate::output_words::Piece::Number;
+use crate::output_words::Seen::Number;
 use crate::output_words::row;
 use crate::records::sector_of;
 use crate::word_values::{number_at, word};

@@ -1,6 +1,6 @@
 //! Sectors, areas, values, requests.
 
-use crate::output_words::Piece::{Number, Word};
+use crate::output_words::Seen::{Number, Word};
 use crate::output_words::{number_or_none, row, said, said_two, truth};
 use crate::word_values::{digits_of, number_at, number_of, part, short_at, short_of, shown, word};
 use sl_area::{Geometry, Place};

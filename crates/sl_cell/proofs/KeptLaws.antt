@@ -1,7 +1,6 @@
 -- What lies under the lock, as it goes on.
 use Rattle.sl_cell.proofs.ListFronts.{take_next}
 use Rattle.sl_cell.specs.Cells.{AreLast, HasNumbers, IsCore, IsLeft, KeptState, calls_from, calls_in, calls_of, with_entry}
-use Rattle.sl_cell.specs.Seats.{is_of}
 use Rattle.sl_cell.specs.Copies.{AreShort, AreWithin}
 use Rattle.sl_cell.specs.declared.seat.Part.TheVariants.{Delta, Resource}
 use Rattle.sl_cell.specs.declared.seat.Part.{Part}
@@ -23,7 +22,7 @@ use Rattle.sl_trace.specs.declared.input.Input.{Input}
 use Rattle.sl_trace.specs.declared.input.Numbers.{Numbers}
 use Rattle.sl_words.specs.Bounds.{moments}
 use Rattle.sl_words.specs.Words.{greatest}
-use Rattle.std.proofs.Common.{All, List, ap, ap₂, append_assoc, arith, filter, fold, if◌then◌else◌, length, map, max, refl, reverse, slice_index_or, subst, sym, take, true, ◌++◌, ◌+◌, ◌<◌, ◌∙◌, ◌∷◌, ◌≡◌, [], ℕ}
+use Rattle.std.proofs.Common.{All, List, ap, ap₂, append_assoc, arith, fold, if◌then◌else◌, length, map, max, refl, reverse, slice_index_or, subst, sym, take, true, ◌++◌, ◌+◌, ◌<◌, ◌∙◌, ◌∷◌, ◌≡◌, [], ℕ}
 use Rattle.std.proofs.lemmas.List.Elements.{All-cons, All-nil}
 use Rattle.std.proofs.lemmas.List.{append-nil, map-append, reverse-append}
 use Rattle.std.specs.List.{AllByRecursion}
@@ -34,7 +33,7 @@ use Rattle.std.specs.Prelude.{MatchOption, None, Option, Some}
 newest : (h : List Entry) (e : Entry) → e ∷ reverse h ≡ reverse (h ++ e ∷ [])
 newest h e = sym (reverse-append h (e ∷ []))
 
-pub core_on : {D : Type 0} (stands : D → Setting → Trace → Type 0) (st : Setting) (d d' : D) (h : List Entry) (reading now : ℕ) (next next' : Numbers) (i : Input) (fx : Effects)
+core_on : {D : Type 0} (stands : D → Setting → Trace → Type 0) (st : Setting) (d d' : D) (h : List Entry) (reading now : ℕ) (next next' : Numbers) (i : Input) (fx : Effects)
     → IsCore stands st d h reading next → MayCome st (reverse h) now i → stands d' st (entry_of now i fx ∷ reverse h) → IsNumbered st (reverse h) fx
     → next'.call ≡ next.call + length fx.calls → next'.job ≡ (if takes_number i then next.job + 1 else next.job)
     → IsCore stands st d' (h ++ entry_of now i fx ∷ []) now next'
@@ -51,6 +50,17 @@ core_on stands st d d' h reading now next next' i fx core may here numbered call
       calls = calls ∙ ap (λ n. n + length fx.calls) core.calls ∙ sym more ∙ ap (next_call st) back;
       jobs = jobs ∙ ap (λ n. if takes_number i then n + 1 else n) core.jobs ∙ sym (jobs_next st (reverse h) e) ∙ ap (next_job st) back;
     }
+
+-- The entry was written with a copy of the input, behind what is the history.
+pub core_written : {D : Type 0} (stands : D → Setting → Trace → Type 0) (st : Setting) (d d' : D) (h was items : List Entry) (reading now : ℕ) (next next' : Numbers) (i copy : Input)
+    (fx : Effects) (count : ℕ) → IsCore stands st d h reading next → MayCome st (reverse h) now i → stands d' st (entry_of now i fx ∷ reverse h) → IsNumbered st (reverse h) fx
+    → next'.call ≡ next.call + count → count ≡ length fx.calls → next'.job ≡ (if takes_number copy then next.job + 1 else next.job) → copy ≡ i → was ≡ h
+    → items ≡ was ++ entry_of now copy fx ∷ [] → IsCore stands st d' items now next'
+core_written stands st d d' h was items reading now next next' i copy fx count core may here numbered calls counted jobs same behind written =
+    let grown : items ≡ h ++ entry_of now i fx ∷ [] = written ∙ ap₂ (λ (xs : List Entry) (x : Input). xs ++ entry_of now x fx ∷ []) behind same in
+    subst (λ xs. IsCore stands st d' xs now next') (sym grown)
+    (core_on stands st d d' h reading now next next' i fx core may here numbered (calls ∙ ap (λ n. next.call + n) counted)
+    (jobs ∙ ap (λ (x : Input). if takes_number x then next.job + 1 else next.job) same))
 
 pub may_come : {D : Type 0} (stands : D → Setting → Trace → Type 0) (st : Setting) (d : D) (h : List Entry) (reading now : ℕ) (next : Numbers) (m : Most) (i : Input)
     → IsCore stands st d h reading next → now < moments → is_expected st (reverse h) i ≡ true → HasNumbers next m → MayCome st (reverse h) (max now reading) i
@@ -188,12 +198,6 @@ resource_next h None was delta resource so is = subst (λ xs. IsLeft h delta xs)
 resource_next h (Some x) was delta resource so is = resource_taken h x was delta resource so is
 
 -- ---- one entry more
-
-pub queued : (part : Part) (new was items : List (ℕ × Call)) (n m : ℕ) (cs : List Call) (fx : Effects) → new ≡ was ++ map (λ c. (n, c)) (filter (is_of part) cs) → was ≡ items → n ≡ m
-    → cs ≡ fx.calls → new ≡ items ++ calls_in part m fx
-queued part new was items n m cs fx is old number made =
-    is ∙ ap (λ xs. xs ++ map (λ c. (n, c)) (filter (is_of part) cs)) old ∙ ap (λ (k : ℕ). items ++ map (λ c. (k, c)) (filter (is_of part) cs)) number
-    ∙ ap (λ (xs : List Call). items ++ map (λ c. (m, c)) (filter (is_of part) xs)) made
 
 pub left_grown : (h h' : List Entry) (e : Entry) (d d' r r' : List (ℕ × Call)) → IsLeft h d r → h' ≡ h ++ e ∷ [] → d' ≡ d ++ calls_in Delta (length h + 1) e.effects
     → r' ≡ r ++ calls_in Resource (length h + 1) e.effects → IsLeft h' d' r'

@@ -1,17 +1,20 @@
 //! A daemon with the history that led to it.
 
+ghost use Rattle.sl_cell.specs.CopyRoom.{Holds};
 ghost use Rattle.sl_cell.specs.Cells.{HasNumbers, IsAnswered, IsTold, KeepsIdle, Stepped, made_entry};
 ghost use Rattle.sl_run.specs.Lawful.{IsSetting};
 ghost use Rattle.sl_world_state.specs.Daemons.{begun_with};
 ghost use Rattle.sl_world_state.specs.declared.daemon.Most.{Most};
 ghost use Rattle.sl_run.specs.Headers.{IsHeader};
-ghost use Rattle.sl_trace.specs.Traces.{IsTrace, takes_number};
+ghost use Rattle.sl_trace.specs.Traces.{IsTrace, is_expected, takes_number};
 ghost use Rattle.sl_words.specs.Bounds.{moments};
 ghost use Rattle.sl_words.specs.Words.{greatest};
-ghost use Rattle.std.specs.Prelude.{All, IfOk, IsFalse, OnErr, OnOk, if◌then◌else◌, length, map, reverse, [], ◌++◌, ◌+◌, ◌<◌, ◌^◌, ◌∷◌, ◌≡◌, ◌≤◌, ◌-◌};
+ghost use Rattle.std.specs.Prelude.{All, IfOk, IsFalse, OnErr, OnOk, if◌then◌else◌, length, map, reverse, true, [], ◌++◌, ◌+◌, ◌<◌, ◌^◌, ◌∷◌, ◌≡◌, ◌≤◌, ◌-◌};
+ghost use Rattle.std.specs.Vec.{vec_capacity, vec_len};
 
+use crate::pages::Pages;
 use crate::seat::{Made, Seat};
-use crate::step_copies::{Spare, copy_input};
+use crate::step_copies::copy_input_twice;
 use crate::teller::Teller;
 use sl_run::Header;
 use sl_trace::{Effects, Entry, Given, Input, Numbers};
@@ -59,16 +62,14 @@ impl From<AllocError> for NotApplied {
     }
 }
 
-/// A daemon, with its history, its last reading and its next numbers, and memory for two copies of a step.
+/// A daemon, with its history, its last reading and its next numbers.
 #[derive(Drop)]
 pub struct Core<D: Teller, J: Station> {
     alloc: Global,
     daemon: D,
-    history: Vec<Entry>,
+    pages: Pages,
     reading: u64,
     next: Numbers,
-    kept: Spare,
-    told: Spare,
     of: PhantomData<J>,
 }
 
@@ -77,9 +78,9 @@ impl<D: Teller, J: Station> Model for Core<D, J> {
 
     ghost Value = { CoreState D };
 
-    ghost view = { λ k. record { daemon = k.daemon; history = k.history.items } };
+    ghost view = { λ k. record { daemon = k.daemon; history = k.pages.history.items } };
 
-    ghost invariant = { λ k. IsCore D.Daemon.stands J.setting k.daemon k.history.items k.reading k.next };
+    ghost invariant = { λ k. IsCore D.Daemon.stands J.setting k.daemon k.pages.history.items k.reading k.next };
 }
 
 /// What the numbers of calls and jobs stay below, so that a step has numbers for all that it makes.
@@ -126,6 +127,29 @@ fn advanced(next: Numbers, input: &Input, calls: usize) -> Numbers
     }
 }
 
+/// Copies of the input, where there are numbers and memory for a step of so much. An `Err` is want of them.
+fn prepare(
+    pages: &mut Pages,
+    alloc: Global,
+    next: Numbers,
+    most: &Most,
+    longest: usize,
+    input: &Input,
+) -> Result<(Input, Input), AllocError>
+    ensures history { pages.new.history.items ≡ pages.old.history.items }
+    ensures numbers { OnOk result (HasNumbers next most.now) }
+    ensures room { OnOk result (vec_len pages.new.history < vec_capacity pages.new.history) }
+    ensures kept { OnOk result (Holds pages.new.kept most.now longest) }
+    ensures told { OnOk result (Holds pages.new.told most.now longest) }
+    ensures copies { IfOk result (λ copies. (copies.0 ≡ input.now) × (copies.1 ≡ input.now)) }
+{
+    if is_full(next, most) {
+        return Err(AllocError);
+    }
+    pages.reserve(most, longest)?;
+    copy_input_twice(alloc, input)
+}
+
 impl<D: Teller, J: Station> Core<D, J> {
     /// A daemon to which nothing came yet. An `Err` is want of memory.
     #[tactic(auto, using(crate::proofs::KeptLaws::core_new))]
@@ -140,11 +164,9 @@ impl<D: Teller, J: Station> Core<D, J> {
         Ok(Core {
             alloc,
             daemon: D::begin(alloc, header, site)?,
-            history: Vec::new(alloc),
+            pages: Pages::new(alloc),
             reading,
             next,
-            kept: Spare::new(alloc),
-            told: Spare::new(alloc),
             of: PhantomData,
         })
     }
@@ -153,7 +175,7 @@ impl<D: Teller, J: Station> Core<D, J> {
     pub(crate) fn len(&self) -> usize
         ensures { result ≡ length self.now.history }
     {
-        self.history.len()
+        self.pages.history().len()
     }
 
     /// How much the next step makes at most.
@@ -163,8 +185,43 @@ impl<D: Teller, J: Station> Core<D, J> {
         self.daemon.most()
     }
 
+    /// Whether the daemon waits for such an input.
+    fn expects(&self, input: &Input) -> bool
+        ensures { result ≡ is_expected J.setting (reverse self.now.history) input.now }
+    {
+        self.daemon.expects(input)
+    }
+
+    /// An input that is expected comes to the daemon. A copy of its entry goes out. An `Err` is want of memory, or of numbers.
+    fn apply(&mut self, now: u64, input: Input) -> Result<(Entry, Effects), AllocError>
+        requires now { now < moments }
+        requires expected { is_expected J.setting (reverse self.old.history) input ≡ true }
+        ensures history { IfOk result (λ r. self.new.history
+            ≡ self.old.history ++ made_entry J.setting self.old.history now input r.1 ∷ []) }
+        ensures entry { IfOk result (λ r. r.0 ≡ made_entry J.setting self.old.history now input r.1) }
+        ensures moves { IfOk result (λ r. length r.1.moves ≤ (D.Daemon.makes self.old.daemon).moves) }
+        ensures calls { IfOk result (λ r. length r.1.calls ≤ (D.Daemon.makes self.old.daemon).calls) }
+        ensures err { OnErr result (self.new ≡ self.old) }
+    {
+        let most = self.daemon.most();
+        let longest = self.daemon.longest();
+        let inputs = prepare(
+            &mut self.pages,
+            self.alloc,
+            self.next,
+            &most,
+            longest,
+            &input,
+        )?;
+        let reading = now.max(self.reading);
+        let effects = self.daemon.step(reading, input)?;
+        self.next = advanced(self.next, &inputs.0, effects.calls.len());
+        self.reading = reading;
+        let entry = self.pages.write(self.alloc, reading, inputs, &effects);
+        Ok((entry, effects))
+    }
+
     /// The input comes to the daemon, at this reading or the last one if that is later.
-    #[tactic(auto, using(crate::proofs::KeptLaws::core_on, crate::proofs::KeptLaws::may_come, crate::proofs::KeptLaws::within))]
     pub(crate) fn step(
         &mut self,
         seat: &mut Seat,
@@ -182,38 +239,14 @@ impl<D: Teller, J: Station> Core<D, J> {
         ensures told { IsTold seat.old seat.new now input result }
         ensures err { OnErr result (self.new ≡ self.old) }
     {
-        let front = self.history.len();
         seat.reserve(1)?;
-        if !self.daemon.expects(&input) {
+        if !self.expects(&input) {
+            let front = self.len();
             seat.put(Made::Unasked { front, input });
             return Err(NotApplied::Unasked { front });
         }
-        let most = self.daemon.most();
-        let longest = self.daemon.longest();
-        if is_full(self.next, &most) {
-            return Err(NotApplied::NoMemory);
-        }
-        self.history.reserve(1)?;
-        self.kept.reserve(&most, longest)?;
-        self.told.reserve(&most, longest)?;
-        let kept = copy_input(self.alloc, &input)?;
-        let told = copy_input(self.alloc, &input)?;
-        let reading = now.max(self.reading);
-        let effects = self.daemon.step(reading, input)?;
-        let number = front + 1;
-        self.next = advanced(self.next, &kept, effects.calls.len());
-        self.reading = reading;
-        let entry = Entry {
-            reading,
-            input: kept,
-            effects: self.kept.copy(self.alloc, &effects),
-        };
-        self.history.push_reserved(entry);
-        let entry = Entry {
-            reading,
-            input: told,
-            effects: self.told.copy(self.alloc, &effects),
-        };
+        let (entry, effects) = self.apply(now, input)?;
+        let number = self.len();
         seat.put(Made::Applied { number, entry });
         let receipt = Receipt {
             number,
@@ -231,13 +264,11 @@ impl<D: Teller, J: Station> Core<D, J> {
         let Core {
             alloc: _,
             daemon: _,
-            history,
+            pages,
             reading: _,
             next: _,
-            kept: _,
-            told: _,
             of: _,
         } = self;
-        history
+        pages.into_history()
     }
 }

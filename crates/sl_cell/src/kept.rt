@@ -2,14 +2,16 @@
 
 ghost use Rattle.sl_cell.specs.Audits.{Agrees, IsOf};
 ghost use Rattle.sl_cell.specs.DifferenceCases.{IsCase, Stops};
-ghost use Rattle.sl_cell.specs.Cells.{IsAnswered, IsTaken, IsTested, IsTold, KeepsIdle, Stepped, Takes, Tests, left_of, made_entry, with_entry, with_left};
+ghost use Rattle.sl_cell.specs.Cells.{IsAnswered, IsTaken, IsTested, IsTold, KeepsIdle, Stepped, Takes, Tests, calls_in, left_of, made_entry, with_entry, with_left};
 ghost use Rattle.sl_cell.specs.Seats.{is_of};
+ghost use Rattle.sl_cell.specs.declared.seat.Part.TheVariants.{Delta, Resource};
 ghost use Rattle.sl_world_state.specs.Daemons.{begun_with};
 ghost use Rattle.sl_run.specs.Lawful.{IsSetting};
 ghost use Rattle.sl_run.specs.Headers.{IsHeader};
 ghost use Rattle.sl_trace.specs.Traces.{IsTrace};
 ghost use Rattle.sl_words.specs.Bounds.{moments};
 ghost use Rattle.std.specs.Prelude.{IfErr, IfNone, IfOk, IfSome, MatchOption, OnErr, OnOk, Some, filter, length, map, option_map, reverse, [], ◌++◌, ◌+◌, ◌<◌, ◌∷◌, ◌≡◌, ◌≤◌};
+ghost use Rattle.std.specs.Vec.{vec_capacity, vec_len};
 ghost use Rattle.std.specs.VecDeque.{deque_capacity, deque_len};
 
 use crate::audit::{Basis, CloseError, check_all};
@@ -20,7 +22,7 @@ use crate::teller::Teller;
 use sl_run::Header;
 use sl_text::Seq;
 use sl_trace::{Call, Effects, Entry, Input};
-use sl_world_state::{Daemon, Site};
+use sl_world_state::{Daemon, Most, Site};
 use std::alloc::{AllocError, Global};
 use std::collections::VecDeque;
 use std::marker::Model;
@@ -58,6 +60,41 @@ fn queue(calls: &mut VecDeque<Numbered>, part: Part, number: usize, made: &[Call
             });
         }
     }
+}
+
+/// Puts the calls of a step behind those of their part that nobody took. It takes no memory.
+fn queue_both(
+    delta: &mut VecDeque<Numbered>,
+    resource: &mut VecDeque<Numbered>,
+    number: usize,
+    effects: &Effects,
+)
+    requires delta { deque_len delta.old + length effects.now.calls ≤ deque_capacity delta.old }
+    requires resource { deque_len resource.old + length effects.now.calls ≤ deque_capacity resource.old }
+    ensures delta { delta.new.items ≡ delta.old.items ++ calls_in Delta number effects.now }
+    ensures resource { resource.new.items ≡ resource.old.items ++ calls_in Resource number effects.now }
+{
+    queue(delta, Part::Delta, number, effects.calls.as_slice());
+    queue(resource, Part::Resource, number, effects.calls.as_slice());
+}
+
+/// Sees that there is memory for what a step leaves: its moves, and its calls in each part. An `Err` is want of memory.
+fn reserve(
+    connections: &mut Vec<Connection>,
+    delta: &mut VecDeque<Numbered>,
+    resource: &mut VecDeque<Numbered>,
+    most: &Most,
+) -> Result<(), AllocError>
+    ensures connections { connections.new.items ≡ connections.old.items }
+    ensures delta { delta.new.items ≡ delta.old.items }
+    ensures resource { resource.new.items ≡ resource.old.items }
+    ensures moves { OnOk result (vec_len connections.new + most.now.moves ≤ vec_capacity connections.new) }
+    ensures deltas { OnOk result (deque_len delta.new + most.now.calls ≤ deque_capacity delta.new) }
+    ensures resources { OnOk result (deque_len resource.new + most.now.calls ≤ deque_capacity resource.new) }
+{
+    connections.reserve(most.moves)?;
+    delta.reserve(most.calls)?;
+    resource.reserve(most.calls)
 }
 
 /// The first of these, which goes.
@@ -118,7 +155,6 @@ impl<D: Teller, J: Station> Kept<D, J> {
 
     /// The input comes to the daemon, at this reading or the last one if that is later. Its entry goes into the seat. An input that
     /// answers nothing that is open goes there too, and changes nothing here.
-    #[tactic(auto, using(crate::proofs::KeptLaws::left_on, crate::proofs::KeptLaws::connections_on))]
     pub fn step(
         &mut self,
         seat: &mut Seat,
@@ -134,22 +170,19 @@ impl<D: Teller, J: Station> Kept<D, J> {
         ensures err { OnErr result (self.new ≡ self.old) }
     {
         let most = self.core.most();
-        self.connections.reserve(most.moves)?;
-        self.delta.reserve(most.calls)?;
-        self.resource.reserve(most.calls)?;
+        reserve(
+            &mut self.connections,
+            &mut self.delta,
+            &mut self.resource,
+            &most,
+        )?;
         let (receipt, effects) = self.core.step(seat, now, input)?;
         make_moves(&mut self.connections, effects.moves.as_slice());
-        queue(
+        queue_both(
             &mut self.delta,
-            Part::Delta,
-            receipt.number,
-            effects.calls.as_slice(),
-        );
-        queue(
             &mut self.resource,
-            Part::Resource,
             receipt.number,
-            effects.calls.as_slice(),
+            &effects,
         );
         Ok((receipt, effects))
     }

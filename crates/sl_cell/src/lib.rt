@@ -10,6 +10,7 @@ mod entry_copies;
 mod expected;
 mod idle;
 mod kept;
+mod pages;
 mod receipt_marks;
 mod reply_copies;
 mod seat;

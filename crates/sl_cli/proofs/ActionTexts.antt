@@ -1,9 +1,9 @@
 -- What is given for an action: the action that is read has it, and it is read as the action.
 use Rattle.sl_area.specs.AreaSizes.{Sizes, layout_of}
-use Rattle.sl_cli.proofs.ArgumentTexts.{hosts_read, hosts_written, lockspace_read, lockspace_written, stretch_read, stretch_written}
+use Rattle.sl_cli.proofs.OptionValueTexts.{hosts_read, hosts_written, lockspace_read, lockspace_written, stretch_read, stretch_written}
 use Rattle.sl_cli.proofs.SizeWords.{IsOfRow, IsSaid, few_hosts, geometry_for, row_geometry, row_of, row_written_for, said_read, said_written, same_says}
 use Rattle.sl_cli.specs.Actions.{Given, action_in, area_in, dump_in, init_in, named_in, other_in, read_leader_in, resource_in, upgrade_in, without_format}
-use Rattle.sl_cli.specs.Arguments.{for_hosts, is_host_count, is_new_lockspace, is_stretch, new_lockspace, paired_said, room_for, sizes_said, stretch_of}
+use Rattle.sl_cli.specs.OptionValues.{for_hosts, is_host_count, is_new_lockspace, is_stretch, new_lockspace, paired_said, room_for, sizes_said, stretch_of}
 use Rattle.sl_cli.specs.Spellings.{ActionsHaveOneText, IsAsked, IsGivenFor, IsNewLockspace, IsStretchArg, SaysSizes, format_word, given_for, sizes_in, stretch_word}
 use Rattle.sl_command.proofs.PartTexts.{resource_read, resource_written}
 use Rattle.sl_direct.specs.Actions.{IsAction, IsStretch}

@@ -1,7 +1,7 @@
 pub mod ActionTexts
 pub mod AddedRules
-pub mod ArgumentLaws
-pub mod ArgumentTexts
+pub mod OptionValueLaws
+pub mod OptionValueTexts
 pub mod BareCommands
 pub mod BuiltCommand
 pub mod CommandLaws

@@ -1,6 +1,6 @@
 -- Words that say sizes: one for each row of the table.
 use Rattle.sl_area.specs.AreaSizes.{IsGeometry, Sizes, roomy, sizes}
-use Rattle.sl_cli.specs.Arguments.{for_hosts, room_for, sizes_of, sizes_said, usual_sizes}
+use Rattle.sl_cli.specs.OptionValues.{for_hosts, room_for, sizes_of, sizes_said, usual_sizes}
 use Rattle.sl_cli.specs.Spellings.{IsRow, SaysSizes, sizes_word}
 use Rattle.sl_text.proofs.NumberLaws.{decimal-number_of}
 use Rattle.sl_text.specs.Forms.{coloned}

@@ -1,6 +1,6 @@
 -- What the words of `direct` ask for, once each is known by its option.
 use Rattle.sl_area.specs.AreaSizes.{Sizes, layout_of}
-use Rattle.sl_cli.specs.Arguments.{for_hosts, is_host_count, is_new_lockspace, is_stretch, new_lockspace, paired_said, sizes_said, stretch_of}
+use Rattle.sl_cli.specs.OptionValues.{for_hosts, is_host_count, is_new_lockspace, is_stretch, new_lockspace, paired_said, sizes_said, stretch_of}
 use Rattle.sl_direct.specs.declared.action.Action.TheVariants.{Dump, InitLockspace, InitResource, ReadLeader, Upgrade}
 use Rattle.sl_direct.specs.declared.action.Action.{Action}
 use Rattle.sl_text.specs.Numbers.{number_of}

@@ -1,5 +1,5 @@
 pub mod Actions
-pub mod Arguments
+pub mod OptionValues
 pub mod ParserShape
 pub mod CommandWords
 pub mod ParserMeets

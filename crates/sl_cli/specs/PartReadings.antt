@@ -1,7 +1,7 @@
 -- Words of several parts, read part by part.
 use Rattle.sl_area.specs.AreaSizes.{Sizes, layout_of}
 use Rattle.sl_area.specs.AreaLayout.{is_base}
-use Rattle.sl_cli.specs.Arguments.{Stretch, is_stretch_size, is_stretch_start}
+use Rattle.sl_cli.specs.OptionValues.{Stretch, is_stretch_size, is_stretch_start}
 use Rattle.sl_text.specs.Forms.{exactly}
 use Rattle.sl_text.specs.Names.{is_name, is_path}
 use Rattle.sl_text.specs.Numbers.{is_number_that, number_of}

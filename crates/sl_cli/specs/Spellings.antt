@@ -1,7 +1,7 @@
 -- The words of an action: each has one spelling, and options may come in any order.
 use Rattle.sl_area.specs.AreaSizes.{IsGeometry, Sizes, geometries, layout_of}
 use Rattle.sl_cli.specs.Actions.{Given, action_in}
-use Rattle.sl_cli.specs.Arguments.{is_stretch_size, is_stretch_start}
+use Rattle.sl_cli.specs.OptionValues.{is_stretch_size, is_stretch_start}
 use Rattle.sl_cli.specs.CommandWords.{Use, given_by, is_given, is_plain, nothing_taken, options, said_in, uses_from}
 use Rattle.sl_cli.specs.declared.command_words.Words.TheVariants.{Direct, Generate}
 use Rattle.sl_cli.specs.declared.command_words.Words.{Words}

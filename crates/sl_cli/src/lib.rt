@@ -1,10 +1,10 @@
 //! The words of the command line.
 //!
-//! A line's words say `replay`, `gen` with its numbers, `live` with a folder, or `direct` with an action and its options, or ask for the help
-//! or the version; all other words say nothing. `parser_shape` tells the argument parser, the kit's `clap`, which commands and options there are. `parsed_command` takes what the
-//! parser found for each option and makes the action of it; `arguments` reads the words that stand for something: sizes, an area, its
-//! hosts, a stretch of a file. `command_words` puts these together: it is all that the rest of the program knows of words. `texts` has what the
-//! program says of itself.
+//! A line's words say `replay`, `gen` with its numbers, `live` with a folder, or `direct` with an action and its options, or ask for the
+//! help or the version; all other words say nothing. `parser_shape` tells the argument parser, the kit's `clap`, which commands and options
+//! there are. `parsed_command` takes what the parser found for each option and makes the action of it; `option_values` reads the words that
+//! stand for something: sizes, an area, its hosts, a stretch of a file. `command_words` puts these together: it is all that the rest of the
+//! program knows of words. `texts` has what the program says of itself.
 //!
 //! What words say is a definition of a page, `specs/CommandWords.antt`, in which the parser does not occur: options are taken from the
 //! left, in two words or in one, and nothing is given twice. The proof that the parser takes the same words and finds the same in them
@@ -13,10 +13,10 @@
 //! ask for it.
 #![tactic(auto)]
 
-mod arguments;
 mod command_words;
 mod folder;
 pub mod laws;
+mod option_values;
 mod parsed_command;
 mod parser_shape;
 mod texts;

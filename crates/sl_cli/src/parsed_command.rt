@@ -12,9 +12,11 @@ ghost use Rattle.sl_words.specs.Words.{choose};
 ghost use Rattle.sl_cli.specs.declared.command_words.Words.TheVariants.{Live};
 ghost use Rattle.std.specs.Prelude.{IfOk, IfSome, codes, is_some, option_map, ◌≡◌, ◌≤◌};
 
-use crate::arguments::{lockspace_of, paired_said, resource_of, sizes_for, sizes_said, stretch_of};
 use crate::command_words::Words;
 use crate::folder::Folder;
+use crate::option_values::{
+    lockspace_of, paired_said, resource_of, sizes_for, sizes_said, stretch_of,
+};
 use clap::ArgMatches;
 use sl_area::Geometry;
 use sl_direct::Action;
@@ -121,7 +123,7 @@ impl<'a> Given<'a> {
     }
 
     /// A resource's area that becomes one with pairs.
-    #[tactic(auto, using(crate::proofs::ArgumentLaws::no_second))]
+    #[tactic(auto, using(crate::proofs::OptionValueLaws::no_second))]
     fn upgrade(&self, most: &Geometry) -> Option<Action>
         ensures { result ≡ upgrade_in most.now self.now.lockspace self.now.resource self.now.hosts self.now.stretch }
     {
@@ -265,7 +267,7 @@ impl<'a> Seeding<'a> {
     }
 
     /// What is asked for, if all but the format are given and each has its form.
-    #[tactic(auto, using(crate::proofs::ArgumentLaws::no_second, crate::proofs::ArgumentLaws::no_third, crate::proofs::ArgumentLaws::no_fourth))]
+    #[tactic(auto, using(crate::proofs::OptionValueLaws::no_second, crate::proofs::OptionValueLaws::no_third, crate::proofs::OptionValueLaws::no_fourth))]
     pub(crate) fn words(&self) -> Option<Words>
         ensures exact { result ≡ seeding_in self.now.seed self.now.hosts self.now.events self.now.format }
         ensures can { IfSome result CanBeDone }

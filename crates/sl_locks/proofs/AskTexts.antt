@@ -46,9 +46,19 @@ two old a new x y first then = then ∙ ap (λ t. t ++ y) first ∙ append_assoc
 pub three : (old a b new x y z : List ℕ) → a ≡ old ++ x → b ≡ a ++ y → new ≡ b ++ z → new ≡ old ++ (x ++ (y ++ z))
 three old a b new x y z first second then = two old b new (x ++ y) z (two old a b x y first second) then ∙ ap (λ t. old ++ t) (append_assoc x y z)
 
--- A word in front of two colons.
-pub front_then : (g i rest : List ℕ) → (g ++ 58 ∷ (i ++ 58 ∷ [])) ++ rest ≡ g ++ 58 ∷ (i ++ 58 ∷ rest)
-front_then g i rest = append_assoc g (58 ∷ (i ++ 58 ∷ [])) rest ∙ ap (λ t. g ++ 58 ∷ t) (append_assoc i (58 ∷ []) rest)
+-- The word of a resource, part behind part.
+pub resource_written : (group name n : List ℕ) (offset : ℕ) (old a b new : List ℕ) → n ≡ name → a ≡ old ++ group_lockspace group → b ≡ a ++ 58 ∷ n
+    → new ≡ b ++ 58 ∷ (group_path group ++ 58 ∷ decimal offset)
+    → new ≡ old ++ (group_lockspace group ++ 58 ∷ (name ++ 58 ∷ (group_path group ++ 58 ∷ decimal offset)))
+resource_written group name n offset old a b new is first second then =
+    three old a b new (group_lockspace group) (58 ∷ name) (58 ∷ (group_path group ++ 58 ∷ decimal offset)) first (second ∙ ap (λ t. a ++ 58 ∷ t) is) then
+
+-- The word of a group's lockspace, part behind part.
+pub space_written : (group : List ℕ) (id n : ℕ) (old a b new : List ℕ) → n ≡ id → a ≡ old ++ group_lockspace group → b ≡ a ++ 58 ∷ decimal n
+    → new ≡ b ++ 58 ∷ (group_path group ++ 58 ∷ decimal 0) → new ≡ old ++ space_word group id
+space_written group id n old a b new is first second then =
+    three old a b new (group_lockspace group) (58 ∷ decimal id) (58 ∷ (group_path group ++ 58 ∷ decimal 0)) first
+    (second ∙ ap (λ k. a ++ 58 ∷ decimal k) is) then
 
 -- The mark of the shared mode behind a word of four parts.
 marked : (a b c d mark : List ℕ) → a ++ 58 ∷ (b ++ 58 ∷ (c ++ 58 ∷ (d ++ mark))) ≡ (a ++ 58 ∷ (b ++ 58 ∷ (c ++ 58 ∷ d))) ++ mark

@@ -4,3 +4,5 @@ pub mod AskTexts
 pub mod ReplyTexts
 pub mod FirstReplies
 pub mod StepLaws
+pub mod ValueLaws
+pub mod PartLaws

@@ -11,7 +11,7 @@ use Rattle.sl_trace.specs.declared.effects.Mode.{Mode}
 use Rattle.sl_words.specs.Results.{ensure, ◌>>=◌}
 use Rattle.std.proofs.Common.{Bool, List, [], ap, arith, eqb, false, length, refl, suc, sym, true, ℕ, ◌++◌, ◌≡◌, ◌∙◌, ◌∷◌}
 use Rattle.std.proofs.lemmas.Bool.{ne_eqb}
-use Rattle.std.specs.Prelude.{Err, Ok, codes, if◌then◌else◌}
+use Rattle.std.specs.Prelude.{Err, Ok, Result, codes, if◌then◌else◌}
 
 -- ---- the global lock
 
@@ -30,8 +30,6 @@ global_given g u next = read_by-verb (global_ways g) [] (λ ws. Gives (global_lo
 pub no_global : (g : List ℕ) (u : Unread) → next_passes (exactly (codes "sh")) u ≡ false → next_passes (exactly (codes "ex")) u ≡ false
     → next_passes (exactly (codes "un")) u ≡ false → read_by (global_ways g) u ≡ Err u.column
 no_global g u sh ex un = read_by-other (global_ways g) u (sh, (ex, (un, tt)))
-
-pub ruleset global = (global_shared, global_exclusive, global_given, no_global)
 
 -- ---- a group's lock, given up
 
@@ -73,8 +71,6 @@ pub no_group : (g : List ℕ) (u : Unread) → next_passes (exactly (codes "sh")
     → next_passes (exactly (codes "un")) u ≡ false → read_by (group_ways g) u ≡ Err u.column
 no_group g u sh ex un = read_by-other (group_ways g) u (sh, (ex, (un, (un, tt))))
 
-pub ruleset group = (group_shared, group_exclusive, group_given, no_group)
-
 -- ---- a logical volume's lock
 
 volume_moded : (area : ℕ) (v : VolumeName) (mode : Mode) (u : Unread)
@@ -99,4 +95,14 @@ pub no_volume : (area : ℕ) (v : VolumeName) (u : Unread) → next_passes (exac
     → read_by (volume_ways area v) u ≡ Err u.column
 no_volume area v u sh ex = read_by-other (volume_ways area v) u (sh, (ex, tt))
 
-pub ruleset volume = (volume_shared, volume_exclusive, no_volume)
+-- ---- what is read behind a word that is next
+
+goes : (t : Bool) (u v : Unread) → v ≡ (if t then past_word u else u) → t ≡ true → v ≡ past_word u
+goes true u v left taken = left
+goes false u v left taken = absurd cc
+
+-- It is what the word's forms make of all words.
+pub read_behind : {A : Type 0} (p : List ℕ → Bool) (whole read : Unread → Result A ℕ) → ((u : Unread) → next_passes p u ≡ true → whole u ≡ read (past_word u))
+    → (t : Bool) (u v w : Unread) (r : Result A ℕ) → v ≡ u → t ≡ next_passes p v → w ≡ (if t then past_word v else v) → t ≡ true → r ≡ read w → r ≡ whole u
+read_behind p whole read law t u v w r at passes left taken reads =
+    reads ∙ ap read (goes t v w left taken) ∙ sym (law v (sym passes ∙ taken)) ∙ ap whole at

@@ -1,15 +1,15 @@
 -- What stands behind the verb of a line, as it is read.
 use Rattle.sl_run.specs.LockNames.{global_lock, group_lock, is_group_name, is_volume_name, volume_lock}
-use Rattle.sl_run.specs.LvmLines.{Gives, Gives_writing, LvmLine, Takes, Takes_comparing, is_area_word, is_volume_word}
+use Rattle.sl_run.specs.LvmLines.{Deactivates, Gives, Gives_writing, LvmLine, Starts, Stops, Takes, Takes_comparing, is_area_word, is_volume_word, lvm_forms}
 use Rattle.sl_text.specs.Forms.{Form, exactly, pieces, word_at}
 use Rattle.sl_text.specs.Numbers.{is_number_that, number_of}
-use Rattle.sl_text.specs.Walks.{Unread, next_as, past_word, read_by, read_each}
+use Rattle.sl_text.specs.Walks.{Unread, at_end, next_as, past_word, read_by, read_each}
 use Rattle.sl_trace.specs.declared.effects.Mode.TheVariants.{Exclusive, Shared}
 use Rattle.sl_trace.specs.declared.effects.Mode.{Mode}
 use Rattle.sl_words.specs.Bounds.{most_hosts}
 use Rattle.sl_words.specs.Results.{◌>>=◌}
 use Rattle.std.specs.Int.{is_in_range}
-use Rattle.std.specs.Prelude.{Bool, List, Result, codes, [], ℕ, ◌∷◌}
+use Rattle.std.specs.Prelude.{Bool, List, Ok, Result, codes, drop, [], ℕ, ◌∷◌}
 
 -- A group, and one of its logical volumes.
 abbrev pub VolumeName : Type 0
@@ -86,6 +86,24 @@ ways_read passes value ways u = do
   flag ← flag_read (codes "-m") (past_word u)
   read_by (ways a) (past_word (past_word u))
 
--- A logical volume alone.
-abbrev pub volume_read : Unread → Result VolumeName ℕ
-volume_read u = read_each (is_volume_word ∷ []) (λ ws. volume_named (word_at ws 0)) u
+-- No word more, and then this line.
+abbrev pub ended_as : LvmLine → Unread → Result LvmLine ℕ
+ended_as l u = at_end u >>= λ _. Ok l
+
+-- What is read behind verbs.
+abbrev pub start_read : Unread → Result LvmLine ℕ
+start_read u = id_read u >>= λ p. Ok (Starts p.0 p.1)
+
+abbrev pub stop_read : Unread → Result LvmLine ℕ
+stop_read u = id_read u >>= λ p. Ok (Stops p.0 p.1)
+
+abbrev pub deactivate_read : Unread → Result LvmLine ℕ
+deactivate_read u = next_as is_volume_word volume_named u >>= λ v. ended_as (Deactivates v.0 v.1) (past_word u)
+
+-- .. and behind the mode of a logical volume's lock.
+abbrev pub volume_taken : ℕ → VolumeName → Mode → Unread → Result LvmLine ℕ
+volume_taken area v mode u = area_read area u >>= λ n. Ok (Takes (volume_lock v.0 v.1 n) mode)
+
+-- The forms of all lines behind those of the lockspaces and of the global and the groups' locks.
+unfoldable pub later_forms : ℕ → List (Form LvmLine)
+later_forms area = drop 9 (lvm_forms area)

@@ -3,13 +3,14 @@
 //! An ask is kept as what it names; its text is made where somebody wants it.
 
 ghost use Rattle.sl_locks.specs.Asks.{ask_text, lock_word, process_text, space_word};
-ghost use Rattle.sl_run.specs.LockNames.{doubled, group_path};
+ghost use Rattle.sl_run.specs.LockNames.{doubled, group_lockspace, group_path};
 ghost use Rattle.sl_trace.specs.Traces.{is_shared};
-ghost use Rattle.std.specs.Prelude.{OnErr, OnOk, codes, false, if◌then◌else◌, [], ◌++◌, ◌==◌, ◌∷◌, ◌≡◌};
+ghost use Rattle.std.specs.Prelude.{OnErr, OnOk, codes, decimal, false, if◌then◌else◌, [], ◌++◌, ◌*◌, ◌==◌, ◌∷◌, ◌≡◌};
 
 use crate::lock::Lock;
 use sl_area::Geometry;
 use sl_text::Name;
+use sl_text::number::push_number;
 use sl_trace::Mode;
 use std::alloc::AllocError;
 
@@ -72,17 +73,66 @@ fn push_path(out: &mut Vec<u8>, group: &Name) -> Result<(), AllocError>
     Ok(())
 }
 
+/// Adds the name of a group's lockspace.
+fn push_lockspace(out: &mut Vec<u8>, group: &Name) -> Result<(), AllocError>
+    ensures { OnOk result (out.new.items ≡ out.old.items ++ group_lockspace group.now) }
+{
+    push_text(out, b"lvm_")?;
+    push_text(out, group.as_slice())
+}
+
+/// Adds a part of a word behind a colon.
+fn push_part(out: &mut Vec<u8>, part: &[u8]) -> Result<(), AllocError>
+    ensures { OnOk result (out.new.items ≡ out.old.items ++ 58 ∷ part.now) }
+{
+    out.push(b':')?;
+    push_text(out, part)
+}
+
+/// Adds a number behind a colon.
+fn push_number_part(out: &mut Vec<u8>, number: u64) -> Result<(), AllocError>
+    ensures { OnOk result (out.new.items ≡ out.old.items ++ 58 ∷ decimal number) }
+{
+    out.push(b':')?;
+    push_number(out, number)
+}
+
+/// Adds the disk of a group's areas and where one begins on it, each behind a colon.
+fn push_place(out: &mut Vec<u8>, group: &Name, offset: u64) -> Result<(), AllocError>
+    ensures { OnOk result (out.new.items ≡ out.old.items ++ 58 ∷ (group_path group.now ++ 58 ∷ decimal offset)) }
+{
+    out.push(b':')?;
+    push_path(out, group)?;
+    push_number_part(out, offset)
+}
+
+/// Adds the word of a resource: its group's lockspace, its name and its place.
+fn push_resource(
+    out: &mut Vec<u8>,
+    group: &Name,
+    name: &Name,
+    offset: u64,
+) -> Result<(), AllocError>
+    ensures { OnOk result (out.new.items ≡ out.old.items ++ (group_lockspace group.now ++ 58 ∷ (name.now ++ 58 ∷ (group_path group.now ++ 58 ∷ decimal offset)))) }
+{
+    push_lockspace(out, group)?;
+    push_part(out, name.as_slice())?;
+    push_place(out, group, offset)?;
+    Ok(())
+}
+
+/// Where a lock's area begins.
+fn offset_of(geometry: &Geometry, lock: &Lock) -> u64
+    ensures { result ≡ lock.now.number * geometry.now.area }
+{
+    u64::from(lock.number) * geometry.area()
+}
+
 /// Adds the word of a lock's resource.
 fn push_lock(out: &mut Vec<u8>, geometry: &Geometry, lock: &Lock) -> Result<(), AllocError>
     ensures { OnOk result (out.new.items ≡ out.old.items ++ lock_word geometry.now.area lock.now false) }
 {
-    let offset = u64::from(lock.number) * geometry.area();
-    let front = format!(in *out.allocator(); "lvm_{}:{}:", lock.group, lock.name)?;
-    let back = format!(in *out.allocator(); ":{offset}")?;
-    push_text(out, front.as_bytes())?;
-    push_path(out, &lock.group)?;
-    push_text(out, back.as_bytes())?;
-    Ok(())
+    push_resource(out, &lock.group, &lock.name, offset_of(geometry, lock))
 }
 
 /// Adds the word of a lock's resource in a mode.
@@ -105,8 +155,8 @@ fn push_moded(
 fn push_process(out: &mut Vec<u8>) -> Result<(), AllocError>
     ensures { OnOk result (out.new.items ≡ out.old.items ++ process_text) }
 {
-    let text = format!(in *out.allocator(); " -p {LOCK_PROCESS}")?;
-    push_text(out, text.as_bytes())
+    push_text(out, b" -p ")?;
+    push_number(out, u64::from(LOCK_PROCESS))
 }
 
 /// Adds a verb, a lock's word, and the process.
@@ -137,11 +187,9 @@ fn push_write(out: &mut Vec<u8>, geometry: &Geometry, lock: &Lock) -> Result<(),
 fn push_space(out: &mut Vec<u8>, group: &Name, id: u32) -> Result<(), AllocError>
     ensures { OnOk result (out.new.items ≡ out.old.items ++ space_word group.now id) }
 {
-    let front = format!(in *out.allocator(); "lvm_{group}:{id}:")?;
-    let back = format!(in *out.allocator(); ":{FIRST_AREA}")?;
-    push_text(out, front.as_bytes())?;
-    push_path(out, group)?;
-    push_text(out, back.as_bytes())?;
+    push_lockspace(out, group)?;
+    push_number_part(out, u64::from(id))?;
+    push_place(out, group, FIRST_AREA)?;
     Ok(())
 }
 

@@ -99,12 +99,28 @@ fn volume_of(word: &[u8]) -> Option<Name>
     }
 }
 
+/// Reads the next part of a word as a group.
+fn group_part(parts: &mut Pieces<'_, b'/'>) -> Result<Name, usize>
+    ensures exact { result ≡ next_as names.is_group_name (λ w. w) parts.old }
+    ensures left { parts.new ≡ left_after result parts.old }
+{
+    parts.accept(parts.peek().and_then(group_of))
+}
+
+/// Reads the next part of a word as a logical volume.
+fn volume_part(parts: &mut Pieces<'_, b'/'>) -> Result<Name, usize>
+    ensures exact { result ≡ next_as names.is_volume_name (λ w. w) parts.old }
+    ensures left { parts.new ≡ left_after result parts.old }
+{
+    parts.accept(parts.peek().and_then(volume_of))
+}
+
 /// Reads the parts of a word that names a group and one of its logical volumes.
 fn volume_parts(parts: &mut Pieces<'_, b'/'>) -> Result<(Name, Name), usize>
     ensures { result ≡ lines.volume_parts_read parts.old }
 {
-    let group = parts.accept(parts.peek().and_then(group_of))?;
-    let name = parts.accept(parts.peek().and_then(volume_of))?;
+    let group = group_part(parts)?;
+    let name = volume_part(parts)?;
     parts.finish()?;
     Ok((group, name))
 }
@@ -209,51 +225,41 @@ fn line_of(kind: Kind) -> LockLine
     LockLine { kind }
 }
 
-/// A lock is taken.
-fn taking(lock: Lock, mode: Mode) -> LockLine
-    ensures { result ≡ lvm.Takes lock mode }
+/// What a line does that has no words left; else the column of the next one.
+fn ended(words: &Words<'_>, kind: Kind) -> Result<LockLine, usize>
+    ensures { result ≡ lines.ended_as (kinds.line_of kind) words.now }
 {
-    line_of(Kind::Take { lock, mode })
-}
-
-/// A group's lock is taken, and its value compared.
-fn comparing(lock: Lock, mode: Mode) -> LockLine
-    ensures { result ≡ lvm.Takes_comparing lock mode }
-{
-    line_of(Kind::Compare { lock, mode })
-}
-
-/// A lock is given up.
-fn giving(lock: Lock) -> LockLine
-    ensures { result ≡ lvm.Gives lock }
-{
-    line_of(Kind::Give { lock })
-}
-
-/// A group's lock is given up after its value was written.
-fn writing(lock: Lock) -> LockLine
-    ensures { result ≡ lvm.Gives_writing lock }
-{
-    line_of(Kind::Write { lock })
+    words.finish()?;
+    Ok(line_of(kind))
 }
 
 /// Reads the mode in which the global lock is taken, or that it is given up.
-#[tactic(auto, using(crate::proofs::WayLaws::global))]
 fn global_way(words: &mut Words<'_>, group: Name) -> Result<LockLine, usize>
     ensures { result ≡ read_by (lines.global_ways group) words.old }
 {
     let lock = global_lock(group);
     if words.skip(b"sh") {
-        words.finish()?;
-        return Ok(taking(lock, Mode::Shared));
+        return ended(
+            words,
+            Kind::Take {
+                lock,
+                mode: Mode::Shared,
+            },
+        );
     }
     if words.skip(b"ex") {
-        words.finish()?;
-        return Ok(taking(lock, Mode::Exclusive));
+        return ended(
+            words,
+            Kind::Take {
+                lock,
+                mode: Mode::Exclusive,
+            },
+        );
     }
-    words.expect(b"un")?;
-    words.finish()?;
-    Ok(giving(lock))
+    if words.skip(b"un") {
+        return ended(words, Kind::Give { lock });
+    }
+    Err(words.column())
 }
 
 /// Reads whether a group's value is written before its lock is given up.
@@ -261,29 +267,48 @@ fn global_way(words: &mut Words<'_>, group: Name) -> Result<LockLine, usize>
 fn giving_way(words: &mut Words<'_>, group: Name) -> Result<LockLine, usize>
     ensures { result ≡ read_by (lines.giving_ways group) words.old }
 {
+    let lock = group_lock(group);
     if words.skip(b"-w") {
-        words.finish()?;
-        return Ok(writing(group_lock(group)));
+        return ended(words, Kind::Write { lock });
     }
-    words.finish()?;
-    Ok(giving(group_lock(group)))
+    ended(words, Kind::Give { lock })
 }
 
 /// Reads the mode in which a group's lock is taken, or how it is given up.
-#[tactic(auto, using(crate::proofs::WayLaws::group))]
 fn group_way(words: &mut Words<'_>, group: Name) -> Result<LockLine, usize>
     ensures { result ≡ read_by (lines.group_ways group) words.old }
 {
+    let lock = group_lock(group);
     if words.skip(b"sh") {
-        words.finish()?;
-        return Ok(comparing(group_lock(group), Mode::Shared));
+        return ended(
+            words,
+            Kind::Compare {
+                lock,
+                mode: Mode::Shared,
+            },
+        );
     }
     if words.skip(b"ex") {
-        words.finish()?;
-        return Ok(comparing(group_lock(group), Mode::Exclusive));
+        return ended(
+            words,
+            Kind::Compare {
+                lock,
+                mode: Mode::Exclusive,
+            },
+        );
     }
-    words.expect(b"un")?;
-    giving_way(words, group)
+    if words.skip(b"un") {
+        return giving_way(words, group);
+    }
+    Err(words.column())
+}
+
+/// Reads the next word as the number of a logical volume's area; else gives its column.
+fn area_word(words: &mut Words<'_>, geometry: &Geometry) -> Result<u32, usize>
+    ensures exact { result ≡ next_as (is_area_word geometry.now.area) number_of words.old }
+    ensures left { words.new ≡ left_after result words.old }
+{
+    words.accept(words.peek().and_then(|word| area_of(word, geometry)))
 }
 
 /// Reads `-a` and the number of a logical volume's area.
@@ -291,7 +316,7 @@ fn area(words: &mut Words<'_>, geometry: &Geometry) -> Result<u32, usize>
     ensures { result ≡ lines.area_read geometry.now.area words.old }
 {
     words.expect(b"-a")?;
-    let number = words.accept(words.peek().and_then(|word| area_of(word, geometry)))?;
+    let number = area_word(words, geometry)?;
     words.finish()?;
     Ok(number)
 }
@@ -307,8 +332,21 @@ fn volume_lock(group: Name, name: Name, number: u32) -> Lock
     }
 }
 
+/// Reads the area's number of a logical volume whose lock is taken in a mode.
+fn volume_mode(
+    words: &mut Words<'_>,
+    geometry: &Geometry,
+    named: (Name, Name),
+    mode: Mode,
+) -> Result<LockLine, usize>
+    ensures { result ≡ lines.volume_taken geometry.now.area named mode words.old }
+{
+    let number = area(words, geometry)?;
+    let lock = volume_lock(named.0, named.1, number);
+    Ok(line_of(Kind::Take { lock, mode }))
+}
+
 /// Reads the mode in which a logical volume's lock is taken, and its area's number.
-#[tactic(auto, using(crate::proofs::WayLaws::volume))]
 fn volume_way(
     words: &mut Words<'_>,
     geometry: &Geometry,
@@ -317,12 +355,12 @@ fn volume_way(
     ensures { result ≡ read_by (lines.volume_ways geometry.now.area named) words.old }
 {
     if words.skip(b"sh") {
-        let number = area(words, geometry)?;
-        return Ok(taking(volume_lock(named.0, named.1, number), Mode::Shared));
+        return volume_mode(words, geometry, named, Mode::Shared);
     }
-    words.expect(b"ex")?;
-    let number = area(words, geometry)?;
-    Ok(taking(volume_lock(named.0, named.1, number), Mode::Exclusive))
+    if words.skip(b"ex") {
+        return volume_mode(words, geometry, named, Mode::Exclusive);
+    }
+    Err(words.column())
 }
 
 /// Reads what stands behind `lock_gl`.
@@ -353,26 +391,54 @@ fn activate(words: &mut Words<'_>, geometry: &Geometry) -> Result<LockLine, usiz
 }
 
 /// Reads what stands behind `deactivate`.
-fn deactivate(words: &mut Words<'_>) -> Result<(Name, Name), usize>
-    ensures { result ≡ lines.volume_read words.old }
+fn deactivate(words: &mut Words<'_>) -> Result<LockLine, usize>
+    ensures { result ≡ lines.deactivate_read words.old }
 {
-    let named = volume(words)?;
-    words.finish()?;
-    Ok(named)
+    let (group, name) = volume(words)?;
+    ended(words, Kind::Deactivate { group, name })
+}
+
+/// Reads what stands behind `lock_start`.
+fn start(words: &mut Words<'_>) -> Result<LockLine, usize>
+    ensures { result ≡ lines.start_read words.old }
+{
+    let (group, id) = with_id(words)?;
+    Ok(line_of(Kind::Start { group, id }))
+}
+
+/// Reads what stands behind `lock_stop`.
+fn stop(words: &mut Words<'_>) -> Result<LockLine, usize>
+    ensures { result ≡ lines.stop_read words.old }
+{
+    let (group, id) = with_id(words)?;
+    Ok(line_of(Kind::Stop { group, id }))
+}
+
+/// Reads the words of a line that has none of the verbs of locks and lockspaces.
+fn later_line(words: &mut Words<'_>, geometry: &Geometry) -> Result<LockLine, usize>
+    ensures { result ≡ read_by (lines.later_forms geometry.now.area) words.old }
+{
+    if words.skip(b"activate") {
+        return activate(words, geometry);
+    }
+    if words.skip(b"deactivate") {
+        return deactivate(words);
+    }
+    if words.skip(b"info") {
+        return ended(words, Kind::Inform);
+    }
+    Err(words.column())
 }
 
 /// Reads the words of a line; else gives the column of the first word that no form takes.
-#[tactic(auto, using(crate::proofs::LineLaws::verbs))]
 fn line(words: &mut Words<'_>, geometry: &Geometry) -> Result<LockLine, usize>
     ensures { result ≡ read_by (lvm_forms geometry.now.area) words.old }
 {
     if words.skip(b"lock_start") {
-        let (group, id) = with_id(words)?;
-        return Ok(line_of(Kind::Start { group, id }));
+        return start(words);
     }
     if words.skip(b"lock_stop") {
-        let (group, id) = with_id(words)?;
-        return Ok(line_of(Kind::Stop { group, id }));
+        return stop(words);
     }
     if words.skip(b"lock_gl") {
         return lock_global(words);
@@ -380,16 +446,7 @@ fn line(words: &mut Words<'_>, geometry: &Geometry) -> Result<LockLine, usize>
     if words.skip(b"lock_vg") {
         return lock_group(words);
     }
-    if words.skip(b"activate") {
-        return activate(words, geometry);
-    }
-    if words.skip(b"deactivate") {
-        let (group, name) = deactivate(words)?;
-        return Ok(line_of(Kind::Deactivate { group, name }));
-    }
-    words.expect(b"info")?;
-    words.finish()?;
-    Ok(line_of(Kind::Inform))
+    later_line(words, geometry)
 }
 
 /// What a line says, where areas have these sizes.

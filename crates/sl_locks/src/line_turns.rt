@@ -6,7 +6,7 @@
 ghost use Rattle.sl_run.specs.Lvm as lvm;
 ghost use Rattle.sl_run.specs.declared.turn.LvmIn.TheVariants.{Ended, Line as TextLine, Reply as HostReply};
 ghost use Rattle.sl_locks.specs.Kinds.{line_of};
-ghost use Rattle.sl_locks.specs.Tables.{course_of, deactivates, gives, gives_writing, has_room, informs, left_by, locks_of, lvm_of, stops};
+ghost use Rattle.sl_locks.specs.Tables.{compares, course_of, deactivates, gives, gives_writing, has_room, informs, is_torn, left_by, locks_of, lvm_of, releases_written, stops, tells_unread, version_read, version_written};
 ghost use Rattle.sl_run.specs.Locks.{after_turn};
 ghost use Rattle.sl_trace.specs.EffectTexts as texts;
 ghost use Rattle.std.specs.Prelude.{true, ◌≡◌};
@@ -42,6 +42,33 @@ fn is_lost(reply: &Reply) -> bool
     ensures { result ≡ lvm.is_lost reply.now }
 {
     matches!(reply, Reply::Rival { .. } | Reply::Ahead { .. })
+}
+
+/// The version of the value that a reply tells, if one was read.
+fn version_read(reply: &Reply) -> Option<(u64, u64)>
+    ensures { result ≡ version_read reply.now }
+{
+    match reply {
+        Reply::Value { lver, seq, .. } => Some((*lver, *seq)),
+        _ => None,
+    }
+}
+
+/// The version that a value was written with, if it was.
+fn version_written(reply: &Reply) -> Option<(u64, u64)>
+    ensures { result ≡ version_written reply.now }
+{
+    match reply {
+        Reply::ValueSet { lver, seq } => Some((*lver, *seq)),
+        _ => None,
+    }
+}
+
+/// Whether the value that was read is torn.
+fn is_torn(reply: &Reply) -> bool
+    ensures { result ≡ is_torn reply.now }
+{
+    matches!(reply, Reply::ValueTorn)
 }
 
 /// Whether a lock is no longer held after this reply to its release.
@@ -198,24 +225,56 @@ impl LvmLocks {
         self.pass_on(reply)
     }
 
+    /// The value was not read: a torn one counts as changed, and a refusal is told.
+    fn tell_unread(&mut self, reply: Reply) -> Answer
+        ensures { left_by self.new result ≡ after_turn (locks_of self.old) (tells_unread reply (lvm_of self.old)) }
+    {
+        if is_torn(&reply) {
+            return self.tell(LineReply::Compared { same: false });
+        }
+        self.pass_on(reply)
+    }
+
+    /// This version of the group's value was read, or none was.
+    fn compare(&mut self, lock: Lock, version: Option<(u64, u64)>, reply: Reply) -> Answer
+        requires { has_room self.old ≡ true }
+        ensures { left_by self.new result ≡ after_turn (locks_of self.old) (compares lock version reply (lvm_of self.old)) }
+    {
+        match version {
+            Some((lver, seq)) => {
+                let same = self.is_seen(lock.group, lver, seq);
+                see(&mut self.seen, lock.group, lver, seq);
+                self.tell(LineReply::Compared { same })
+            }
+            None => {
+                forget(&mut self.seen, lock.group);
+                self.tell_unread(reply)
+            }
+        }
+    }
+
     /// After the reply to the read of a group's value: a torn one counts as changed.
     fn after_reading(&mut self, lock: Lock, reply: Reply) -> Answer
         requires { has_room self.old ≡ true }
         ensures { left_by self.new result ≡ after_turn (locks_of self.old) (lvm.after_reading (lvm_of self.old) lock reply) }
     {
-        match reply {
-            Reply::Value { lver, seq, .. } => {
-                let same = self.is_seen(lock.group, lver, seq);
+        let version = version_read(&reply);
+        self.compare(lock, version, reply)
+    }
+
+    /// The value was written with this version, or was not: the release follows either way.
+    fn release_written(&mut self, lock: Lock, version: Option<(u64, u64)>, reply: Reply) -> Answer
+        requires { has_room self.old ≡ true }
+        ensures { left_by self.new result ≡ after_turn (locks_of self.old) (releases_written lock version reply (lvm_of self.old)) }
+    {
+        match version {
+            Some((lver, seq)) => {
                 see(&mut self.seen, lock.group, lver, seq);
-                self.tell(LineReply::Compared { same })
+                self.release(lock, None)
             }
-            Reply::ValueTorn => {
+            None => {
                 forget(&mut self.seen, lock.group);
-                self.tell(LineReply::Compared { same: false })
-            }
-            refusal => {
-                forget(&mut self.seen, lock.group);
-                self.pass_on(refusal)
+                self.release(lock, Some(reply))
             }
         }
     }
@@ -225,16 +284,8 @@ impl LvmLocks {
         requires { has_room self.old ≡ true }
         ensures { left_by self.new result ≡ after_turn (locks_of self.old) (lvm.after_writing (lvm_of self.old) lock reply) }
     {
-        match reply {
-            Reply::ValueSet { lver, seq } => {
-                see(&mut self.seen, lock.group, lver, seq);
-                self.release(lock, None)
-            }
-            refusal => {
-                forget(&mut self.seen, lock.group);
-                self.release(lock, Some(refusal))
-            }
-        }
+        let version = version_written(&reply);
+        self.release_written(lock, version, reply)
     }
 
     /// After the reply to a release: where it is ok, what the write before it was refused for is told.

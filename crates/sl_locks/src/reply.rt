@@ -33,13 +33,21 @@ fn mode_word(mode: Mode) -> &'static str
     }
 }
 
+/// Adds a text behind a character.
+fn push_behind(out: &mut Vec<u8>, mark: u8, text: &[u8]) -> Result<(), AllocError>
+    ensures { OnOk result (out.new.items ≡ out.old.items ++ mark ∷ text.now) }
+{
+    out.push(mark)?;
+    out.extend_from_slice(text)
+}
+
 /// Adds a held lock behind a space.
 fn push_held(out: &mut Vec<u8>, held: &HeldLock) -> Result<(), AllocError>
     ensures { OnOk result (out.new.items ≡ out.old.items ++ 32 ∷ held_lock_word held.now) }
 {
-    let mode = mode_word(held.mode);
-    let text = format!(in *out.allocator(); " {}/{}:{mode}", held.lock.group, held.lock.name)?;
-    out.extend_from_slice(text.as_bytes())
+    push_behind(out, b' ', held.lock.group.as_slice())?;
+    push_behind(out, b'/', held.lock.name.as_slice())?;
+    push_behind(out, b':', mode_word(held.mode).as_bytes())
 }
 
 /// Adds held locks, each behind a space.

@@ -1,7 +1,7 @@
 //! What a run takes from the outside: disks, and for live machines clocks, child programs, watchdog devices, names and a gate.
 //!
 //! Each part is a trait with a form in memory, of which all is told, and an adapter over the system, of which nothing is. The adapters are
-//! the program's trusted edge: a few lines each, each with a case of the program `edges`.
+//! the program's trusted edge: a few lines each, each with a case of the program `cases`.
 #![tactic(auto)]
 
 mod act;

@@ -116,6 +116,13 @@ fn exchange(disks: &mut [MemDisk], path: &[u8], area: MemArea) -> Option<(FilePa
     Some((path, mem::replace(&mut disk.area, area)))
 }
 
+/// Puts a disk in the place of the one at a path, which ends.
+fn put_back(disks: &mut [MemDisk], path: &[u8], area: MemArea)
+    ensures { TakesBack (told_at (content_at disks.old) path.now) (content_at disks.old) (content_at disks.new) (Some area.content) }
+{
+    let _ = exchange(disks, path, area);
+}
+
 impl MemDevices {
     /// These disks. Of two at one path the first counts.
     pub fn new(alloc: Global, disks: Vec<MemDisk>) -> MemDevices
@@ -174,11 +181,12 @@ impl Devices for MemDevices {
     }
 
     fn back(&mut self, area: LentDisk) {
-        if area.faults.get() > 0 {
+        let LentDisk { area, faults } = area;
+        if faults.get() > 0 {
             self.faults.raise();
         }
         if let Some(path) = self.out {
-            let _ = exchange(&mut self.all, path.as_slice(), area.area);
+            put_back(&mut self.all, path.as_slice(), area);
         }
     }
 }

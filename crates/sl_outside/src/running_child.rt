@@ -73,18 +73,31 @@ pub(crate) fn start<R: Processes>(
         .spawn(rt)
 }
 
+/// Gives a shell the script that sends a term to the process that its first word names.
+fn give_script(shell: &mut Command) -> io::Result<()> {
+    shell.arg("-c")?.arg("kill -s TERM \"$1\"")?;
+    Ok(())
+}
+
+/// Gives a shell's script this number for its first word.
+fn give_number(alloc: Global, shell: &mut Command, number: u32) -> io::Result<()> {
+    let number = format!(in alloc; "{number}")?;
+    shell.arg("sh")?.arg(number.as_str())?;
+    Ok(())
+}
+
+/// Runs a command that reads nothing and whose output goes nowhere, to its end: whether it succeeded.
+fn succeeds<R: Processes>(rt: &R, command: &mut Command) -> io::Result<bool> {
+    let command = command.stdin(Stdio::null()).stdout(Stdio::null());
+    Ok(command.status(rt)?.success())
+}
+
 /// Has a shell send a term to the process of this number of the system, and waits for the shell.
 fn send_term<R: Processes>(rt: &R, alloc: Global, number: u32) -> io::Result<()> {
-    let number = format!(in alloc; "{number}")?;
-    let status = Command::new(alloc, "/bin/sh")?
-        .arg("-c")?
-        .arg("kill -s TERM \"$1\"")?
-        .arg("sh")?
-        .arg(number.as_str())?
-        .stdin(Stdio::null())
-        .stdout(Stdio::null())
-        .status(rt)?;
-    if status.success() {
+    let mut shell = Command::new(alloc, "/bin/sh")?;
+    give_script(&mut shell)?;
+    give_number(alloc, &mut shell, number)?;
+    if succeeds(rt, &mut shell)? {
         Ok(())
     } else {
         Err(io::Error::from(io::ErrorKind::Other))

@@ -1,7 +1,7 @@
 //! Devices in memory for live machines: disks that all threads share, children and faults that come as planned, the clock of the system.
 //!
 //! Nothing is told of the disks: another thread may write at any time.
-ghost use Rattle.std.specs.Prelude.{[], ◌≡◌};
+ghost use Rattle.std.specs.Prelude.{IfSome, length, [], ◌<◌, ◌≡◌};
 
 use crate::device::TimedDevice;
 use crate::devices::Devices;
@@ -76,6 +76,31 @@ fn zeros(alloc: Global, folder: &str, path: &str, size: u64) -> Result<SharedDis
     })
 }
 
+/// Where the disk at a path stands.
+fn place_of(disks: &[SharedDisk], path: &str) -> Option<usize>
+    ensures { IfSome result (λ at. at < length disks.now) }
+{
+    disks.iter().position(|disk| disk.path.as_str() == path)
+}
+
+/// Puts a disk at this place, in that of another, or behind all others.
+fn put_at(
+    disks: &mut Vec<SharedDisk>,
+    at: Option<usize>,
+    disk: SharedDisk,
+) -> Result<(), AllocError>
+    requires { IfSome at (λ at. at < length disks.old.items) }
+{
+    match at {
+        Some(at) => disks[at] = disk,
+        None => {
+            disks.reserve(1)?;
+            disks.push_reserved(disk);
+        }
+    }
+    Ok(())
+}
+
 impl<R: Wait + Clock + Copy> SharedDevices<R> {
     /// Devices by this plan, with no disk yet. Clocks count from now on.
     pub fn new(rt: R, alloc: Global, plan: SharedPlan<R>) -> SharedDevices<R>
@@ -108,10 +133,7 @@ impl<R: Wait + Clock + Copy> SharedDevices<R> {
 
     /// A share of the disk at a path, if there is one.
     fn share(&self, path: &str) -> Option<Arc<Mutex<MemArea>>> {
-        let at = self
-            .disks
-            .iter()
-            .position(|disk| disk.path.as_str() == path)?;
+        let at = place_of(&self.disks, path)?;
         Arc::try_clone(&self.disks[at].disk).ok()
     }
 
@@ -130,18 +152,8 @@ impl<R: Wait + Clock + Copy> SharedDevices<R> {
     fn put(&mut self, disk: SharedDisk) -> Result<(), AllocError>
         ensures { self.new ≡ self.old }
     {
-        let path = disk.path.as_str();
-        match self.disks.iter().position(|old| old.path.as_str() == path) {
-            Some(at) => {
-                self.disks[at] = disk;
-                Ok(())
-            }
-            None => {
-                self.disks.reserve(1)?;
-                self.disks.push_reserved(disk);
-                Ok(())
-            }
-        }
+        let at = place_of(&self.disks, disk.path.as_str());
+        put_at(&mut self.disks, at, disk)
     }
 }
 

@@ -1,16 +1,15 @@
 -- The events whose lines may have more words or fewer, read as their two forms say; and all forms by halves.
 use Rattle.sl_report.specs.Languages.{whole_language}
-use Rattle.sl_report.specs.ReadLines.{command_event, event_in, given_text}
+use Rattle.sl_report.specs.ReadLines.{command_event, event_in}
 use Rattle.sl_report.specs.EventLines.{checked_event, event_forms}
-use Rattle.sl_report.specs.HeaderLines.{is_positive_word}
 use Rattle.sl_run.specs.declared.event.Event.TheVariants.{Pass, Tear}
 use Rattle.sl_run.specs.declared.event.Event.{Event}
-use Rattle.sl_schedule.proofs.ReadLaws.{made_as_read}
-use Rattle.sl_schedule.specs.EventReads.{bytes_in, early_forms, growths_in, late_forms, one_word, pass_read, tear_read}
-use Rattle.sl_schedule.specs.Reads.{kept_part, machine_part, number_part}
+use Rattle.sl_schedule.proofs.ReadLaws.{made_as_read, two_and_two}
+use Rattle.sl_schedule.specs.EventReads.{bytes_in, early_forms, growths_in, late_forms, one_word, pass_read, tear_in, tear_read}
+use Rattle.sl_schedule.specs.Reads.{kept_part, machine_part, number_part, pair_in}
 use Rattle.sl_text.proofs.FormLaws.{read_by-verbs}
 use Rattle.sl_text.specs.Forms.{Form, exactly, fits_whole, made_by, word_at, words_of}
-use Rattle.sl_text.specs.Numbers.{capped_long, capped_short, hex_bytes, is_hex_word, is_number_text}
+use Rattle.sl_text.specs.Numbers.{capped_long, hex_bytes, is_hex_word, is_number_text}
 use Rattle.sl_text.specs.Walks.{Part, Unread, column_behind, forms_behind, going_on, next_part, next_passes, past_word, read_by, read_from, unread}
 use Rattle.sl_words.specs.Results.{◌>>=◌}
 use Rattle.sl_words.specs.Words.{choose, first_of_list, some_is}
@@ -166,15 +165,18 @@ pass_made machines sector line w u first behind_it verb =
     ∙ pass_from_verb machines sector line (ap (some_is (exactly (codes "pass"))) (sym first) ∙ verb)
 
 pub tear_made : (machines sector : ℕ) (line w : List ℕ) (u : Unread) → Some w ≡ first_of_list (words_of line) → u ≡ past_word (unread 32 line)
-    → exactly (codes "tear") w ≡ true → result_ok (tear_read sector u) ≡ made_by (early_forms machines sector) (words_of line)
+    → exactly (codes "tear") w ≡ true → tear_in sector u ≡ made_by (early_forms machines sector) (words_of line)
+unfolding pair_in
 tear_made machines sector line w u first behind_it verb =
-    ap (λ u. result_ok (tear_read sector u)) behind_it
+    two_and_two (next_part machine_part u) (next_part number_part (past_word u)) (next_part (kept_part sector) (past_word (past_word u)))
+    (ok_or (bytes_in sector (past_word (past_word (past_word u))).words) 0) (λ m c k bytes. Tear m c k bytes)
+    ∙ ap (λ u. result_ok (tear_read sector u)) behind_it
     ∙ tear_from_verb machines sector line (ap (some_is (exactly (codes "tear"))) (sym first) ∙ verb)
 
 -- ---- the halves
 
 -- The forms of one list, then those of another.
-pub made_by-append : {A : Type 0} (fs gs : List (Form A)) (ws : List (List ℕ)) → made_by (fs ++ gs) ws ≡ option_or (made_by fs ws) (made_by gs ws)
+made_by-append : {A : Type 0} (fs gs : List (Form A)) (ws : List (List ℕ)) → made_by (fs ++ gs) ws ≡ option_or (made_by fs ws) (made_by gs ws)
 made_by-append [] gs ws = refl
 made_by-append {A} (f ∷ fs) gs ws =
     elim (fits_whole f.words ws) as (λ t. option_map (λ (f : Form A). f.make ws) (cond t (Some f) (find (λ f. fits_whole f.words ws) (fs ++ gs)))
@@ -183,10 +185,23 @@ made_by-append {A} (f ∷ fs) gs ws =
       | false ↦ made_by-append fs gs ws
     ]
 
-pub made_by_halves : (machines sector : ℕ) (ws : List (List ℕ))
+made_by_halves : (machines sector : ℕ) (ws : List (List ℕ))
     → made_by (event_forms machines sector) ws ≡ option_or (made_by (early_forms machines sector) ws) (made_by (late_forms machines sector) ws)
 made_by_halves machines sector ws =
     ap (λ fs. made_by fs ws) (sym (take-append-drop 10 (event_forms machines sector))) ∙ made_by-append (early_forms machines sector) (late_forms machines sector) ws
+
+-- What the first half makes of a line, or the other where it makes nothing.
+pub early_made : (machines sector : ℕ) (line : List ℕ) (e : Event) (o : Option Event) → o ≡ made_by (early_forms machines sector) (words_of line) → o ≡ Some e
+    → Some e ≡ made_by (event_forms machines sector) (words_of line)
+early_made machines sector line e o made is =
+    let here : made_by (early_forms machines sector) (words_of line) ≡ Some e = sym made ∙ is in
+    sym (made_by_halves machines sector (words_of line) ∙ ap (λ x. option_or x (made_by (late_forms machines sector) (words_of line))) here)
+
+pub late_made : (machines sector : ℕ) (line : List ℕ) (o late : Option Event) → o ≡ made_by (early_forms machines sector) (words_of line) → o ≡ None
+    → late ≡ made_by (late_forms machines sector) (words_of line) → late ≡ made_by (event_forms machines sector) (words_of line)
+late_made machines sector line o late made is made_late =
+    let none : made_by (early_forms machines sector) (words_of line) ≡ None = sym made ∙ is in
+    made_late ∙ sym (made_by_halves machines sector (words_of line) ∙ ap (λ x. option_or x (made_by (late_forms machines sector) (words_of line))) none)
 
 -- ---- commands
 

@@ -11,7 +11,7 @@ use Rattle.sl_run.specs.declared.event.Refusal.{Refusal}
 use Rattle.sl_run.specs.declared.header.Header.{Header}
 use Rattle.sl_schedule.proofs.SizeLaws.{none_yet, sizes_taken, some_hosts, some_told}
 use Rattle.sl_schedule.specs.declared.header.Added.TheVariants.{Begun, More, Refused}
-use Rattle.sl_schedule.specs.HeadersSoFar.{ArePossible, HeaderSoFar, HostsAreFew, IsPossible, IsWithin, Stands, answer_after, answer_now, answer_to, bytes_of, count_at, default_sizes, has_least, has_room, header_now, is_in_place, kept_after, lines_after, no_lines, refusal_now, sizes_now, sizes_of, so_far_after, so_far_with}
+use Rattle.sl_schedule.specs.HeadersSoFar.{HeaderSoFar, HostsAreFew, IsPossible, IsWithin, Stands, answer_after, answer_now, answer_to, bytes_of, count_at, default_sizes, has_least, has_room, header_now, is_in_place, kept_after, lines_after, no_lines, refusal_now, sizes_now, sizes_of, so_far_after, so_far_with}
 use Rattle.sl_words.proofs.CaseLaws.{true_or_false}
 use Rattle.sl_words.proofs.WordLaws.{and_true}
 use Rattle.sl_words.specs.Words.{first_of_list, some_is}

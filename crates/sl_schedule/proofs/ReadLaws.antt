@@ -1,5 +1,5 @@
 -- A line whose first word is a verb is read part by part, as the one form with this verb says.
-use Rattle.sl_schedule.specs.Reads.{one_read, three_read, two_read}
+use Rattle.sl_schedule.specs.Reads.{alone, followed, one_read, pair_alone, pair_and_last, pair_in, three_read, two_read}
 use Rattle.sl_text.proofs.FormLaws.{read_by-other, read_by-verb, read_from-is}
 use Rattle.sl_text.proofs.PieceLaws.{first_piece}
 use Rattle.sl_text.specs.Forms.{Form, bad_column, exactly, made_by, word_at, words_of}
@@ -7,8 +7,9 @@ use Rattle.sl_text.specs.Walks.{FailsFirst, NoneFits, Part, Unread, at_end, five
 use Rattle.sl_words.proofs.OptionLaws.{result_ok-ok_or}
 use Rattle.sl_words.specs.Results.{◌>>=◌}
 use Rattle.sl_words.specs.Words.{first_of_list, some_is}
-use Rattle.std.proofs.Common.{Bool, Err, List, None, Ok, Result, Some, [], ap, false, refl, sym, true, ℕ, ◌∙◌, ◌∷◌, ◌≡◌}
+use Rattle.std.proofs.Common.{Bool, Err, List, None, Ok, Option, Result, Some, [], ap, false, refl, sym, true, ℕ, ◌∙◌, ◌∷◌, ◌≡◌}
 use Rattle.std.specs.Prelude.{if◌then◌else◌}
+use Rattle.std.specs.Option.{option_map}
 use Rattle.std.specs.Result.{result_ok}
 
 -- A word that is kept as it is, or as what it stands for.
@@ -132,3 +133,62 @@ pub made_of_five : {A B C D E F : Type 0} (fs : List (Form F)) (p : Part A) (q :
 made_of_five fs p q r s t make line v w u o first behind_it verb behind e =
     made_behind_verb fs (p.passes ∷ q.passes ∷ r.passes ∷ s.passes ∷ t.passes ∷ []) (λ ws. make (p.value (word_at ws 0)) (q.value (word_at ws 1)) (r.value (word_at ws 2)) (s.value (word_at ws 3)) (t.value (word_at ws 4))) line v w u o first behind_it verb behind
     (e ∙ sym (five_read-each p q r s t make u))
+
+-- ---- one part or two that were read by themselves
+
+one_by_one : {A E : Type 0} (r : Result A ℕ) (done : Result (Unit {0}) ℕ) (make : A → E)
+    → option_map make (result_ok (r >>= λ a. done >>= λ _. Ok a)) ≡ result_ok (r >>= λ a. done >>= λ _. Ok (make a))
+one_by_one (Err e) done make = refl
+one_by_one (Ok a) (Err e) make = refl
+one_by_one (Ok a) (Ok d) make = refl
+
+two_by_two : {A B E : Type 0} (r : Result A ℕ) (s : Result B ℕ) (done : Result (Unit {0}) ℕ) (make : A → B → E)
+    → followed (λ (x : A × B) d. make x.0 x.1) (result_ok (r >>= λ a. s >>= λ b. Ok (a, b))) (result_ok done) ≡ result_ok (r >>= λ a. s >>= λ b. done >>= λ _. Ok (make a b))
+two_by_two (Err e) s done make = refl
+two_by_two (Ok a) (Err e) done make = refl
+two_by_two (Ok a) (Ok b) (Err e) make = refl
+two_by_two (Ok a) (Ok b) (Ok d) make = refl
+
+two_and_one : {A B C E : Type 0} (r : Result A ℕ) (s : Result B ℕ) (t : Result C ℕ) (done : Result (Unit {0}) ℕ) (make : A → B → C → E)
+    → followed (λ (x : A × B) c. make x.0 x.1 c) (result_ok (r >>= λ a. s >>= λ b. Ok (a, b))) (result_ok (t >>= λ c. done >>= λ _. Ok c))
+    ≡ result_ok (r >>= λ a. s >>= λ b. t >>= λ c. done >>= λ _. Ok (make a b c))
+two_and_one (Err e) s t done make = refl
+two_and_one (Ok a) (Err e) t done make = refl
+two_and_one (Ok a) (Ok b) (Err e) done make = refl
+two_and_one (Ok a) (Ok b) (Ok c) (Err e) make = refl
+two_and_one (Ok a) (Ok b) (Ok c) (Ok d) make = refl
+
+pub two_and_two : {A B C D E : Type 0} (r : Result A ℕ) (s : Result B ℕ) (t : Result C ℕ) (rest : Result D ℕ) (make : A → B → C → D → E)
+    → followed (λ (x : A × B) (y : C × D). make x.0 x.1 y.0 y.1) (result_ok (r >>= λ a. s >>= λ b. Ok (a, b))) (result_ok (t >>= λ c. rest >>= λ d. Ok (c, d)))
+    ≡ result_ok (r >>= λ a. s >>= λ b. t >>= λ c. rest >>= λ d. Ok (make a b c d))
+two_and_two (Err e) s t rest make = refl
+two_and_two (Ok a) (Err e) t rest make = refl
+two_and_two (Ok a) (Ok b) (Err e) rest make = refl
+two_and_two (Ok a) (Ok b) (Ok c) (Err e) make = refl
+two_and_two (Ok a) (Ok b) (Ok c) (Ok d) make = refl
+
+pub made_alone : {A E : Type 0} (fs : List (Form E)) (p : Part A) (make : A → E) (line v w : List ℕ) (u : Unread) (o : Option E)
+    → Some w ≡ first_of_list (words_of line) → u ≡ past_word (unread 32 line) → exactly v w ≡ true
+    → forms_behind v fs ≡ record { words = p.passes ∷ []; make = λ ws. make (p.value (word_at ws 0)) } ∷ []
+    → o ≡ option_map make (alone p u) → o ≡ made_by fs (words_of line)
+unfolding alone
+made_alone fs p make line v w u o first behind_it verb behind e =
+    e ∙ one_by_one (next_part p u) (at_end (past_word u)) make ∙ made_of_one fs p make line v w u (one_read p make u) first behind_it verb behind refl
+
+pub made_pair : {A B E : Type 0} (fs : List (Form E)) (p : Part A) (q : Part B) (make : A → B → E) (line v w : List ℕ) (u : Unread) (o : Option E)
+    → Some w ≡ first_of_list (words_of line) → u ≡ past_word (unread 32 line) → exactly v w ≡ true
+    → forms_behind v fs ≡ record { words = p.passes ∷ q.passes ∷ []; make = λ ws. make (p.value (word_at ws 0)) (q.value (word_at ws 1)) } ∷ []
+    → o ≡ pair_alone p q make u → o ≡ made_by fs (words_of line)
+unfolding pair_in
+made_pair fs p q make line v w u o first behind_it verb behind e =
+    e ∙ two_by_two (next_part p u) (next_part q (past_word u)) (at_end (past_word (past_word u))) make
+    ∙ made_of_two fs p q make line v w u (two_read p q make u) first behind_it verb behind refl
+
+pub made_pair_and_last : {A B C E : Type 0} (fs : List (Form E)) (p : Part A) (q : Part B) (r : Part C) (make : A → B → C → E) (line v w : List ℕ) (u : Unread) (o : Option E)
+    → Some w ≡ first_of_list (words_of line) → u ≡ past_word (unread 32 line) → exactly v w ≡ true
+    → forms_behind v fs ≡ record { words = p.passes ∷ q.passes ∷ r.passes ∷ []; make = λ ws. make (p.value (word_at ws 0)) (q.value (word_at ws 1)) (r.value (word_at ws 2)) } ∷ []
+    → o ≡ pair_and_last p q r make u → o ≡ made_by fs (words_of line)
+unfolding pair_in alone
+made_pair_and_last fs p q r make line v w u o first behind_it verb behind e =
+    e ∙ two_and_one (next_part p u) (next_part q (past_word u)) (next_part r (past_word (past_word u))) (at_end (past_word (past_word (past_word u)))) make
+    ∙ made_of_three fs p q r make line v w u (three_read p q r make u) first behind_it verb behind refl

@@ -3,6 +3,7 @@ use Rattle.sl_report.specs.Languages.{is_skipped, whole_language}
 use Rattle.sl_report.specs.ReadLines.{header_line_in}
 use Rattle.sl_report.specs.HeaderLines.{HeaderLine, header_of}
 use Rattle.sl_report.specs.Schedules.{HeaderReading, Header_read, Header_refused, NumberedLine, default_area, default_sector, header_line_refusal, is_begin, line_refusal, read_header, with_line}
+use Rattle.sl_run.specs.declared.event.Refusal.TheVariants.{Syntax}
 use Rattle.sl_run.specs.declared.event.Refusal.{Refusal}
 use Rattle.sl_run.specs.declared.header.Header.{Header}
 use Rattle.sl_schedule.specs.HeadersSoFar.{answer_after, lines_after}
@@ -83,3 +84,15 @@ told ls next lines l rest first behind none added answer =
     ∙ ap (λ more. going_on (answer_after ls l.text) (lines_after ls l.text) l.number more) behind
     ∙ sym (read_header-line ls next l (drop 1 lines) (sym none))
     ∙ ap (read_header whole_language ls next) (sym (first_and_others lines l (sym first)))
+
+-- .. where it is refused before it is read.
+pub refused_first : (ls : List HeaderLine) (next : ℕ) (lines : List NumberedLine) (l : NumberedLine) (why : Refusal) → Some l ≡ first_of_list lines
+    → Some why ≡ line_refusal l → Header_refused l.number why ≡ read_header whole_language ls next lines
+refused_first ls next lines l why first is =
+    sym (read_header-refused ls next l (drop 1 lines) why (sym is)) ∙ ap (read_header whole_language ls next) (sym (first_and_others lines l (sym first)))
+
+-- .. and where no line is left.
+pub none_left : (ls : List HeaderLine) (next : ℕ) (lines : List NumberedLine) → None ≡ first_of_list lines
+    → Header_refused next Syntax ≡ read_header whole_language ls next lines
+none_left ls next [] h = refl
+none_left ls next (l ∷ lines) h = absurd cc

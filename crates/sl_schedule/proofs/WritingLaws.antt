@@ -6,11 +6,11 @@ use Rattle.std.proofs.Common.{List, [], ap, codes, sym, ℕ, ◌++◌, ◌∙◌
 use Rattle.std.proofs.lemmas.List.{append-nil, append_assoc}
 use Rattle.std.specs.Prelude.{decimal}
 
--- Texts behind a text, one by one or all together.
-regrouped : (out e p q r s t z : List ℕ) → out ++ e ++ p ++ q ++ r ++ s ++ t ++ z ≡ out ++ (e ++ (p ++ (q ++ (r ++ (s ++ (t ++ z))))))
-regrouped out e p q r s t z =
-    append_assoc (out ++ e ++ p ++ q ++ r ++ s) t z ∙ append_assoc (out ++ e ++ p ++ q ++ r) s (t ++ z) ∙ append_assoc (out ++ e ++ p ++ q) r (s ++ (t ++ z))
-    ∙ append_assoc (out ++ e ++ p) q (r ++ (s ++ (t ++ z))) ∙ append_assoc (out ++ e) p (q ++ (r ++ (s ++ (t ++ z)))) ∙ append_assoc out e (p ++ (q ++ (r ++ (s ++ (t ++ z)))))
+-- A text in front of a last one, piece by piece.
+regrouped : (e p q r s t z : List ℕ) → (e ++ p ++ q ++ r ++ s ++ t) ++ z ≡ e ++ (p ++ (q ++ (r ++ (s ++ (t ++ z)))))
+regrouped e p q r s t z =
+    append_assoc (e ++ p ++ q ++ r ++ s) t z ∙ append_assoc (e ++ p ++ q ++ r) s (t ++ z) ∙ append_assoc (e ++ p ++ q) r (s ++ (t ++ z))
+    ∙ append_assoc (e ++ p) q (r ++ (s ++ (t ++ z))) ∙ append_assoc e p (q ++ (r ++ (s ++ (t ++ z))))
 
 -- A word and a count in front of other words.
 count_in_front : (w a rest z : List ℕ) → (32 ∷ (w ++ 32 ∷ (a ++ rest))) ++ z ≡ (32 ∷ w ++ 32 ∷ a) ++ (rest ++ z)
@@ -34,12 +34,17 @@ counts_spaced e u a v b w c x d y f =
     ∙ ap (λ t. (32 ∷ v ++ 32 ∷ b) ++ t) (count_in_front w c third feed
     ∙ ap (λ t. (32 ∷ w ++ 32 ∷ c) ++ t) (count_in_front x d fourth feed))))
 
-pub end_line_counted : (out : List ℕ) (k : Counts)
-    → out ++ codes "end" ++ count_text (codes "events") k.events ++ count_text (codes "calls") k.calls ++ count_text (codes "grants") k.grants
-    ++ count_text (codes "refusals") k.refusals ++ count_text (codes "conflicts") k.conflicts ++ 10 ∷ []
-    ≡ out ++ as_bytes (end_line k ∷ [])
-end_line_counted out k =
-    regrouped out (codes "end") (count_text (codes "events") (k.events)) (count_text (codes "calls") k.calls) (count_text (codes "grants") k.grants)
-    (count_text (codes "refusals") k.refusals) (count_text (codes "conflicts") k.conflicts) (10 ∷ [])
-    ∙ ap (λ t. out ++ t) (sym (counts_spaced (codes "end") (codes "events") (decimal k.events) (codes "calls") (decimal k.calls) (codes "grants") (decimal k.grants)
+-- The words of the last line, count by count.
+abbrev pub counted_end : Counts → List ℕ
+counted_end k =
+    codes "end" ++ count_text (codes "events") k.events ++ count_text (codes "calls") k.calls ++ count_text (codes "grants") k.grants
+    ++ count_text (codes "refusals") k.refusals ++ count_text (codes "conflicts") k.conflicts
+
+pub end_line_counted : (out line : List ℕ) (k : Counts) → line ≡ counted_end k → out ++ line ++ 10 ∷ [] ≡ out ++ as_bytes (end_line k ∷ [])
+end_line_counted out line k is =
+    append_assoc out line (10 ∷ [])
+    ∙ ap (λ t. out ++ t) (ap (λ t. t ++ 10 ∷ []) is
+    ∙ regrouped (codes "end") (count_text (codes "events") k.events) (count_text (codes "calls") k.calls)
+    (count_text (codes "grants") k.grants) (count_text (codes "refusals") k.refusals) (count_text (codes "conflicts") k.conflicts) (10 ∷ [])
+    ∙ sym (counts_spaced (codes "end") (codes "events") (decimal k.events) (codes "calls") (decimal k.calls) (codes "grants") (decimal k.grants)
     (codes "refusals") (decimal k.refusals) (codes "conflicts") (decimal k.conflicts)))

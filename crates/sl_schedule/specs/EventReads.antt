@@ -3,7 +3,7 @@ use Rattle.sl_report.specs.ReadLines.{given_text}
 use Rattle.sl_report.specs.EventLines.{event_forms}
 use Rattle.sl_run.specs.declared.event.Event.TheVariants.{GiveCommand, Pass, Tear}
 use Rattle.sl_run.specs.declared.event.Event.{Event}
-use Rattle.sl_schedule.specs.Reads.{kept_part, machine_part, number_part}
+use Rattle.sl_schedule.specs.Reads.{followed, kept_part, machine_part, number_part, pair_in}
 use Rattle.sl_text.specs.Forms.{Form}
 use Rattle.sl_text.specs.Numbers.{capped_long, hex_bytes, is_hex_word, is_number_text}
 use Rattle.sl_text.specs.Walks.{Unread, next_part, past_word}
@@ -11,6 +11,7 @@ use Rattle.sl_words.specs.Results.{◌>>=◌}
 use Rattle.sl_words.specs.Words.{choose}
 use Rattle.std.specs.List.{list_all}
 use Rattle.std.specs.Option.{ok_or, option_map}
+use Rattle.std.specs.Result.{result_ok}
 use Rattle.std.specs.Prelude.{Bool, List, None, Ok, Option, Result, Some, drop, length, map, take, [], ℕ, ◌&&◌, ◌*◌, ◌==◌, ◌∷◌}
 
 -- The event of a text's words.
@@ -60,3 +61,14 @@ tear_read sector u = do
   k ← next_part (kept_part sector) (past_word (past_word u))
   bytes ← ok_or (bytes_in sector (past_word (past_word (past_word u))).words) 0
   Ok (Tear m c k bytes)
+
+-- How many bytes of its own a torn write leaves, and those behind them.
+abbrev pub kept_in : ℕ → Unread → Option (ℕ × List ℕ)
+kept_in sector u = result_ok (do
+  k ← next_part (kept_part sector) u
+  bytes ← ok_or (bytes_in sector (past_word u).words) 0
+  Ok (k, bytes))
+
+-- The event of a machine and a call, and what follows them.
+abbrev pub tear_in : ℕ → Unread → Option Event
+tear_in sector u = followed (λ x y. Tear x.0 x.1 y.0 y.1) (pair_in machine_part number_part u) (kept_in sector (past_word (past_word u)))

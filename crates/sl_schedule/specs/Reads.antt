@@ -8,7 +8,9 @@ use Rattle.sl_text.specs.Walks.{Part, Unread, at_end, next_part, past_word}
 use Rattle.sl_trace.specs.CommandForms.{is_process_word}
 use Rattle.sl_words.specs.Results.{◌>>=◌}
 use Rattle.std.specs.Int.{is_in_range}
-use Rattle.std.specs.Prelude.{Bool, List, Ok, Result, bytes_eq, codes, nat_le, nat_lt, ℕ, ◌%◌, ◌==◌, ◌^◌}
+use Rattle.std.specs.Option.{option_map}
+use Rattle.std.specs.Prelude.{Bool, List, None, Ok, Option, Result, Some, bytes_eq, codes, nat_le, nat_lt, ℕ, ◌%◌, ◌==◌, ◌^◌}
+use Rattle.std.specs.Result.{result_ok}
 
 -- The number of a machine.
 abbrev pub machine_part : Part ℕ
@@ -85,3 +87,27 @@ three_read p q r make u = do
   c ← next_part r (past_word (past_word u))
   done ← at_end (past_word (past_word (past_word u)))
   Ok (make a b c)
+
+-- Just one part, if it is there and no more follows.
+unfoldable pub alone : {A : Type 0} → Part A → Unread → Option A
+alone p u = result_ok (one_read p (λ a. a) u)
+
+-- Two parts, whatever follows.
+unfoldable pub pair_in : {A B : Type 0} → Part A → Part B → Unread → Option (A × B)
+pair_in p q u = result_ok (do
+  a ← next_part p u
+  b ← next_part q (past_word u)
+  Ok (a, b))
+
+-- What was read, and what was read behind it.
+abbrev pub followed : {A B E : Type 0} → (A → B → E) → Option A → Option B → Option E
+followed make None o = None
+followed make (Some a) o = option_map (make a) o
+
+-- Just two parts.
+abbrev pub pair_alone : {A B E : Type 0} → Part A → Part B → (A → B → E) → Unread → Option E
+pair_alone p q make u = followed (λ x done. make x.0 x.1) (pair_in p q u) (result_ok (at_end (past_word (past_word u))))
+
+-- Just three parts.
+abbrev pub pair_and_last : {A B C E : Type 0} → Part A → Part B → Part C → (A → B → C → E) → Unread → Option E
+pair_and_last p q r make u = followed (λ x c. make x.0 x.1 c) (pair_in p q u) (alone r (past_word (past_word u)))

@@ -11,8 +11,9 @@ ghost use Rattle.sl_schedule.specs.EventReads as forms;
 ghost use Rattle.sl_schedule.specs.Reads as reads;
 ghost use Rattle.sl_text.specs.Forms.{made_by, words_of};
 ghost use Rattle.sl_text.specs.Numbers.{capped_long, is_number_text};
-ghost use Rattle.std.specs.Option.{option_or};
-ghost use Rattle.std.specs.Prelude.{codes, IfOk, ℕ, ◌∷◌, ◌≡◌};
+ghost use Rattle.sl_text.specs.Walks.{past_word};
+ghost use Rattle.std.specs.Option.{option_map};
+ghost use Rattle.std.specs.Prelude.{codes, IfOk, IfSome, ℕ, ◌∷◌, ◌≡◌};
 ghost use Rattle.std.specs.Result.{result_ok};
 
 use crate::parts::{is_verb, next_kept, next_ok, next_process};
@@ -66,24 +67,82 @@ fn read_pass(alloc: Global, machines: u32, words: &mut Words) -> Result<Option<E
     }))
 }
 
-/// `wake M`.
-fn read_wake(words: &mut Words) -> Result<Event, usize>
-    ensures { result ≡ reads.one_read reads.machine_part (λ m. Event.WakeUp m) words.old }
+/// Reads the number of a machine, and no more words.
+#[tactic(auto, unfolding(crate::specs::Reads::alone))]
+fn machine_alone(words: &mut Words) -> Option<u32>
+    ensures { result ≡ reads.alone reads.machine_part words.old }
 {
-    let machine = words.positive_short_number()?;
-    words.finish()?;
-    Ok(Event::WakeUp { machine })
+    let machine = words.positive_short_number().ok()?;
+    words.finish().ok()?;
+    Some(machine)
+}
+
+/// Reads a number above 0, and no more words.
+#[tactic(auto, unfolding(crate::specs::Reads::alone))]
+fn positive_alone(words: &mut Words) -> Option<u64>
+    ensures { result ≡ reads.alone reads.positive_part words.old }
+{
+    let number = words.positive_number().ok()?;
+    words.finish().ok()?;
+    Some(number)
+}
+
+/// Reads whether something went well, and no more words.
+#[tactic(auto, unfolding(crate::specs::Reads::alone))]
+fn ok_alone(words: &mut Words) -> Option<bool>
+    ensures { result ≡ reads.alone reads.ok_part words.old }
+{
+    let ok = next_ok(words).ok()?;
+    words.finish().ok()?;
+    Some(ok)
+}
+
+/// Reads the numbers of a machine and of one of its calls.
+#[tactic(auto, unfolding(crate::specs::Reads::pair_in))]
+fn next_call(words: &mut Words) -> Option<(u32, u64)>
+    ensures exact { result ≡ reads.pair_in reads.machine_part reads.number_part words.old }
+    ensures left { IfSome result (λ x. words.new ≡ past_word (past_word words.old)) }
+{
+    let machine = words.positive_short_number().ok()?;
+    let call = words.number().ok()?;
+    Some((machine, call))
+}
+
+/// Reads the numbers of a machine and of one of its processes.
+#[tactic(auto, unfolding(crate::specs::Reads::pair_in))]
+fn next_child(words: &mut Words) -> Option<(u32, u32)>
+    ensures exact { result ≡ reads.pair_in reads.machine_part reads.process_part words.old }
+    ensures left { IfSome result (λ x. words.new ≡ past_word (past_word words.old)) }
+{
+    let machine = words.positive_short_number().ok()?;
+    let process = next_process(words).ok()?;
+    Some((machine, process))
+}
+
+/// Reads the numbers of a machine and of one of its calls, and no more words.
+fn call_alone(words: &mut Words) -> Option<(u32, u64)>
+    ensures { result ≡ reads.pair_alone reads.machine_part reads.number_part (λ m c. (m, c)) words.old }
+{
+    let call = next_call(words)?;
+    words.finish().ok()?;
+    Some(call)
+}
+
+/// `wake M`.
+fn read_wake(words: &mut Words) -> Option<Event>
+    ensures { result ≡ option_map (λ m. Event.WakeUp m) (reads.alone reads.machine_part words.old) }
+{
+    let machine = machine_alone(words)?;
+    Some(Event::WakeUp { machine })
 }
 
 /// `sample M CALL SECTORS`.
-fn read_sample(words: &mut Words) -> Result<Event, usize>
-    ensures { result ≡ reads.three_read reads.machine_part reads.number_part reads.positive_part (λ m c k. Event.Sample m c k) words.old }
+fn read_sample(words: &mut Words) -> Option<Event>
+    ensures { result ≡ reads.pair_and_last reads.machine_part reads.number_part reads.positive_part (λ m c k. Event.Sample m c k) words.old }
 {
-    let machine = words.positive_short_number()?;
-    let call = words.number()?;
-    let sectors = words.positive_number()?;
-    words.finish()?;
-    Ok(Event::Sample {
+    let (machine, call) = next_call(words)?;
+    let sectors = positive_alone(words)?;
+    Some(Event::Sample {
         machine,
         call,
         sectors,
@@ -91,13 +150,11 @@ fn read_sample(words: &mut Words) -> Result<Event, usize>
 }
 
 /// `land M CALL`.
-fn read_land(words: &mut Words) -> Result<Event, usize>
-    ensures { result ≡ reads.two_read reads.machine_part reads.number_part (λ m c. Event.Land m c) words.old }
+fn read_land(words: &mut Words) -> Option<Event>
+    ensures { result ≡ reads.pair_alone reads.machine_part reads.number_part (λ m c. Event.Land m c) words.old }
 {
-    let machine = words.positive_short_number()?;
-    let call = words.number()?;
-    words.finish()?;
-    Ok(Event::Land { machine, call })
+    let (machine, call) = call_alone(words)?;
+    Some(Event::Land { machine, call })
 }
 
 /// Reads the bytes that a torn write leaves behind those of its own, if its line has them.
@@ -115,12 +172,9 @@ fn read_bytes(alloc: Global, sector: u32, words: &mut Words) -> Result<Option<By
 
 /// `tear M CALL KEPT`, and bytes behind those that are kept.
 fn read_tear(alloc: Global, sector: u32, words: &mut Words) -> Result<Option<Event>, AllocError>
-    ensures { IfOk result (λ event. event ≡ result_ok (forms.tear_read sector words.old)) }
+    ensures { IfOk result (λ event. event ≡ forms.tear_in sector words.old) }
 {
-    let Ok(machine) = words.positive_short_number() else {
-        return Ok(None);
-    };
-    let Ok(call) = words.number() else {
+    let Some((machine, call)) = next_call(words) else {
         return Ok(None);
     };
     let Ok(kept) = next_kept(words, sector) else {
@@ -138,64 +192,54 @@ fn read_tear(alloc: Global, sector: u32, words: &mut Words) -> Result<Option<Eve
 }
 
 /// `answer M CALL ok` or `answer M CALL failed`.
-fn read_answer(words: &mut Words) -> Result<Event, usize>
-    ensures { result ≡ reads.three_read reads.machine_part reads.number_part reads.ok_part (λ m c ok. Event.AnswerCall m c ok) words.old }
+fn read_answer(words: &mut Words) -> Option<Event>
+    ensures { result ≡ reads.pair_and_last reads.machine_part reads.number_part reads.ok_part (λ m c ok. Event.AnswerCall m c ok) words.old }
 {
-    let machine = words.positive_short_number()?;
-    let call = words.number()?;
-    let ok = next_ok(words)?;
-    words.finish()?;
-    Ok(Event::AnswerCall { machine, call, ok })
+    let (machine, call) = next_call(words)?;
+    let ok = ok_alone(words)?;
+    Some(Event::AnswerCall { machine, call, ok })
 }
 
 /// `do M CALL`.
-fn read_do(words: &mut Words) -> Result<Event, usize>
-    ensures { result ≡ reads.two_read reads.machine_part reads.number_part (λ m c. Event.Do m c) words.old }
+fn read_do(words: &mut Words) -> Option<Event>
+    ensures { result ≡ reads.pair_alone reads.machine_part reads.number_part (λ m c. Event.Do m c) words.old }
 {
-    let machine = words.positive_short_number()?;
-    let call = words.number()?;
-    words.finish()?;
-    Ok(Event::Do { machine, call })
+    let (machine, call) = call_alone(words)?;
+    Some(Event::Do { machine, call })
 }
 
 /// `drop M CALL`.
-fn read_drop(words: &mut Words) -> Result<Event, usize>
-    ensures { result ≡ reads.two_read reads.machine_part reads.number_part (λ m c. Event.DropWrite m c) words.old }
+fn read_drop(words: &mut Words) -> Option<Event>
+    ensures { result ≡ reads.pair_alone reads.machine_part reads.number_part (λ m c. Event.DropWrite m c) words.old }
 {
-    let machine = words.positive_short_number()?;
-    let call = words.number()?;
-    words.finish()?;
-    Ok(Event::DropWrite { machine, call })
+    let (machine, call) = call_alone(words)?;
+    Some(Event::DropWrite { machine, call })
 }
 
 /// `test M`.
-fn read_test(words: &mut Words) -> Result<Event, usize>
-    ensures { result ≡ reads.one_read reads.machine_part (λ m. Event.Test m) words.old }
+fn read_test(words: &mut Words) -> Option<Event>
+    ensures { result ≡ option_map (λ m. Event.Test m) (reads.alone reads.machine_part words.old) }
 {
-    let machine = words.positive_short_number()?;
-    words.finish()?;
-    Ok(Event::Test { machine })
+    let machine = machine_alone(words)?;
+    Some(Event::Test { machine })
 }
 
 /// `exit M PROCESS`.
-fn read_exit(words: &mut Words) -> Result<Event, usize>
-    ensures { result ≡ reads.two_read reads.machine_part reads.process_part (λ m p. Event.ExitOf m p) words.old }
+fn read_exit(words: &mut Words) -> Option<Event>
+    ensures { result ≡ reads.pair_alone reads.machine_part reads.process_part (λ m p. Event.ExitOf m p) words.old }
 {
-    let machine = words.positive_short_number()?;
-    let process = next_process(words)?;
-    words.finish()?;
-    Ok(Event::ExitOf { machine, process })
+    let (machine, process) = next_child(words)?;
+    words.finish().ok()?;
+    Some(Event::ExitOf { machine, process })
 }
 
 /// `spawned M PROCESS ok` or `spawned M PROCESS failed`.
-fn read_spawned(words: &mut Words) -> Result<Event, usize>
-    ensures { result ≡ reads.three_read reads.machine_part reads.process_part reads.ok_part (λ m p ok. Event.SpawnedOf m p ok) words.old }
+fn read_spawned(words: &mut Words) -> Option<Event>
+    ensures { result ≡ reads.pair_and_last reads.machine_part reads.process_part reads.ok_part (λ m p ok. Event.SpawnedOf m p ok) words.old }
 {
-    let machine = words.positive_short_number()?;
-    let process = next_process(words)?;
-    let ok = next_ok(words)?;
-    words.finish()?;
-    Ok(Event::SpawnedOf {
+    let (machine, process) = next_child(words)?;
+    let ok = ok_alone(words)?;
+    Some(Event::SpawnedOf {
         machine,
         process,
         ok,
@@ -213,30 +257,27 @@ fn read_start(words: &mut Words) -> Result<Event, usize>
 }
 
 /// `crash M`.
-fn read_crash(words: &mut Words) -> Result<Event, usize>
-    ensures { result ≡ reads.one_read reads.machine_part (λ m. Event.Crash m) words.old }
+fn read_crash(words: &mut Words) -> Option<Event>
+    ensures { result ≡ option_map (λ m. Event.Crash m) (reads.alone reads.machine_part words.old) }
 {
-    let machine = words.positive_short_number()?;
-    words.finish()?;
-    Ok(Event::Crash { machine })
+    let machine = machine_alone(words)?;
+    Some(Event::Crash { machine })
 }
 
 /// `reset M`.
-fn read_reset(words: &mut Words) -> Result<Event, usize>
-    ensures { result ≡ reads.one_read reads.machine_part (λ m. Event.Reset m) words.old }
+fn read_reset(words: &mut Words) -> Option<Event>
+    ensures { result ≡ option_map (λ m. Event.Reset m) (reads.alone reads.machine_part words.old) }
 {
-    let machine = words.positive_short_number()?;
-    words.finish()?;
-    Ok(Event::Reset { machine })
+    let machine = machine_alone(words)?;
+    Some(Event::Reset { machine })
 }
 
 /// `restart M`.
-fn read_restart(words: &mut Words) -> Result<Event, usize>
-    ensures { result ≡ reads.one_read reads.machine_part (λ m. Event.Restart m) words.old }
+fn read_restart(words: &mut Words) -> Option<Event>
+    ensures { result ≡ option_map (λ m. Event.Restart m) (reads.alone reads.machine_part words.old) }
 {
-    let machine = words.positive_short_number()?;
-    words.finish()?;
-    Ok(Event::Restart { machine })
+    let machine = machine_alone(words)?;
+    Some(Event::Restart { machine })
 }
 
 /// The event of a line whose verb is one of `pass` to `drop`.
@@ -256,25 +297,25 @@ fn read_early(
         return read_pass(alloc, machines, &mut words);
     }
     if is_verb(verb, b"wake") {
-        return Ok(read_wake(&mut words).ok());
+        return Ok(read_wake(&mut words));
     }
     if is_verb(verb, b"sample") {
-        return Ok(read_sample(&mut words).ok());
+        return Ok(read_sample(&mut words));
     }
     if is_verb(verb, b"land") {
-        return Ok(read_land(&mut words).ok());
+        return Ok(read_land(&mut words));
     }
     if is_verb(verb, b"tear") {
         return read_tear(alloc, sector, &mut words);
     }
     if is_verb(verb, b"answer") {
-        return Ok(read_answer(&mut words).ok());
+        return Ok(read_answer(&mut words));
     }
     if is_verb(verb, b"do") {
-        return Ok(read_do(&mut words).ok());
+        return Ok(read_do(&mut words));
     }
     if is_verb(verb, b"drop") {
-        return Ok(read_drop(&mut words).ok());
+        return Ok(read_drop(&mut words));
     }
     Ok(None)
 }
@@ -286,31 +327,30 @@ fn read_late(line: &[u8]) -> Option<Event>
     let mut words = Words::new(line);
     let verb = words.next_piece()?;
     if is_verb(verb, b"test") {
-        return read_test(&mut words).ok();
+        return read_test(&mut words);
     }
     if is_verb(verb, b"exit") {
-        return read_exit(&mut words).ok();
+        return read_exit(&mut words);
     }
     if is_verb(verb, b"spawned") {
-        return read_spawned(&mut words).ok();
+        return read_spawned(&mut words);
     }
     if is_verb(verb, b"start") {
         return read_start(&mut words).ok();
     }
     if is_verb(verb, b"crash") {
-        return read_crash(&mut words).ok();
+        return read_crash(&mut words);
     }
     if is_verb(verb, b"reset") {
-        return read_reset(&mut words).ok();
+        return read_reset(&mut words);
     }
     if is_verb(verb, b"restart") {
-        return read_restart(&mut words).ok();
+        return read_restart(&mut words);
     }
     None
 }
 
 /// The event of a line that is no command.
-#[tactic(auto, using(crate::proofs::EventLaws::made_by_halves))]
 fn read_form(
     alloc: Global,
     machines: u32,

@@ -16,7 +16,7 @@ ghost use Rattle.sl_schedule.specs.HeadersSoFar as headers;
 ghost use Rattle.sl_time.specs.Times.{IsTiming};
 ghost use Rattle.std.specs.List.{list_all, list_any, range_with_len};
 ghost use Rattle.std.specs.Option.{option_to_list};
-ghost use Rattle.std.specs.Prelude.{bytes_eq, length, unwrap_or, IfNone, IfOk, IfSome, IsSome, List, OnErr, OnOk, Some, [], ◌<◌, ◌==◌, ◌&&◌, ◌||◌, ◌≡◌, ◌≤◌};
+ghost use Rattle.std.specs.Prelude.{bytes_eq, length, unwrap_or, IfNone, IfOk, IfSome, IsSome, List, OnErr, OnOk, Some, [], ◌<◌, ◌==◌, ◌&&◌, ◌||◌, ◌++◌, ◌∷◌, ◌≡◌, ◌≤◌};
 
 use crate::area_sizes::{AREA, area_of, roomy, row_of, sizes_of, sizes_or};
 use crate::header_line::{AreaSizes, HeaderLine, Times, header_line};
@@ -128,6 +128,15 @@ fn most(rank: u32) -> Option<usize>
         9 => Some(256),
         _ => Some(1),
     }
+}
+
+/// Adds one more. After an `Err`, which is want of memory, they are as they were.
+fn add<T: Copy>(items: &mut Vec<T>, item: T) -> Result<(), AllocError>
+    ensures ok { OnOk result (items.new.items ≡ items.old.items ++ item ∷ []) }
+    ensures err { OnErr result (items.new.items ≡ items.old.items) }
+{
+    items.push(item)?;
+    Ok(())
 }
 
 /// Whether the line ends the header.
@@ -434,6 +443,14 @@ impl HeaderReader {
         }
     }
 
+    /// Keeps the sizes of areas.
+    fn keep_areas(&mut self, areas: &AreaSizes)
+        requires { IsSome self.old.version }
+        ensures { self.new ≡ headers.values_with self.old (GeometryLine areas.now.sector areas.now.mebibytes) }
+    {
+        self.sizes = sizes_of(areas, self.hosts_now(), self.is_paired());
+    }
+
     /// Keeps what a line says. After an `Err`, which is want of memory, what was kept is as it was.
     fn keep_value(&mut self, line: HeaderLine) -> Result<(), AllocError>
         requires { headers.IsPossible self.old (header_seen line) }
@@ -445,15 +462,13 @@ impl HeaderReader {
             HeaderLine::Times(times) => self.times = Some(times),
             HeaderLine::Machines(machines) => self.machines = Some(machines),
             HeaderLine::Hosts(hosts) => self.hosts = Some(hosts as u32),
-            HeaderLine::Areas(areas) => {
-                self.sizes = sizes_of(&areas, self.hosts_now(), self.is_paired());
-            }
+            HeaderLine::Areas(areas) => self.keep_areas(&areas),
             HeaderLine::Retries(retries) => self.retries = Some(retries),
-            HeaderLine::Clock(clock) => self.clocks.push(clock)?,
-            HeaderLine::Disk(disk) => self.disks.push(disk)?,
-            HeaderLine::Lockspace(line) => self.lockspaces.push(line)?,
-            HeaderLine::Resource(line) => self.resources.push(line)?,
-            HeaderLine::Session(line) => self.sessions.push(line)?,
+            HeaderLine::Clock(clock) => return add(&mut self.clocks, clock),
+            HeaderLine::Disk(disk) => return add(&mut self.disks, disk),
+            HeaderLine::Lockspace(line) => return add(&mut self.lockspaces, line),
+            HeaderLine::Resource(line) => return add(&mut self.resources, line),
+            HeaderLine::Session(line) => return add(&mut self.sessions, line),
             HeaderLine::Begin => {}
         }
         Ok(())

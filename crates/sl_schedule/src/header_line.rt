@@ -5,9 +5,12 @@ ghost use Rattle.sl_report.specs.ReadLines.{header_line_in};
 ghost use Rattle.sl_report.specs.HeaderLines as header_lines;
 ghost use Rattle.sl_schedule.specs.HeaderReads.{header_seen, result_seen, HasHosts};
 ghost use Rattle.sl_schedule.specs.Reads as reads;
-ghost use Rattle.sl_text.specs.Walks.{five_read, four_read, read_each};
+ghost use Rattle.sl_text.specs.Forms.{exactly, words_of};
+ghost use Rattle.sl_text.specs.Walks.{five_read, four_read, past_word, read_each, unread};
+ghost use Rattle.sl_words.specs.Words.{first_of_list};
 ghost use Rattle.std.specs.Option.{option_map};
-ghost use Rattle.std.specs.Prelude.{[], IfOk, IfSome, ◌<◌, ◌≡◌};
+ghost use Rattle.std.specs.Prelude.{codes, false, List, [], IfOk, IfSome, Some, ℕ, ◌<◌, ◌≡◌};
+ghost use Rattle.std.specs.Result.{result_ok};
 
 use crate::parts::{
     is_verb, next_kept, next_multiple, next_positive, next_reading, next_version, next_within,
@@ -211,6 +214,64 @@ fn read_begin(words: &mut Words) -> Result<HeaderLine, usize>
     Ok(HeaderLine::Begin)
 }
 
+/// Reads a line of a list, or `begin`, behind its verb, which is none of those before.
+fn read_listed(area: u64, verb: &[u8], words: &mut Words) -> Result<HeaderLine, usize>
+    requires { 0 < area }
+    ensures hosts { IfOk result (λ l. HasHosts (header_seen l)) }
+    ensures exact { (line : List ℕ) → Some verb.now ≡ first_of_list (words_of line) → words.old ≡ past_word (unread 32 line)
+        → exactly (codes "sanlock") verb.now ≡ false → exactly (codes "time") verb.now ≡ false → exactly (codes "hosts") verb.now ≡ false
+        → exactly (codes "ids") verb.now ≡ false → exactly (codes "geometry") verb.now ≡ false → exactly (codes "lvm") verb.now ≡ false
+        → option_map header_seen (result_ok result) ≡ header_line_in whole_language area line }
+{
+    if is_verb(verb, b"clock") {
+        return read_clock(words);
+    }
+    if is_verb(verb, b"disk") {
+        return read_disk(words);
+    }
+    if is_verb(verb, b"lockspace") {
+        return read_lockspace(words, area);
+    }
+    if is_verb(verb, b"resource") {
+        return read_resource(words, area);
+    }
+    if is_verb(verb, b"session") {
+        return read_session(words);
+    }
+    if is_verb(verb, b"begin") {
+        return read_begin(words);
+    }
+    Err(words.column())
+}
+
+/// Reads a line behind its verb.
+fn read_behind(area: u64, verb: &[u8], words: &mut Words) -> Result<HeaderLine, usize>
+    requires { 0 < area }
+    ensures hosts { IfOk result (λ l. HasHosts (header_seen l)) }
+    ensures exact { (line : List ℕ) → Some verb.now ≡ first_of_list (words_of line) → words.old ≡ past_word (unread 32 line)
+        → option_map header_seen (result_ok result) ≡ header_line_in whole_language area line }
+{
+    if is_verb(verb, b"sanlock") {
+        return read_version(words);
+    }
+    if is_verb(verb, b"time") {
+        return read_times(words);
+    }
+    if is_verb(verb, b"hosts") {
+        return read_machines(words);
+    }
+    if is_verb(verb, b"ids") {
+        return read_hosts(words);
+    }
+    if is_verb(verb, b"geometry") {
+        return read_areas(words);
+    }
+    if is_verb(verb, b"lvm") {
+        return read_retries(words);
+    }
+    read_listed(area, verb, words)
+}
+
 /// The header line that a line spells, where areas have so many bytes, if it spells one.
 #[tactic(auto, using(crate::proofs::HeaderReadLaws::ok_is_some))]
 pub fn header_line(area: u64, line: &[u8]) -> Option<HeaderLine>
@@ -220,41 +281,5 @@ pub fn header_line(area: u64, line: &[u8]) -> Option<HeaderLine>
 {
     let mut words = Words::new(line);
     let verb = words.next_piece()?;
-    if is_verb(verb, b"sanlock") {
-        return read_version(&mut words).ok();
-    }
-    if is_verb(verb, b"time") {
-        return read_times(&mut words).ok();
-    }
-    if is_verb(verb, b"hosts") {
-        return read_machines(&mut words).ok();
-    }
-    if is_verb(verb, b"ids") {
-        return read_hosts(&mut words).ok();
-    }
-    if is_verb(verb, b"geometry") {
-        return read_areas(&mut words).ok();
-    }
-    if is_verb(verb, b"lvm") {
-        return read_retries(&mut words).ok();
-    }
-    if is_verb(verb, b"clock") {
-        return read_clock(&mut words).ok();
-    }
-    if is_verb(verb, b"disk") {
-        return read_disk(&mut words).ok();
-    }
-    if is_verb(verb, b"lockspace") {
-        return read_lockspace(&mut words, area).ok();
-    }
-    if is_verb(verb, b"resource") {
-        return read_resource(&mut words, area).ok();
-    }
-    if is_verb(verb, b"session") {
-        return read_session(&mut words).ok();
-    }
-    if is_verb(verb, b"begin") {
-        return read_begin(&mut words).ok();
-    }
-    None
+    read_behind(area, verb, &mut words).ok()
 }

@@ -8,10 +8,11 @@ ghost use Rattle.sl_report.specs.RefusalLines.{refusal_line, refusal_words};
 ghost use Rattle.sl_schedule.specs.CountTexts.{count_text};
 ghost use Rattle.sl_text.specs.Forms.{as_bytes, spaced};
 ghost use Rattle.sl_trace.specs.EffectTexts.{machine_line};
-ghost use Rattle.std.specs.Prelude.{codes, decimal, length, take, [], OnErr, OnOk, ◌++◌, ◌∷◌, ◌≡◌};
+ghost use Rattle.std.specs.Prelude.{codes, decimal, [], OnErr, OnOk, ◌++◌, ◌∷◌, ◌≡◌};
 
 use sl_run::Refusal;
 use sl_text::number::push_number;
+use sl_text::write::push_line;
 use std::alloc::AllocError;
 use std::marker::Model;
 
@@ -81,34 +82,21 @@ fn refusal_text(refusal: Refusal) -> &'static [u8]
     }
 }
 
-/// Cuts the text to what it was where writing failed.
-fn kept_or_cut(
-    out: &mut Vec<u8>,
-    len: usize,
-    written: Result<(), AllocError>,
-) -> Result<(), AllocError>
-    ensures same { result ≡ written }
-    ensures ok { OnOk result (out.new.items ≡ out.old.items) }
-    ensures err { OnErr result (out.new.items ≡ take len out.old.items) }
+/// Adds a word behind a space.
+fn add_word(line: &mut Vec<u8>, word: &[u8]) -> Result<(), AllocError>
+    ensures { OnOk result (line.new.items ≡ line.old.items ++ 32 ∷ word.now) }
 {
-    if written.is_err() {
-        out.truncate(len);
-    }
-    written
+    line.push(b' ')?;
+    line.extend_from_slice(word)
 }
 
-/// Writes a refusal's line. What was there stays, also after an `Err`.
-fn append_refusal(out: &mut Vec<u8>, number: u64, text: &[u8]) -> Result<(), AllocError>
-    ensures ok { OnOk result (out.new.items
-        ≡ out.old.items ++ codes "line " ++ decimal number ++ 32 ∷ [] ++ text.now ++ 10 ∷ []) }
-    ensures kept { take (length out.old.items) out.new.items ≡ out.old.items }
+/// Adds the words of a refusal of the line with this number.
+fn add_refusal(line: &mut Vec<u8>, number: u64, text: &[u8]) -> Result<(), AllocError>
+    ensures { OnOk result (line.new.items ≡ line.old.items ++ codes "line " ++ decimal number ++ 32 ∷ text.now) }
 {
-    out.extend_from_slice(b"line ")?;
-    push_number(out, number)?;
-    out.push(b' ')?;
-    out.extend_from_slice(text)?;
-    out.push(b'\n')?;
-    Ok(())
+    line.extend_from_slice(b"line ")?;
+    push_number(line, number)?;
+    add_word(line, text)
 }
 
 /// Writes the line of a refusal of the line with this number. After an `Err`, which is want of memory, the text is as it was.
@@ -116,48 +104,58 @@ pub fn push_refusal_line(out: &mut Vec<u8>, number: u64, refusal: Refusal) -> Re
     ensures ok { OnOk result (out.new.items ≡ out.old.items ++ as_bytes (refusal_line number refusal ∷ [])) }
     ensures err { OnErr result (out.new.items ≡ out.old.items) }
 {
-    let len = out.len();
-    let written = append_refusal(out, number, refusal_text(refusal));
-    kept_or_cut(out, len, written)
+    let mut line = Vec::new(*out.allocator());
+    add_refusal(&mut line, number, refusal_text(refusal))?;
+    push_line(out, &line)
 }
 
-/// Writes a space, a word, a space and a number. What was there stays, also after an `Err`.
-fn append_count(out: &mut Vec<u8>, word: &[u8], count: u64) -> Result<(), AllocError>
-    ensures ok { OnOk result (out.new.items ≡ out.old.items ++ count_text word.now count) }
-    ensures kept { take (length out.old.items) out.new.items ≡ out.old.items }
+/// Adds a word and a number, a space before each.
+fn add_count(line: &mut Vec<u8>, word: &[u8], count: u64) -> Result<(), AllocError>
+    ensures { OnOk result (line.new.items ≡ line.old.items ++ count_text word.now count) }
 {
-    out.push(b' ')?;
-    out.extend_from_slice(word)?;
-    out.push(b' ')?;
-    push_number(out, count)
+    add_word(line, word)?;
+    line.push(b' ')?;
+    push_number(line, count)
 }
 
-/// Writes the last line. What was there stays, also after an `Err`.
-fn append_end(out: &mut Vec<u8>, counts: &Counts) -> Result<(), AllocError>
-    ensures ok { OnOk result (out.new.items ≡ out.old.items ++ codes "end" ++ count_text (codes "events") counts.now.events
+/// Adds the counts of what was done.
+fn add_done(line: &mut Vec<u8>, counts: &Counts) -> Result<(), AllocError>
+    ensures { OnOk result (line.new.items ≡ line.old.items ++ count_text (codes "events") counts.now.events
+        ++ count_text (codes "calls") counts.now.calls ++ count_text (codes "grants") counts.now.grants) }
+{
+    add_count(line, b"events", counts.events)?;
+    add_count(line, b"calls", counts.calls)?;
+    add_count(line, b"grants", counts.grants)
+}
+
+/// Adds the counts of what was refused and of what went wrong.
+fn add_undone(line: &mut Vec<u8>, counts: &Counts) -> Result<(), AllocError>
+    ensures { OnOk result (line.new.items ≡ line.old.items ++ count_text (codes "refusals") counts.now.refusals
+        ++ count_text (codes "conflicts") counts.now.conflicts) }
+{
+    add_count(line, b"refusals", counts.refusals)?;
+    add_count(line, b"conflicts", counts.conflicts)
+}
+
+/// Adds the words of the last line.
+fn add_end(line: &mut Vec<u8>, counts: &Counts) -> Result<(), AllocError>
+    ensures { OnOk result (line.new.items ≡ line.old.items ++ codes "end" ++ count_text (codes "events") counts.now.events
         ++ count_text (codes "calls") counts.now.calls ++ count_text (codes "grants") counts.now.grants
-        ++ count_text (codes "refusals") counts.now.refusals ++ count_text (codes "conflicts") counts.now.conflicts ++ 10 ∷ []) }
-    ensures kept { take (length out.old.items) out.new.items ≡ out.old.items }
+        ++ count_text (codes "refusals") counts.now.refusals ++ count_text (codes "conflicts") counts.now.conflicts) }
 {
-    out.extend_from_slice(b"end")?;
-    append_count(out, b"events", counts.events)?;
-    append_count(out, b"calls", counts.calls)?;
-    append_count(out, b"grants", counts.grants)?;
-    append_count(out, b"refusals", counts.refusals)?;
-    append_count(out, b"conflicts", counts.conflicts)?;
-    out.push(b'\n')?;
-    Ok(())
+    line.extend_from_slice(b"end")?;
+    add_done(line, counts)?;
+    add_undone(line, counts)
 }
 
 /// Writes the last line of a whole report. After an `Err`, which is want of memory, the text is as it was.
-#[tactic(auto, using(crate::proofs::WritingLaws::end_line_counted))]
 pub fn push_end_line(out: &mut Vec<u8>, counts: &Counts) -> Result<(), AllocError>
     ensures ok { OnOk result (out.new.items ≡ out.old.items ++ as_bytes (end_line counts.now ∷ [])) }
     ensures err { OnErr result (out.new.items ≡ out.old.items) }
 {
-    let len = out.len();
-    let written = append_end(out, counts);
-    kept_or_cut(out, len, written)
+    let mut line = Vec::new(*out.allocator());
+    add_end(&mut line, counts)?;
+    push_line(out, &line)
 }
 
 /// The words of a watchdog test.
@@ -167,16 +165,12 @@ fn test_text(holds: bool) -> &'static [u8]
     if holds { b"test ok" } else { b"test failed" }
 }
 
-/// Writes a line of a machine. What was there stays, also after an `Err`.
-fn append_machine_line(out: &mut Vec<u8>, machine: u32, text: &[u8]) -> Result<(), AllocError>
-    ensures ok { OnOk result (out.new.items ≡ out.old.items ++ decimal machine ++ 32 ∷ [] ++ text.now ++ 10 ∷ []) }
-    ensures kept { take (length out.old.items) out.new.items ≡ out.old.items }
+/// Adds a machine's number and the words of a test on it.
+fn add_test(line: &mut Vec<u8>, machine: u32, text: &[u8]) -> Result<(), AllocError>
+    ensures { OnOk result (line.new.items ≡ line.old.items ++ decimal machine ++ 32 ∷ text.now) }
 {
-    push_number(out, u64::from(machine))?;
-    out.push(b' ')?;
-    out.extend_from_slice(text)?;
-    out.push(b'\n')?;
-    Ok(())
+    push_number(line, u64::from(machine))?;
+    add_word(line, text)
 }
 
 /// Writes the line of a watchdog test on a machine: whether it holds. After an `Err`, which is want of memory, the text is as it was.
@@ -184,7 +178,7 @@ pub fn push_test_line(out: &mut Vec<u8>, machine: u32, holds: bool) -> Result<()
     ensures ok { OnOk result (out.new.items ≡ out.old.items ++ as_bytes (machine_line machine (test_words holds) ∷ [])) }
     ensures err { OnErr result (out.new.items ≡ out.old.items) }
 {
-    let len = out.len();
-    let written = append_machine_line(out, machine, test_text(holds));
-    kept_or_cut(out, len, written)
+    let mut line = Vec::new(*out.allocator());
+    add_test(&mut line, machine, test_text(holds))?;
+    push_line(out, &line)
 }

@@ -5,9 +5,11 @@
 
 ghost use Rattle.sl_report.specs.Languages.{whole_language};
 ghost use Rattle.sl_report.specs.Schedules as schedules;
+ghost use Rattle.sl_report.specs.HeaderLines.{HeaderLine as Spelled};
+ghost use Rattle.sl_schedule.specs.HeadersSoFar.{Stands};
 ghost use Rattle.sl_schedule.specs.Lines.{header_reading, line_seen};
 ghost use Rattle.std.specs.Option.{option_to_list};
-ghost use Rattle.std.specs.Prelude.{IfNone, IfOk, OnErr, [], ◌++◌, ◌≡◌};
+ghost use Rattle.std.specs.Prelude.{IfNone, IfOk, List, OnErr, [], ◌++◌, ◌≡◌};
 
 use crate::events::next_event;
 use crate::header::{Added, HeaderReader, is_skipped};
@@ -47,9 +49,8 @@ fn pass_event(
     ensures ended { IfOk result (λ event. IfNone event (lines.new ≡ [])) }
 {
     while let Some(line) = lines.next_line() {
-        let event = event_line(alloc, header, &line)?;
-        if event.is_some() {
-            return Ok(event);
+        if let Some(event) = event_line(alloc, header, &line)? {
+            return Ok(Some(event));
         }
     }
     Ok(None)
@@ -73,14 +74,14 @@ pub fn next_event_line(
     Ok(event)
 }
 
-/// The header that the lines begin with, passing its lines.
-fn pass_header(
-    alloc: Global,
+/// The header that the lines begin with behind those that the reader has, passing its lines.
+fn pass_lines(
+    reader: &mut HeaderReader,
     lines: &mut Lines,
 ) -> Result<Result<Header, (u64, Refusal)>, AllocError>
-    ensures { IfOk result (λ read. header_reading read lines.new ≡ schedules.read_header whole_language [] 1 lines.old) }
+    ensures { (ls : List Spelled) → Stands reader.old ls
+        → IfOk result (λ read. header_reading read lines.new ≡ schedules.read_header whole_language ls 1 lines.old) }
 {
-    let mut reader = HeaderReader::new(alloc);
     let mut next = 1;
     while let Some(line) = lines.next_line() {
         if let Some(why) = line.refusal() {
@@ -94,6 +95,17 @@ fn pass_header(
         next = line.number + 1;
     }
     Ok(Err((next, Refusal::Syntax)))
+}
+
+/// The header that the lines begin with, passing its lines.
+fn pass_header(
+    alloc: Global,
+    lines: &mut Lines,
+) -> Result<Result<Header, (u64, Refusal)>, AllocError>
+    ensures { IfOk result (λ read. header_reading read lines.new ≡ schedules.read_header whole_language [] 1 lines.old) }
+{
+    let mut reader = HeaderReader::new(alloc);
+    pass_lines(&mut reader, lines)
 }
 
 /// The header that a source's lines begin with, passing its lines; or the number of the line that is refused, and why. After an `Err`,

@@ -2,7 +2,7 @@
 use Rattle.sl_sector.proofs.ByteLaws.{IsBytes, IsBytes-drop, IsBytes-take, test_from_bytes, zeros_from_test}
 use Rattle.sl_sector.proofs.FieldLaws.{Begins, Begins-before, length-magic, length-name_bytes, length-no_name, length-u32_bytes, length-u64_bytes, length_part, name_before, no_name_before, take-name, take-no_name, take-u32, take-u64, u32_before, u64_before}
 use Rattle.sl_sector.proofs.RuleLaws.{Hold, fits_32, fits_64, in_range, in_range_test, number, positive, under_held_rules, unless_zero, unless_zero_test}
-use Rattle.sl_sector.specs.FieldBytes.{delta_code, delta_state, is_host_field, name_at, name_bytes, u32_at, u64_at}
+use Rattle.sl_sector.specs.FieldBytes.{delta_code, delta_state, is_host_field, name_at, name_bytes, u32_at, u32_bytes, u64_at, u64_bytes}
 use Rattle.sl_sector.specs.Records.{IsDelta}
 use Rattle.sl_sector.specs.SectorLayouts.{as_record, delta_of, delta_rules, field_bytes, fields_of, magic, under_rules}
 use Rattle.sl_sector.specs.declared.sector.DeltaRec.{DeltaRec}
@@ -193,3 +193,13 @@ delta_again bs d is begins =
     let read : delta_of bs ≡ d =
     rw (state.1, id.1, generation.1, seq.1, stamp.1, lockspace.2, host.2, bitmap.1, state_of_code d.state) refl in
     (kind.0.front, ap (λ (k : ℕ). fields_of k bs) kind.1 ∙ of_kind bs ∙ ap (as_record DeltaIs) (under_held_rules (delta_rules bs) (delta_of bs) holds ∙ ap (λ (x : DeltaRec). Ok x) read))
+
+-- What is written of a record, one part behind another.
+pub delta_put : (d : DeltaRec) (name u v w x : List ℕ) → name ≡ d.lockspace → length d.bitmap ≡ 250
+    → take 40 u ≡ magic ++ u32_bytes 1 ++ u32_bytes (delta_code d.state) ++ u32_bytes d.id ++ u64_bytes d.generation ++ u64_bytes d.seq ++ u64_bytes d.stamp
+    → take 88 v ≡ take 40 u ++ name_bytes name → take 136 w ≡ take 88 v ++ name_bytes (unwrap_or d.host [])
+    → take (136 + length d.bitmap) x ≡ take 136 w ++ d.bitmap → take 386 x ≡ field_bytes (DeltaIs d)
+unfolding field_bytes
+delta_put d name u v w x is long numbers named host bits =
+    let all : 386 ≡ 136 + length d.bitmap = omega arith in
+    ap (λ n. take n x) all ∙ bits ∙ ap (λ t. t ++ d.bitmap) (host ∙ ap (λ t. t ++ name_bytes (unwrap_or d.host [])) (named ∙ rw (is, numbers) refl))

@@ -1,6 +1,8 @@
 -- Words with a byte between them.
 use Rattle.sl_sector.specs.Bitmaps.{bits_of}
-use Rattle.sl_sector.specs.RecordTexts.{bits_words, dash_for_none, delta_back, delta_front, delta_word, record_text}
+use Rattle.sl_sector.specs.RecordTexts.{bits_words, block_back, dash_for_none, delta_back, delta_front, delta_word, record_text}
+use Rattle.sl_sector.specs.SectorLayouts.{flag}
+use Rattle.sl_sector.specs.declared.sector.Block.{Block}
 use Rattle.sl_sector.specs.declared.sector.DeltaRec.{DeltaRec}
 use Rattle.sl_sector.specs.declared.sector.Rec.TheVariants.{DeltaIs}
 use Rattle.sl_text.specs.Forms.{spaced}
@@ -33,20 +35,28 @@ pushed_bits bits rest first old a b new is word one others =
     (append_assoc (old ++ codes " bits ") (decimal first) behind ∙ append_assoc old (codes " bits ") (decimal first ++ behind)
     ∙ ap (λ (x : List ℕ). old ++ x) (sym (bits_behind first rest)))
 
--- Words before and behind one word, and further ones.
-spaced_around : (w : List ℕ) (ws : List (List ℕ)) (host : List ℕ) (v : List ℕ) (vs bits : List (List ℕ)) (front back a b line : List ℕ)
-    → front ≡ spaced (w ∷ ws) → back ≡ spaced (v ∷ vs) → a ≡ front ++ 32 ∷ host → b ≡ a ++ 32 ∷ back → line ≡ b ++ flat_map (λ u. 32 ∷ u) bits
-    → line ≡ spaced ((w ∷ ws) ++ host ∷ ((v ∷ vs) ++ bits))
-spaced_around w ws host v vs bits front back a b line is_front is_back one two three =
+-- Words before and behind one word, and further ones, behind a text.
+spaced_around : (w : List ℕ) (ws : List (List ℕ)) (host : List ℕ) (v : List ℕ) (vs bits : List (List ℕ)) (old front a b line : List ℕ)
+    → front ≡ old ++ spaced (w ∷ ws) → a ≡ front ++ 32 ∷ host → b ≡ a ++ 32 ∷ spaced (v ∷ vs) → line ≡ b ++ flat_map (λ u. 32 ∷ u) bits
+    → line ≡ old ++ spaced ((w ∷ ws) ++ host ∷ ((v ∷ vs) ++ bits))
+spaced_around w ws host v vs bits old front a b line is_front one two three =
     let behind = λ (u : List ℕ). 32 ∷ u in
-    three ∙ rw (two, one, is_front, is_back)
+    three ∙ rw (two, one, is_front)
     (simp (append_assoc, join_with_byte-cons, flat_map-append behind ws (host ∷ ((v ∷ vs) ++ bits)), flat_map-append behind vs bits))
 
 -- A delta record's line, one part after another.
-pub delta_line : (d : DeltaRec) (front host back bits a b line : List ℕ) → front ≡ spaced (delta_front d) → host ≡ dash_for_none (unwrap_or d.host [])
-    → back ≡ spaced (delta_back d) → bits ≡ bits_of d.bitmap → a ≡ front ++ 32 ∷ host → b ≡ a ++ 32 ∷ back
-    → line ≡ b ++ flat_map (λ u. 32 ∷ u) (bits_words bits) → line ≡ record_text (DeltaIs d)
-delta_line d front host back bits a b line is_front is_host is_back is_bits one two three =
+pub delta_line : (d : DeltaRec) (old front host bits a b line : List ℕ) → front ≡ old ++ spaced (delta_front d) → host ≡ dash_for_none (unwrap_or d.host [])
+    → bits ≡ bits_of d.bitmap → a ≡ front ++ 32 ∷ host → b ≡ a ++ 32 ∷ spaced (delta_back d)
+    → line ≡ b ++ flat_map (λ u. 32 ∷ u) (bits_words bits) → line ≡ old ++ record_text (DeltaIs d)
+delta_line d old front host bits a b line is_front is_host is_bits one two three =
     rw (← is_host, ← is_bits)
     (spaced_around (codes "delta") (decimal d.id ∷ codes "gen" ∷ decimal d.generation ∷ delta_word d.state ∷ []) host (codes "seq")
-    (decimal d.seq ∷ codes "stamp" ∷ decimal d.stamp ∷ []) (bits_words bits) front back a b line is_front is_back one two three)
+    (decimal d.seq ∷ codes "stamp" ∷ decimal d.stamp ∷ []) (bits_words bits) old front a b line is_front one two three)
+
+-- What a block tells behind its host, one part after another.
+pub block_back_written : (b : Block) (inp mode : ℕ) (old u v w x new : List ℕ) → inp ≡ b.inp → mode ≡ flag b.shared
+    → u ≡ old ++ (codes " lver " ++ (decimal b.lver ++ (codes " mbal " ++ (decimal b.mbal ++ (codes " bal " ++ decimal b.bal)))))
+    → v ≡ u ++ 32 ∷ (codes "inp" ++ 32 ∷ decimal inp) → w ≡ v ++ 32 ∷ decimal b.inp_gen → x ≡ w ++ 32 ∷ (codes "mode" ++ 32 ∷ decimal mode)
+    → new ≡ x ++ 32 ∷ decimal b.mode_gen → new ≡ old ++ 32 ∷ spaced (block_back b)
+block_back_written b inp mode old u v w x new is_inp is_mode one two three four five =
+    five ∙ rw (four, three, two, one, is_inp, is_mode) (simp append_assoc)

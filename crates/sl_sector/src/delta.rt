@@ -6,7 +6,7 @@ ghost use Rattle.sl_words.specs.Words.{all_zero, choose};
 ghost use Rattle.sl_sector.specs.FieldBytes as spec;
 ghost use Rattle.sl_sector.specs.FieldBytes.{ReadsField};
 ghost use Rattle.sl_sector.specs.Records.{IsDelta};
-ghost use Rattle.sl_sector.specs.SectorLayouts.{IsSectorSize, delta_of, delta_rules, field_bytes, spelling, under_rules};
+ghost use Rattle.sl_sector.specs.SectorLayouts.{IsSectorSize, delta_of, delta_rules, field_bytes, magic, spelling, under_rules};
 ghost use Rattle.sl_sector.specs.declared.sector.Rec.TheVariants.{DeltaIs};
 
 use crate::fields::{
@@ -84,15 +84,23 @@ impl DeltaRec {
         requires rules { IsDelta self.now }
         ensures { take 386 buffer.new ≡ field_bytes (DeltaIs self.now) }
     {
+        self.put_numbers(buffer);
+        put_name(buffer, 40, self.lockspace.as_slice());
+        put_host(buffer, 88, &self.host);
+        put(buffer, BITMAP_START, &self.bitmap);
+    }
+
+    /// Writes the magic, the number and the fields before the names.
+    fn put_numbers(&self, buffer: &mut [u8])
+        requires { 512 ≤ length buffer.old }
+        ensures { take 40 buffer.new ≡ magic ++ spec.u32_bytes 1 ++ spec.u32_bytes (spec.delta_code self.now.state) ++ spec.u32_bytes self.now.id ++ spec.u64_bytes self.now.generation ++ spec.u64_bytes self.now.seq ++ spec.u64_bytes self.now.stamp }
+    {
         begin(buffer, DELTA_KIND);
         put_u32(buffer, 8, code_of(self.state));
         put_u32(buffer, 12, self.id);
         put_u64(buffer, 16, self.generation);
         put_u64(buffer, 24, self.seq);
         put_u64(buffer, 32, self.stamp);
-        put_name(buffer, 40, self.lockspace.as_slice());
-        put_host(buffer, 88, &self.host);
-        put(buffer, BITMAP_START, &self.bitmap);
     }
 }
 

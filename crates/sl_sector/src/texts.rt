@@ -1,6 +1,7 @@
 //! What is printed of a record, and of a refusal.
 
-ghost use Rattle.std.specs.Prelude.{IfOk, OnErr, OnOk, [], decimal, flat_map, length, map, string_bytes, unwrap_or, ◌++◌, ◌∷◌, ◌≡◌};
+ghost use Rattle.std.specs.Prelude.{OnErr, OnOk, [], codes, decimal, flat_map, unwrap_or, ◌++◌, ◌∷◌, ◌≡◌};
+ghost use Rattle.sl_sector.specs.Bitmaps as bitmaps;
 ghost use Rattle.sl_sector.specs.FieldBytes as spec;
 ghost use Rattle.sl_sector.specs.RecordTexts as texts;
 ghost use Rattle.sl_text.specs.Forms.{spaced};
@@ -9,7 +10,8 @@ ghost use Rattle.sl_sector.specs.declared.sector.Rec.TheVariants.{BlockIs, Delta
 use crate::bits::bits_of;
 use crate::sector::{Bad, Block, DeltaRec, DeltaState, Leader, PairBlock, Rec, Request, ValueRec};
 use sl_text::Name;
-use std::alloc::{AllocError, Global};
+use sl_text::number::push_number;
+use std::alloc::AllocError;
 
 /// A leader's state.
 fn held_word(held: bool) -> &'static str
@@ -18,33 +20,59 @@ fn held_word(held: bool) -> &'static str
     if held { "held" } else { "free" }
 }
 
-/// The text of a leader.
-fn leader_text(alloc: Global, leader: &Leader) -> Result<String, AllocError>
-    ensures { IfOk result (λ text. string_bytes text ≡ spaced (texts.leader_words leader.now)) }
+/// Adds a word behind a space.
+fn push_word(line: &mut Vec<u8>, word: &[u8]) -> Result<(), AllocError>
+    ensures { OnOk result (line.new.items ≡ line.old.items ++ 32 ∷ word.now) }
 {
-    let state = held_word(leader.held);
-    format!(in alloc;
-        "leader lver {} owner {} gen {} {state}",
-        leader.lver, leader.owner, leader.generation
-    )
+    line.push(b' ')?;
+    line.extend_from_slice(word)
 }
 
-/// The text of a request.
-fn request_text(alloc: Global, request: &Request) -> Result<String, AllocError>
-    ensures { IfOk result (λ text. string_bytes text ≡ texts.record_text (RequestIs request.now)) }
+/// Adds a number behind a space.
+fn push_behind(line: &mut Vec<u8>, number: u64) -> Result<(), AllocError>
+    ensures { OnOk result (line.new.items ≡ line.old.items ++ 32 ∷ decimal number) }
 {
-    format!(in alloc;
-        "request lver {} force {} host {}",
-        request.lver, request.force, request.host
-    )
+    line.push(b' ')?;
+    push_number(line, number)
 }
 
-/// The text of a value.
-fn value_text(alloc: Global, value: &ValueRec) -> Result<String, AllocError>
-    ensures { IfOk result (λ text. string_bytes text ≡ texts.record_text (ValueIs value.now)) }
+/// Adds a word and a number, each behind a space.
+fn push_labelled(line: &mut Vec<u8>, label: &[u8], number: u64) -> Result<(), AllocError>
+    ensures { OnOk result (line.new.items ≡ line.old.items ++ 32 ∷ (label.now ++ 32 ∷ decimal number)) }
 {
-    let len = value.bytes.as_slice().len();
-    format!(in alloc; "value lver {} seq {} len {len}", value.lver, value.seq)
+    push_word(line, label)?;
+    push_behind(line, number)
+}
+
+/// Adds the text of a leader.
+fn push_leader(line: &mut Vec<u8>, leader: &Leader) -> Result<(), AllocError>
+    ensures { OnOk result (line.new.items ≡ line.old.items ++ spaced (texts.leader_words leader.now)) }
+{
+    line.extend_from_slice(b"leader")?;
+    push_labelled(line, b"lver", leader.lver)?;
+    push_labelled(line, b"owner", u64::from(leader.owner))?;
+    push_labelled(line, b"gen", leader.generation)?;
+    push_word(line, held_word(leader.held).as_bytes())
+}
+
+/// Adds the text of a request.
+fn push_request(line: &mut Vec<u8>, request: &Request) -> Result<(), AllocError>
+    ensures { OnOk result (line.new.items ≡ line.old.items ++ texts.record_text (RequestIs request.now)) }
+{
+    line.extend_from_slice(b"request")?;
+    push_labelled(line, b"lver", request.lver)?;
+    push_labelled(line, b"force", u64::from(request.force))?;
+    push_labelled(line, b"host", u64::from(request.host))
+}
+
+/// Adds the text of a value.
+fn push_value(line: &mut Vec<u8>, value: &ValueRec) -> Result<(), AllocError>
+    ensures { OnOk result (line.new.items ≡ line.old.items ++ texts.record_text (ValueIs value.now)) }
+{
+    line.extend_from_slice(b"value")?;
+    push_labelled(line, b"lver", value.lver)?;
+    push_labelled(line, b"seq", value.seq)?;
+    push_labelled(line, b"len", value.bytes.as_slice().len() as u64)
 }
 
 /// A truth as a number.
@@ -54,27 +82,44 @@ fn flag(truth: bool) -> u32
     u32::from(truth)
 }
 
-/// The text of a block.
-fn block_text(alloc: Global, block: &Block) -> Result<String, AllocError>
-    ensures { IfOk result (λ text. string_bytes text ≡ texts.record_text (BlockIs block.now)) }
+/// Adds the instance and the ballots of a block.
+fn push_ballots(line: &mut Vec<u8>, block: &Block) -> Result<(), AllocError>
+    ensures { OnOk result (line.new.items ≡ line.old.items ++ 32 ∷ spaced (codes "lver" ∷ decimal block.now.lver ∷ codes "mbal" ∷ decimal block.now.mbal ∷ codes "bal" ∷ decimal block.now.bal ∷ [])) }
 {
-    let mode = flag(block.shared);
-    format!(in alloc;
-        "block {} lver {} mbal {} bal {} inp {} {} mode {mode} {}",
-        block.host, block.lver, block.mbal, block.bal, block.inp, block.inp_gen, block.mode_gen
-    )
+    push_labelled(line, b"lver", block.lver)?;
+    push_labelled(line, b"mbal", block.mbal)?;
+    push_labelled(line, b"bal", block.bal)
 }
 
-/// The text of a block of a pair.
-fn pair_text(alloc: Global, pair: &PairBlock) -> Result<String, AllocError>
-    ensures { IfOk result (λ text. string_bytes text ≡ texts.record_text (PairIs pair.now)) }
+/// Adds what a block tells behind its host: ballots, a value and a mode.
+fn push_block_back(line: &mut Vec<u8>, block: &Block) -> Result<(), AllocError>
+    ensures { OnOk result (line.new.items ≡ line.old.items ++ 32 ∷ spaced (texts.block_back block.now)) }
 {
-    let (block, turn) = (pair.block, pair.turn);
-    let mode = flag(block.shared);
-    format!(in alloc;
-        "block {} turn {turn} lver {} mbal {} bal {} inp {} {} mode {mode} {}",
-        block.host, block.lver, block.mbal, block.bal, block.inp, block.inp_gen, block.mode_gen
-    )
+    push_ballots(line, block)?;
+    push_labelled(line, b"inp", u64::from(block.inp))?;
+    push_behind(line, block.inp_gen)?;
+    push_labelled(line, b"mode", u64::from(flag(block.shared)))?;
+    push_behind(line, block.mode_gen)?;
+    Ok(())
+}
+
+/// Adds the text of a block.
+fn push_block(line: &mut Vec<u8>, block: &Block) -> Result<(), AllocError>
+    ensures { OnOk result (line.new.items ≡ line.old.items ++ texts.record_text (BlockIs block.now)) }
+{
+    line.extend_from_slice(b"block")?;
+    push_behind(line, u64::from(block.host))?;
+    push_block_back(line, block)
+}
+
+/// Adds the text of a block of a pair.
+fn push_pair(line: &mut Vec<u8>, pair: &PairBlock) -> Result<(), AllocError>
+    ensures { OnOk result (line.new.items ≡ line.old.items ++ texts.record_text (PairIs pair.now)) }
+{
+    line.extend_from_slice(b"block")?;
+    push_behind(line, u64::from(pair.block.host))?;
+    push_labelled(line, b"turn", pair.turn)?;
+    push_block_back(line, &pair.block)
 }
 
 /// A delta record's state.
@@ -112,8 +157,7 @@ fn dash_for_none(text: &[u8]) -> &[u8]
 fn push_decimal(line: &mut Vec<u8>, number: u32) -> Result<(), AllocError>
     ensures { OnOk result (line.new.items ≡ line.old.items ++ decimal number) }
 {
-    let text = format!(in *line.allocator(); "{number}")?;
-    line.extend_from_slice(text.as_bytes())
+    push_number(line, u64::from(number))
 }
 
 /// Adds numbers, each behind a comma.
@@ -140,54 +184,56 @@ fn push_bits(line: &mut Vec<u8>, bits: &[u32]) -> Result<(), AllocError>
     Ok(())
 }
 
-/// The words of a delta record before the host's name.
-fn delta_front(alloc: Global, delta: &DeltaRec) -> Result<String, AllocError>
-    ensures { IfOk result (λ text. string_bytes text ≡ spaced (texts.delta_front delta.now)) }
+/// Adds the words of a delta record before the host's name.
+fn push_delta_front(line: &mut Vec<u8>, delta: &DeltaRec) -> Result<(), AllocError>
+    ensures { OnOk result (line.new.items ≡ line.old.items ++ spaced (texts.delta_front delta.now)) }
 {
-    let state = delta_word(delta.state);
-    format!(in alloc; "delta {} gen {} {state}", delta.id, delta.generation)
+    line.extend_from_slice(b"delta")?;
+    push_behind(line, u64::from(delta.id))?;
+    push_labelled(line, b"gen", delta.generation)?;
+    push_word(line, delta_word(delta.state).as_bytes())
 }
 
-/// The words of a delta record behind the host's name, but for the bits.
-fn delta_back(alloc: Global, delta: &DeltaRec) -> Result<String, AllocError>
-    ensures { IfOk result (λ text. string_bytes text ≡ spaced (texts.delta_back delta.now)) }
+/// Adds the words of a delta record behind the host's name, but for the bits.
+fn push_delta_back(line: &mut Vec<u8>, delta: &DeltaRec) -> Result<(), AllocError>
+    ensures { OnOk result (line.new.items ≡ line.old.items ++ 32 ∷ spaced (texts.delta_back delta.now)) }
 {
-    format!(in alloc; "seq {} stamp {}", delta.seq, delta.stamp)
+    push_labelled(line, b"seq", delta.seq)?;
+    push_labelled(line, b"stamp", delta.stamp)
 }
 
-/// Adds a word behind a space.
-fn push_word(line: &mut Vec<u8>, word: &[u8]) -> Result<(), AllocError>
-    ensures { OnOk result (line.new.items ≡ line.old.items ++ 32 ∷ word.now) }
+/// Adds the text of a delta record whose bitmap has these bits.
+fn push_delta_with(line: &mut Vec<u8>, delta: &DeltaRec, bits: &[u32]) -> Result<(), AllocError>
+    requires { bits.now ≡ bitmaps.bits_of delta.now.bitmap }
+    ensures { OnOk result (line.new.items ≡ line.old.items ++ texts.record_text (DeltaIs delta.now)) }
 {
-    line.push(b' ')?;
-    line.extend_from_slice(word)
+    push_delta_front(line, delta)?;
+    push_word(line, host_word(&delta.host))?;
+    push_delta_back(line, delta)?;
+    push_bits(line, bits)?;
+    Ok(())
 }
 
-/// The text of a delta record.
-fn delta_text(alloc: Global, delta: &DeltaRec) -> Result<Vec<u8>, AllocError>
-    ensures { IfOk result (λ text. text.items ≡ texts.record_text (DeltaIs delta.now)) }
+/// Adds the text of a delta record.
+fn push_delta(line: &mut Vec<u8>, delta: &DeltaRec) -> Result<(), AllocError>
+    ensures { OnOk result (line.new.items ≡ line.old.items ++ texts.record_text (DeltaIs delta.now)) }
 {
-    let back = delta_back(alloc, delta)?;
-    let bits = bits_of(alloc, &delta.bitmap)?;
-    let mut line = delta_front(alloc, delta)?.into_bytes();
-    push_word(&mut line, host_word(&delta.host))?;
-    push_word(&mut line, back.as_bytes())?;
-    push_bits(&mut line, &bits)?;
-    Ok(line)
+    let bits = bits_of(*line.allocator(), &delta.bitmap)?;
+    push_delta_with(line, delta, &bits)
 }
 
-/// The text of a record.
-fn text_of(alloc: Global, record: &Rec) -> Result<Vec<u8>, AllocError>
-    ensures { IfOk result (λ text. text.items ≡ texts.record_text «record».now) }
+/// Adds the text of a record.
+fn push_text(line: &mut Vec<u8>, record: &Rec) -> Result<(), AllocError>
+    ensures { OnOk result (line.new.items ≡ line.old.items ++ texts.record_text «record».now) }
 {
     match record {
-        Rec::DeltaIs(delta) => delta_text(alloc, delta),
-        Rec::LeaderIs(leader) => Ok(leader_text(alloc, leader)?.into_bytes()),
-        Rec::BlockIs(block) => Ok(block_text(alloc, block)?.into_bytes()),
-        Rec::RequestIs(request) => Ok(request_text(alloc, request)?.into_bytes()),
-        Rec::ValueIs(value) => Ok(value_text(alloc, value)?.into_bytes()),
-        Rec::PairIs(pair) => Ok(pair_text(alloc, pair)?.into_bytes()),
-        Rec::PairLeaderIs(leader) => Ok(leader_text(alloc, leader)?.into_bytes()),
+        Rec::DeltaIs(delta) => push_delta(line, delta),
+        Rec::LeaderIs(leader) => push_leader(line, leader),
+        Rec::BlockIs(block) => push_block(line, block),
+        Rec::RequestIs(request) => push_request(line, request),
+        Rec::ValueIs(value) => push_value(line, value),
+        Rec::PairIs(pair) => push_pair(line, pair),
+        Rec::PairLeaderIs(leader) => push_leader(line, leader),
     }
 }
 
@@ -196,20 +242,29 @@ pub fn push_record_text(out: &mut Vec<u8>, record: &Rec) -> Result<(), AllocErro
     ensures ok { OnOk result (out.new.items ≡ out.old.items ++ texts.record_text «record».now) }
     ensures err { OnErr result (out.new.items ≡ out.old.items) }
 {
-    let text = text_of(*out.allocator(), record)?;
+    let mut text = Vec::new(*out.allocator());
+    push_text(&mut text, record)?;
     out.extend_from_slice(&text)
 }
 
-/// The text of a refusal.
-fn bad_text_of(alloc: Global, bad: Bad) -> Result<String, AllocError>
-    ensures { IfOk result (λ text. string_bytes text ≡ texts.bad_text bad) }
+/// Adds a refusal's name, and its offset.
+fn push_at(line: &mut Vec<u8>, name: &[u8], at: u32) -> Result<(), AllocError>
+    ensures { OnOk result (line.new.items ≡ line.old.items ++ (name.now ++ 32 ∷ decimal at)) }
+{
+    line.extend_from_slice(name)?;
+    push_behind(line, u64::from(at))
+}
+
+/// Adds the text of a refusal.
+fn push_bad(line: &mut Vec<u8>, bad: Bad) -> Result<(), AllocError>
+    ensures { OnOk result (line.new.items ≡ line.old.items ++ texts.bad_text bad) }
 {
     match bad {
-        Bad::BadMagic => format!(in alloc; "BadMagic"),
-        Bad::BadKind => format!(in alloc; "BadKind"),
-        Bad::BadField(at) => format!(in alloc; "BadField {at}"),
-        Bad::BadPad(at) => format!(in alloc; "BadPad {at}"),
-        Bad::BadCheck => format!(in alloc; "BadCheck"),
+        Bad::BadMagic => line.extend_from_slice(b"BadMagic"),
+        Bad::BadKind => line.extend_from_slice(b"BadKind"),
+        Bad::BadField(at) => push_at(line, b"BadField", at),
+        Bad::BadPad(at) => push_at(line, b"BadPad", at),
+        Bad::BadCheck => line.extend_from_slice(b"BadCheck"),
     }
 }
 
@@ -218,6 +273,7 @@ pub fn push_bad_text(out: &mut Vec<u8>, bad: Bad) -> Result<(), AllocError>
     ensures ok { OnOk result (out.new.items ≡ out.old.items ++ texts.bad_text bad) }
     ensures err { OnErr result (out.new.items ≡ out.old.items) }
 {
-    let text = bad_text_of(*out.allocator(), bad)?;
-    out.extend_from_slice(text.as_bytes())
+    let mut text = Vec::new(*out.allocator());
+    push_bad(&mut text, bad)?;
+    out.extend_from_slice(&text)
 }

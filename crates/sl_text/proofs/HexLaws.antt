@@ -152,8 +152,5 @@ hex_word_size low high w h =
 pub hex_text_read : (low high : ℕ) (w bytes : List ℕ) → is_hex_word low high w ≡ true → bytes ≡ hex_bytes w → w ≡ hex_text bytes
 hex_text_read low high w bytes h read = sym (ap hex_text read ∙ hex_text-hex_bytes low high w h)
 
--- What readers of hex words use.
-pub ruleset hex_words = (hex_word_size, length-hex_bytes)
-
 -- Bytes and their hex words.
 pub ruleset texts = (is_hex_word-hex_text, hex_bytes-hex_text, hex_text-hex_bytes)

@@ -86,23 +86,33 @@ fn decode(word: &[u8], out: &mut [u8])
     }
 }
 
-/// The bytes that a word of 2 to 512 digits stands for.
-#[tactic(auto, using(crate::proofs::HexLaws::hex_words))]
-fn data_of(word: &[u8]) -> Data
-    requires { numbers.is_hex_word 2 512 word.now ≡ true }
+/// The bytes that the digits stand for, written over `out`, which has room for just these.
+fn data_in(word: &[u8], out: &mut [u8]) -> Data
+    requires digits { list_all numbers.is_hex_digit word.now ≡ true }
+    requires size { length word.now ≡ 2 * length out.old }
+    requires few { length out.old ≤ 256 }
     ensures { result ≡ numbers.hex_bytes word.now }
 {
-    let mut bytes = [0; 256];
-    let len = word.len() / 2;
-    decode(word, &mut bytes[..len]);
-    match Data::new(&bytes[..len]) {
+    decode(word, out);
+    match Data::new(out) {
         Some(data) => data,
         None => unreachable!(),
     }
 }
 
+/// The bytes that a word of at most 512 digits stands for.
+fn data_of(word: &[u8]) -> Data
+    requires digits { list_all numbers.is_hex_digit word.now ≡ true }
+    requires even { length word.now ≡ 2 * (length word.now / 2) }
+    requires few { length word.now ≤ 512 }
+    ensures { result ≡ numbers.hex_bytes word.now }
+{
+    let mut bytes = [0; 256];
+    data_in(word, &mut bytes[..word.len() / 2])
+}
+
 /// The bytes that a word stands for, if it has 2 to 512 digits, an even number.
-#[tactic(auto, using(crate::proofs::HexLaws::hex_text_read))]
+#[tactic(auto, using(crate::proofs::HexLaws::hex_text_read, crate::proofs::HexLaws::hex_word_size))]
 pub fn read_hex(word: &[u8]) -> Option<Data>
     ensures exact { result ≡ choose (numbers.is_hex_word 2 512 word.now) (numbers.hex_bytes word.now) }
     // The word is the one text of these bytes.
@@ -116,7 +126,6 @@ pub fn read_hex(word: &[u8]) -> Option<Data>
 }
 
 /// The bytes that a hex word stands for.
-#[tactic(auto, using(crate::proofs::HexLaws::hex_words))]
 fn bytes_of(alloc: Global, word: &[u8]) -> Result<Bytes, AllocError>
     requires digits { list_all numbers.is_hex_digit word.now ≡ true }
     requires even { length word.now ≡ 2 * (length word.now / 2) }

@@ -7,7 +7,8 @@ use Rattle.sl_live_play.specs.LiveOwed.{All, Breaks, Breaks_early, Differing, Du
 use Rattle.sl_live_play.specs.declared.play.Lived.TheVariants as lived
 use Rattle.sl_live_play.specs.declared.play.Lived.{Lived}
 use Rattle.sl_top.proofs.RunLaws.{nothing_put}
-use Rattle.sl_top.specs.StatusLaws.{LiveHistoriesAreGood, SomeDiffer}
+use Rattle.sl_top.specs.LiveHistories.{LiveHistoriesAreGood}
+use Rattle.sl_top.specs.StatusLaws.{SomeDiffer}
 use Rattle.sl_cli.specs.declared.command_words.Words.TheVariants.{Direct, Generate, Help, Live, Replay, Version}
 use Rattle.sl_cli.specs.declared.command_words.Words.{Words}
 use Rattle.sl_top.specs.Runs.{IsLive, Outside, Owes, RunsLive, folder_in, folder_of}

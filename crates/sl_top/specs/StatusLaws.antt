@@ -8,23 +8,18 @@ use Rattle.sl_direct.specs.declared.action.Action.TheVariants.{ReadLeader, Upgra
 use Rattle.sl_host_step.specs.HostServes.{Serves, whole_commands}
 use Rattle.sl_reader.specs.declared.live_lines.LiveLine.{LiveLine}
 use Rattle.sl_live_play.specs.DifferenceLines.{differ_text}
-use Rattle.sl_live_play.specs.LiveOwed.{Differing, Lives}
+use Rattle.sl_live_play.specs.LiveOwed.{Differing}
 use Rattle.sl_live_run.specs.declared.compare.LiveDiffer.{LiveDiffer}
 use Rattle.sl_report.specs.Languages.{whole_language}
-use Rattle.sl_run.specs.Caused.{IsCaused}
-use Rattle.sl_run.specs.Lawful.{Lawful}
 use Rattle.sl_run.specs.declared.header.Header.{Header}
 use Rattle.sl_sound.specs.Reports.FollowedSchedules.{IsAccepted}
 use Rattle.sl_top.specs.Runs.{IsCutShort, IsDirect, IsLive, Outside, Owes}
 use Rattle.sl_top.specs.declared.status.Status.TheVariants.{AreaFault, BadWords, Differs, Done, NoMemory, NotTheLeader, ReadFault, Refused, WriteFault}
 use Rattle.sl_top.specs.declared.status.Status.{Status}
 use Rattle.sl_trace.specs.declared.command.ResourceArg.{ResourceArg}
-use Rattle.sl_world_state.specs.Daemons.{begun_with}
-use Rattle.sl_world_state.specs.declared.daemon.Site.{Site}
-use Rattle.sl_trace.specs.declared.effects.Entry.{Entry}
 use Rattle.sl_io.specs.FaultCauses.{Rose}
 use Rattle.std.specs.Io.KnownBytes.{Appends}
-use Rattle.std.specs.Prelude.{Bool, List, None, Option, Some, false, reverse, slice_get, ℕ, ◌≡◌, ◌⊎◌}
+use Rattle.std.specs.Prelude.{Bool, List, None, Option, Some, false, ℕ, ◌≡◌, ◌⊎◌}
 
 -- Whether the disk's sector of so many bytes at a resource's offset spells its leader.
 abbrev pub has_leader : ResourceArg → ℕ → List ℕ → Bool
@@ -92,10 +87,3 @@ pub record OtherSchedulesAreRefused : Type 0 where
   pub well : (source : List ℕ) (x y : Outside) (s : Status) → Owes (Some Replay) x y s → x.left ≡ Some source → (IsAccepted whole_language source → ⊥) → NothingFailed x y
       → (s ≡ Refused) ⊎ (s ≡ NoMemory)
   pub only : (source : List ℕ) (x y : Outside) (s : Status) → Owes (Some Replay) x y s → x.left ≡ Some source → s ≡ Refused → IsAccepted whole_language source → ⊥
-
--- The history of each machine of a live run is a lawful trace, and each reply in it has its cause.
-abbrev pub LiveHistoriesAreGood : Type 0
-LiveHistoriesAreGood =
-    (h : Header) (given : List LiveLine) (hs : List (List Entry)) → (l : Lives Serves whole_commands h given hs)
-    → (place : ℕ) (site : Site) (history : List Entry) → slice_get l.begun.sites place ≡ Some site → slice_get hs place ≡ Some history
-    → Lawful (begun_with whole_commands l.begun.header site) (reverse history) × IsCaused (begun_with whole_commands l.begun.header site) (reverse history)

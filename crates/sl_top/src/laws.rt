@@ -1,6 +1,7 @@
-//! What each status tells of a run: laws of the definitions that `run` and `run_offline` cite.
+//! What each status tells of a run, and of what live machines' histories are: laws of the definitions that `run` and `run_offline` cite.
 
-ghost use Rattle.sl_top.specs.StatusLaws.{AcceptedSchedulesEndWell, CausesHaveStatuses, LiveHistoriesAreGood, OtherSchedulesAreRefused, StatusesHaveCauses};
+ghost use Rattle.sl_top.specs.LiveHistories.{LiveHistoriesAreGood};
+ghost use Rattle.sl_top.specs.StatusLaws.{AcceptedSchedulesEndWell, CausesHaveStatuses, OtherSchedulesAreRefused, StatusesHaveCauses};
 
 /// Each status but `Done` and want of memory comes only with its cause.
 pub fn statuses_have_causes()

@@ -1,4 +1,4 @@
-use Rattle.sl_cli.proofs.ArgumentLaws.{format_said}
+use Rattle.sl_cli.proofs.OptionValueLaws.{format_said}
 use Rattle.sl_cli.proofs.parsed_command.format_of.Goals as goal
 use Rattle.std.proofs.Common.{◌∙◌}
 use Rattle.std.specs.Prelude.{option_map}

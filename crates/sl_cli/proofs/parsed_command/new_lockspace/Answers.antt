@@ -1,6 +1,6 @@
 -- Both words are read, or one of them is none.
 use Rattle.sl_cli.proofs.ActionTexts.{both_chosen}
-use Rattle.sl_cli.proofs.ArgumentLaws.{no_first, no_second}
+use Rattle.sl_cli.proofs.OptionValueLaws.{no_first, no_second}
 use Rattle.sl_cli.proofs.parsed_command.new_lockspace.Goals as goal
 use Rattle.sl_direct.specs.declared.action.Action.TheVariants.{InitLockspace}
 use Rattle.std.proofs.Common.{sym, ◌∙◌}

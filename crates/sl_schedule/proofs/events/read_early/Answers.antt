@@ -1,7 +1,7 @@
 use Rattle.sl_report.specs.EventLines.{event_forms}
 use Rattle.sl_run.specs.declared.event.Event.TheVariants.{AnswerCall, Do, DropWrite, Land, Sample, WakeUp}
 use Rattle.sl_schedule.proofs.EventLaws.{pass_made, tear_made}
-use Rattle.sl_schedule.proofs.ReadLaws.{made_of_none, made_of_one, made_of_three, made_of_two, no_words}
+use Rattle.sl_schedule.proofs.ReadLaws.{made_alone, made_of_none, made_pair, made_pair_and_last, no_words}
 use Rattle.sl_schedule.proofs.events.read_early.Goals as goal
 use Rattle.sl_schedule.specs.EventReads.{early_forms}
 use Rattle.sl_schedule.specs.Reads.{machine_part, number_part, ok_part, positive_part}
@@ -22,21 +22,21 @@ returns-then-is_verb c =
 pub returns-then-is_verb-2 : goal.returns-then-is_verb-2
 unfolding event_forms
 returns-then-is_verb-2 c =
-    c.ok.ensures.value ∙ made_of_one (early_forms c.args.machines c.args.sector) machine_part (λ a. WakeUp a) c.args.line.now (codes "wake") c.in-Some.verb.now c.next_piece.new.self c.read_wake.result
+    made_alone (early_forms c.args.machines c.args.sector) machine_part (λ a. WakeUp a) c.args.line.now (codes "wake") c.in-Some.verb.now c.next_piece.new.self c.read_wake.result
     (c.in-Some.ensures.word ∙ ap (λ (u : Unread). first_of_list u.words) c.new-words.ensures) (c.in-Some.ensures.left ∙ ap past_word c.new-words.ensures)
     (sym c.if-is_verb-2.ensures) refl c.read_wake.ensures
 
 pub returns-then-is_verb-3 : goal.returns-then-is_verb-3
 unfolding event_forms
 returns-then-is_verb-3 c =
-    c.ok-then-is_verb-3.ensures.value ∙ made_of_three (early_forms c.args.machines c.args.sector) machine_part number_part positive_part (λ a b c. Sample a b c) c.args.line.now (codes "sample") c.in-Some.verb.now c.next_piece.new.self c.read_sample.result
+    made_pair_and_last (early_forms c.args.machines c.args.sector) machine_part number_part positive_part (λ a b c. Sample a b c) c.args.line.now (codes "sample") c.in-Some.verb.now c.next_piece.new.self c.read_sample.result
     (c.in-Some.ensures.word ∙ ap (λ (u : Unread). first_of_list u.words) c.new-words.ensures) (c.in-Some.ensures.left ∙ ap past_word c.new-words.ensures)
     (sym c.if-is_verb-3.ensures) refl c.read_sample.ensures
 
 pub returns-then-is_verb-4 : goal.returns-then-is_verb-4
 unfolding event_forms
 returns-then-is_verb-4 c =
-    c.ok-then-is_verb-4.ensures.value ∙ made_of_two (early_forms c.args.machines c.args.sector) machine_part number_part (λ a b. Land a b) c.args.line.now (codes "land") c.in-Some.verb.now c.next_piece.new.self c.read_land.result
+    made_pair (early_forms c.args.machines c.args.sector) machine_part number_part (λ a b. Land a b) c.args.line.now (codes "land") c.in-Some.verb.now c.next_piece.new.self c.read_land.result
     (c.in-Some.ensures.word ∙ ap (λ (u : Unread). first_of_list u.words) c.new-words.ensures) (c.in-Some.ensures.left ∙ ap past_word c.new-words.ensures)
     (sym c.if-is_verb-4.ensures) refl c.read_land.ensures
 
@@ -49,21 +49,21 @@ returns-then-is_verb-5 c =
 pub returns-then-is_verb-6 : goal.returns-then-is_verb-6
 unfolding event_forms
 returns-then-is_verb-6 c =
-    c.ok-then-is_verb-6.ensures.value ∙ made_of_three (early_forms c.args.machines c.args.sector) machine_part number_part ok_part (λ a b c. AnswerCall a b c) c.args.line.now (codes "answer") c.in-Some.verb.now c.next_piece.new.self c.read_answer.result
+    made_pair_and_last (early_forms c.args.machines c.args.sector) machine_part number_part ok_part (λ a b c. AnswerCall a b c) c.args.line.now (codes "answer") c.in-Some.verb.now c.next_piece.new.self c.read_answer.result
     (c.in-Some.ensures.word ∙ ap (λ (u : Unread). first_of_list u.words) c.new-words.ensures) (c.in-Some.ensures.left ∙ ap past_word c.new-words.ensures)
     (sym c.if-is_verb-6.ensures) refl c.read_answer.ensures
 
 pub returns-then-is_verb-7 : goal.returns-then-is_verb-7
 unfolding event_forms
 returns-then-is_verb-7 c =
-    c.ok-then-is_verb-7.ensures.value ∙ made_of_two (early_forms c.args.machines c.args.sector) machine_part number_part (λ a b. Do a b) c.args.line.now (codes "do") c.in-Some.verb.now c.next_piece.new.self c.read_do.result
+    made_pair (early_forms c.args.machines c.args.sector) machine_part number_part (λ a b. Do a b) c.args.line.now (codes "do") c.in-Some.verb.now c.next_piece.new.self c.read_do.result
     (c.in-Some.ensures.word ∙ ap (λ (u : Unread). first_of_list u.words) c.new-words.ensures) (c.in-Some.ensures.left ∙ ap past_word c.new-words.ensures)
     (sym c.if-is_verb-7.ensures) refl c.read_do.ensures
 
 pub returns-then-is_verb-8 : goal.returns-then-is_verb-8
 unfolding event_forms
 returns-then-is_verb-8 c =
-    c.ok-then-is_verb-8.ensures.value ∙ made_of_two (early_forms c.args.machines c.args.sector) machine_part number_part (λ a b. DropWrite a b) c.args.line.now (codes "drop") c.in-Some.verb.now c.next_piece.new.self c.read_drop.result
+    made_pair (early_forms c.args.machines c.args.sector) machine_part number_part (λ a b. DropWrite a b) c.args.line.now (codes "drop") c.in-Some.verb.now c.next_piece.new.self c.read_drop.result
     (c.in-Some.ensures.word ∙ ap (λ (u : Unread). first_of_list u.words) c.new-words.ensures) (c.in-Some.ensures.left ∙ ap past_word c.new-words.ensures)
     (sym c.if-is_verb-8.ensures) refl c.read_drop.ensures
 
