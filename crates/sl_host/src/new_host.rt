@@ -145,6 +145,8 @@ fn begin_books(
 {
     let last = last_renewal(given);
     let area = config.geometry.area();
+    let made = Buffers::new(alloc, 0, 0)?;
+    let connected = connect(alloc, given)?;
     Ok(Books {
         config,
         reading: last,
@@ -156,13 +158,13 @@ fn begin_books(
         started: 0,
         granted: 0,
         born: given.len() as u64,
-        connected: connect(alloc, given)?,
+        connected,
         unanswered: OpenCalls::new(alloc, area),
         jobs: Jobs::new(alloc),
         holdings: Holdings::new(alloc),
         children: Children::new(alloc),
         programs: Programs::new(alloc),
-        made: Buffers::new(alloc, 0, 0)?,
+        made,
     })
 }
 
