@@ -98,20 +98,57 @@ fn taken<T>(list: &mut Room<T>, none: Room<T>) -> Vec<T>
     mem::replace(list, none).into_vec()
 }
 
+/// Three lists of nothing, each with memory for so many. An `Err` is want of memory.
+fn three_lists<A: Drop, B: Drop, C: Drop>(
+    alloc: Global,
+    room: usize,
+) -> Result<(Room<A>, Room<B>, Room<C>), AllocError>
+    requires { room < 2 ^ 32 }
+    ensures { IfOk result (λ lists. (lists.0 ≡ record { items = []; room = room }) × (lists.1 ≡ record { items = []; room = room })
+        × (lists.2 ≡ record { items = []; room = room })) }
+{
+    let first = Room::new(alloc, room)?;
+    let second = Room::new(alloc, room)?;
+    let third = Room::new(alloc, room)?;
+    Ok((first, second, third))
+}
+
+/// Sees that each of three lists has memory for so many more. An `Err` is want of memory; then too each has what it had, and no less room.
+fn reserve_three<A, B, C>(
+    first: &mut Room<A>,
+    second: &mut Room<B>,
+    third: &mut Room<C>,
+    room: usize,
+) -> Result<(), AllocError>
+    requires { (length first.old.items + room < 2 ^ 32) × (length second.old.items + room < 2 ^ 32)
+        × (length third.old.items + room < 2 ^ 32) }
+    ensures first { (first.new.items ≡ first.old.items) × (first.old.room ≤ first.new.room) }
+    ensures second { (second.new.items ≡ second.old.items) × (second.old.room ≤ second.new.room) }
+    ensures third { (third.new.items ≡ third.old.items) × (third.old.room ≤ third.new.room) }
+    ensures ok { OnOk result ((room ≤ first.new.room) × (room ≤ second.new.room) × (room ≤ third.new.room)) }
+{
+    first.reserve(room)?;
+    second.reserve(room)?;
+    third.reserve(room)
+}
+
 impl Buffers {
     /// No effects, with memory for so many calls, and so many of each other class. An `Err` is want of memory.
     pub fn new(alloc: Global, room: usize, more_calls: usize) -> Result<Buffers, AllocError>
         requires { (room < 2 ^ 32) × (more_calls < 2 ^ 32) }
         ensures { IfOk result (λ b. b ≡ record { made = no_effects; left = room; calls = more_calls; most = room; most_calls = more_calls }) }
     {
+        let calls = Room::new(alloc, more_calls)?;
+        let (ends, signals, moves) = three_lists(alloc, room)?;
+        let (grants, starts, replies) = three_lists(alloc, room)?;
         Ok(Buffers {
-            ends: Room::new(alloc, room)?,
-            signals: Room::new(alloc, room)?,
-            moves: Room::new(alloc, room)?,
-            grants: Room::new(alloc, room)?,
-            starts: Room::new(alloc, room)?,
-            replies: Room::new(alloc, room)?,
-            calls: Room::new(alloc, more_calls)?,
+            ends,
+            signals,
+            moves,
+            grants,
+            starts,
+            replies,
+            calls,
             left: room,
             more_calls,
             most: room,
@@ -244,12 +281,8 @@ impl Buffers {
         ensures ok { OnOk result (self.new ≡ record { made = no_effects; left = room; calls = more_calls; most = room; most_calls = more_calls }) }
         ensures err { OnErr result (self.new ≡ self.old) }
     {
-        self.ends.reserve(room)?;
-        self.signals.reserve(room)?;
-        self.moves.reserve(room)?;
-        self.grants.reserve(room)?;
-        self.starts.reserve(room)?;
-        self.replies.reserve(room)?;
+        reserve_three(&mut self.ends, &mut self.signals, &mut self.moves, room)?;
+        reserve_three(&mut self.grants, &mut self.starts, &mut self.replies, room)?;
         self.calls.reserve(more_calls)?;
         self.left = room;
         self.more_calls = more_calls;

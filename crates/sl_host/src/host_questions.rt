@@ -11,20 +11,18 @@ ghost use Rattle.std.specs.Prelude.{bytes_eq, find, length, min, option_and_then
 use crate::books::{Books, Config};
 use crate::host::Host;
 use sl_member::Members;
-use sl_tables::Holder;
+use sl_tables::{Holder, Jobs};
 use sl_text::Name;
 use sl_trace::{Command, Grant, Mode, Spot};
 
-impl Books {
-    /// Whether a job of this number runs.
-    #[tactic(auto, using(crate::proofs::FoundInList::one_found, crate::proofs::FoundInList::none_found))]
-    fn runs(&self, job: u64) -> bool
-        ensures { result ≡ list_any (λ j. j.number == job) self.now.jobs }
-    {
-        match self.jobs.get(job) {
-            Some(_) => true,
-            None => false,
-        }
+/// Whether there is a job of this number.
+#[tactic(auto, using(crate::proofs::FoundInList::one_found, crate::proofs::FoundInList::none_found))]
+fn has_job(jobs: &Jobs, number: u64) -> bool
+    ensures { result ≡ list_any (λ j. j.number == number) jobs.now.jobs }
+{
+    match jobs.get(number) {
+        Some(_) => true,
+        None => false,
     }
 }
 
@@ -112,7 +110,7 @@ impl Host {
     pub fn runs(&self, job: u64) -> bool
         ensures { result ≡ list_any (λ j. j.number == job) self.now.kept.jobs }
     {
-        self.books.runs(job)
+        has_job(&self.books.jobs, job)
     }
 
     /// What the command of a running job says.

@@ -145,8 +145,8 @@ fn begin_books(
 {
     let last = last_renewal(given);
     let area = config.geometry.area();
-    let made = Buffers::new(alloc, 0, 0)?;
     let connected = connect(alloc, given)?;
+    let made = Buffers::new(alloc, 0, 0)?;
     Ok(Books {
         config,
         reading: last,
