@@ -18,6 +18,7 @@ use crate::step_memory::{Scratch, calls_for, left_for, stand_by};
 use sl_command::parse_command;
 use sl_host::{Config, Host};
 use sl_host_work::process_named;
+use sl_lease::Blocks;
 use sl_run::Header;
 use sl_sector::Images;
 use sl_trace::{Command, Effects, Input};
@@ -131,8 +132,9 @@ impl Daemon for HostDaemon {
 
     #[tactic(auto, using(crate::proofs::SpareRoom::rests_without))]
     fn begin(alloc: Global, header: &Header, site: Site) -> Result<HostDaemon, AllocError> {
+        let blocks = Blocks::new(alloc, &header.geometry)?;
         let host = host_at(alloc, header, &site)?;
-        let scratch = Scratch::new(alloc, &header.geometry)?;
+        let scratch = Scratch::new(alloc, &header.geometry, blocks);
         Ok(HostDaemon {
             alloc,
             host,

@@ -108,8 +108,36 @@ fn step_misread(
     Ok(conclude(host, scratch, begun.none, begun.is_loud))
 }
 
+/// A step at a command whose lists and member are made.
+#[tactic(auto, using(crate::proofs::LinePremises::seated))]
+fn step_prepared(
+    alloc: Global,
+    host: &mut Host,
+    scratch: &mut Scratch,
+    now: u64,
+    seat: Option<Member>,
+    lists: Lists,
+    command: Command,
+) -> Result<Effects, AllocError>
+    requires comes { (text : List ℕ) × StepComes now (LineOf text) host.old.kept × (command_in (forms (layout_of host.old.kept.config.sizes)) text ≡ Ok command) }
+    requires rests { Rests scratch.old host.old }
+    requires lists { FitsLists host.old.kept.config.sizes host.old.seats command lists }
+    requires seat { HasPlace host.old command seat }
+    ensures ok { (text : List ℕ) → StepComes now (LineOf text) host.old.kept → command_in (forms (layout_of host.old.kept.config.sizes)) text ≡ Ok command
+        → IfOk result (λ fx. HasStepped now (LineOf text) host.old host.new fx) }
+    ensures err { OnErr result (host.new ≡ host.old) }
+    ensures rests { OnErr result (Rests scratch.new host.new) }
+    ensures used { OnOk result (scratch.new.spare ≡ false) }
+    ensures sizes { scratch.new.sizes ≡ scratch.old.sizes }
+{
+    let reach = reach_of(&command);
+    let begun = start(alloc, host, scratch, now, reach)?;
+    take_command(host, scratch, seat, lists, command);
+    Ok(conclude(host, scratch, begun.none, begun.is_loud))
+}
+
 /// A step at a command.
-#[tactic(auto, using(crate::proofs::LinePremises::may_be_seated, crate::proofs::LinePremises::seated))]
+#[tactic(auto, using(crate::proofs::LinePremises::may_be_seated))]
 fn step_command(
     alloc: Global,
     host: &mut Host,
@@ -128,10 +156,7 @@ fn step_command(
 {
     let lists = Lists::of(alloc, &host.config().geometry, host.seats(), &command)?;
     let seat = seat_for(alloc, host, &command)?;
-    let reach = reach_of(&command);
-    let begun = start(alloc, host, scratch, now, reach)?;
-    take_command(host, scratch, seat, lists, command);
-    Ok(conclude(host, scratch, begun.none, begun.is_loud))
+    step_prepared(alloc, host, scratch, now, seat, lists, command)
 }
 
 /// A step at a line.

@@ -10,6 +10,7 @@
 ghost use Rattle.sl_host_step.specs.SpareRoom.{Rests};
 ghost use Rattle.sl_host_step.specs.StepMemory.{HasRoom, ScratchState, Suffices, are_many, calls_for, calls_within, counts_of, counts_within, effects_within, left_for, reach_when, room_end};
 ghost use Rattle.sl_host_step.specs.HostServes.{IsIdle};
+ghost use Rattle.sl_lease.specs.Reads.{HasPlaces};
 ghost use Rattle.sl_trace.specs.Traces.{no_effects};
 ghost use Rattle.sl_host.specs.BookQuestions.{leases_in};
 ghost use Rattle.std.specs.Prelude.{IfOk, IsOk, OnErr, OnOk, false, length, min, true, ◌<◌, ◌≡◌, ◌≤◌};
@@ -55,21 +56,22 @@ impl Model for Scratch {
 }
 
 impl Scratch {
-    /// Empty lists, and places for the blocks of a read. An `Err` is want of memory.
-    pub(crate) fn new(alloc: Global, geometry: &Geometry) -> Result<Scratch, AllocError>
-        ensures sizes { IfOk result (λ s. s.sizes ≡ geometry.now) }
-        ensures spare { IfOk result (λ s. s.spare ≡ false) }
+    /// Empty lists, with these places for the blocks of a read.
+    pub(crate) fn new(alloc: Global, geometry: &Geometry, blocks: Blocks) -> Scratch
+        requires { HasPlaces geometry.now blocks }
+        ensures sizes { result.sizes ≡ geometry.now }
+        ensures spare { result.spare ≡ false }
     {
-        Ok(Scratch {
+        Scratch {
             members: Notes::new(alloc),
             jobs: Notes::new(alloc),
             spots: Notes::new(alloc),
             orphans: Notes::new(alloc),
             geometry: *geometry,
-            blocks: Blocks::new(alloc, geometry)?,
+            blocks,
             job_room: 0,
             spare: None,
-        })
+        }
     }
 
     /// Sees that there is memory for what the host keeps. An `Err` is want of memory.
@@ -217,8 +219,8 @@ fn take_room(
         return Err(AllocError);
     }
     let near = counts.within(reach);
-    let none = Buffers::new(alloc, 0, 0)?;
     scratch.reserve(alloc, host, counts.leases)?;
+    let none = Buffers::new(alloc, 0, 0)?;
     host.reserve(near.effects(), near.calls())?;
     Ok(none)
 }
