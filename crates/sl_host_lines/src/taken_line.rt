@@ -2,16 +2,18 @@
 
 ghost use Rattle.sl_area.specs.AreaSizes.{layout_of};
 ghost use Rattle.sl_host_lines.specs.ListMemory.{FitsLists};
+ghost use Rattle.sl_due.specs.declared.decision.Decision.TheVariants.{Joins};
 ghost use Rattle.sl_host_law.specs.Decisions.CommandDecisions.{decision_of};
 ghost use Rattle.sl_host_law.specs.Steps.LineSteps.{deciding, lining};
 ghost use Rattle.sl_host_lines.specs.LeavingsBegin.{line_cost};
 ghost use Rattle.sl_host_lines.specs.LineFacts.{DecisionKnown, IsTimely, LineKnown};
 ghost use Rattle.sl_host_lines.specs.Seats.{HasSeat};
 ghost use Rattle.sl_trace.specs.CommandForms.{IsCommand};
+ghost use Rattle.sl_trace.specs.declared.command.LockspaceArg.{LockspaceArg};
 ghost use Rattle.sl_host.specs.BookQuestions.{state_in};
 ghost use Rattle.sl_host.specs.Host.{Becomes, SameRun, Spends};
 ghost use Rattle.sl_host.specs.Notes.{NotesState};
-ghost use Rattle.std.specs.Prelude.{IfOk, Ok, length, ◌<◌, ◌≡◌, ◌≤◌};
+ghost use Rattle.std.specs.Prelude.{IfOk, Ok, length, ℕ, ◌<◌, ◌≡◌, ◌≤◌};
 
 use crate::line_answers::{answer, get_value, misread, read_area, request, set_value};
 use crate::line_ends::{convert, give_up};
@@ -23,7 +25,43 @@ use sl_host::{Host, Notes};
 use sl_member::Member;
 use sl_trace::Command;
 
-/// What a command came to is done.
+/// What a command came to is done, if it joins no lockspace.
+fn carry_on(host: &mut Host, numbers: &mut Notes<u64>, command: &Command, decision: Decision)
+    requires room { length host.old.kept.jobs < numbers.old.most }
+    requires left { line_cost host.old.kept (Ok command.now) ≤ host.old.left }
+    requires calls { 1 ≤ host.old.calls }
+    requires timely { IsTimely host.old.kept }
+    requires known { DecisionKnown host.old.kept command.now decision }
+    requires other { (n : ℕ) (a : LockspaceArg) → decision ≡ Joins n a → ⊥ }
+    ensures state { Becomes host.old host.new (deciding command.now decision) }
+    ensures left { Spends host.old host.new (line_cost host.old.kept (Ok command.now)) 1 }
+    ensures run { SameRun host.old host.new }
+    ensures notes { numbers.new.most ≡ numbers.old.most }
+{
+    match decision {
+        Decision::Replies(reply) => answer(host, command, reply),
+        Decision::Joins { .. } => unreachable!(),
+        Decision::Leaves(session) => leave(host, numbers, command, &session),
+        Decision::ReadsArea { session, resource } => read_area(host, command, &session, &resource),
+        Decision::Shares { session, lver } => share(host, command, &session, lver),
+        Decision::GivesUp { session, holding } => give_up(host, command, &session, &holding),
+        Decision::TakesOver { session, orphan } => take_over(host, command, &session, &orphan),
+        Decision::ConvertsTo {
+            session,
+            resource,
+            mode,
+        } => convert(host, command, &session, &resource, mode),
+        Decision::Requests { session, resource } => request(host, command, &session, &resource),
+        Decision::SetsValue {
+            session,
+            spot,
+            value,
+        } => set_value(host, command, &session, &spot, value),
+        Decision::GetsValue { session, spot } => get_value(host, command, &session, &spot),
+    }
+}
+
+/// What a command came to is done: only a joining takes the seat, so all else goes on without it.
 fn carry_out(
     host: &mut Host,
     numbers: &mut Notes<u64>,
@@ -45,25 +83,8 @@ fn carry_out(
     ensures notes { numbers.new.most ≡ numbers.old.most }
 {
     match decision {
-        Decision::Replies(reply) => answer(host, command, reply),
         Decision::Joins { lockspace, .. } => join_with(host, command, &lockspace, seat),
-        Decision::Leaves(session) => leave(host, numbers, command, &session),
-        Decision::ReadsArea { session, resource } => read_area(host, command, &session, &resource),
-        Decision::Shares { session, lver } => share(host, command, &session, lver),
-        Decision::GivesUp { session, holding } => give_up(host, command, &session, &holding),
-        Decision::TakesOver { session, orphan } => take_over(host, command, &session, &orphan),
-        Decision::ConvertsTo {
-            session,
-            resource,
-            mode,
-        } => convert(host, command, &session, &resource, mode),
-        Decision::Requests { session, resource } => request(host, command, &session, &resource),
-        Decision::SetsValue {
-            session,
-            spot,
-            value,
-        } => set_value(host, command, &session, &spot, value),
-        Decision::GetsValue { session, spot } => get_value(host, command, &session, &spot),
+        other => carry_on(host, numbers, command, other),
     }
 }
 

@@ -12,10 +12,6 @@ use Rattle.sl_trace.specs.declared.command.Command.{Command}
 use Rattle.sl_host.specs.BookQuestions.{state_in}
 use Rattle.std.proofs.Common.{ap, subst, sym, ◌∙◌}
 
-pub returns-in-Replies-clause-state : goal.returns-in-Replies-clause-state
-returns-in-Replies-clause-state c read =
-    c.answer.ensures.state read ∙ sym (ap (λ (d : Decision). deciding c.args.command.now d (state_of read c.args.host.now.kept)) c.in-Replies.is)
-
 pub join_with-requires-clause-named : goal.join_with-requires-clause-named
 join_with-requires-clause-named c =
     let k = c.args.host.now.kept in
