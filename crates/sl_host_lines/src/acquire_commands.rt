@@ -141,21 +141,6 @@ fn begins(host: &Host, member: &Member, resource: &ResourceArg, shared: bool) ->
     }
 }
 
-/// An acquire by a member.
-fn acquires(
-    host: &Host,
-    member: &Member,
-    resource: &ResourceArg,
-    asking: Option<u32>,
-    shared: bool,
-) -> Decision
-    requires { resource.now.offset % host.now.kept.config.sizes.area ≡ 0 }
-    ensures { result ≡ acquire_in (state_in host.now.kept) member.now.state resource.now asking shared }
-{
-    let refusal = acquire_refused(host, member, &spot_of(resource), asking, shared);
-    refused_or(refusal, begins(host, member, resource, shared))
-}
-
 /// What an acquire comes to: of the asking process, or, where there is none, for a program that is to be run.
 pub(crate) fn decide_acquire(
     host: &Host,
@@ -166,8 +151,9 @@ pub(crate) fn decide_acquire(
     requires { resource.now.offset % host.now.kept.config.sizes.area ≡ 0 }
     ensures { result ≡ with_member (member_named (state_in host.now.kept) resource.now.lockspace) (λ m. acquire_in (state_in host.now.kept) m resource.now asking shared) }
 {
-    match member_named(host, &resource.lockspace) {
-        Some(member) => acquires(host, member, resource, asking, shared),
-        None => Decision::Replies(Reply::NoSession),
-    }
+    let Some(member) = member_named(host, &resource.lockspace) else {
+        return Decision::Replies(Reply::NoSession);
+    };
+    let refusal = acquire_refused(host, member, &spot_of(resource), asking, shared);
+    refused_or(refusal, begins(host, member, resource, shared))
 }

@@ -28,26 +28,18 @@ fn gives_up(member: &Member, held: Option<Grant>) -> Decision
     }
 }
 
-/// A release of what the process holds.
-fn releases(host: &Host, member: &Member, resource: &ResourceArg, process: u32) -> Decision
-    requires { resource.now.offset % host.now.kept.config.sizes.area ≡ 0 }
-    ensures { result ≡ release_in (state_in host.now.kept) member.now.state resource.now process }
-{
-    let at = spot_of(resource);
-    let held = holding(host, member, &at, process);
-    let refusal = holder_refused(host, member, &at, process, held.is_some());
-    refused_or(refusal, gives_up(member, held))
-}
-
-/// What a release comes to.
+/// What a release comes to, of what the process holds.
 pub(crate) fn decide_release(host: &Host, resource: &ResourceArg, process: u32) -> Decision
     requires { resource.now.offset % host.now.kept.config.sizes.area ≡ 0 }
     ensures { result ≡ with_member (member_named (state_in host.now.kept) resource.now.lockspace) (λ m. release_in (state_in host.now.kept) m resource.now process) }
 {
-    match member_named(host, &resource.lockspace) {
-        Some(member) => releases(host, member, resource, process),
-        None => Decision::Replies(Reply::NoSession),
-    }
+    let Some(member) = member_named(host, &resource.lockspace) else {
+        return Decision::Replies(Reply::NoSession);
+    };
+    let at = spot_of(resource);
+    let held = holding(host, member, &at, process);
+    let refusal = holder_refused(host, member, &at, process, held.is_some());
+    refused_or(refusal, gives_up(member, held))
 }
 
 /// A holding that has the mode already is answered at once.
@@ -106,24 +98,7 @@ fn convert_refused(
     host.pending_refused(at)
 }
 
-/// A conversion of what the process holds.
-fn converts(
-    host: &Host,
-    member: &Member,
-    resource: &ResourceArg,
-    process: u32,
-    mode: Mode,
-) -> Decision
-    requires { resource.now.offset % host.now.kept.config.sizes.area ≡ 0 }
-    ensures { result ≡ convert_in (state_in host.now.kept) member.now.state resource.now process mode }
-{
-    let at = spot_of(resource);
-    let held = holding(host, member, &at, process);
-    let refusal = convert_refused(host, member, &at, process, mode, held.is_some());
-    refused_or(refusal, converts_to(member, resource, mode, held))
-}
-
-/// What a conversion comes to.
+/// What a conversion comes to, of what the process holds.
 pub(crate) fn decide_convert(
     host: &Host,
     resource: &ResourceArg,
@@ -133,10 +108,13 @@ pub(crate) fn decide_convert(
     requires { resource.now.offset % host.now.kept.config.sizes.area ≡ 0 }
     ensures { result ≡ with_member (member_named (state_in host.now.kept) resource.now.lockspace) (λ m. convert_in (state_in host.now.kept) m resource.now process mode) }
 {
-    match member_named(host, &resource.lockspace) {
-        Some(member) => converts(host, member, resource, process, mode),
-        None => Decision::Replies(Reply::NoSession),
-    }
+    let Some(member) = member_named(host, &resource.lockspace) else {
+        return Decision::Replies(Reply::NoSession);
+    };
+    let at = spot_of(resource);
+    let held = holding(host, member, &at, process);
+    let refusal = convert_refused(host, member, &at, process, mode, held.is_some());
+    refused_or(refusal, converts_to(member, resource, mode, held))
 }
 
 /// What refuses a request: the member's state, an open call.
@@ -150,25 +128,17 @@ fn request_refused(host: &Host, member: &Member, at: &Spot) -> Option<Reply>
     host.pending_refused(at)
 }
 
-/// A request.
-fn requests(host: &Host, member: &Member, resource: &ResourceArg) -> Decision
-    requires { resource.now.offset % host.now.kept.config.sizes.area ≡ 0 }
-    ensures { result ≡ request_in (state_in host.now.kept) member.now.state resource.now }
-{
-    let request = Decision::Requests {
-        session: *member.who(),
-        resource: *resource,
-    };
-    refused_or(request_refused(host, member, &spot_of(resource)), request)
-}
-
 /// What a request comes to.
 pub(crate) fn decide_request(host: &Host, resource: &ResourceArg) -> Decision
     requires { resource.now.offset % host.now.kept.config.sizes.area ≡ 0 }
     ensures { result ≡ with_member (member_named (state_in host.now.kept) resource.now.lockspace) (λ m. request_in (state_in host.now.kept) m resource.now) }
 {
-    match member_named(host, &resource.lockspace) {
-        Some(member) => requests(host, member, resource),
-        None => Decision::Replies(Reply::NoSession),
-    }
+    let Some(member) = member_named(host, &resource.lockspace) else {
+        return Decision::Replies(Reply::NoSession);
+    };
+    let request = Decision::Requests {
+        session: *member.who(),
+        resource: *resource,
+    };
+    refused_or(request_refused(host, member, &spot_of(resource)), request)
 }

@@ -98,23 +98,6 @@ fn passes_on(member: &Member, held: Option<Grant>) -> Decision
     }
 }
 
-/// A take-over by a member's process.
-fn takes_over(
-    host: &Host,
-    member: &Member,
-    resource: &ResourceArg,
-    process: u32,
-    shared: bool,
-) -> Decision
-    requires { resource.now.offset % host.now.kept.config.sizes.area ≡ 0 }
-    ensures { result ≡ take_over_in (state_in host.now.kept) member.now.state resource.now process shared }
-{
-    let at = spot_of(resource);
-    let held = orphan_in_mode(host, member, &at, shared);
-    let refusal = take_over_refused(host, member, &at, process, held.is_some());
-    refused_or(refusal, passes_on(member, held))
-}
-
 /// What a take-over comes to.
 pub(crate) fn decide_take_over(
     host: &Host,
@@ -125,10 +108,13 @@ pub(crate) fn decide_take_over(
     requires { resource.now.offset % host.now.kept.config.sizes.area ≡ 0 }
     ensures { result ≡ with_member (member_named (state_in host.now.kept) resource.now.lockspace) (λ m. take_over_in (state_in host.now.kept) m resource.now process shared) }
 {
-    match member_named(host, &resource.lockspace) {
-        Some(member) => takes_over(host, member, resource, process, shared),
-        None => Decision::Replies(Reply::NoSession),
-    }
+    let Some(member) = member_named(host, &resource.lockspace) else {
+        return Decision::Replies(Reply::NoSession);
+    };
+    let at = spot_of(resource);
+    let held = orphan_in_mode(host, member, &at, shared);
+    let refusal = take_over_refused(host, member, &at, process, held.is_some());
+    refused_or(refusal, passes_on(member, held))
 }
 
 /// What refuses the release of an orphan: the member's state, that there is none, an open call.
@@ -158,24 +144,16 @@ fn gives_up(member: &Member, held: Option<Grant>) -> Decision
     }
 }
 
-/// A release of the orphan by a member.
-fn releases(host: &Host, member: &Member, resource: &ResourceArg) -> Decision
-    requires { resource.now.offset % host.now.kept.config.sizes.area ≡ 0 }
-    ensures { result ≡ release_orphan_in (state_in host.now.kept) member.now.state resource.now }
-{
-    let at = spot_of(resource);
-    let held = orphan(host, member, &at);
-    let refusal = release_refused(host, member, &at, held.is_some());
-    refused_or(refusal, gives_up(member, held))
-}
-
 /// What the release of an orphan comes to.
 pub(crate) fn decide_release_orphan(host: &Host, resource: &ResourceArg) -> Decision
     requires { resource.now.offset % host.now.kept.config.sizes.area ≡ 0 }
     ensures { result ≡ with_member (member_named (state_in host.now.kept) resource.now.lockspace) (λ m. release_orphan_in (state_in host.now.kept) m resource.now) }
 {
-    match member_named(host, &resource.lockspace) {
-        Some(member) => releases(host, member, resource),
-        None => Decision::Replies(Reply::NoSession),
-    }
+    let Some(member) = member_named(host, &resource.lockspace) else {
+        return Decision::Replies(Reply::NoSession);
+    };
+    let at = spot_of(resource);
+    let held = orphan(host, member, &at);
+    let refusal = release_refused(host, member, &at, held.is_some());
+    refused_or(refusal, gives_up(member, held))
 }

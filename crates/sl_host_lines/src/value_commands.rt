@@ -31,26 +31,18 @@ fn gets_value(member: &Member, spot: Spot, held: Option<Grant>) -> Decision
     }
 }
 
-/// The read of a value by a member's holder.
-fn gets(host: &Host, member: &Member, resource: &ResourceArg, process: u32) -> Decision
-    requires { resource.now.offset % host.now.kept.config.sizes.area ≡ 0 }
-    ensures { result ≡ get_in (state_in host.now.kept) member.now.state resource.now process }
-{
-    let at = spot_of(resource);
-    let held = holding(host, member, &at, process);
-    let refusal = holder_refused(host, member, &at, process, held.is_some());
-    refused_or(refusal, gets_value(member, at, held))
-}
-
-/// What the read of a value comes to.
+/// What the read of a value by a holder comes to.
 pub(crate) fn decide_get(host: &Host, resource: &ResourceArg, process: u32) -> Decision
     requires { resource.now.offset % host.now.kept.config.sizes.area ≡ 0 }
     ensures { result ≡ with_member (member_named (state_in host.now.kept) resource.now.lockspace) (λ m. get_in (state_in host.now.kept) m resource.now process) }
 {
-    match member_named(host, &resource.lockspace) {
-        Some(member) => gets(host, member, resource, process),
-        None => Decision::Replies(Reply::NoSession),
-    }
+    let Some(member) = member_named(host, &resource.lockspace) else {
+        return Decision::Replies(Reply::NoSession);
+    };
+    let at = spot_of(resource);
+    let held = holding(host, member, &at, process);
+    let refusal = holder_refused(host, member, &at, process, held.is_some());
+    refused_or(refusal, gets_value(member, at, held))
 }
 
 /// Version and seq of the value that the member submitted last on an area.
@@ -106,24 +98,16 @@ fn sets_value(member: &Member, at: &Spot, held: Option<Grant>, bytes: Data) -> D
     }
 }
 
-/// The write of a value by a member's holder.
-fn sets(host: &Host, member: &Member, resource: &ResourceArg, process: u32, bytes: Data) -> Decision
-    requires { resource.now.offset % host.now.kept.config.sizes.area ≡ 0 }
-    ensures { result ≡ set_in (state_in host.now.kept) member.now.state resource.now process bytes }
-{
-    let at = spot_of(resource);
-    let held = exclusive_holding(host, member, &at, process);
-    let refusal = holder_refused(host, member, &at, process, held.is_some());
-    refused_or(refusal, sets_value(member, &at, held, bytes))
-}
-
-/// What the write of a value comes to.
+/// What the write of a value by a holder comes to.
 pub(crate) fn decide_set(host: &Host, resource: &ResourceArg, process: u32, bytes: Data) -> Decision
     requires { resource.now.offset % host.now.kept.config.sizes.area ≡ 0 }
     ensures { result ≡ with_member (member_named (state_in host.now.kept) resource.now.lockspace) (λ m. set_in (state_in host.now.kept) m resource.now process bytes) }
 {
-    match member_named(host, &resource.lockspace) {
-        Some(member) => sets(host, member, resource, process, bytes),
-        None => Decision::Replies(Reply::NoSession),
-    }
+    let Some(member) = member_named(host, &resource.lockspace) else {
+        return Decision::Replies(Reply::NoSession);
+    };
+    let at = spot_of(resource);
+    let held = exclusive_holding(host, member, &at, process);
+    let refusal = holder_refused(host, member, &at, process, held.is_some());
+    refused_or(refusal, sets_value(member, &at, held, bytes))
 }
