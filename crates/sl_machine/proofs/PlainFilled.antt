@@ -1,12 +1,12 @@
 -- Lists that are filled over others, one after another.
 use Rattle.sl_machine.proofs.PlainRanges.{range_next}
 use Rattle.std.proofs.Common.{ap, ap₂, arith, get_or, refl, sym, ◌∙◌}
-use Rattle.std.proofs.lemmas.List.Elements.{filter_map-append}
+use Rattle.std.proofs.lemmas.List.Elements.{filter-append, filter_map-append}
 use Rattle.std.proofs.lemmas.List.Folds.{list_any-append}
 use Rattle.std.proofs.lemmas.List.{map-append, take_more}
 use Rattle.std.specs.List.{cons_option, filter_map, list_any, range_with_len}
 use Rattle.std.specs.Option.{option_to_list}
-use Rattle.std.specs.Prelude.{Bool, List, None, Option, Some, false, length, map, option_map, suc, take, true, zero, [], ℕ, ◌++◌, ◌+◌, ◌<◌, ◌∷◌, ◌≡◌, ◌≤◌, ◌||◌}
+use Rattle.std.specs.Prelude.{Bool, List, None, Option, Some, false, filter, length, map, option_map, suc, take, true, zero, [], ℕ, ◌++◌, ◌+◌, ◌<◌, ◌∷◌, ◌≡◌, ◌≤◌, ◌||◌}
 use Rattle.sl_words.specs.Words.{some_is}
 
 lone : {B : Type 0} (o : Option B) → cons_option o [] ≡ option_to_list o
@@ -74,3 +74,31 @@ take_past (suc n) (x ∷ xs) le = ap (λ ys. x ∷ ys) (take_past n xs (omega (a
 pub some_made : {A B : Type 0} (p : B → Bool) (f : A → B) (o : Option A) → some_is (λ a. p (f a)) o ≡ some_is p (option_map f o)
 some_made p f None = refl
 some_made p f (Some a) = refl
+
+-- ---- what is made of a list's elements, and of those that are kept
+
+-- What is made of one more.
+pub one_more_mapped : {A B : Type 0} (f : A → B) (xs : List A) (i : ℕ) (x : A) (was now : List B) → i < length xs → x ≡ get_or xs i x
+    → was ≡ map f (take i xs) → now ≡ was ++ f x ∷ [] → now ≡ map f (take (i + 1) xs)
+one_more_mapped f xs i x was now small is before after =
+    after
+    ∙ ap (λ v. v ++ f x ∷ []) before
+    ∙ sym (map-append f (take i xs) (x ∷ []))
+    ∙ ap (λ y. map f (take i xs ++ y ∷ [])) is
+    ∙ ap (map f) (sym (take_more xs i x small))
+
+filter_more : {A : Type 0} (p : A → Bool) (xs : List A) (i : ℕ) (x : A) → i < length xs → x ≡ get_or xs i x
+    → filter p (take (i + 1) xs) ≡ filter p (take i xs) ++ filter p (x ∷ [])
+filter_more p xs i x small is =
+    ap (filter p) (take_more xs i x small)
+    ∙ filter-append p (take i xs) (get_or xs i x ∷ [])
+    ∙ ap (λ y. filter p (take i xs) ++ filter p (y ∷ [])) (sym is)
+
+-- What is made of one more, if it is kept.
+pub one_more_kept : {A B : Type 0} (f : A → B) (p : A → Bool) (xs : List A) (i : ℕ) (x : A) (was now : List B) → i < length xs → x ≡ get_or xs i x
+    → was ≡ map f (filter p (take i xs)) → now ≡ was ++ map f (filter p (x ∷ [])) → now ≡ map f (filter p (take (i + 1) xs))
+one_more_kept f p xs i x was now small is before after =
+    after
+    ∙ ap (λ v. v ++ map f (filter p (x ∷ []))) before
+    ∙ sym (map-append f (filter p (take i xs)) (filter p (x ∷ [])))
+    ∙ ap (map f) (sym (filter_more p xs i x small is))

@@ -9,7 +9,7 @@ ghost use Rattle.sl_trace.specs.WatchdogConnections.{given_connection};
 ghost use Rattle.std.specs.List.{list_any, range_with_len};
 ghost use Rattle.sl_words.specs.Words.{some_is};
 ghost use Rattle.std.specs.Option.{option_copied, option_to_list};
-ghost use Rattle.std.specs.Prelude.{IfOk, List, OnOk, bytes_eq, find, map, option_map, reverse, ℕ, ◌++◌, ◌<◌, ◌==◌, ◌^◌, ◌≡◌, ◌||◌};
+ghost use Rattle.std.specs.Prelude.{IfOk, List, OnOk, bytes_eq, find, is_some, map, option_map, reverse, ℕ, ◌++◌, ◌<◌, ◌==◌, ◌^◌, ◌≡◌, ◌||◌};
 
 use crate::flights::Flights;
 use crate::kept_world::Kept;
@@ -32,6 +32,13 @@ fn session_of(header: &Header, machine: u32) -> Option<&SessionLine>
         .as_slice()
         .iter()
         .find(|session| session.machine == machine)
+}
+
+/// Whether a machine begins with a daemon: it has a session line.
+fn has_session(header: &Header, machine: u32) -> bool
+    ensures { result ≡ is_some (session_of header.now machine) }
+{
+    session_of(header, machine).is_some()
 }
 
 /// The line of the lockspace with this name.
@@ -109,14 +116,15 @@ fn first_machine<L: LockTable>(
     requires { IsHeader header.now }
     ensures { IfOk result (λ a. machine_state L.locks a ≡ first_machine header.now machine) }
 {
-    let has_daemon = session_of(header, machine).is_some();
+    let has_daemon = has_session(header, machine);
+    let connections = first_connections(alloc, header, machine)?;
     Ok(Machine {
         up: true,
         used: has_daemon,
         runs: has_daemon,
         clock: 1000 * first_reading(header, machine),
         kept: 0,
-        connections: first_connections(alloc, header, machine)?,
+        connections,
         job: 1,
         starting: Vec::new(alloc),
         flights: Flights::new(alloc, 1),

@@ -6,7 +6,7 @@ ghost use Rattle.sl_machine.specs.Machines.{machine_state};
 ghost use Rattle.sl_run.specs.declared.event.Event.TheVariants.{ExitOf, Reset};
 ghost use Rattle.sl_trace.specs.Traces as traces;
 ghost use Rattle.std.specs.List.{list_any};
-ghost use Rattle.std.specs.Prelude.{IfOk, filter, map, not, ◌&&◌, ◌==◌, ◌≡◌};
+ghost use Rattle.std.specs.Prelude.{IfOk, OnOk, [], filter, map, not, ◌&&◌, ◌++◌, ◌==◌, ◌∷◌, ◌≡◌};
 
 use crate::kept_world::Kept;
 use crate::locks::LockTable;
@@ -14,19 +14,26 @@ use sl_text::Seq;
 use sl_trace::{Effects, End, Grant};
 use std::alloc::{AllocError, Global};
 
-/// No effects. They take no memory.
-pub fn no_effects(alloc: Global) -> Effects
-    ensures { result ≡ traces.no_effects }
+/// Effects that end holdings and grant some, and nothing else. What is empty takes no memory.
+fn effects_of(alloc: Global, ends: Vec<End>, grants: Vec<Grant>) -> Effects
+    ensures { result ≡ record traces.no_effects { ends = ends.items; grants = grants.items } }
 {
     Effects {
-        ends: Seq::new(Vec::new(alloc)),
+        ends: Seq::new(ends),
         signals: Seq::new(Vec::new(alloc)),
         moves: Seq::new(Vec::new(alloc)),
-        grants: Seq::new(Vec::new(alloc)),
+        grants: Seq::new(grants),
         starts: Seq::new(Vec::new(alloc)),
         replies: Seq::new(Vec::new(alloc)),
         calls: Seq::new(Vec::new(alloc)),
     }
+}
+
+/// No effects. They take no memory.
+pub fn no_effects(alloc: Global) -> Effects
+    ensures { result ≡ traces.no_effects }
+{
+    effects_of(alloc, Vec::new(alloc), Vec::new(alloc))
 }
 
 /// The end of a holding.
@@ -80,15 +87,23 @@ fn leaves_orphan(held: &[Grant], process: u32, grant: &Grant) -> bool
     grant.process == process && grant.persistent && !has_orphan_of(held, grant)
 }
 
+/// Adds the end of a holding, where it is the process's. An `Err` is want of memory.
+fn push_end(ends: &mut Vec<End>, process: u32, grant: &Grant) -> Result<(), AllocError>
+    ensures { OnOk result (ends.new.items ≡ ends.old.items ++ map traces.end_of (filter (λ g. g.process == process) (grant.now ∷ []))) }
+{
+    if grant.process == process {
+        ends.push(end_of(grant))?;
+    }
+    Ok(())
+}
+
 /// The ends of a process's holdings. An `Err` is want of memory.
 fn ends_of(alloc: Global, process: u32, held: &[Grant]) -> Result<Vec<End>, AllocError>
     ensures { IfOk result (λ ends. ends.items ≡ map traces.end_of (filter (λ g. g.process == process) held.now)) }
 {
     let mut ends = Vec::new(alloc);
     for grant in held {
-        if grant.process == process {
-            ends.push(end_of(grant))?;
-        }
+        push_end(&mut ends, process, grant)?;
     }
     Ok(ends)
 }
@@ -104,17 +119,43 @@ fn all_ends(alloc: Global, held: &[Grant]) -> Result<Vec<End>, AllocError>
     Ok(ends)
 }
 
+/// Adds the orphan that a process leaves of a holding, where it leaves one. An `Err` is want of memory.
+fn push_orphan(
+    orphans: &mut Vec<Grant>,
+    held: &[Grant],
+    process: u32,
+    grant: &Grant,
+) -> Result<(), AllocError>
+    ensures { OnOk result (orphans.new.items
+        ≡ orphans.old.items ++ map traces.orphan_of (filter (traces.leaves_orphan held.now process) (grant.now ∷ []))) }
+{
+    if leaves_orphan(held, process, grant) {
+        orphans.push(orphan_of(grant))?;
+    }
+    Ok(())
+}
+
 /// The orphans that a process leaves. An `Err` is want of memory.
 fn orphans_left(alloc: Global, process: u32, held: &[Grant]) -> Result<Vec<Grant>, AllocError>
     ensures { IfOk result (λ grants. grants.items ≡ traces.orphans_left process held.now) }
 {
     let mut orphans = Vec::new(alloc);
     for grant in held {
-        if leaves_orphan(held, process, grant) {
-            orphans.push(orphan_of(grant))?;
-        }
+        push_orphan(&mut orphans, held, process, grant)?;
     }
     Ok(orphans)
+}
+
+/// What is done where a process exits and this is held. An `Err` is want of memory.
+fn effects_of_exit(alloc: Global, process: u32, held: &[Grant]) -> Result<Effects, AllocError>
+    ensures { IfOk result (λ fx. fx ≡ record traces.no_effects {
+      ends = map traces.end_of (filter (λ g. g.process == process) held.now);
+      grants = traces.orphans_left process held.now;
+    }) }
+{
+    let ends = ends_of(alloc, process, held)?;
+    let orphans = orphans_left(alloc, process, held)?;
+    Ok(effects_of(alloc, ends, orphans))
 }
 
 impl<L: LockTable> Kept<L> {
@@ -126,11 +167,7 @@ impl<L: LockTable> Kept<L> {
         let alloc = *self.machines.allocator();
         match self.machine(machine) {
             None => Ok(no_effects(alloc)),
-            Some(machine) => Ok(Effects {
-                ends: Seq::new(ends_of(alloc, process, &machine.held)?),
-                grants: Seq::new(orphans_left(alloc, process, &machine.held)?),
-                ..no_effects(alloc)
-            }),
+            Some(machine) => effects_of_exit(alloc, process, &machine.held),
         }
     }
 
@@ -142,10 +179,10 @@ impl<L: LockTable> Kept<L> {
         let alloc = *self.machines.allocator();
         match self.machine(machine) {
             None => Ok(no_effects(alloc)),
-            Some(machine) => Ok(Effects {
-                ends: Seq::new(all_ends(alloc, &machine.held)?),
-                ..no_effects(alloc)
-            }),
+            Some(machine) => {
+                let ends = all_ends(alloc, &machine.held)?;
+                Ok(effects_of(alloc, ends, Vec::new(alloc)))
+            }
         }
     }
 }

@@ -54,11 +54,13 @@ fn torn_bytes(
     Ok(bytes)
 }
 
-/// The sector of these bytes, which are read once. An `Err` is want of memory, or of bytes that are no sector.
-fn sector_of(alloc: Global, bytes: Vec<u8>) -> Result<Arc<Image>, AllocError>
-    ensures { IfOk result (λ image. arc_value image ≡ bytes.items) }
+/// The sector of these bytes, which are read once. An `Err` is want of memory, or of bytes that are no sector of this size.
+fn sector_of(alloc: Global, sector: u32, bytes: Vec<u8>) -> Result<Arc<Image>, AllocError>
+    ensures bytes { IfOk result (λ image. arc_value image ≡ bytes.items) }
+    ensures sized { IfOk result (λ image. length (arc_value image) ≡ sector) }
 {
-    if bytes.len() < 512 || 4096 < bytes.len() {
+    let size = bytes.len();
+    if size != sector as usize || size < 512 || 4096 < size {
         return Err(AllocError);
     }
     Ok(Arc::new(alloc, Image::of_bytes(Bytes::new(bytes)))?)
@@ -81,11 +83,7 @@ fn torn_sector(
     let before = sector_at(disks, landing.place, 0)?;
     let before = bytes_of_some(alloc, before)?;
     let bytes = torn_bytes(alloc, &landing.image, kept, given, &before)?;
-    let image = sector_of(alloc, bytes)?;
-    if image.size() != sector {
-        return Err(AllocError);
-    }
-    Ok(image)
+    sector_of(alloc, sector, bytes)
 }
 
 impl<L: LockTable> Kept<L> {
