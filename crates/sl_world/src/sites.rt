@@ -87,10 +87,11 @@ pub fn first_site(
 ) -> Result<Site, AllocError>
     ensures { IfOk result (λ site. site ≡ standing.first_site header.now machine session.now) }
 {
+    let given = given_to(alloc, header, machine)?;
     Ok(Site {
         machine,
         name: session.name,
         first: Numbers { call: 1, job: 1 },
-        given: given_to(alloc, header, machine)?,
+        given,
     })
 }
