@@ -5,10 +5,11 @@
 ghost use Rattle.sl_world_state.specs.Daemons.{begun_with};
 ghost use Rattle.sl_run.specs.Headers.{IsHeader};
 ghost use Rattle.sl_run.specs.Lawful.{IsSetting};
-ghost use Rattle.std.specs.Prelude.{◌≡◌};
+ghost use Rattle.sl_host_step.specs.HostServes.{whole_commands};
+ghost use Rattle.std.specs.Prelude.{IfOk, ◌≡◌};
 
 use crate::cell_starts::{Begun, begin};
-use crate::steps::{act, read_step};
+use crate::steps::{Outcome, act, read_step};
 use sl_cell::{CloseError, Differ, HostCell, Seat, Station, Teller};
 use sl_live_play::LiveHost;
 use sl_text::Seq;
@@ -20,30 +21,38 @@ use std::sync::Wait;
 use std::{fs, io};
 
 /// The case of a difference, and its number or front.
-fn case_of(differ: &Differ) -> (&'static str, usize) {
+fn case_of(differ: &Differ) -> Outcome {
     match differ {
-        Differ::Entry { number, .. } => ("entry", *number),
-        Differ::Seen { number, .. } => ("seen", *number),
-        Differ::Asked { front, .. } => ("asked", *front),
-        Differ::Taken { number, .. } => ("taken", *number),
-        Differ::Idle { front, .. } => ("idle", *front),
-        Differ::Tested { front, .. } => ("tested", *front),
+        Differ::Entry { number, .. } => Outcome::counted("entry ", *number as u64),
+        Differ::Seen { number, .. } => Outcome::counted("seen ", *number as u64),
+        Differ::Asked { front, .. } => Outcome::counted("asked ", *front as u64),
+        Differ::Taken { number, .. } => Outcome::counted("taken ", *number as u64),
+        Differ::Idle { front, .. } => Outcome::counted("idle ", *front as u64),
+        Differ::Tested { front, .. } => Outcome::counted("tested ", *front as u64),
     }
 }
 
-/// Adds what came of a close.
-fn push_closed(
-    alloc: Global,
-    history: &Result<Seq<Entry>, CloseError>,
-    text: &mut String,
-) -> io::Result<()> {
-    let (word, number) = match history {
-        Ok(history) => ("agrees", history.as_slice().len()),
+/// What came of a close.
+fn close_of(history: &Result<Seq<Entry>, CloseError>) -> Outcome {
+    match history {
+        Ok(history) => Outcome::counted("agrees ", history.as_slice().len() as u64),
         Err(CloseError::Differ(differ)) => case_of(differ),
-        Err(CloseError::NoMemory) => ("no memory", 0),
-    };
-    let closed = format!(in alloc; "{word} {number}")?;
-    text.push_str(closed.as_str())?;
+        Err(CloseError::NoMemory) => Outcome::counted("no memory ", 0),
+    }
+}
+
+/// What comes of a cell's close with these seats.
+fn closed<D: Teller, J: Station>(cell: HostCell<D, J>, seats: Vec<Seat>) -> Outcome {
+    close_of(&cell.close(seats))
+}
+
+/// Adds what a step or a close gave.
+fn push_outcome(alloc: Global, outcome: Outcome, text: &mut String) -> Result<(), AllocError> {
+    text.push_str(outcome.word)?;
+    if let Some(number) = outcome.number {
+        let digits = format!(in alloc; "{number}")?;
+        text.push_str(digits.as_str())?;
+    }
     Ok(())
 }
 
@@ -55,14 +64,13 @@ fn step<D: Teller, J: Station, K: Station, R: Wait>(
     second: &HostCell<D, K>,
     seats: &mut [Seat],
     text: &str,
-) -> io::Result<String> {
+) -> Result<Outcome, AllocError> {
     let Some(step) = read_step(text) else {
-        return Ok(format!(in alloc; "no step")?);
+        return Ok(Outcome::word("no step"));
     };
-    if step.seat >= seats.len() {
-        return Ok(format!(in alloc; "no seat")?);
-    }
-    let seat = &mut seats[step.seat];
+    let Some(seat) = seats.get_mut(step.seat) else {
+        return Ok(Outcome::word("no seat"));
+    };
     if step.first {
         act(rt, alloc, first, seat, step)
     } else {
@@ -91,10 +99,10 @@ fn push_given<D: Teller, J: Station, K: Station, R: Wait>(
     seats: &mut [Seat],
     steps: &str,
     text: &mut String,
-) -> io::Result<()> {
+) -> Result<(), AllocError> {
     for part in steps.split(", ") {
-        let given = step(rt, alloc, first, second, seats, part)?;
-        text.push_str(given.as_str())?;
+        let outcome = step(rt, alloc, first, second, seats, part)?;
+        push_outcome(alloc, outcome, text)?;
         text.push_str(", ")?;
     }
     Ok(())
@@ -108,7 +116,7 @@ fn used<D: Teller, J: Station, K: Station, R: Wait>(
     second: &HostCell<D, K>,
     steps: &str,
     text: &mut String,
-) -> io::Result<Vec<Seat>> {
+) -> Result<Vec<Seat>, AllocError> {
     let mut seats = seats_of(alloc, first)?;
     push_given(rt, alloc, first, second, &mut seats, steps, text)?;
     let _left_out = seats.pop();
@@ -123,9 +131,9 @@ fn push_told<D: Teller, J: Station, K: Station, R: Wait>(
     second: &HostCell<D, K>,
     steps: &str,
     text: &mut String,
-) -> io::Result<()> {
+) -> Result<(), AllocError> {
     let seats = used(rt, alloc, &first, second, steps, text)?;
-    push_closed(alloc, &first.close(seats), text)
+    push_outcome(alloc, closed(first, seats), text)
 }
 
 /// The same, where the second cell is still to be made.
@@ -136,7 +144,7 @@ fn push_told_beside<D: Teller, J: Station, K: Station, R: Wait>(
     begun: Begun,
     steps: &String,
     text: &mut String,
-) -> io::Result<()>
+) -> Result<(), AllocError>
     requires header { IsHeader begun.header }
     requires setting { IsSetting K.setting }
     requires site { K.setting ≡ begun_with D.Daemon.commands begun.header begun.site }
@@ -154,7 +162,7 @@ fn push_told_of_both<D: Teller, J: Station, R: Wait>(
     other: Begun,
     steps: &String,
     text: &mut String,
-) -> io::Result<()>
+) -> Result<(), AllocError>
     requires header { IsHeader begun.header }
     requires setting { IsSetting J.setting }
     requires site { J.setting ≡ begun_with D.Daemon.commands begun.header begun.site }
@@ -166,13 +174,23 @@ fn push_told_of_both<D: Teller, J: Station, R: Wait>(
     push_told_beside::<D, J, Brand, R>(rt, alloc, first, other, steps, text)
 }
 
+/// With what both cells of the daemon of the script `cell` begin.
+fn begin_both<R: Files + AllocGlobal>(rt: &R) -> io::Result<(Begun, Begun)>
+    ensures header { IfOk result (λ b. IsHeader b.0.header × IsHeader b.1.header) }
+    ensures setting { IfOk result (λ b. IsSetting (begun_with whole_commands b.0.header b.0.site)
+        × IsSetting (begun_with whole_commands b.1.header b.1.site)) }
+{
+    let script = fs::read(rt, "cell.script")?;
+    let first = begin(rt.alloc(), &script)?;
+    let second = begin(rt.alloc(), &script)?;
+    Ok((first, second))
+}
+
 /// What comes of steps on two cells of the daemon of the script `cell`.
 pub fn told<R: Files + Wait + AllocGlobal + Drop>(rt: R, steps: &str) -> io::Result<String> {
     let alloc = rt.alloc();
-    let script = fs::read(&rt, "cell.script")?;
-    let begun = begin(alloc, &script)?;
-    let other = begin(alloc, &script)?;
     let steps = String::from_str(alloc, steps)?;
+    let (begun, other) = begin_both(&rt)?;
     let mut text = String::new(alloc);
     push_told_of_both::<LiveHost, Brand, R>(&rt, alloc, begun, other, &steps, &mut text)?;
     Ok(text)

@@ -30,7 +30,7 @@ fn told<R: Files + Clock + Wait + Threads + AllocGlobal + Copy + Drop + Send + S
 ) -> io::Result<String> {
     match line.strip_prefix("cell ") {
         Some(steps) => cells::told(rt, steps),
-        None => played_scripts::told(rt, read_case(rt.alloc(), line)?),
+        None => played_scripts::told(rt, &read_case(line)),
     }
 }
 

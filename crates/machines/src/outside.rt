@@ -8,25 +8,27 @@
 //! - `numbers`: of a reply only the machine and the number of the job are printed.
 
 use sl_outside::Turn;
-use std::alloc::{AllocError, Global};
+
+/// The first and the last of some numbers.
+pub type Ends = (u32, u32);
 
 /// A case.
-#[derive(Drop)]
-pub struct Case {
+#[derive(Clone, Copy)]
+pub struct Case<'a> {
     /// The call that is held, and the one that it is held for.
     pub held: Option<(Turn, Turn)>,
-    pub makes: Vec<u64>,
-    pub starts: Vec<u64>,
-    pub delta: Vec<u64>,
-    pub resource: Vec<u64>,
+    pub makes: Option<Ends>,
+    pub starts: Option<Ends>,
+    pub delta: Option<Ends>,
+    pub resource: Option<Ends>,
     pub endless: bool,
     pub numbers: bool,
     /// The script's name.
-    pub name: String,
+    pub name: &'a str,
 }
 
 /// The two numbers behind this word at the front of a line, and the rest of the line.
-fn option<'a>(line: &'a str, word: &str) -> (Option<(u32, u32)>, &'a str) {
+fn option<'a>(line: &'a str, word: &str) -> (Option<Ends>, &'a str) {
     let Some((first, behind)) = line.split_once(' ') else {
         return (None, line);
     };
@@ -49,27 +51,21 @@ fn flag<'a>(line: &'a str, word: &str) -> (bool, &'a str) {
     }
 }
 
-/// The numbers from the first to the last.
-fn span(alloc: Global, ends: Option<(u32, u32)>) -> Result<Vec<u64>, AllocError> {
-    let mut numbers = Vec::new(alloc);
-    if let Some((first, last)) = ends {
-        for number in first..=last {
-            numbers.push(u64::from(number))?;
-        }
-    }
-    Ok(numbers)
-}
-
 /// The call of this number of a machine.
-fn turn((machine, call): (u32, u32)) -> Turn {
+fn turn((machine, call): Ends) -> Turn {
     Turn {
         machine,
         call: u64::from(call),
     }
 }
 
+/// The calls that are named behind `held` and `until`, if both are.
+fn turns(held: Option<Ends>, until: Option<Ends>) -> Option<(Turn, Turn)> {
+    Some((turn(held?), turn(until?)))
+}
+
 /// The case of a line.
-pub fn read_case(alloc: Global, line: &str) -> Result<Case, AllocError> {
+pub fn read_case(line: &str) -> Case<'_> {
     let (held, line) = option(line, "held");
     let (until, line) = option(line, "until");
     let (makes, line) = option(line, "make");
@@ -78,17 +74,14 @@ pub fn read_case(alloc: Global, line: &str) -> Result<Case, AllocError> {
     let (resource, line) = option(line, "resource");
     let (endless, line) = flag(line, "endless");
     let (numbers, name) = flag(line, "numbers");
-    Ok(Case {
-        held: match (held, until) {
-            (Some(held), Some(until)) => Some((turn(held), turn(until))),
-            _ => None,
-        },
-        makes: span(alloc, makes)?,
-        starts: span(alloc, starts)?,
-        delta: span(alloc, delta)?,
-        resource: span(alloc, resource)?,
+    Case {
+        held: turns(held, until),
+        makes,
+        starts,
+        delta,
+        resource,
         endless,
         numbers,
-        name: String::from_str(alloc, name)?,
-    })
+        name,
+    }
 }

@@ -2,7 +2,7 @@
 
 ghost use Rattle.std.specs.Prelude.{◌≡◌};
 
-use crate::outside::Case;
+use crate::outside::{Case, Ends};
 use sl_io::{MemSink, MemSource};
 use sl_live_play::{LiveHost, Lived, play_live};
 use sl_outside::{AreaPlan, MemPlan, PlannedSpawner, SharedDevices, SharedPlan, TurnGate};
@@ -20,63 +20,78 @@ const ROOM: usize = 65536;
 /// How many children of a machine run at once at most.
 const CHILDREN: u32 = 4;
 
+/// The numbers from the first to the last.
+fn span(alloc: Global, ends: Option<Ends>) -> Result<Vec<u64>, AllocError> {
+    let mut numbers = Vec::new(alloc);
+    if let Some((first, last)) = ends {
+        for number in first..=last {
+            numbers.push(u64::from(number))?;
+        }
+    }
+    Ok(numbers)
+}
+
+/// The looks at which children exit by themselves: the first, or none.
+fn lives(alloc: Global, endless: bool) -> Result<Vec<u64>, AllocError> {
+    if endless {
+        return Ok(Vec::new(alloc));
+    }
+    Ok(vec![in alloc; 1]?)
+}
+
 /// The spawner of a machine, of which these starts fail. Its children exit at the first look, or never.
 fn spawner(
     alloc: Global,
     machine: u32,
-    failing: Vec<u64>,
+    failing: Option<Ends>,
     endless: bool,
 ) -> Result<PlannedSpawner, AllocError> {
-    let mut lives = Vec::new(alloc);
-    if !endless {
-        lives.push(1)?;
-    }
-    PlannedSpawner::new(
-        alloc,
-        machine,
-        MemPlan {
-            children: CHILDREN,
-            acts: 0,
-            lives,
-            deaf: endless,
-            failing,
-        },
-    )
+    let lives = lives(alloc, endless)?;
+    let failing = span(alloc, failing)?;
+    let plan = MemPlan {
+        children: CHILDREN,
+        acts: 0,
+        lives,
+        deaf: endless,
+        failing,
+    };
+    PlannedSpawner::new(alloc, machine, plan)
 }
 
-/// What devices in memory are to do in a case, of which name and gate are taken out.
-fn plan<R: Drop>(
-    alloc: Global,
-    case: Case,
-    gate: Option<TurnGate<R>>,
-) -> Result<SharedPlan<R>, AllocError> {
-    let Case {
-        held: _,
-        makes,
-        starts,
-        delta,
-        resource,
-        endless,
-        numbers: _,
-        name: _,
-    } = case;
-    let delta = AreaPlan {
+/// The spawners of both machines. Starts fail on the first alone.
+fn spawners(alloc: Global, case: &Case<'_>) -> Result<Vec<PlannedSpawner>, AllocError> {
+    let first = spawner(alloc, 1, case.starts, case.endless)?;
+    let second = spawner(alloc, 2, None, case.endless)?;
+    Ok(vec![in alloc; first, second]?)
+}
+
+/// What the areas of the first machine's worker of this number are to do, of which these calls fail.
+fn area(alloc: Global, worker: u32, failing: Option<Ends>) -> Result<AreaPlan, AllocError> {
+    let failing = span(alloc, failing)?;
+    Ok(AreaPlan {
         machine: 1,
-        worker: 1,
-        failing: delta,
-    };
-    let resource = AreaPlan {
-        machine: 1,
-        worker: 2,
-        failing: resource,
-    };
-    let first = spawner(alloc, 1, starts, endless)?;
-    let second = spawner(alloc, 2, Vec::new(alloc), endless)?;
+        worker,
+        failing,
+    })
+}
+
+/// What the areas of the first machine's workers are to do.
+fn areas(alloc: Global, case: &Case<'_>) -> Result<Vec<AreaPlan>, AllocError> {
+    let delta = area(alloc, 1, case.delta)?;
+    let resource = area(alloc, 2, case.resource)?;
+    Ok(vec![in alloc; delta, resource]?)
+}
+
+/// What devices in memory are to do in a case, with no gate.
+fn plan<R>(alloc: Global, case: &Case<'_>) -> Result<SharedPlan<R>, AllocError> {
+    let areas = areas(alloc, case)?;
+    let spawners = spawners(alloc, case)?;
+    let makes = span(alloc, case.makes)?;
     Ok(SharedPlan {
-        areas: vec![in alloc; delta, resource]?,
-        spawners: vec![in alloc; first, second]?,
+        areas,
+        spawners,
         makes,
-        gate,
+        gate: None,
     })
 }
 
@@ -139,40 +154,52 @@ fn text_of(alloc: Global, lived: Lived, output: &[u8], count: usize) -> Result<S
     Ok(out)
 }
 
-/// The gate of a case, and one more to ask what was seen there.
-fn gates<R: Clock + Wait + Copy>(
+/// What stands in the script's file.
+fn script_of<R: Files + AllocGlobal>(rt: &R, name: &str) -> io::Result<Vec<u8>> {
+    let path = format!(in rt.alloc(); "{name}.script")?;
+    fs::read(rt, path.as_str())
+}
+
+/// What comes of a script, where this gate holds the calls of the case.
+fn told_at<R: Clock + Wait + Threads + Copy + Drop + Send + Sync>(
     rt: R,
     alloc: Global,
-    case: &Case,
-) -> Result<(Option<TurnGate<R>>, Option<TurnGate<R>>), AllocError> {
+    script: Vec<u8>,
+    case: &Case<'_>,
+    gate: Option<TurnGate<R>>,
+) -> Result<String, AllocError> {
+    let mut plan = plan(alloc, case)?;
+    plan.gate = gate;
+    let (lived, output) = play(rt, alloc, script, plan)?;
+    text_of(alloc, lived, &output, if case.numbers { 3 } else { 4 })
+}
+
+/// What comes of a script whose calls are held at a gate, and what was seen there.
+fn told_held<R: Clock + Wait + Threads + Copy + Drop + Send + Sync>(
+    rt: R,
+    alloc: Global,
+    script: Vec<u8>,
+    case: &Case<'_>,
+    gate: &TurnGate<R>,
+) -> Result<String, AllocError> {
+    let mut text = told_at(rt, alloc, script, case, Some(gate.share()?))?;
+    let seen = format!(in alloc; "; held {}, gave up {}", gate.was_held(), gate.gave_up())?;
+    text.push_str(seen.as_str())?;
+    Ok(text)
+}
+
+/// What comes of a case.
+pub fn told<R: Files + Clock + Wait + Threads + AllocGlobal + Copy + Drop + Send + Sync>(
+    rt: R,
+    case: &Case<'_>,
+) -> io::Result<String> {
+    let alloc = rt.alloc();
+    let script = script_of(&rt, case.name)?;
     match case.held {
         Some((held, until)) => {
             let gate = TurnGate::new(rt, alloc, held, until)?;
-            let share = gate.share()?;
-            Ok((Some(gate), Some(share)))
+            Ok(told_held(rt, alloc, script, case, &gate)?)
         }
-        None => Ok((None, None)),
-    }
-}
-
-/// What comes of a script.
-pub fn told<R: Files + Clock + Wait + Threads + AllocGlobal + Copy + Drop + Send + Sync>(
-    rt: R,
-    case: Case,
-) -> io::Result<String> {
-    let alloc = rt.alloc();
-    let path = format!(in alloc; "{}.script", case.name)?;
-    let script = fs::read(&rt, path.as_str())?;
-    let count = if case.numbers { 3 } else { 4 };
-    let (gate, seen) = gates(rt, alloc, &case)?;
-    let (lived, output) = play(rt, alloc, script, plan(alloc, case, gate)?)?;
-    let text = text_of(alloc, lived, &output, count)?;
-    match seen {
-        Some(gate) => Ok(format!(in alloc;
-            "{text}; held {}, gave up {}",
-            gate.was_held(),
-            gate.gave_up()
-        )?),
-        None => Ok(text),
+        None => Ok(told_at(rt, alloc, script, case, None)?),
     }
 }

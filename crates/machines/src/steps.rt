@@ -6,7 +6,6 @@ use sl_cell::{HostCell, NotApplied, Part, Seat, Station, Teller};
 use sl_text::Bytes;
 use sl_trace::{Answer, Input};
 use std::alloc::{AllocError, Global};
-use std::io;
 use std::sync::Wait;
 
 /// A step.
@@ -18,6 +17,28 @@ pub struct Step<'a> {
     pub first: bool,
     pub reading: u32,
     pub act: &'a str,
+}
+
+/// What a step gives: a word, and a number behind it, or one alone behind no word.
+#[derive(Clone, Copy)]
+pub struct Outcome {
+    pub word: &'static str,
+    pub number: Option<u64>,
+}
+
+impl Outcome {
+    /// A word.
+    pub fn word(word: &'static str) -> Outcome {
+        Outcome { word, number: None }
+    }
+
+    /// A number behind a word.
+    pub fn counted(word: &'static str, number: u64) -> Outcome {
+        Outcome {
+            word,
+            number: Some(number),
+        }
+    }
 }
 
 /// The place of a seat, by its letter.
@@ -68,41 +89,39 @@ fn apply<D: Teller, J: Station, R: Wait>(
     cell: &HostCell<D, J>,
     seat: &mut Seat,
     step: Step<'_>,
-) -> io::Result<String> {
+) -> Result<Outcome, AllocError> {
     let input = input(alloc, step.act)?;
-    match cell.apply(rt, seat, u64::from(step.reading), input) {
-        Ok((receipt, _effects)) => Ok(format!(in alloc; "{}", receipt.number)?),
-        Err(NotApplied::Unasked { front }) => Ok(format!(in alloc; "unasked {front}")?),
-        Err(NotApplied::NoMemory) => Ok(format!(in alloc; "no memory")?),
-    }
+    Ok(match cell.apply(rt, seat, u64::from(step.reading), input) {
+        Ok((receipt, _effects)) => Outcome::counted("", receipt.number as u64),
+        Err(NotApplied::Unasked { front }) => Outcome::counted("unasked ", front as u64),
+        Err(NotApplied::NoMemory) => Outcome::word("no memory"),
+    })
 }
 
 /// The number of the call that is taken, or that there is none.
 fn take<D: Teller, J: Station, R: Wait>(
     rt: &R,
-    alloc: Global,
     cell: &HostCell<D, J>,
     seat: &mut Seat,
     part: Part,
-) -> io::Result<String> {
+) -> Result<Outcome, AllocError> {
     seat.reserve(1)?;
-    match cell.take(rt, seat, part) {
-        Some(call) => Ok(format!(in alloc; "call {}", call.number)?),
-        None => Ok(format!(in alloc; "none")?),
-    }
+    Ok(match cell.take(rt, seat, part) {
+        Some(call) => Outcome::counted("call ", call.number),
+        None => Outcome::word("none"),
+    })
 }
 
 /// Whether the test holds.
 fn test<D: Teller, J: Station, R: Wait>(
     rt: &R,
-    alloc: Global,
     cell: &HostCell<D, J>,
     seat: &mut Seat,
     reading: u32,
-) -> io::Result<String> {
+) -> Result<Outcome, AllocError> {
     seat.reserve(1)?;
     let holds = cell.test(rt, seat, u64::from(reading));
-    Ok(format!(in alloc; "{holds}")?)
+    Ok(Outcome::word(if holds { "true" } else { "false" }))
 }
 
 /// What a step gives.
@@ -112,11 +131,11 @@ pub fn act<D: Teller, J: Station, R: Wait>(
     cell: &HostCell<D, J>,
     seat: &mut Seat,
     step: Step<'_>,
-) -> io::Result<String> {
+) -> Result<Outcome, AllocError> {
     match step.act {
-        "take delta" => take(rt, alloc, cell, seat, Part::Delta),
-        "take resource" => take(rt, alloc, cell, seat, Part::Resource),
-        "test" => test(rt, alloc, cell, seat, step.reading),
+        "take delta" => take(rt, cell, seat, Part::Delta),
+        "take resource" => take(rt, cell, seat, Part::Resource),
+        "test" => test(rt, cell, seat, step.reading),
         _ => apply(rt, alloc, cell, seat, step),
     }
 }
