@@ -5,10 +5,10 @@ use Rattle.sl_live_run.specs.Runs.{AreGiven, HasTold, given_by, line_for, lines_
 use Rattle.sl_words.proofs.Lists.{got_index, set_length, there_is}
 use Rattle.sl_words.proofs.Places.{Came, PlacedAt, PlacedBehind, Replaced, Stayed, Stood, placed, placed_behind}
 use Rattle.sl_words.proofs.CaseLaws.{none_some}
-use Rattle.std.proofs.Common.{List, ap, append_assoc, arith, if◌then◌else◌, length, nat_lt, refl, slice_index_or, subst, suc, sym, zero, ◌++◌, ◌+◌, ◌-◌, ◌<◌, ◌==◌, ◌∙◌, ◌∷◌, ◌≡◌, [], ℕ}
+use Rattle.std.proofs.Common.{List, ap, append_assoc, arith, if◌then◌else◌, length, map, nat_lt, refl, slice_index_or, subst, suc, sym, zero, ◌++◌, ◌+◌, ◌-◌, ◌<◌, ◌==◌, ◌∙◌, ◌∷◌, ◌≡◌, [], ℕ}
 use Rattle.std.proofs.lemmas.Bool.Decides.{nat_tests}
 use Rattle.std.proofs.lemmas.List.Concat.{flat_map-append}
-use Rattle.std.proofs.lemmas.List.{append-nil, length-append}
+use Rattle.std.proofs.lemmas.List.{append-nil, length-append, length-map}
 use Rattle.std.specs.List.{slice_set}
 use Rattle.std.specs.Prelude.{Bool, Err, None, Option, IsErrAnd, Ok, OnOk, Result, Some, false, slice_get, true}
 
@@ -117,13 +117,14 @@ no_lines given none = record {
 }
 
 -- For one machine more.
-pub one_more : {A : Type 0} (given given' : List (List GivenLine)) (xs xs' : List A) (x : A) → given' ≡ given ++ [] ∷ [] → xs' ≡ xs ++ x ∷ [] → AreGiven given (length xs) []
-    → AreGiven given' (length xs') []
-one_more given given' xs xs' x is more so =
-    subst (λ g. AreGiven g (length xs') []) (sym is) (subst (λ ys. AreGiven (given ++ [] ∷ []) (length ys) []) (sym more) (record {
-      counted = (let n = so.counted in let long = length-append given ([] ∷ []) in let longer' = length-append xs (x ∷ []) in omega (arith, long, longer', n));
+pub one_more : {A B : Type 0} (of : A → B) (given given' : List (List GivenLine)) (xs xs' : List A) (y : B) → given' ≡ given ++ [] ∷ [] → map of xs' ≡ map of xs ++ y ∷ []
+    → AreGiven given (length xs) [] → AreGiven given' (length xs') []
+one_more of given given' xs xs' y is more so =
+    subst (λ g. AreGiven g (length xs') []) (sym is) (record {
+      counted = (let n = so.counted in let long = length-append given ([] ∷ []) in let was = length-map xs of in let now = length-map xs' of in
+          let one = length-append (map of xs) (y ∷ []) in let same = ap length more in omega (arith, long, was, now, one, same, n));
       each = λ place texts at. behind place texts (placed_behind given [] place texts at);
-    }))
+    })
   where
     behind : (place : ℕ) (texts : List GivenLine) → PlacedBehind given [] place texts → texts ≡ []
     behind place texts (Stood at) = so.each place texts at

@@ -186,24 +186,27 @@ pushed xs ys zs x same more = more ∙ ap (λ l. l ++ x ∷ []) same
 pub site_there : {C P V A : Type 0} (m : Machine C P V A) (w : Work C P V A) → m.work ≡ Some w → site_of m ≡ Some w.site
 site_there {C} {P} {V} {A} m w is = ap (option_map (λ (x : Work C P V A). x.site)) is
 
--- One machine more, of what was ready.
-pub one_begun : {C P V A S : Type 0} (ms ms' : List (Machine C P V A)) (m : Machine C P V A) (ps : List S) (p : S) (site : S → Site) → ms' ≡ ms ++ m ∷ []
-    → site_of m ≡ Some (site p) → map site_of ms ≡ map (λ s. Some s) (map site ps) → map site_of ms' ≡ map (λ s. Some s) (map site (ps ++ p ∷ []))
-one_begun {C} {P} {V} {A} ms ms' m ps p site is its so =
-    ap (map (λ (x : Machine C P V A). site_of x)) is ∙ map-append (λ (x : Machine C P V A). site_of x) ms (m ∷ []) ∙ ap₂ (λ xs ys. xs ++ ys) so (ap (λ o. o ∷ []) its)
+-- One machine more.
+pub site_behind : {C P V A : Type 0} (ms mid ms' : List (Machine C P V A)) (m : Machine C P V A) (w : Work C P V A) → mid ≡ ms → ms' ≡ mid ++ m ∷ [] → m.work ≡ Some w
+    → map site_of ms' ≡ map site_of ms ++ Some w.site ∷ []
+site_behind {C} {P} {V} {A} ms mid ms' m w same is work =
+    let site : Machine C P V A → Option Site = λ (x : Machine C P V A). site_of x in
+    ap (map site) (pushed ms mid ms' m same is) ∙ map-append site ms (m ∷ []) ∙ ap (λ o. map site ms ++ o ∷ []) (site_there m w work)
+
+-- .. of what was ready.
+pub one_begun : {C P V A S : Type 0} (ms ms' : List (Machine C P V A)) (ps : List S) (p : S) (site : S → Site) → map site_of ms' ≡ map site_of ms ++ Some (site p) ∷ []
+    → map site_of ms ≡ map (λ s. Some s) (map site ps) → map site_of ms' ≡ map (λ s. Some s) (map site (ps ++ p ∷ []))
+one_begun ms ms' ps p site is so =
+    is ∙ ap (λ xs. xs ++ Some (site p) ∷ []) so
     ∙ sym (ap (map (λ s. Some s)) (map-append site ps (p ∷ [])) ∙ map-append (λ s. Some s) (map site ps) (site p ∷ []))
 
--- .. and the numbers of their first jobs.
+-- The numbers of their first jobs.
 pub firsts_are : {S : Type 0} (ns : List ℕ) (ps : List S) (site : S → Site) → ns ≡ map (λ p. (site p).first.job) ps → ns ≡ map (λ (s : Site). s.first.job) (map site ps)
 firsts_are {S} ns ps site is = is ∙ go ps
   where
     go : (xs : List S) → map (λ p. (site p).first.job) xs ≡ map (λ (s : Site). s.first.job) (map site xs)
     go [] = refl
     go (x ∷ xs) = ap (λ rest. (site x).first.job ∷ rest) (go xs)
-
-pub firsts_of : {S : Type 0} (ns : List ℕ) (xs ps : List S) (site : S → Site) → xs ≡ ps → ns ≡ map (λ p. (site p).first.job) xs
-    → ns ≡ map (λ (s : Site). s.first.job) (map site ps)
-firsts_of {S} ns xs ps site same is = subst (λ ys. ns ≡ map (λ (s : Site). s.first.job) (map site ys)) same (firsts_are ns xs site is)
 
 -- ---- what machines came to
 

@@ -8,7 +8,8 @@ ghost use Rattle.sl_live_run.specs.declared.machine_runs.Machine.{Machine as Mac
 ghost use Rattle.sl_run.specs.Headers.{IsHeader};
 ghost use Rattle.sl_run.specs.Lawful.{IsSetting};
 ghost use Rattle.std.specs.Fork.{AcceptsEach, ChangesEach};
-ghost use Rattle.std.specs.Prelude.{All, Err, IfErr, IfOk, IsOk, List, Some, [], length, map, slice_index_or, ◌<◌, ◌≡◌, ◌⊎◌, ℕ};
+ghost use Rattle.std.specs.Prelude.{All, Err, IfErr, IfOk, IsOk, List, OnOk, Some, [], length, map, slice_index_or, ◌++◌, ◌<◌, ◌∷◌, ◌≡◌, ◌⊎◌, ℕ};
+ghost use Rattle.std.specs.Vec.{vec_capacity, vec_len};
 
 use crate::compare::{LiveStop, Outcome, settle_all};
 use crate::machine_runs::Machine;
@@ -18,13 +19,14 @@ use crate::{Ground, Prepared};
 use sl_area::Area;
 use sl_cell::Teller;
 use sl_live::Disk;
-use sl_live_machine::{Post, Ran, Roll};
+use sl_live_machine::{Parts, Post, Ran, Roll};
 use sl_outside::{Device, Gate, LiveDevices, Spawner};
 use sl_reader::{LiveLines, NoLine};
 use sl_run::Header;
 use sl_text::Seq;
 use sl_time::Clock;
 use sl_trace::Entry;
+use sl_world_state::Site;
 use std::alloc::{AllocError, Global};
 use std::sync::Wait;
 use std::thread::{Threads, for_each_mut, join_mut};
@@ -70,6 +72,47 @@ struct Begun<C: Clock, P: Spawner, V: Device, A: Area> {
     firsts: Vec<u64>,
 }
 
+impl<C: Clock, P: Spawner, V: Device, A: Area> Begun<C, P, V, A> {
+    /// No machine yet, of those whose first jobs have these numbers.
+    fn new(alloc: Global, firsts: Vec<u64>) -> Begun<C, P, V, A>
+        ensures machines { result.machines.items ≡ [] }
+        ensures given { result.given ≡ [] }
+        ensures firsts { result.firsts.items ≡ firsts.items }
+    {
+        Begun {
+            machines: Vec::new(alloc),
+            posts: Vec::new(alloc),
+            given: Given::new(alloc),
+            firsts,
+        }
+    }
+
+    /// A post for one machine more, to which nothing was given, and room for it, before its parts live here. An `Err` is want of memory.
+    fn make_room(&mut self, alloc: Global, first_job: u64) -> Result<(), AllocError>
+        ensures room { OnOk result (vec_len self.new.machines < vec_capacity self.new.machines) }
+        ensures machines { self.new.machines.items ≡ self.old.machines.items }
+        ensures given { OnOk result (self.new.given ≡ self.old.given ++ [] ∷ []) }
+        ensures firsts { self.new.firsts.items ≡ self.old.firsts.items }
+    {
+        self.machines.reserve(1)?;
+        self.posts.reserve(1)?;
+        self.posts.push_reserved(Post::new(alloc, first_job));
+        self.given.add(alloc)
+    }
+
+    /// One machine more, to which nothing was given. An `Err` is want of memory.
+    fn add(&mut self, alloc: Global, site: Site, parts: Parts<C, P, V, A>) -> Result<(), AllocError>
+        ensures machines { OnOk result (map site_of self.new.machines.items ≡ map site_of self.old.machines.items ++ Some site ∷ []) }
+        ensures given { OnOk result (self.new.given ≡ self.old.given ++ [] ∷ []) }
+        ensures firsts { self.new.firsts.items ≡ self.old.firsts.items }
+    {
+        self.make_room(alloc, site.first.job)?;
+        self.machines
+            .push_reserved(Machine::new(alloc, site, parts));
+        Ok(())
+    }
+}
+
 /// The numbers of their first jobs. An `Err` is want of memory.
 fn first_jobs<V: LiveDevices>(
     alloc: Global,
@@ -85,7 +128,7 @@ fn first_jobs<V: LiveDevices>(
 }
 
 /// Makes the machines of these. An `Err` is want of memory.
-#[tactic(auto, using(crate::proofs::GivenLaws::no_lines, crate::proofs::GivenLaws::one_more, crate::proofs::RunLaws::one_begun))]
+#[tactic(auto, using(crate::proofs::GivenLaws::no_lines))]
 fn begin<V: LiveDevices>(
     alloc: Global,
     prepared: Vec<Prepared<V>>,
@@ -95,23 +138,12 @@ fn begin<V: LiveDevices>(
     ensures firsts { IfOk result (λ b. b.firsts.items ≡ map (λ (s : SiteOf). s.first.job) (map (λ p. p.site) prepared.items)) }
 {
     let firsts = first_jobs(alloc, &prepared)?;
-    let mut machines = Vec::new(alloc);
-    let mut posts = Vec::new(alloc);
-    let mut given = Given::new(alloc);
+    let mut begun = Begun::new(alloc, firsts);
     for ready in prepared {
         let Prepared { site, parts } = ready;
-        machines.reserve(1)?;
-        posts.reserve(1)?;
-        given.add(alloc)?;
-        posts.push_reserved(Post::new(alloc, site.first.job));
-        machines.push_reserved(Machine::new(alloc, site, parts));
+        begun.add(alloc, site, parts)?;
     }
-    Ok(Begun {
-        machines,
-        posts,
-        given,
-        firsts,
-    })
+    Ok(begun)
 }
 
 /// Does the rest of a run beside the script, which begins once all threads of the run are there: how the script ended.
@@ -274,6 +306,24 @@ struct Left<A: Area> {
     disks: Vec<Disks<A>>,
 }
 
+impl<A: Area> Left<A> {
+    /// What one machine more has left. An `Err` is want of memory.
+    fn add(&mut self, ran: Ran<A>) -> Result<(), AllocError>
+        ensures { OnOk result (self.new.outcomes.items ≡ self.old.outcomes.items ++ ran.history ∷ []) }
+    {
+        self.outcomes.reserve(1)?;
+        self.disks.reserve(1)?;
+        let Ran {
+            history,
+            delta,
+            resource,
+        } = ran;
+        self.outcomes.push_reserved(history);
+        self.disks.push_reserved(Disks { delta, resource });
+        Ok(())
+    }
+}
+
 /// Takes machines that have run apart. An `Err` is want of memory.
 #[tactic(auto, using(crate::proofs::RunLaws::came_none, crate::proofs::RunLaws::came_more))]
 fn take_apart<C: Clock, P: Spawner, V: Device, A: Area>(
@@ -282,21 +332,15 @@ fn take_apart<C: Clock, P: Spawner, V: Device, A: Area>(
 ) -> Result<Left<A>, AllocError>
     ensures { IfOk result (λ left. CameTo machines.items left.outcomes.items) }
 {
-    let mut outcomes = Vec::new(alloc);
-    let mut disks = Vec::new(alloc);
+    let mut left = Left {
+        outcomes: Vec::new(alloc),
+        disks: Vec::new(alloc),
+    };
     for machine in machines {
         let Machine { work: _, ran } = machine;
-        let Ran {
-            history,
-            delta,
-            resource,
-        } = ran;
-        outcomes.reserve(1)?;
-        disks.reserve(1)?;
-        outcomes.push_reserved(history);
-        disks.push_reserved(Disks { delta, resource });
+        left.add(ran)?;
     }
-    Ok(Left { outcomes, disks })
+    Ok(left)
 }
 
 /// The histories of a run, if no memory was wanting: what the machines came to, compared with what the script gave them.
