@@ -29,6 +29,28 @@ fn test<D: Teller, J: Station, R: Wait, C: Clock, P: Spawner, V: Device>(
 }
 
 /// Tests again and again until the machine ends. An `Err` is want of memory.
+fn test_each<D: Teller, J: Station, R: Wait + time::Clock, C: Clock, P: Spawner, V: Device>(
+    rt: &R,
+    room: &Room<D, J, P>,
+    post: &Post,
+    seat: &mut Seat,
+    clock: &mut C,
+    device: &mut V,
+) -> Result<(), AllocError>
+    ensures { OnOk result (IsDeviceThread seat.old.calls → IsDeviceThread seat.new.calls) }
+{
+    for _ in rt.forever() {
+        let seen = post.device.moves(rt);
+        if !post.runs(rt) {
+            break;
+        }
+        test(rt, room, seat, clock, device)?;
+        post.device.wait_at_most(rt, seen, room.pace.test);
+    }
+    Ok(())
+}
+
+/// The thread's whole course: what it tested. An `Err` is want of memory.
 #[tactic(auto, using(crate::proofs::SeatLaws::no_turns))]
 pub(crate) fn keep_alive<
     D: Teller,
@@ -47,13 +69,6 @@ pub(crate) fn keep_alive<
     ensures { IfOk result (λ s. IsDeviceThread s.calls) }
 {
     let mut seat = room.cell.seat();
-    for _ in rt.forever() {
-        let seen = post.device.moves(rt);
-        if !post.runs(rt) {
-            break;
-        }
-        test(rt, room, &mut seat, &mut clock, &mut device)?;
-        post.device.wait_at_most(rt, seen, room.pace.test);
-    }
+    test_each(rt, room, post, &mut seat, &mut clock, &mut device)?;
     Ok(seat)
 }

@@ -4,7 +4,7 @@
 //! reply to the one before has come. The reply comes by a step of any thread, and is noted on the post.
 
 ghost use Rattle.sl_live.specs.Turns.{IsLine, IsLineThread};
-ghost use Rattle.std.specs.Prelude.{IfOk, OnOk};
+ghost use Rattle.std.specs.Prelude.{IfOk, OnOk, [], ◌≡◌};
 
 use crate::board::Next;
 use crate::room::Room;
@@ -20,16 +20,23 @@ use sl_trace::{Effects, Input, JobReply};
 use std::alloc::{AllocError, Global};
 use std::sync::Wait;
 
+/// A list of nothing.
+fn none<T>(alloc: Global) -> Seq<T>
+    ensures { result ≡ [] }
+{
+    Seq::new(Vec::new(alloc))
+}
+
 /// Effects that are these replies alone.
 fn effects_of(alloc: Global, replies: Vec<JobReply>) -> Effects {
     Effects {
-        ends: Seq::new(Vec::new(alloc)),
-        signals: Seq::new(Vec::new(alloc)),
-        moves: Seq::new(Vec::new(alloc)),
-        grants: Seq::new(Vec::new(alloc)),
-        starts: Seq::new(Vec::new(alloc)),
+        ends: none(alloc),
+        signals: none(alloc),
+        moves: none(alloc),
+        grants: none(alloc),
+        starts: none(alloc),
         replies: Seq::new(replies),
-        calls: Seq::new(Vec::new(alloc)),
+        calls: none(alloc),
     }
 }
 
@@ -96,6 +103,23 @@ fn ask<D: Teller, J: Station, R: Wait, C: Clock, P: Spawner>(
     Ok(true)
 }
 
+/// Gives the ask that is due, if one is, and waits for its reply: whether another may be due behind it. An `Err` is want of memory.
+fn give_ask<D: Teller, J: Station, R: Wait, C: Clock, P: Spawner>(
+    rt: &R,
+    room: &Room<D, J, P>,
+    post: &Post,
+    seat: &mut Seat,
+    clock: &mut C,
+    locks: &mut LvmLocks,
+) -> Result<bool, AllocError>
+    ensures { OnOk result (IsLineThread seat.old.calls → IsLineThread seat.new.calls) }
+{
+    match locks.ask_text(room.alloc)? {
+        Some(text) => ask(rt, room, post, seat, clock, locks, text),
+        None => Ok(false),
+    }
+}
+
 /// Gives the asks of a line for lvmlockd, one after another, until the line is answered or the machine ends. An `Err` is want of memory.
 fn give_asks<D: Teller, J: Station, R: Wait, C: Clock, P: Spawner>(
     rt: &R,
@@ -108,10 +132,7 @@ fn give_asks<D: Teller, J: Station, R: Wait, C: Clock, P: Spawner>(
     ensures { OnOk result (IsLineThread seat.old.calls → IsLineThread seat.new.calls) }
 {
     for _ in rt.forever() {
-        let Some(text) = locks.ask_text(room.alloc)? else {
-            break;
-        };
-        if !ask(rt, room, post, seat, clock, locks, text)? {
+        if !give_ask(rt, room, post, seat, clock, locks)? {
             break;
         }
     }
@@ -164,6 +185,28 @@ fn serve<D: Teller, J: Station, R: Wait, C: Clock, P: Spawner>(
 }
 
 /// Gives the lines until no more come, or the machine ends. An `Err` is want of memory.
+fn give_each<D: Teller, J: Station, R: Wait, C: Clock, P: Spawner>(
+    rt: &R,
+    room: &Room<D, J, P>,
+    post: &Post,
+    seat: &mut Seat,
+    clock: &mut C,
+    locks: &mut LvmLocks,
+) -> Result<(), AllocError>
+    ensures { OnOk result (IsLineThread seat.old.calls → IsLineThread seat.new.calls) }
+{
+    for _ in rt.forever() {
+        let seen = post.lines.moves(rt);
+        match post.next_line(rt) {
+            Next::Line(line) => serve(rt, room, post, seat, clock, locks, line)?,
+            Next::Wait => post.lines.wait_past(rt, seen),
+            Next::End => break,
+        }
+    }
+    Ok(())
+}
+
+/// The thread's whole course: what it gave. An `Err` is want of memory.
 #[tactic(auto, using(crate::proofs::SeatLaws::no_turns))]
 pub(crate) fn give_lines<D: Teller, J: Station, R: Wait, C: Clock, P: Spawner>(
     rt: &R,
@@ -175,13 +218,6 @@ pub(crate) fn give_lines<D: Teller, J: Station, R: Wait, C: Clock, P: Spawner>(
 {
     let mut seat = room.cell.seat();
     let mut locks = room.locks.lock(rt);
-    for _ in rt.forever() {
-        let seen = post.lines.moves(rt);
-        match post.next_line(rt) {
-            Next::Line(line) => serve(rt, room, post, &mut seat, &mut clock, &mut *locks, line)?,
-            Next::Wait => post.lines.wait_past(rt, seen),
-            Next::End => break,
-        }
-    }
+    give_each(rt, room, post, &mut seat, &mut clock, &mut *locks)?;
     Ok(seat)
 }

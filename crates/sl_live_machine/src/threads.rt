@@ -309,12 +309,13 @@ struct Ended {
     lines: Result<Seat, AllocError>,
 }
 
-/// Two threads' seats, if neither ended for want of memory.
-fn both(one: Ending, other: Ending) -> Result<(Seat, Seat), AllocError>
-    ensures one { IfOk result (λ s. one ≡ Ok s.0) }
-    ensures other { IfOk result (λ s. other ≡ Ok s.1) }
+/// The seats of three threads, if none ended for want of memory.
+fn three(first: Ending, second: Ending, third: Ending) -> Result<(Seat, Seat, Seat), AllocError>
+    ensures first { IfOk result (λ s. first ≡ Ok s.0) }
+    ensures second { IfOk result (λ s. second ≡ Ok s.1) }
+    ensures third { IfOk result (λ s. third ≡ Ok s.2) }
 {
-    Ok((one?, other?))
+    Ok((first?, second?, third?))
 }
 
 /// The seats of all threads, if none ended for want of memory, and there is memory for the list.
@@ -336,9 +337,8 @@ fn gather(alloc: Global, ended: Ended) -> Result<Vec<Seat>, AllocError>
         tests,
         lines,
     } = ended;
-    let (ticks, delta) = both(ticks, delta)?;
-    let (resource, exits) = both(resource, exits)?;
-    let (tests, lines) = both(tests, lines)?;
+    let (ticks, delta, resource) = three(ticks, delta, resource)?;
+    let (exits, tests, lines) = three(exits, tests, lines)?;
     Ok(vec![in alloc; ticks, delta, resource, exits, tests, lines]?)
 }
 

@@ -92,6 +92,32 @@ fn turn<D: Teller, J: Station, R: Wait, C: Clock, P: Spawner, A: Area, G: Gate>(
 }
 
 /// Makes calls until the machine ends. An `Err` is want of memory.
+fn serve_each<D: Teller, J: Station, R: Wait, C: Clock, P: Spawner, A: Area, G: Gate>(
+    rt: &R,
+    room: &Room<D, J, P>,
+    post: &Post,
+    gate: &G,
+    part: Part,
+    seat: &mut Seat,
+    clock: &mut C,
+    disks: &mut [Disk<A>],
+) -> Result<(), AllocError>
+    ensures { OnOk result (IsWorker seat.old.calls → IsWorker seat.new.calls) }
+{
+    let bell = post.worker(part);
+    for _ in rt.forever() {
+        let seen = bell.moves(rt);
+        if !post.begin_turn(rt) {
+            break;
+        }
+        if !turn(rt, room, post, gate, part, seat, clock, disks)? {
+            bell.wait_past(rt, seen);
+        }
+    }
+    Ok(())
+}
+
+/// The worker's whole course: what it made. An `Err` is want of memory.
 #[tactic(auto, using(crate::proofs::SeatLaws::no_turns))]
 pub(crate) fn work<D: Teller, J: Station, R: Wait, C: Clock, P: Spawner, A: Area, G: Gate>(
     rt: &R,
@@ -105,15 +131,6 @@ pub(crate) fn work<D: Teller, J: Station, R: Wait, C: Clock, P: Spawner, A: Area
     ensures { IfOk result (λ s. IsWorker s.calls) }
 {
     let mut seat = room.cell.seat();
-    let bell = post.worker(part);
-    for _ in rt.forever() {
-        let seen = bell.moves(rt);
-        if !post.begin_turn(rt) {
-            break;
-        }
-        if !turn(rt, room, post, gate, part, &mut seat, &mut clock, disks)? {
-            bell.wait_past(rt, seen);
-        }
-    }
+    serve_each(rt, room, post, gate, part, &mut seat, &mut clock, disks)?;
     Ok(seat)
 }

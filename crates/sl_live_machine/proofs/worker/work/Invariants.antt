@@ -1,5 +1,0 @@
-use Rattle.sl_live.specs.Turns.{IsWorker}
-use Rattle.sl_live_machine.proofs.worker.work.Given as goal
-
-abbrev pub invariant-loop : goal.invariant-loop
-invariant-loop g l = IsWorker l.seat.calls
