@@ -49,8 +49,12 @@ all_bits i b h = sym (chosen (eqb b 0) (bits_below i b 8) (ne_eqb b 0 h))
 pub no_bits : (i b : ℕ) → b ≡ 0 → bits_of_byte i b ≡ []
 no_bits i b e = rw e refl
 
--- What a byte's bits need at their ends.
-pub ruleset ends_of_byte = (all_bits, no_bits)
+-- The loop over places has ended: all bits are added, and none of a byte without bits.
+pub all_bits_pushed : (old now : List ℕ) (i b j : ℕ) → (b ≡ 0 → ⊥) → j ≡ 8 → now ≡ old ++ bits_below i b j → now ≡ old ++ bits_of_byte i b
+all_bits_pushed old now i b j some end so_far = so_far ∙ ap (λ k. old ++ bits_below i b k) end ∙ ap (λ (bits : List ℕ). old ++ bits) (all_bits i b some)
+
+pub no_bits_pushed : (old : List ℕ) (i b : ℕ) → b ≡ 0 → old ≡ old ++ bits_of_byte i b
+no_bits_pushed old i b none = sym (ap (λ (bits : List ℕ). old ++ bits) (no_bits i b none) ∙ append-nil old)
 
 -- A step of the loop over places: the bits so far, and the bit at this place where it is set.
 pub more_bits : (old now new : List ℕ) (i b j : ℕ) (set : Bool) → now ≡ old ++ bits_below i b j → set ≡ eqb ((b / 2 ^ j) % 2) 1

@@ -1,16 +1,19 @@
 -- Laws of the rules: what it means that all hold, and each test as a fact.
-use Rattle.sl_sector.specs.FieldBytes.{flag}
+use Rattle.sl_sector.specs.FieldBytes.{ReadsField, flag}
 use Rattle.sl_sector.specs.SectorLayouts.{under_rules}
 use Rattle.sl_sector.specs.declared.sector.Bad.TheVariants.{BadField}
 use Rattle.sl_sector.specs.declared.sector.Bad.{Bad}
 use Rattle.sl_words.specs.Bounds.{is_number, record_numbers}
 use Rattle.sl_words.specs.Results.{ensure, ◌>>=◌}
-use Rattle.sl_words.specs.Words.{same_truth}
-use Rattle.std.proofs.Common.{Bool, List, Ok, Result, [], arith, eqb, false, inl, inr, refl, true, ℕ, ◌<◌, ◌≡◌, ◌≤◌, ◌∷◌, ◌||◌, ◌^◌, ◌++◌}
+use Rattle.sl_words.specs.Words.{choose, same_truth}
+use Rattle.std.proofs.Common.{Bool, Err, List, Ok, Option, Result, [], ap, arith, drop, eqb, false, get_or, inl, inr, length, refl, subst, sym, take, true, ℕ, ◌+◌, ◌<◌, ◌≡◌, ◌≤◌, ◌∙◌, ◌∷◌, ◌||◌, ◌^◌, ◌++◌}
+use Rattle.std.proofs.lemmas.List.{append-nil, drop_all, drop_more, take-append-drop}
 use Rattle.std.proofs.lemmas.Bool.{cases_Bool, eqb-false, eqb-true, ltb-true}
 use Rattle.std.proofs.lemmas.Bool.Decides.{nat_tests}
 use Rattle.std.specs.Int.{is_in_range}
+use Rattle.std.specs.Option.{ok_or}
 use Rattle.std.specs.Prelude.{not, ◌↔◌}
+use Rattle.std.specs.Result.{IsErrAnd}
 
 -- Each rule holds.
 abbrev pub Hold : List (ℕ × Bool) → Type 0
@@ -54,6 +57,54 @@ under_rules_behind (x ∷ xs) ys a b = by x.1 (under_rules_behind xs ys a b)
         → (ensure ok (BadField x.0) >>= λ _. under_rules (xs ++ ys) b) ≡ ((ensure ok (BadField x.0) >>= λ _. under_rules xs a) >>= λ _. under_rules ys b)
     by true h = h
     by false h = refl
+
+-- ---- rules that are tested one after another
+
+-- One more rule holds.
+pub rules_go_on : (rules : List (ℕ × Bool)) (i : ℕ) (d : ℕ × Bool) → i < length rules → (get_or rules i d).1 ≡ true
+    → under_rules rules (tt {0}) ≡ under_rules (drop i rules) (tt {0}) → under_rules rules (tt {0}) ≡ under_rules (drop (i + 1) rules) (tt {0})
+rules_go_on rules i d inside holds so_far = so_far ∙ ap (λ rest. under_rules rest (tt {0})) (drop_more rules i d inside) ∙ rw holds refl
+
+-- The next one is broken.
+pub rules_stop : (rules : List (ℕ × Bool)) (i : ℕ) (d : ℕ × Bool) → i < length rules → (get_or rules i d).1 ≡ false
+    → under_rules rules (tt {0}) ≡ under_rules (drop i rules) (tt {0}) → under_rules rules (tt {0}) ≡ Err (BadField (get_or rules i d).0)
+rules_stop rules i d inside broken so_far = so_far ∙ ap (λ rest. under_rules rest (tt {0})) (drop_more rules i d inside) ∙ rw broken refl
+
+-- None is left.
+pub rules_end : (rules : List (ℕ × Bool)) (i : ℕ) → length rules ≤ i → under_rules rules (tt {0}) ≡ under_rules (drop i rules) (tt {0}) → under_rules rules (tt {0}) ≡ Ok (tt {0})
+rules_end rules i end so_far = so_far ∙ ap (λ rest. under_rules rest (tt {0})) (drop_all i rules end)
+
+-- A value under rules of which it is known whether they hold.
+pub known_rules : {A : Type 0} (rules : List (ℕ × Bool)) (a : A) → under_rules rules a ≡ (under_rules rules (tt {0}) >>= λ _. Ok a)
+known_rules rules a = ap (λ all. under_rules all a) (sym (append-nil rules)) ∙ under_rules_behind rules [] (tt {0}) a
+
+pub kept_rules : {A : Type 0} (rules : List (ℕ × Bool)) (a : A) → under_rules rules (tt {0}) ≡ Ok (tt {0}) → under_rules rules a ≡ Ok a
+kept_rules rules a known = rw (known_rules rules a, known) refl
+
+pub broken_rules : {A : Type 0} (rules : List (ℕ × Bool)) (a : A) (bad : Bad) → under_rules rules (tt {0}) ≡ Err bad → under_rules rules a ≡ Err bad
+broken_rules rules a bad known = rw (known_rules rules a, known) refl
+
+-- Of which the first n are known.
+pub broken_front : {A : Type 0} (n : ℕ) (rules : List (ℕ × Bool)) (a : A) (bad : Bad) → under_rules (take n rules) (tt {0}) ≡ Err bad → under_rules rules a ≡ Err bad
+broken_front n rules a bad known =
+    ap (λ all. under_rules all a) (sym (take-append-drop n rules)) ∙ under_rules_behind (take n rules) (drop n rules) (tt {0}) a
+    ∙ ap (λ so_far. so_far >>= λ _. under_rules (drop n rules) a) known
+
+pub kept_front : {A : Type 0} (n : ℕ) (rules : List (ℕ × Bool)) (a : A) → under_rules (take n rules) (tt {0}) ≡ Ok (tt {0}) → under_rules rules a ≡ under_rules (drop n rules) a
+kept_front n rules a known =
+    ap (λ all. under_rules all a) (sym (take-append-drop n rules)) ∙ under_rules_behind (take n rules) (drop n rules) (tt {0}) a
+    ∙ ap (λ so_far. so_far >>= λ _. under_rules (drop n rules) a) known
+
+-- A refusal that is handed on.
+pub handed_on : {A : Type 0} (out : Result A Bad) (bad : Bad) → IsErrAnd out (λ x. x ≡ bad) → out ≡ Err bad
+handed_on (Ok a) bad is = absurd is
+handed_on (Err x) bad is = ap (λ e. Err e) is
+
+-- What was chosen by a rule and is refused by its field's offset where the rule is broken.
+pub chosen_read : {A : Type 0} (at : ℕ) (holds : Bool) (value : A) (o : Option A) (r : Result A Bad) → o ≡ choose holds value → r ≡ ok_or o (BadField at)
+    → ReadsField at holds value r
+chosen_read at true value o r chosen read = subst (ReadsField at true value) (sym (read ∙ ap (λ x. ok_or x (BadField at)) chosen)) (refl, refl)
+chosen_read at false value o r chosen read = subst (ReadsField at false value) (sym (read ∙ ap (λ x. ok_or x (BadField at)) chosen)) (refl, refl)
 
 -- ---- each test as a fact
 

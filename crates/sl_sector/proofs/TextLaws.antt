@@ -6,8 +6,8 @@ use Rattle.sl_sector.specs.declared.sector.Block.{Block}
 use Rattle.sl_sector.specs.declared.sector.DeltaRec.{DeltaRec}
 use Rattle.sl_sector.specs.declared.sector.Rec.TheVariants.{DeltaIs}
 use Rattle.sl_text.specs.Forms.{spaced}
-use Rattle.std.proofs.Common.{List, [], ap, codes, sym, ℕ, ◌++◌, ◌≡◌, ◌∙◌, ◌∷◌}
-use Rattle.std.proofs.lemmas.List.{append-nil, append_assoc}
+use Rattle.std.proofs.Common.{List, [], ap, codes, get_or, length, sym, take, ℕ, ◌+◌, ◌++◌, ◌<◌, ◌≡◌, ◌≤◌, ◌∙◌, ◌∷◌}
+use Rattle.std.proofs.lemmas.List.{append-nil, append_assoc, take_all, take_more}
 use Rattle.std.proofs.lemmas.Grind.{flat_map-append}
 use Rattle.std.specs.List.{flat_map, join_with_byte}
 use Rattle.std.specs.Prelude.{decimal, map, unwrap_or}
@@ -16,6 +16,21 @@ use Rattle.std.specs.Prelude.{decimal, map, unwrap_or}
 pub join_with_byte-cons : (c : ℕ) (w : List ℕ) (ws : List (List ℕ)) → join_with_byte c (w ∷ ws) ≡ w ++ flat_map (λ v. c ∷ v) ws
 join_with_byte-cons c w [] = sym (append-nil w)
 join_with_byte-cons c w (v ∷ vs) = ap (λ (x : List ℕ). w ++ c ∷ x) (join_with_byte-cons c v vs)
+
+-- Of texts that are added one after another: one more, and all.
+pub one_pushed : {A : Type 0} (text : A → List ℕ) (old now new : List ℕ) (xs : List A) (i : ℕ) (d : A) → i < length xs → now ≡ old ++ flat_map text (take i xs)
+    → new ≡ now ++ text (get_or xs i d) → new ≡ old ++ flat_map text (take (i + 1) xs)
+one_pushed text old now new xs i d inside so_far one =
+    let last = flat_map-append text (take i xs) (get_or xs i d ∷ []) ∙ ap (λ t. flat_map text (take i xs) ++ t) (append-nil (text (get_or xs i d))) in
+    one
+    ∙ ap (λ t. t ++ text (get_or xs i d)) so_far
+    ∙ append_assoc old (flat_map text (take i xs)) (text (get_or xs i d))
+    ∙ ap (λ t. old ++ t) (sym last)
+    ∙ ap (λ ys. old ++ flat_map text ys) (sym (take_more xs i d inside))
+
+pub all_pushed : {A : Type 0} (text : A → List ℕ) (old new : List ℕ) (xs : List A) (i : ℕ) → length xs ≤ i → new ≡ old ++ flat_map text (take i xs)
+    → new ≡ old ++ flat_map text xs
+all_pushed text old new xs i end so_far = so_far ∙ ap (λ ys. old ++ flat_map text ys) (take_all i xs end)
 
 -- Numbers with a comma between them.
 pub listed : (k : ℕ) (ks : List ℕ) → join_with_byte 44 (map decimal (k ∷ ks)) ≡ decimal k ++ flat_map (λ n. 44 ∷ decimal n) ks

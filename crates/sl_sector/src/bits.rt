@@ -21,7 +21,6 @@ fn push_if(bits: &mut Vec<u32>, set: bool, bit: u32) -> Result<(), AllocError>
 }
 
 /// Adds the bits of byte `i`, counted from 1 in the bitmap, in rising order.
-#[tactic(auto, using(crate::proofs::BitLaws::ends_of_byte))]
 fn push_bits_of_byte(bits: &mut Vec<u32>, i: u32, byte: u8) -> Result<(), AllocError>
     requires { i < 250 }
     ensures { OnOk result (bits.new.items ≡ bits.old.items ++ bitmaps.bits_of_byte i byte) }

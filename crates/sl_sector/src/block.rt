@@ -7,7 +7,7 @@ ghost use Rattle.sl_sector.specs.SectorLayouts.{IsSectorSize, block_fields, bloc
 ghost use Rattle.sl_sector.specs.declared.sector.Rec.TheVariants.{BlockIs};
 
 use crate::fields::{
-    MOST_HOSTS, agree, implies, is_host, is_number, put_u32, put_u64, rule, rules, u32_at, u64_at,
+    MOST_HOSTS, agree, both, implies, is_host, is_number, put_u32, put_u64, u32_at, u64_at, under,
 };
 use crate::frame::{begin, finish};
 use crate::sector::{Bad, Block};
@@ -63,22 +63,29 @@ pub(crate) fn block_at(sector: &[u8]) -> Result<Block, Bad>
     let inp = u32_at(sector, 56);
     let unused = lver == 0;
     let no_value = bal == 0;
-    rule(8, is_host(host))?;
-    rule(12, mode <= 1)?;
-    rules(16, is_number(lver), implies(unused, mode == 0))?;
-    rules(24, is_number(mbal), implies(unused, mbal == 0))?;
-    rule(32, bal <= mbal)?;
-    rules(40, is_number(inp_gen), agree(no_value, inp_gen == 0))?;
-    rules(48, is_number(mode_gen), agree(mode == 0, mode_gen == 0))?;
-    rules(56, inp <= MOST_HOSTS, agree(no_value, inp == 0))?;
-    Ok(Block {
-        host,
-        shared: mode == 1,
-        lver,
-        mbal,
-        bal,
-        inp_gen,
-        mode_gen,
-        inp,
-    })
+    under(
+        &[
+            (8, is_host(host)),
+            (12, mode <= 1),
+            (16, both(is_number(lver), implies(unused, mode == 0))),
+            (24, both(is_number(mbal), implies(unused, mbal == 0))),
+            (32, bal <= mbal),
+            (40, both(is_number(inp_gen), agree(no_value, inp_gen == 0))),
+            (
+                48,
+                both(is_number(mode_gen), agree(mode == 0, mode_gen == 0)),
+            ),
+            (56, both(inp <= MOST_HOSTS, agree(no_value, inp == 0))),
+        ],
+        Block {
+            host,
+            shared: mode == 1,
+            lver,
+            mbal,
+            bal,
+            inp_gen,
+            mode_gen,
+            inp,
+        },
+    )
 }

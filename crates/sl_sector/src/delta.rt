@@ -10,8 +10,8 @@ ghost use Rattle.sl_sector.specs.SectorLayouts.{IsSectorSize, delta_of, delta_ru
 ghost use Rattle.sl_sector.specs.declared.sector.Rec.TheVariants.{DeltaIs};
 
 use crate::fields::{
-    NAME_SIZE, are_zeros, implies, is_host, is_number, name_at, name_field, put, put_name, put_u32,
-    put_u64, put_zeros, rule, rules, u32_at, u64_at,
+    NAME_SIZE, all_hold, are_zeros, both, implies, is_host, is_number, name_at, name_field, put,
+    put_name, put_u32, put_u64, put_zeros, rule, u32_at, u64_at,
 };
 use crate::frame::{begin, finish};
 use crate::sector::{Bad, DeltaRec, DeltaState};
@@ -152,11 +152,13 @@ pub(crate) fn delta_at(sector: &[u8]) -> Result<DeltaRec, Bad>
     let seq = u64_at(sector, 24);
     let stamp = u64_at(sector, 32);
     let unused = generation == 0;
-    rule(8, state <= 2)?;
-    rule(12, is_host(id))?;
-    rules(16, is_number(generation), implies(unused, state == 0))?;
-    rules(24, is_number(seq), implies(unused, seq == 0))?;
-    rules(32, stamp < MOMENTS, implies(unused, stamp == 0))?;
+    all_hold(&[
+        (8, state <= 2),
+        (12, is_host(id)),
+        (16, both(is_number(generation), implies(unused, state == 0))),
+        (24, both(is_number(seq), implies(unused, seq == 0))),
+        (32, both(stamp < MOMENTS, implies(unused, stamp == 0))),
+    ])?;
     let lockspace = name_at(sector, 40)?;
     let host = host_at(sector, 88, unused)?;
     let bitmap = bitmap_under(sector, 136, unused)?;

@@ -10,6 +10,7 @@ ghost use Rattle.sl_words.specs.Bounds as bounds;
 ghost use Rattle.sl_words.specs.Words.{all_zero, choose, same_truth};
 ghost use Rattle.sl_sector.specs.FieldBytes as spec;
 ghost use Rattle.sl_sector.specs.FieldBytes.{ReadsField};
+ghost use Rattle.sl_sector.specs.SectorLayouts.{under_rules};
 
 use crate::sector::Bad;
 use byteorder::{BigEndian, ByteOrder};
@@ -106,11 +107,31 @@ pub(crate) fn rule(at: u32, holds: bool) -> Result<(), Bad>
     }
 }
 
-/// Nothing where the two rules of the field at this offset hold, its own and that with fields before it, else `BadField` of it.
-pub(crate) fn rules(at: u32, own: bool, with_others: bool) -> Result<(), Bad>
-    ensures { ReadsField at (own && with_others) tt result }
+/// Nothing where each rule holds that is given with its field's offset, else `BadField` of the first that doesn't.
+pub(crate) fn all_hold(rules: &[(u32, bool)]) -> Result<(), Bad>
+    ensures { result ≡ under_rules rules.now tt }
 {
-    rule(at, own && with_others)
+    for given in rules {
+        rule(given.0, given.1)?;
+    }
+    Ok(())
+}
+
+/// The value where each rule holds that is given with its field's offset, else `BadField` of the first that doesn't.
+pub(crate) fn under<T: Copy>(rules: &[(u32, bool)], value: T) -> Result<T, Bad>
+    ensures { result ≡ under_rules rules.now value }
+{
+    match all_hold(rules) {
+        Ok(()) => Ok(value),
+        Err(bad) => Err(bad),
+    }
+}
+
+/// Whether both hold, each of which costs nothing to see.
+pub(crate) fn both(first: bool, second: bool) -> bool
+    ensures { result ≡ (first && second) }
+{
+    first && second
 }
 
 /// Whether the second holds where the first does.

@@ -76,7 +76,6 @@ impl Image {
     }
 
     /// What it spells, or why it spells nothing. Nothing is hashed.
-    #[tactic(auto, using(crate::proofs::ImageLaws::is_found, crate::proofs::ImageLaws::is_spelled))]
     pub fn record(&self) -> Result<Rec, Bad>
         ensures found { result ≡ decoded sha256 self.now }
         // a record that is found is the one whose spelling the bytes are, and keeps its rules

@@ -8,8 +8,8 @@ ghost use Rattle.sl_sector.specs.SectorLayouts.{IsSectorSize, leader_fields, lea
 ghost use Rattle.sl_sector.specs.declared.sector.Rec.TheVariants.{LeaderIs, PairLeaderIs};
 
 use crate::fields::{
-    agree, implies, is_host, is_number, name_at, put_name, put_u32, put_u64, rule, rules, u32_at,
-    u64_at,
+    agree, all_hold, both, implies, is_host, is_number, name_at, put_name, put_u32, put_u64,
+    u32_at, u64_at,
 };
 use crate::frame::{begin, finish};
 use crate::sector::{Bad, Leader};
@@ -75,11 +75,16 @@ pub(crate) fn leader_at(sector: &[u8]) -> Result<Leader, Bad>
     let generation = u64_at(sector, 24);
     let owner = u32_at(sector, 32);
     let unused = lver == 0;
-    rule(8, state <= 1)?;
-    rule(12, is_host(num_hosts))?;
-    rules(16, is_number(lver), implies(unused, state == 0))?;
-    rules(24, is_number(generation), agree(unused, generation == 0))?;
-    rules(32, owner <= num_hosts, agree(unused, owner == 0))?;
+    all_hold(&[
+        (8, state <= 1),
+        (12, is_host(num_hosts)),
+        (16, both(is_number(lver), implies(unused, state == 0))),
+        (
+            24,
+            both(is_number(generation), agree(unused, generation == 0)),
+        ),
+        (32, both(owner <= num_hosts, agree(unused, owner == 0))),
+    ])?;
     let lockspace = name_at(sector, 36)?;
     let resource = name_at(sector, 84)?;
     Ok(Leader {

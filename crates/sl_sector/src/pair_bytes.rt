@@ -8,7 +8,7 @@ ghost use Rattle.sl_sector.specs.SectorLayouts.{IsSectorSize, field_bytes, own_r
 ghost use Rattle.sl_sector.specs.declared.sector.Rec.TheVariants.{PairIs};
 
 use crate::block::block_at;
-use crate::fields::{is_number, name_at, put_name, put_u64, rules, u64_at};
+use crate::fields::{both, is_number, name_at, put_name, put_u64, rule, u64_at};
 use crate::frame::finish;
 use crate::sector::{Bad, Block, PairBlock};
 
@@ -51,7 +51,7 @@ fn paired(sector: &[u8], block: Block) -> Result<PairBlock, Bad>
     ensures { result ≡ under_rules (own_rules sector.now) (pair_with sector.now block) }
 {
     let turn = u64_at(sector, 60);
-    rules(60, is_number(turn), turn != 0)?;
+    rule(60, both(is_number(turn), turn != 0))?;
     let lockspace = name_at(sector, 68)?;
     let resource = name_at(sector, 116)?;
     Ok(PairBlock {

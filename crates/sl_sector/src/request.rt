@@ -6,7 +6,7 @@ ghost use Rattle.sl_sector.specs.Records.{IsRequest};
 ghost use Rattle.sl_sector.specs.SectorLayouts.{IsSectorSize, field_bytes, request_of, request_rules, spelling, under_rules};
 ghost use Rattle.sl_sector.specs.declared.sector.Rec.TheVariants.{RequestIs};
 
-use crate::fields::{MOST_HOSTS, agree, is_number, put_u32, put_u64, rule, rules, u32_at, u64_at};
+use crate::fields::{MOST_HOSTS, agree, both, is_number, put_u32, put_u64, u32_at, u64_at, under};
 use crate::frame::{begin, finish};
 use crate::sector::{Bad, Request};
 
@@ -50,8 +50,12 @@ pub(crate) fn request_at(sector: &[u8]) -> Result<Request, Bad>
     let force = u32_at(sector, 8);
     let host = u32_at(sector, 12);
     let lver = u64_at(sector, 16);
-    rule(8, force <= 2)?;
-    rule(12, host <= MOST_HOSTS)?;
-    rules(16, is_number(lver), agree(force == 0, lver == 0))?;
-    Ok(Request { force, host, lver })
+    under(
+        &[
+            (8, force <= 2),
+            (12, host <= MOST_HOSTS),
+            (16, both(is_number(lver), agree(force == 0, lver == 0))),
+        ],
+        Request { force, host, lver },
+    )
 }

@@ -6,7 +6,7 @@ ghost use Rattle.sl_sector.specs.Records.{IsValue};
 ghost use Rattle.sl_sector.specs.SectorLayouts.{IsSectorSize, field_bytes, spelling, under_rules, value_of, value_rules};
 ghost use Rattle.sl_sector.specs.declared.sector.Rec.TheVariants.{ValueIs};
 
-use crate::fields::{MOST_HOSTS, is_number, put, put_u32, put_u64, rule, u32_at, u64_at};
+use crate::fields::{MOST_HOSTS, all_hold, is_number, put, put_u32, put_u64, u32_at, u64_at};
 use crate::frame::{begin, finish};
 use crate::sector::{Bad, ValueRec};
 use sl_text::Data;
@@ -75,10 +75,12 @@ pub(crate) fn value_at(sector: &[u8]) -> Result<ValueRec, Bad>
     let host = u32_at(sector, 12);
     let lver = u64_at(sector, 16);
     let seq = u64_at(sector, 24);
-    rule(8, len <= MOST_BYTES)?;
-    rule(12, host <= MOST_HOSTS)?;
-    rule(16, is_number(lver))?;
-    rule(24, is_number(seq))?;
+    all_hold(&[
+        (8, len <= MOST_BYTES),
+        (12, host <= MOST_HOSTS),
+        (16, is_number(lver)),
+        (24, is_number(seq)),
+    ])?;
     Ok(ValueRec {
         host,
         lver,

@@ -6,7 +6,7 @@ use Rattle.std.proofs.Common.{eqb, lit<, ◌&&◌, List, [], ap, arith, get_or, 
 use Rattle.std.proofs.lemmas.Bool.{and_from, eq-eqb, eqb-true, le-leb, leb-true}
 use Rattle.std.proofs.lemmas.Bool.Decides.{nat_tests}
 use Rattle.std.proofs.lemmas.List.Concat.{flat_map-append}
-use Rattle.std.proofs.lemmas.List.{take_all, take_more, take_more_set}
+use Rattle.std.proofs.lemmas.List.{append_assoc, take_all, take_more, take_more_set}
 use Rattle.std.proofs.lemmas.Str.{digit_value-digit_char}
 use Rattle.std.specs.Int.{is_in_range}
 use Rattle.std.specs.List.{list_all}
@@ -20,8 +20,20 @@ pub hex_text_more : (bs : List ℕ) (i : ℕ) → i < length bs
     → hex_text (take (i + 1) bs) ≡ hex_text (take i bs) ++ (digit_char (get_or bs i 0 / 16) ∷ digit_char (get_or bs i 0 % 16) ∷ [])
 hex_text_more bs i h = rw (take_more bs i 0 h) (hex_text-push (take i bs) (get_or bs i 0))
 
--- What writing digits uses.
-pub ruleset writing = (hex_text_more)
+-- The digits of one more byte behind those that are written.
+pub one_byte_written : (base old new bs : List ℕ) (i a b : ℕ) → i < length bs → old ≡ base ++ hex_text (take i bs) → a ≡ digit_char (get_or bs i 0 / 16)
+    → b ≡ digit_char (get_or bs i 0 % 16) → new ≡ old ++ (a ∷ b ∷ []) → new ≡ base ++ hex_text (take (i + 1) bs)
+one_byte_written base old new bs i a b inside so_far high low more =
+    let two = ap (λ x. x ∷ b ∷ []) high ∙ ap (λ y. digit_char (get_or bs i 0 / 16) ∷ y ∷ []) low in
+    more
+    ∙ ap (λ t. t ++ (a ∷ b ∷ [])) so_far
+    ∙ append_assoc base (hex_text (take i bs)) (a ∷ b ∷ [])
+    ∙ ap (λ t. base ++ (hex_text (take i bs) ++ t)) two
+    ∙ ap (λ t. base ++ t) (sym (hex_text_more bs i inside))
+
+-- Those of all.
+pub all_bytes_written : (base new bs : List ℕ) (i : ℕ) → length bs ≤ i → new ≡ base ++ hex_text (take i bs) → new ≡ base ++ hex_text bs
+all_bytes_written base new bs i end so_far = so_far ∙ ap (λ xs. base ++ hex_text xs) (take_all i bs end)
 
 -- Two digits are one byte.
 pub length-hex_bytes : (w : List ℕ) (n : ℕ) → length w ≡ 2 * n → length (hex_bytes w) ≡ n

@@ -6,3 +6,4 @@ pub mod HexLaws
 pub mod LineLaws
 pub mod PartLaws
 pub mod FreeLaws
+pub mod WriteLaws

@@ -50,6 +50,20 @@ remainder_more n d step =
     let split : n * 10 + d ≡ step * (10 * (n / step)) + (n % step * 10 + d) = omega (arith, div-add-mod n step) in
     sym (ap (λ x. x % step) split ∙ mul-add-mod_self_left step (10 * (n / step)) (n % step * 10 + d))
 
+-- What is left of the digits with one more.
+pub remainder_next : (ds : List ℕ) (i r r' d step : ℕ) → i < length ds → r ≡ number_of (take i ds) % step → d ≡ digit_value (get_or ds i 0)
+    → r' ≡ (r * 10 + d) % step → r' ≡ number_of (take (i + 1) ds) % step
+remainder_next ds i r r' d step inside so_far digit next =
+    next
+    ∙ ap (λ x. (x * 10 + d) % step) so_far
+    ∙ remainder_more (number_of (take i ds)) d step
+    ∙ ap (λ x. (number_of (take i ds) * 10 + x) % step) digit
+    ∙ ap (λ x. x % step) (sym (number_of_more ds i inside))
+
+-- What is left of all digits.
+pub remainder_whole : (ds : List ℕ) (i r step : ℕ) → length ds ≤ i → r ≡ number_of (take i ds) % step → r ≡ number_of ds % step
+remainder_whole ds i r step end so_far = so_far ∙ ap (λ xs. number_of xs % step) (take_all i ds end)
+
 -- What a divider of digits uses.
 pub ruleset dividing = (number_of_more, remainder_more)
 

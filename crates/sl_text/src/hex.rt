@@ -23,7 +23,6 @@ fn digit_of(number: u8) -> u8
 }
 
 /// Writes the digits of the bytes to the end of a text. After an `Err` the text is as it was.
-#[tactic(auto, using(crate::proofs::HexLaws::writing))]
 pub fn push_hex(out: &mut Vec<u8>, bytes: &[u8]) -> Result<(), AllocError>
     ensures ok { OnOk result (out.new.items ≡ out.old.items ++ numbers.hex_text bytes.now) }
     ensures err { OnErr result (out.new.items ≡ out.old.items) }
