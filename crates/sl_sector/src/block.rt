@@ -48,7 +48,6 @@ impl Block {
 }
 
 /// The block that the fields give, or the first field that breaks a rule.
-#[tactic(auto, unfolding(crate::specs::SectorLayouts::block_rules))]
 pub(crate) fn block_at(sector: &[u8]) -> Result<Block, Bad>
     requires { 512 ≤ length sector.now }
     ensures { result ≡ under_rules (block_rules sector.now) (block_of sector.now) }

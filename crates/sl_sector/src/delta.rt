@@ -141,7 +141,6 @@ fn bitmap_under(sector: &[u8], at: u32, unused: bool) -> Result<[u8; 250], Bad>
 }
 
 /// The delta record that the fields give, or the first field that breaks a rule.
-#[tactic(auto, unfolding(crate::specs::SectorLayouts::delta_rules))]
 pub(crate) fn delta_at(sector: &[u8]) -> Result<DeltaRec, Bad>
     requires { 512 ≤ length sector.now }
     ensures { result ≡ under_rules (delta_rules sector.now) (delta_of sector.now) }

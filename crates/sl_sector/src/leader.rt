@@ -63,11 +63,10 @@ impl Leader {
     }
 }
 
-/// The leader that the fields give, or the first field that breaks a rule.
-#[tactic(auto, unfolding(crate::specs::SectorLayouts::leader_rules))]
-pub(crate) fn leader_at(sector: &[u8]) -> Result<Leader, Bad>
+/// Nothing where the rules of the numbers hold, the first five, else `BadField` of the first that doesn't.
+fn numbers_hold(sector: &[u8]) -> Result<(), Bad>
     requires { 512 ≤ length sector.now }
-    ensures { result ≡ under_rules (leader_rules sector.now) (leader_of sector.now) }
+    ensures { result ≡ under_rules (take 5 (leader_rules sector.now)) tt }
 {
     let state = u32_at(sector, 8);
     let num_hosts = u32_at(sector, 12);
@@ -79,20 +78,25 @@ pub(crate) fn leader_at(sector: &[u8]) -> Result<Leader, Bad>
         (8, state <= 1),
         (12, is_host(num_hosts)),
         (16, both(is_number(lver), implies(unused, state == 0))),
-        (
-            24,
-            both(is_number(generation), agree(unused, generation == 0)),
-        ),
+        (24, both(is_number(generation), agree(unused, generation == 0))),
         (32, both(owner <= num_hosts, agree(unused, owner == 0))),
-    ])?;
+    ])
+}
+
+/// The leader that the fields give, or the first field that breaks a rule.
+pub(crate) fn leader_at(sector: &[u8]) -> Result<Leader, Bad>
+    requires { 512 ≤ length sector.now }
+    ensures { result ≡ under_rules (leader_rules sector.now) (leader_of sector.now) }
+{
+    numbers_hold(sector)?;
     let lockspace = name_at(sector, 36)?;
     let resource = name_at(sector, 84)?;
     Ok(Leader {
-        held: state == 1,
-        num_hosts,
-        lver,
-        generation,
-        owner,
+        held: u32_at(sector, 8) == 1,
+        num_hosts: u32_at(sector, 12),
+        lver: u64_at(sector, 16),
+        generation: u64_at(sector, 24),
+        owner: u32_at(sector, 32),
         lockspace,
         resource,
     })

@@ -42,7 +42,6 @@ impl Request {
 }
 
 /// The request that the fields give, or the first field that breaks a rule.
-#[tactic(auto, unfolding(crate::specs::SectorLayouts::request_rules))]
 pub(crate) fn request_at(sector: &[u8]) -> Result<Request, Bad>
     requires { 512 ≤ length sector.now }
     ensures { result ≡ under_rules (request_rules sector.now) (request_of sector.now) }

@@ -65,7 +65,6 @@ fn data_at(sector: &[u8], len: u32) -> Data
 }
 
 /// The value that the fields give, or the first field that breaks a rule.
-#[tactic(auto, unfolding(crate::specs::SectorLayouts::value_rules))]
 pub(crate) fn value_at(sector: &[u8]) -> Result<ValueRec, Bad>
     requires { 512 ≤ length sector.now }
     ensures exact { result ≡ under_rules (value_rules sector.now) (value_of sector.now) }

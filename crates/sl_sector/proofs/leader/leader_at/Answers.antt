@@ -3,47 +3,17 @@ use Rattle.sl_sector.proofs.RuleLaws.{broken_front, handed_on, kept_front}
 use Rattle.sl_sector.specs.SectorLayouts.{leader_of, leader_rules}
 use Rattle.sl_sector.proofs.leader.leader_at.Goals as goal
 
-pub returns-in_err-all_hold : goal.returns-in_err-all_hold
+pub returns-in_err-numbers_hold : goal.returns-in_err-numbers_hold
 unfolding leader_rules
-returns-in_err-all_hold c =
-    let known = simp (
-      c.both.ensures,
-      c.both-2.ensures,
-      c.both-3.ensures,
-      c.is_host.ensures,
-      c.is_number.ensures,
-      c.is_number-2.ensures,
-      c.implies.ensures,
-      c.agree.ensures,
-      c.agree-2.ensures,
-      c.u32_at-state.ensures,
-      c.u32_at-num_hosts.ensures,
-      c.u64_at-lver.ensures,
-      c.u64_at-generation.ensures,
-      c.u32_at-owner.ensures,
-    ) at (sym c.all_hold.ensures ∙ c.in_err-all_hold.was) in
-    handed_on c.from_residual.result c.in_err-all_hold.field-0.0 c.from_residual.ensures.1
-    ∙ sym (broken_front 5 (leader_rules c.args.sector.now) (leader_of c.args.sector.now) c.in_err-all_hold.field-0.0 known)
+returns-in_err-numbers_hold c =
+    let known = sym c.numbers_hold.ensures ∙ c.in_err-numbers_hold.was in
+    handed_on c.from_residual.result c.in_err-numbers_hold.field-0.0 c.from_residual.ensures.1
+    ∙ sym (broken_front 5 (leader_rules c.args.sector.now) (leader_of c.args.sector.now) c.in_err-numbers_hold.field-0.0 known)
 
 pub returns-in_err-lockspace : goal.returns-in_err-lockspace
 unfolding leader_rules
 returns-in_err-lockspace c =
-    let known = simp (
-      c.both.ensures,
-      c.both-2.ensures,
-      c.both-3.ensures,
-      c.is_host.ensures,
-      c.is_number.ensures,
-      c.is_number-2.ensures,
-      c.implies.ensures,
-      c.agree.ensures,
-      c.agree-2.ensures,
-      c.u32_at-state.ensures,
-      c.u32_at-num_hosts.ensures,
-      c.u64_at-lver.ensures,
-      c.u64_at-generation.ensures,
-      c.u32_at-owner.ensures,
-    ) at (sym c.all_hold.ensures ∙ c.in_ok-all_hold.was) in
+    let known = sym c.numbers_hold.ensures ∙ c.in_ok-numbers_hold.was in
     handed_on c.from_residual-in_err-lockspace.result c.in_err-lockspace.field-0.0 c.from_residual-in_err-lockspace.ensures.1
     ∙ ap (λ x. Err x) c.in_err-lockspace.ensures.1
     ∙ sym (kept_front 5 (leader_rules c.args.sector.now) (leader_of c.args.sector.now) known ∙ rw c.in_err-lockspace.ensures.0 refl)
@@ -51,22 +21,7 @@ returns-in_err-lockspace c =
 pub returns-in_err-resource : goal.returns-in_err-resource
 unfolding leader_rules
 returns-in_err-resource c =
-    let known = simp (
-      c.both.ensures,
-      c.both-2.ensures,
-      c.both-3.ensures,
-      c.is_host.ensures,
-      c.is_number.ensures,
-      c.is_number-2.ensures,
-      c.implies.ensures,
-      c.agree.ensures,
-      c.agree-2.ensures,
-      c.u32_at-state.ensures,
-      c.u32_at-num_hosts.ensures,
-      c.u64_at-lver.ensures,
-      c.u64_at-generation.ensures,
-      c.u32_at-owner.ensures,
-    ) at (sym c.all_hold.ensures ∙ c.in_ok-all_hold.was) in
+    let known = sym c.numbers_hold.ensures ∙ c.in_ok-numbers_hold.was in
     handed_on c.from_residual-in_err-resource.result c.in_err-resource.field-0.0 c.from_residual-in_err-resource.ensures.1
     ∙ ap (λ x. Err x) c.in_err-resource.ensures.1
     ∙ sym (kept_front 5 (leader_rules c.args.sector.now) (leader_of c.args.sector.now) known ∙ rw (c.in_ok-lockspace.ensures.0, c.in_err-resource.ensures.0) refl)
@@ -74,29 +29,6 @@ returns-in_err-resource c =
 pub returns : goal.returns
 unfolding leader_rules
 returns c =
-    let known = simp (
-      c.both.ensures,
-      c.both-2.ensures,
-      c.both-3.ensures,
-      c.is_host.ensures,
-      c.is_number.ensures,
-      c.is_number-2.ensures,
-      c.implies.ensures,
-      c.agree.ensures,
-      c.agree-2.ensures,
-      c.u32_at-state.ensures,
-      c.u32_at-num_hosts.ensures,
-      c.u64_at-lver.ensures,
-      c.u64_at-generation.ensures,
-      c.u32_at-owner.ensures,
-    ) at (sym c.all_hold.ensures ∙ c.in_ok-all_hold.was) in
-    simp (
-      c.in_ok-lockspace.ensures.1,
-      c.in_ok-resource.ensures.1,
-      c.u32_at-state.ensures,
-      c.u32_at-num_hosts.ensures,
-      c.u64_at-lver.ensures,
-      c.u64_at-generation.ensures,
-      c.u32_at-owner.ensures,
-    )
+    let known = sym c.numbers_hold.ensures ∙ c.in_ok-numbers_hold.was in
+    simp (c.in_ok-lockspace.ensures.1, c.in_ok-resource.ensures.1, c.u32_at.ensures, c.u32_at-2.ensures, c.u64_at.ensures, c.u64_at-2.ensures, c.u32_at-3.ensures)
     (sym (kept_front 5 (leader_rules c.args.sector.now) (leader_of c.args.sector.now) known ∙ rw (c.in_ok-lockspace.ensures.0, c.in_ok-resource.ensures.0) refl))
