@@ -4,7 +4,7 @@
 //! chosen. What was accepted in an earlier instance is dropped, since it says nothing of this one. Phase 2 writes the value of the
 //! greatest bal that was read. The mode that stands in a block is no part of the ballot, and goes with it unchanged.
 ghost use Rattle.sl_ballot.specs.Limits.{limited_block};
-ghost use Rattle.sl_ballot.specs.Phases.{mbal_in, numbered_block, top_mbal};
+ghost use Rattle.sl_ballot.specs.Phases.{mbal_in, mbal_seen, numbered_block, top_mbal};
 ghost use Rattle.sl_trace.specs.Ballots.{ballot_blocks, moded_block, number_above, phase1_block, phase2_block, proposing};
 ghost use Rattle.sl_words.specs.Words.{present};
 ghost use Rattle.std.specs.Prelude.{max, ◌≡◌, ◌≤◌};
@@ -14,33 +14,37 @@ use crate::number::{Limit, number_above, within_limit};
 use crate::reads::value_after_read;
 use sl_sector::{Block, Gen, Owner};
 
+/// The number that a block shows in an instance; 0 where it is of another.
+fn mbal_in(n: u64, block: &Block) -> u64
+    ensures { result ≡ mbal_in n block.now }
+{
+    if block.lver == n { block.mbal } else { 0 }
+}
+
+/// The same of a block that was read; 0 where it is torn.
+fn mbal_seen(n: u64, seen: &Option<Block>) -> u64
+    ensures { result ≡ mbal_seen n seen.now }
+{
+    match seen {
+        Some(block) => mbal_in(n, block),
+        None => 0,
+    }
+}
+
 /// The greatest number that the blocks show in an instance; 0 where they show none.
 fn top_mbal(n: u64, blocks: &[Block]) -> u64
     ensures { result ≡ top_mbal n blocks.now }
 {
     blocks
         .iter()
-        .filter(|block| block.lver == n)
-        .map(|block| block.mbal)
-        .fold(0, |top, mbal| top.max(mbal))
+        .fold(0, |top, block| top.max(mbal_in(n, block)))
 }
 
 /// The same of the blocks of a read that aren't torn.
 fn top_mbal_read(n: u64, read: &[Option<Block>]) -> u64
     ensures { result ≡ top_mbal n (present read.now) }
 {
-    read.iter()
-        .filter_map(|seen| *seen)
-        .filter(|block| block.lver == n)
-        .map(|block| block.mbal)
-        .fold(0, |top, mbal| top.max(mbal))
-}
-
-/// The number that a block shows in an instance; 0 where it is of another.
-fn mbal_in(n: u64, block: &Block) -> u64
-    ensures { result ≡ mbal_in n block.now }
-{
-    if block.lver == n { block.mbal } else { 0 }
+    read.iter().fold(0, |top, seen| top.max(mbal_seen(n, seen)))
 }
 
 /// The block of phase 1 with this number.

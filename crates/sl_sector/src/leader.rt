@@ -78,7 +78,10 @@ fn numbers_hold(sector: &[u8]) -> Result<(), Bad>
         (8, state <= 1),
         (12, is_host(num_hosts)),
         (16, both(is_number(lver), implies(unused, state == 0))),
-        (24, both(is_number(generation), agree(unused, generation == 0))),
+        (
+            24,
+            both(is_number(generation), agree(unused, generation == 0)),
+        ),
         (32, both(owner <= num_hosts, agree(unused, owner == 0))),
     ])
 }
