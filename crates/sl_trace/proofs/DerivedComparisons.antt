@@ -111,7 +111,7 @@ purpose_told a b =
     )
     a b
 
-op_told : (a b : Op) → Decides (op.eq a b) (a ≡ b)
+pub op_told : (a b : Op) → Decides (op.eq a b) (a ≡ b)
 op_told a b = told op_enum _ (last Decides-eqb, (last record_told, tt)) a b
 
 abbrev call_parts : Call → ℕ × (ℕ × (Purpose × (List ℕ × (ℕ × (Op × Unit {0})))))
@@ -275,7 +275,7 @@ grant_told a b = search rules
 start_told : (a b : Start) → Decides (start.eq a b) (a ≡ b)
 start_told a b = search rules
 
-input_told : (a b : Input) → Decides (input.eq a b) (a ≡ b)
+pub input_told : (a b : Input) → Decides (input.eq a b) (a ≡ b)
 input_told a b = search rules
 
 abbrev effects_parts : Effects → List End × (List Sent × (List Move × (List Grant × (List Start × (List JobReply × (List Call × Unit {0}))))))

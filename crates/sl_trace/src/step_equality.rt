@@ -31,7 +31,6 @@ pub fn same_op(a: &Op, b: &Op) -> bool
 }
 
 /// Whether two purposes are one.
-#[tactic(auto, using(crate::proofs::DerivedComparisons::purpose_told))]
 pub fn same_purpose(a: &Purpose, b: &Purpose) -> bool
     ensures { IsTrue result ↔ (a.now ≡ b.now) }
 {
@@ -39,7 +38,6 @@ pub fn same_purpose(a: &Purpose, b: &Purpose) -> bool
 }
 
 /// Whether two calls are one.
-#[tactic(auto, using(crate::proofs::DerivedComparisons::call_told))]
 pub fn same_call(a: &Call, b: &Call) -> bool
     ensures { IsTrue result ↔ (a.now ≡ b.now) }
 {
@@ -82,7 +80,6 @@ pub fn same_start(a: &Start, b: &Start) -> bool
 }
 
 /// Whether two replies are one.
-#[tactic(auto, using(crate::proofs::DerivedComparisons::reply_told))]
 pub fn same_reply(a: &Reply, b: &Reply) -> bool
     ensures { IsTrue result ↔ (a.now ≡ b.now) }
 {
@@ -90,7 +87,6 @@ pub fn same_reply(a: &Reply, b: &Reply) -> bool
 }
 
 /// Whether two replies with their jobs are one.
-#[tactic(auto, using(crate::proofs::DerivedComparisons::job_reply_told))]
 pub fn same_job_reply(a: &JobReply, b: &JobReply) -> bool
     ensures { IsTrue result ↔ (a.now ≡ b.now) }
 {
@@ -98,7 +94,6 @@ pub fn same_job_reply(a: &JobReply, b: &JobReply) -> bool
 }
 
 /// Whether all that two steps do is one.
-#[tactic(auto, using(crate::proofs::DerivedComparisons::effects_told))]
 pub fn same_effects(a: &Effects, b: &Effects) -> bool
     ensures { IsTrue result ↔ (a.now ≡ b.now) }
 {
@@ -106,7 +101,6 @@ pub fn same_effects(a: &Effects, b: &Effects) -> bool
 }
 
 /// Whether two entries are one.
-#[tactic(auto, using(crate::proofs::DerivedComparisons::entry_told))]
 pub fn same_entry(a: &Entry, b: &Entry) -> bool
     ensures { IsTrue result ↔ (a.now ≡ b.now) }
 {
