@@ -33,13 +33,11 @@ pub fn blocks_grow()
 {}
 
 /// A number of an instance names one ballot.
-#[tactic(auto, using(crate::proofs::AgreementLaws::numbers_name))]
 pub fn numbers_name_ballots()
     ensures { NumbersNameBallots }
 {}
 
 /// An accepted value is that of its ballot.
-#[tactic(auto, using(crate::proofs::AgreementLaws::accepted))]
 pub fn values_are_of_ballots()
     ensures { ValuesAreOfBallots }
 {}
@@ -76,7 +74,6 @@ pub fn instances_close()
 // ---- exclusive holdings
 
 /// An exclusive holding is an exclusive grant that stands.
-#[tactic(auto, using(crate::proofs::HoldingLaws::held_active))]
 pub fn holdings_are_active()
     ensures { HoldingsAreActive }
 {}
@@ -87,7 +84,6 @@ pub fn active_is_open()
 {}
 
 /// At most one exclusive grant stands.
-#[tactic(auto, using(crate::proofs::HoldingLaws::one_exclusive))]
 pub fn one_exclusive()
     ensures { OneExclusive }
 {}
@@ -112,7 +108,6 @@ pub fn marks_are_shown()
 // ---- no conflict
 
 /// Where an exclusive grant stands, no other session holds shared.
-#[tactic(auto, using(crate::proofs::HoldingLaws::none_shares))]
 pub fn none_shares()
     ensures { NoneShares }
 {}

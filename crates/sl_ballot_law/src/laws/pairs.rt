@@ -31,13 +31,11 @@ pub fn step_keeps()
 {}
 
 /// The invariant holds at each moment of a run.
-#[tactic(auto, using(crate::proofs::Pairs::StepLaws::each_moment))]
 pub fn invariant_holds()
     ensures { InvariantHolds }
 {}
 
 /// The pair always has a block, which is no older than the newest that was answered ok.
-#[tactic(auto, using(crate::proofs::Pairs::StepLaws::has_blocks))]
 pub fn pair_has_block()
     ensures { PairHasBlock }
 {}
@@ -70,13 +68,11 @@ pub fn stood_is_newest()
 {}
 
 /// Two answers give no block only where both sectors were torn when the second sampled them.
-#[tactic(auto, using(crate::proofs::Pairs::ReadLaws::none_torn))]
 pub fn none_is_torn()
     ensures { NoneIsTorn }
 {}
 
 /// A pair that nobody writes is shown.
-#[tactic(auto, using(crate::proofs::Pairs::ReadLaws::quiet_shown))]
 pub fn quiet_is_shown()
     ensures { QuietIsShown }
 {}
@@ -96,13 +92,11 @@ pub fn pairs_show_newest()
 // ---- leaders
 
 /// A block that a read shows is a reason to begin its instance.
-#[tactic(auto, using(crate::proofs::Pairs::LeaderLaws::reasons))]
 pub fn shown_is_reason()
     ensures { ShownIsReason }
 {}
 
 /// A leader is below what a read shows of its owner's host, once the read was submitted after it.
-#[tactic(auto, using(crate::proofs::Pairs::LeaderLaws::below))]
 pub fn leaders_are_below()
     ensures { LeadersAreBelow }
 {}
