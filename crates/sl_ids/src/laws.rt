@@ -60,7 +60,6 @@ pub fn nobody_else_writes()
 // ---- the invariant, for an induction of the world's own
 
 /// The invariant holds at a start.
-#[tactic(auto, using(crate::proofs::WholeRuns::start_kept))]
 pub fn start_holds()
     ensures { StartHolds }
 {}
@@ -76,7 +75,6 @@ pub fn verifying_keeps()
 {}
 
 /// The landing of a claim keeps it.
-#[tactic(auto, using(crate::proofs::ClaimLandings::claim_landing_kept))]
 pub fn claim_landing_keeps()
     ensures { ClaimLandingKeeps }
 {}
@@ -87,7 +85,6 @@ pub fn own_landing_keeps()
 {}
 
 /// What lands nothing and decides nothing keeps it.
-#[tactic(auto, using(crate::proofs::QuietSteps::quiet_kept))]
 pub fn quiet_keeps()
     ensures { QuietKeeps }
 {}
@@ -98,7 +95,6 @@ pub fn step_keeps()
 {}
 
 /// Beside a verified session that is not over the sector is fresh.
-#[tactic(auto, using(crate::proofs::StateLaws::fresh))]
 pub fn sector_is_fresh()
     ensures { SectorIsFresh }
 {}
@@ -117,25 +113,21 @@ pub fn claims_are_ordered()
 // ---- from clocks, watchdogs and lists
 
 /// The watchdogs bound an id, and the waits by the formulas are long enough.
-#[tactic(auto, using(crate::proofs::DerivedLaws::watchdogs))]
 pub fn watchdogs_bound()
     ensures { WatchdogsBound }
 {}
 
 /// The waits by a clock give the timed premises of the steps.
-#[tactic(auto, using(crate::proofs::DerivedLaws::waits))]
 pub fn waits_suffice()
     ensures { WaitsSuffice }
 {}
 
 /// Runs are put together, and states between the steps of one moment are bounded.
-#[tactic(auto, using(crate::proofs::DerivedLaws::go_on))]
 pub fn runs_go_on()
     ensures { RunsGoOn }
 {}
 
 /// Landings may be kept as a list.
-#[tactic(auto, using(crate::proofs::DerivedLaws::listed))]
 pub fn lists_land()
     ensures { ListsLand }
 {}

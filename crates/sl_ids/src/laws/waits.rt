@@ -18,37 +18,31 @@ ghost use Rattle.sl_ids.specs.Clocks.Watchdog.{ActingIsBounded, ClaimIsBounded, 
 // ---- drift
 
 /// Each two points that a machine's clock comes to are related by the bound on drift.
-#[tactic(auto, using(crate::proofs::Clocks::ClockLaws::clocks_drift))]
 pub fn clocks_drift()
     ensures { ClocksDrift }
 {}
 
 /// Few readings on a clock take little time.
-#[tactic(auto, using(crate::proofs::Clocks::ClockLaws::short))]
 pub fn short_reading()
     ensures { ShortReading }
 {}
 
 /// Many readings on a clock take much time.
-#[tactic(auto, using(crate::proofs::Clocks::ClockLaws::long))]
 pub fn long_reading()
     ensures { LongReading }
 {}
 
 /// A wait of `dead` lasts longer than `gone`.
-#[tactic(auto, using(crate::proofs::Clocks::ClockLaws::dead_long))]
 pub fn dead_is_long_enough()
     ensures { DeadIsLongEnough }
 {}
 
 /// A watch of `take_over` lasts longer than `hold` and `gone`.
-#[tactic(auto, using(crate::proofs::Clocks::ClockLaws::take_over_long))]
 pub fn take_over_is_long_enough()
     ensures { TakeOverIsLongEnough }
 {}
 
 /// At most `join_max` on a clock lasts less than `hold`.
-#[tactic(auto, using(crate::proofs::Clocks::ClockLaws::join_max_short))]
 pub fn join_max_is_short()
     ensures { JoinMaxIsShort }
 {}
@@ -62,13 +56,11 @@ pub fn keepalive_stays_fresh()
 {}
 
 /// A connection stands for a bounded time.
-#[tactic(auto, using(crate::proofs::Clocks::WatchdogLaws::connection))]
 pub fn connection_is_bounded()
     ensures { ConnectionIsBounded }
 {}
 
 /// A session acts for less than `gone` after it was renewed.
-#[tactic(auto, using(crate::proofs::Clocks::WatchdogLaws::acting))]
 pub fn acting_is_bounded()
     ensures { ActingIsBounded }
 {}
@@ -80,7 +72,6 @@ pub fn gone_is_used_up()
 {}
 
 /// A session that was renewed `gone` ago is over.
-#[tactic(auto, using(crate::proofs::Clocks::WatchdogLaws::over_after))]
 pub fn over_after_gone()
     ensures { OverAfterGone }
 {}
