@@ -4,19 +4,16 @@ ghost use Rattle.sl_world_law.specs.Changes.{LivesAreKept, TimesAreKept};
 ghost use Rattle.sl_world_law.specs.Flights.{FlightsAreKept};
 
 /// Time that passes, tests of the watchdog daemon, and machines that come up.
-#[tactic(auto, using(crate::proofs::PassedTime::times_are_kept))]
 pub fn times_are_kept()
     ensures { TimesAreKept }
 {}
 
 /// Daemons that begin and end, and machines that go down.
-#[tactic(auto, using(crate::proofs::DaemonLives::lives_are_kept))]
 pub fn lives_are_kept()
     ensures { LivesAreKept }
 {}
 
 /// Reads that sample, writes that take effect or never will, and calls that are done.
-#[tactic(auto, using(crate::proofs::FlightEvents::flights_are_kept))]
 pub fn flights_are_kept()
     ensures { FlightsAreKept }
 {}

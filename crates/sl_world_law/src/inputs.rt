@@ -9,7 +9,6 @@ pub fn inputs_are_kept()
 {}
 
 /// What the machine itself does.
-#[tactic(auto, using(crate::proofs::GivenInputs::own_effects_are_kept))]
 pub fn own_effects_are_kept()
     ensures { OwnEffectsAreKept }
 {}

@@ -3,7 +3,6 @@
 ghost use Rattle.sl_world_law.specs.Refusals.{RefusalsAreKept};
 
 /// The first refusal that fits is the same, whatever the event.
-#[tactic(auto, using(crate::proofs::RefusalCases::refusals_are_kept))]
 pub fn refusals_are_kept()
     ensures { RefusalsAreKept }
 {}

@@ -9,7 +9,6 @@ pub fn steps_are_kept()
 {}
 
 /// So does what a machine does itself.
-#[tactic(auto, using(crate::proofs::StepsAreKept::own_is_kept))]
 pub fn own_is_kept()
     ensures { OwnIsKept }
 {}
