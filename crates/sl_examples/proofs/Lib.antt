@@ -1,3 +1,4 @@
+pub mod WorkedRuns
 pub mod SchedulesReplay
 pub mod RefusedLines
 pub mod TracesKeepLaws

@@ -45,39 +45,19 @@ two_hosts = layout_of (record { sector = 512; area = 1048576; hosts = 2; paired 
 abbrev leader : Rec
 leader = LeaderIs (fresh_leader two_hosts (codes "ls") (codes "r"))
 
-pub front : take 16 (sector_with two_hosts leader) ≡ (0x53 ∷ 0x4c ∷ 0x4b ∷ 0x31 ∷ 0 ∷ 0 ∷ 0 ∷ 2 ∷ 0 ∷ 0 ∷ 0 ∷ 0 ∷ 0 ∷ 0 ∷ 0 ∷ 2 ∷ [])
+-- One declaration, so that the leader's digest is computed once.
+pub record BytesAre : Type 0 where
+  pub front : take 16 (sector_with two_hosts leader) ≡ (0x53 ∷ 0x4c ∷ 0x4b ∷ 0x31 ∷ 0 ∷ 0 ∷ 0 ∷ 2 ∷ 0 ∷ 0 ∷ 0 ∷ 0 ∷ 0 ∷ 0 ∷ 0 ∷ 2 ∷ [])
+  pub again : record_in two_hosts (sector_with two_hosts leader) ≡ Ok leader
+  pub padding : record_in two_hosts (slice_set (sector_with two_hosts leader) 200 1) ≡ Err (BadPad 200)
+  pub check : record_in two_hosts (slice_set (sector_with two_hosts leader) 511 (255 - slice_index (sector_with two_hosts leader) 511)) ≡ Err BadCheck
+  pub zeros : record_in two_hosts (replicate 512 0) ≡ Err BadMagic
+  pub kind_nine : record_in two_hosts (slice_set (sector_with two_hosts leader) 7 9) ≡ Err BadKind
+  pub state_two : record_in two_hosts (slice_set (sector_with two_hosts leader) 11 2) ≡ Err (BadField 8)
+  pub stamp : u64_bytes 1701 ≡ (0 ∷ 0 ∷ 0 ∷ 0 ∷ 0 ∷ 0 ∷ 6 ∷ 0xa5 ∷ [])
+  pub block_text : record_text (BlockIs (record { host = 1; shared = false; lver = 1; mbal = 1; bal = 1; inp_gen = 1; mode_gen = 0; inp = 1 }))
+      ≡ codes "block 1 lver 1 mbal 1 bal 1 inp 1 1 mode 0 0"
+
+pub bytes_are : BytesAre
 unfolding after_answer after_answer_of after_bytes after_end after_free after_input after_join_answer after_lease_answer after_renewal after_request_read after_see_request after_survey after_value_read area_next before_input begin_next begin_recoveries begin_recovery begins block_rules carry_decision carry_delta carry_lease checked_part compress count_event decided decoded delta_rules digest_bytes digits due due_step event_forms event_tests field_bytes fields_of finish finish_session first_change first_words forms goes_on_with hash_after header_forms header_of header_tests initial_record instance_of join_on_wake kill_holders kills known leader_rules lease_next leave_holdings locks_after lvm_forms lvm_turn machine_of_header magic next_after_deciding next_after_first next_after_verify next_after_watch next_in_joining next_on_wake next_renewal on_exit on_line on_spawned on_wake own_rules padded_text pass_tests phase1_block phase2_block refuse renew_on_wake reply_words request_refusal request_rules rounds schedule see_requests settle settle_begin settle_next settle_on_wake settlings sha256 signal_and_refuse spelling stop_of take_input time_out time_outs told_effects u32_at u32_bytes u64_at u64_bytes value_rules within_turn
-front = refl
-
-pub again : record_in two_hosts (sector_with two_hosts leader) ≡ Ok leader
-unfolding after_answer after_answer_of after_bytes after_end after_free after_input after_join_answer after_lease_answer after_renewal after_request_read after_see_request after_survey after_value_read area_next before_input begin_next begin_recoveries begin_recovery begins block_rules carry_decision carry_delta carry_lease checked_part compress count_event decided decoded delta_rules digest_bytes digits due due_step event_forms event_tests field_bytes fields_of finish finish_session first_change first_words forms goes_on_with hash_after header_forms header_of header_tests initial_record instance_of join_on_wake kill_holders kills known leader_rules lease_next leave_holdings locks_after lvm_forms lvm_turn machine_of_header magic next_after_deciding next_after_first next_after_verify next_after_watch next_in_joining next_on_wake next_renewal on_exit on_line on_spawned on_wake own_rules padded_text pass_tests phase1_block phase2_block refuse renew_on_wake reply_words request_refusal request_rules rounds schedule see_requests settle settle_begin settle_next settle_on_wake settlings sha256 signal_and_refuse spelling stop_of take_input time_out time_outs told_effects u32_at u32_bytes u64_at u64_bytes value_rules within_turn
-again = refl
-
-pub padding : record_in two_hosts (slice_set (sector_with two_hosts leader) 200 1) ≡ Err (BadPad 200)
-unfolding after_answer after_answer_of after_bytes after_end after_free after_input after_join_answer after_lease_answer after_renewal after_request_read after_see_request after_survey after_value_read area_next before_input begin_next begin_recoveries begin_recovery begins block_rules carry_decision carry_delta carry_lease checked_part compress count_event decided decoded delta_rules digest_bytes digits due due_step event_forms event_tests field_bytes fields_of finish finish_session first_change first_words forms goes_on_with hash_after header_forms header_of header_tests initial_record instance_of join_on_wake kill_holders kills known leader_rules lease_next leave_holdings locks_after lvm_forms lvm_turn machine_of_header magic next_after_deciding next_after_first next_after_verify next_after_watch next_in_joining next_on_wake next_renewal on_exit on_line on_spawned on_wake own_rules padded_text pass_tests phase1_block phase2_block refuse renew_on_wake reply_words request_refusal request_rules rounds schedule see_requests settle settle_begin settle_next settle_on_wake settlings sha256 signal_and_refuse spelling stop_of take_input time_out time_outs told_effects u32_at u32_bytes u64_at u64_bytes value_rules within_turn
-padding = refl
-
-pub check : record_in two_hosts (slice_set (sector_with two_hosts leader) 511 (255 - slice_index (sector_with two_hosts leader) 511)) ≡ Err BadCheck
-unfolding after_answer after_answer_of after_bytes after_end after_free after_input after_join_answer after_lease_answer after_renewal after_request_read after_see_request after_survey after_value_read area_next before_input begin_next begin_recoveries begin_recovery begins block_rules carry_decision carry_delta carry_lease checked_part compress count_event decided decoded delta_rules digest_bytes digits due due_step event_forms event_tests field_bytes fields_of finish finish_session first_change first_words forms goes_on_with hash_after header_forms header_of header_tests initial_record instance_of join_on_wake kill_holders kills known leader_rules lease_next leave_holdings locks_after lvm_forms lvm_turn machine_of_header magic next_after_deciding next_after_first next_after_verify next_after_watch next_in_joining next_on_wake next_renewal on_exit on_line on_spawned on_wake own_rules padded_text pass_tests phase1_block phase2_block refuse renew_on_wake reply_words request_refusal request_rules rounds schedule see_requests settle settle_begin settle_next settle_on_wake settlings sha256 signal_and_refuse spelling stop_of take_input time_out time_outs told_effects u32_at u32_bytes u64_at u64_bytes value_rules within_turn
-check = refl
-
-pub zeros : record_in two_hosts (replicate 512 0) ≡ Err BadMagic
-unfolding after_answer after_answer_of after_bytes after_end after_free after_input after_join_answer after_lease_answer after_renewal after_request_read after_see_request after_survey after_value_read area_next before_input begin_next begin_recoveries begin_recovery begins block_rules carry_decision carry_delta carry_lease checked_part count_event decided decoded delta_rules digits due due_step event_forms event_tests field_bytes fields_of finish finish_session first_change forms goes_on_with header_forms header_of header_tests initial_record instance_of join_on_wake kill_holders kills known leader_rules lease_next leave_holdings locks_after lvm_forms lvm_turn machine_of_header magic next_after_deciding next_after_first next_after_verify next_after_watch next_in_joining next_on_wake next_renewal on_exit on_line on_spawned on_wake own_rules padded_text pass_tests phase1_block phase2_block refuse renew_on_wake reply_words request_refusal request_rules see_requests settle settle_begin settle_next settle_on_wake settlings signal_and_refuse spelling stop_of take_input time_out time_outs told_effects u32_at u32_bytes u64_at u64_bytes value_rules within_turn
-zeros = refl
-
-pub kind_nine : record_in two_hosts (slice_set (sector_with two_hosts leader) 7 9) ≡ Err BadKind
-unfolding after_answer after_answer_of after_bytes after_end after_free after_input after_join_answer after_lease_answer after_renewal after_request_read after_see_request after_survey after_value_read area_next before_input begin_next begin_recoveries begin_recovery begins block_rules carry_decision carry_delta carry_lease checked_part compress count_event decided decoded delta_rules digest_bytes digits due due_step event_forms event_tests field_bytes fields_of finish finish_session first_change first_words forms goes_on_with hash_after header_forms header_of header_tests initial_record instance_of join_on_wake kill_holders kills known leader_rules lease_next leave_holdings locks_after lvm_forms lvm_turn machine_of_header magic next_after_deciding next_after_first next_after_verify next_after_watch next_in_joining next_on_wake next_renewal on_exit on_line on_spawned on_wake own_rules padded_text pass_tests phase1_block phase2_block refuse renew_on_wake reply_words request_refusal request_rules rounds schedule see_requests settle settle_begin settle_next settle_on_wake settlings sha256 signal_and_refuse spelling stop_of take_input time_out time_outs told_effects u32_at u32_bytes u64_at u64_bytes value_rules within_turn
-kind_nine = refl
-
-pub state_two : record_in two_hosts (slice_set (sector_with two_hosts leader) 11 2) ≡ Err (BadField 8)
-unfolding after_answer after_answer_of after_bytes after_end after_free after_input after_join_answer after_lease_answer after_renewal after_request_read after_see_request after_survey after_value_read area_next before_input begin_next begin_recoveries begin_recovery begins block_rules carry_decision carry_delta carry_lease checked_part compress count_event decided decoded delta_rules digest_bytes digits due due_step event_forms event_tests field_bytes fields_of finish finish_session first_change first_words forms goes_on_with hash_after header_forms header_of header_tests initial_record instance_of join_on_wake kill_holders kills known leader_rules lease_next leave_holdings locks_after lvm_forms lvm_turn machine_of_header magic next_after_deciding next_after_first next_after_verify next_after_watch next_in_joining next_on_wake next_renewal on_exit on_line on_spawned on_wake own_rules padded_text pass_tests phase1_block phase2_block refuse renew_on_wake reply_words request_refusal request_rules rounds schedule see_requests settle settle_begin settle_next settle_on_wake settlings sha256 signal_and_refuse spelling stop_of take_input time_out time_outs told_effects u32_at u32_bytes u64_at u64_bytes value_rules within_turn
-state_two = refl
-
-pub stamp : u64_bytes 1701 ≡ (0 ∷ 0 ∷ 0 ∷ 0 ∷ 0 ∷ 0 ∷ 6 ∷ 0xa5 ∷ [])
-unfolding u64_bytes
-stamp = refl
-
-pub block_text : record_text (BlockIs (record { host = 1; shared = false; lver = 1; mbal = 1; bal = 1; inp_gen = 1; mode_gen = 0; inp = 1 }))
-    ≡ codes "block 1 lver 1 mbal 1 bal 1 inp 1 1 mode 0 0"
-unfolding after_answer after_answer_of after_bytes after_end after_free after_input after_join_answer after_lease_answer after_renewal after_request_read after_see_request after_survey after_value_read area_next before_input begin_next begin_recoveries begin_recovery begins block_rules carry_decision carry_delta carry_lease checked_part count_event decided decoded delta_rules digits due due_step event_forms event_tests field_bytes fields_of finish finish_session first_change forms goes_on_with header_forms header_of header_tests initial_record instance_of join_on_wake kill_holders kills known leader_rules lease_next leave_holdings locks_after lvm_forms lvm_turn machine_of_header magic next_after_deciding next_after_first next_after_verify next_after_watch next_in_joining next_on_wake next_renewal on_exit on_line on_spawned on_wake own_rules padded_text pass_tests phase1_block phase2_block refuse renew_on_wake reply_words request_refusal request_rules see_requests settle settle_begin settle_next settle_on_wake settlings signal_and_refuse spelling stop_of take_input time_out time_outs told_effects u32_at u32_bytes u64_at u64_bytes value_rules within_turn
-block_text = refl
+bytes_are = record { front = refl; again = refl; padding = refl; check = refl; zeros = refl; kind_nine = refl; state_two = refl; stamp = refl; block_text = refl }

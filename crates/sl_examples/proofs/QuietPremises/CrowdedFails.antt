@@ -82,27 +82,28 @@ crowded_world = happens witness_world (WakeUp 1) (crowd ∷ [])
 abbrev asking : List Event
 asking = GiveCommand 1 exclusive_text ∷ []
 
-may_wake : IsTrue (may_happen witness_world (WakeUp 1))
-unfolding after_answer after_answer_of after_bytes after_end after_free after_input after_join_answer after_lease_answer after_renewal after_request_read after_see_request after_survey after_value_read area_next before_input begin_next begin_recoveries begin_recovery begins block_rules carry_decision carry_delta carry_lease checked_part count_event decided decoded delta_rules digits due due_step event_forms event_tests field_bytes fields_of finish finish_session first_change forms goes_on_with header_forms header_of header_tests initial_record instance_of join_on_wake kill_holders kills known leader_rules lease_next leave_holdings locks_after lvm_forms lvm_turn machine_of_header magic next_after_deciding next_after_first next_after_verify next_after_watch next_in_joining next_on_wake next_renewal on_exit on_line on_spawned on_wake own_rules padded_text pass_tests phase1_block phase2_block refuse renew_on_wake reply_words request_refusal request_rules see_requests settle settle_begin settle_next settle_on_wake settlings signal_and_refuse spelling stop_of take_input time_out time_outs told_effects u32_at u32_bytes u64_at u64_bytes value_rules within_turn
-may_wake = refl
+-- What is found by computing: the run and its traces are lawful, the acquire begins and goes on under these premises, and is refused. One
+-- declaration computes the run once.
+record IsShown : Type 0 where
+  may_wake : IsTrue (may_happen witness_world (WakeUp 1))
+  is_woken : IsSome (input_of witness_world (WakeUp 1))
+  run_found : IsSome (seek_run crowded_world asking)
+  laws_found : IsSome (seek_each_daemon (world_at cheap_program witness_header crowded_run))
+  start_found : IsSome (seek_start_under asked crowded_world 1 exclusive_text quiet_resource false 7)
+  job_found : IsSome (seek_for FirstJob (machine_at crowded_world 1) seek_job)
+  session_found : IsSome (seek_for FirstSession (machine_at crowded_world 1) seek_session)
+  stays_found : IsSome (seek_stays asked crowded_world (due_run crowded_world asking) 1 1 quiet_resource false 7 0)
+  refuses_found : IsSome (seek_refuses (world_after crowded_world (due_run crowded_world asking)) 1 1)
 
-is_woken : IsSome (input_of witness_world (WakeUp 1))
+shown : IsShown
 unfolding after_answer after_answer_of after_bytes after_end after_free after_input after_join_answer after_lease_answer after_renewal after_request_read after_see_request after_survey after_value_read area_next before_input begin_next begin_recoveries begin_recovery begins block_rules carry_decision carry_delta carry_lease checked_part count_event decided decoded delta_rules digits due due_step event_forms event_tests field_bytes fields_of finish finish_session first_change forms goes_on_with header_forms header_of header_tests initial_record instance_of join_on_wake kill_holders kills known leader_rules lease_next leave_holdings locks_after lvm_forms lvm_turn machine_of_header magic next_after_deciding next_after_first next_after_verify next_after_watch next_in_joining next_on_wake next_renewal on_exit on_line on_spawned on_wake own_rules padded_text pass_tests phase1_block phase2_block refuse renew_on_wake reply_words request_refusal request_rules see_requests settle settle_begin settle_next settle_on_wake settlings signal_and_refuse spelling stop_of take_input time_out time_outs told_effects u32_at u32_bytes u64_at u64_bytes value_rules within_turn
-is_woken = refl
-
-run_found : IsSome (seek_run crowded_world asking)
-unfolding after_answer after_answer_of after_bytes after_end after_free after_input after_join_answer after_lease_answer after_renewal after_request_read after_see_request after_survey after_value_read area_next before_input begin_next begin_recoveries begin_recovery begins block_rules carry_decision carry_delta carry_lease checked_part count_event decided decoded delta_rules digits due due_step event_forms event_tests field_bytes fields_of finish finish_session first_change forms goes_on_with header_forms header_of header_tests initial_record instance_of join_on_wake kill_holders kills known leader_rules lease_next leave_holdings locks_after lvm_forms lvm_turn machine_of_header magic next_after_deciding next_after_first next_after_verify next_after_watch next_in_joining next_on_wake next_renewal on_exit on_line on_spawned on_wake own_rules padded_text pass_tests phase1_block phase2_block refuse renew_on_wake reply_words request_refusal request_rules see_requests settle settle_begin settle_next settle_on_wake settlings signal_and_refuse spelling stop_of take_input time_out time_outs told_effects u32_at u32_bytes u64_at u64_bytes value_rules within_turn
-run_found = refl
+shown = record { may_wake = refl; is_woken = refl; run_found = refl; laws_found = refl; start_found = refl; job_found = refl; session_found = refl; stays_found = refl; refuses_found = refl }
 
 is_run : IsRun witness_world crowded_run
-is_run = (may_wake, one_step witness_world (WakeUp 1) crowd is_woken, found (seek_run crowded_world asking) run_found)
-
-laws_found : IsSome (seek_each_daemon (world_at cheap_program witness_header crowded_run))
-unfolding after_answer after_answer_of after_bytes after_end after_free after_input after_join_answer after_lease_answer after_renewal after_request_read after_see_request after_survey after_value_read area_next before_input begin_next begin_recoveries begin_recovery begins block_rules carry_decision carry_delta carry_lease checked_part count_event decided decoded delta_rules digits due due_step event_forms event_tests field_bytes fields_of finish finish_session first_change forms goes_on_with header_forms header_of header_tests initial_record instance_of join_on_wake kill_holders kills known leader_rules lease_next leave_holdings locks_after lvm_forms lvm_turn machine_of_header magic next_after_deciding next_after_first next_after_verify next_after_watch next_in_joining next_on_wake next_renewal on_exit on_line on_spawned on_wake own_rules padded_text pass_tests phase1_block phase2_block refuse renew_on_wake reply_words request_refusal request_rules see_requests settle settle_begin settle_next settle_on_wake settlings signal_and_refuse spelling stop_of take_input time_out time_outs told_effects u32_at u32_bytes u64_at u64_bytes value_rules within_turn
-laws_found = refl
+is_run = (shown.may_wake, one_step witness_world (WakeUp 1) crowd shown.is_woken, found (seek_run crowded_world asking) shown.run_found)
 
 each : EachDaemon Lawful (world_at cheap_program witness_header crowded_run)
-each = found (seek_each_daemon (world_at cheap_program witness_header crowded_run)) laws_found
+each = found (seek_each_daemon (world_at cheap_program witness_header crowded_run)) shown.laws_found
 
 is_lawful : LawfulRun cheap_program witness_header crowded_run
 is_lawful =
@@ -115,34 +116,14 @@ is_lawful =
 
 -- ---- the acquire
 
-start_found : IsSome (seek_start_under asked crowded_world 1 exclusive_text quiet_resource false 7)
-unfolding after_answer after_answer_of after_bytes after_end after_free after_input after_join_answer after_lease_answer after_renewal after_request_read after_see_request after_survey after_value_read area_next before_input begin_next begin_recoveries begin_recovery begins block_rules carry_decision carry_delta carry_lease checked_part count_event decided decoded delta_rules digits due due_step event_forms event_tests field_bytes fields_of finish finish_session first_change forms goes_on_with header_forms header_of header_tests initial_record instance_of join_on_wake kill_holders kills known leader_rules lease_next leave_holdings locks_after lvm_forms lvm_turn machine_of_header magic next_after_deciding next_after_first next_after_verify next_after_watch next_in_joining next_on_wake next_renewal on_exit on_line on_spawned on_wake own_rules padded_text pass_tests phase1_block phase2_block refuse renew_on_wake reply_words request_refusal request_rules see_requests settle settle_begin settle_next settle_on_wake settlings signal_and_refuse spelling stop_of take_input time_out time_outs told_effects u32_at u32_bytes u64_at u64_bytes value_rules within_turn
-start_found = refl
-
-job_found : IsSome (seek_for FirstJob (machine_at crowded_world 1) seek_job)
-unfolding after_answer after_answer_of after_bytes after_end after_free after_input after_join_answer after_lease_answer after_renewal after_request_read after_see_request after_survey after_value_read area_next before_input begin_next begin_recoveries begin_recovery begins block_rules carry_decision carry_delta carry_lease checked_part count_event decided decoded delta_rules digits due due_step event_forms event_tests field_bytes fields_of finish finish_session first_change forms goes_on_with header_forms header_of header_tests initial_record instance_of join_on_wake kill_holders kills known leader_rules lease_next leave_holdings locks_after lvm_forms lvm_turn machine_of_header magic next_after_deciding next_after_first next_after_verify next_after_watch next_in_joining next_on_wake next_renewal on_exit on_line on_spawned on_wake own_rules padded_text pass_tests phase1_block phase2_block refuse renew_on_wake reply_words request_refusal request_rules see_requests settle settle_begin settle_next settle_on_wake settlings signal_and_refuse spelling stop_of take_input time_out time_outs told_effects u32_at u32_bytes u64_at u64_bytes value_rules within_turn
-job_found = refl
-
-session_found : IsSome (seek_for FirstSession (machine_at crowded_world 1) seek_session)
-unfolding after_answer after_answer_of after_bytes after_end after_free after_input after_join_answer after_lease_answer after_renewal after_request_read after_see_request after_survey after_value_read area_next before_input begin_next begin_recoveries begin_recovery begins block_rules carry_decision carry_delta carry_lease checked_part count_event decided decoded delta_rules digits due due_step event_forms event_tests field_bytes fields_of finish finish_session first_change forms goes_on_with header_forms header_of header_tests initial_record instance_of join_on_wake kill_holders kills known leader_rules lease_next leave_holdings locks_after lvm_forms lvm_turn machine_of_header magic next_after_deciding next_after_first next_after_verify next_after_watch next_in_joining next_on_wake next_renewal on_exit on_line on_spawned on_wake own_rules padded_text pass_tests phase1_block phase2_block refuse renew_on_wake reply_words request_refusal request_rules see_requests settle settle_begin settle_next settle_on_wake settlings signal_and_refuse spelling stop_of take_input time_out time_outs told_effects u32_at u32_bytes u64_at u64_bytes value_rules within_turn
-session_found = refl
-
-stays_found : IsSome (seek_stays asked crowded_world (due_run crowded_world asking) 1 1 quiet_resource false 7 0)
-unfolding after_answer after_answer_of after_bytes after_end after_free after_input after_join_answer after_lease_answer after_renewal after_request_read after_see_request after_survey after_value_read area_next before_input begin_next begin_recoveries begin_recovery begins block_rules carry_decision carry_delta carry_lease checked_part count_event decided decoded delta_rules digits due due_step event_forms event_tests field_bytes fields_of finish finish_session first_change forms goes_on_with header_forms header_of header_tests initial_record instance_of join_on_wake kill_holders kills known leader_rules lease_next leave_holdings locks_after lvm_forms lvm_turn machine_of_header magic next_after_deciding next_after_first next_after_verify next_after_watch next_in_joining next_on_wake next_renewal on_exit on_line on_spawned on_wake own_rules padded_text pass_tests phase1_block phase2_block refuse renew_on_wake reply_words request_refusal request_rules see_requests settle settle_begin settle_next settle_on_wake settlings signal_and_refuse spelling stop_of take_input time_out time_outs told_effects u32_at u32_bytes u64_at u64_bytes value_rules within_turn
-stays_found = refl
-
-refuses_found : IsSome (seek_refuses (world_after crowded_world (due_run crowded_world asking)) 1 1)
-unfolding after_answer after_answer_of after_bytes after_end after_free after_input after_join_answer after_lease_answer after_renewal after_request_read after_see_request after_survey after_value_read area_next before_input begin_next begin_recoveries begin_recovery begins block_rules carry_decision carry_delta carry_lease checked_part count_event decided decoded delta_rules digits due due_step event_forms event_tests field_bytes fields_of finish finish_session first_change forms goes_on_with header_forms header_of header_tests initial_record instance_of join_on_wake kill_holders kills known leader_rules lease_next leave_holdings locks_after lvm_forms lvm_turn machine_of_header magic next_after_deciding next_after_first next_after_verify next_after_watch next_in_joining next_on_wake next_renewal on_exit on_line on_spawned on_wake own_rules padded_text pass_tests phase1_block phase2_block refuse renew_on_wake reply_words request_refusal request_rules see_requests settle settle_begin settle_next settle_on_wake settlings signal_and_refuse spelling stop_of take_input time_out time_outs told_effects u32_at u32_bytes u64_at u64_bytes value_rules within_turn
-refuses_found = refl
-
 refused : GrantedUnder asked witness_world crowded_run → ⊥
 refused law =
-    let q = found (seek_start_under asked crowded_world 1 exclusive_text quiet_resource false 7) start_found in
+    let q = found (seek_start_under asked crowded_world 1 exclusive_text quiet_resource false 7) shown.start_found in
     fails asked crowded_world [] [] exclusive_text quiet_resource false 7 1 0 q
-    (found (seek_for FirstJob (machine_at crowded_world 1) seek_job) job_found q.machine q.runs.0 q.daemon q.runs.1)
-    (found (seek_for FirstSession (machine_at crowded_world 1) seek_session) session_found q.machine q.runs.0 q.daemon q.runs.1 q.session q.named)
-    (found (seek_stays asked crowded_world (due_run crowded_world asking) 1 1 quiet_resource false 7 0) stays_found)
-    (found (seek_refuses (world_after crowded_world (due_run crowded_world asking)) 1 1) refuses_found)
+    (found (seek_for FirstJob (machine_at crowded_world 1) seek_job) shown.job_found q.machine q.runs.0 q.daemon q.runs.1)
+    (found (seek_for FirstSession (machine_at crowded_world 1) seek_session) shown.session_found q.machine q.runs.0 q.daemon q.runs.1 q.session q.named)
+    (found (seek_stays asked crowded_world (due_run crowded_world asking) 1 1 quiet_resource false 7 0) shown.stays_found)
+    (found (seek_refuses (world_after crowded_world (due_run crowded_world asking)) 1 1) shown.refuses_found)
     (granted_behind asked witness_world (WakeUp 1, crowd ∷ []) (due_run crowded_world asking) law)
 
 pub crowded_fails : FailsIn asked crowded_run

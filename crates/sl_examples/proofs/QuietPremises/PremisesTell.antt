@@ -77,195 +77,83 @@ refused_behind asked before during q job session stays refuses =
 too_few_by : (asked : Premises) (xs : List Happening) → FailsIn asked xs → IsRedone (world_at cheap_program witness_header xs) → IsSet (world_at cheap_program witness_header xs) → AreTooFew asked xs
 too_few_by asked xs f redone set = record { in_run = f; too_few = λ suffices. f.fails (suffices cheap_program witness_header xs f.lawful (made_by xs f.lawful redone set)) }
 
+-- The world in which the acquire comes.
+abbrev before_asking : List Event → World
+before_asking before = world_after witness_world (due_run witness_world before)
+
+-- What is found by computing: behind these events machine 1's first job is an acquire, it begins with nothing in its way and is refused, the run
+-- is lawful, and its daemons do what is due. One declaration computes the run once.
+record Shown (asked : Premises) (before during : List Event) : Type 0 where
+  is_run : IsSome (seek_run witness_world (before ++ GiveCommand 1 exclusive_text ∷ during))
+  laws : IsSome (seek_each_daemon (world_at cheap_program witness_header (due_run witness_world (before ++ GiveCommand 1 exclusive_text ∷ during))))
+  start : IsSome (seek_start_under asked (before_asking before) 1 exclusive_text quiet_resource false 7)
+  job : IsSome (seek_for FirstJob (machine_at (before_asking before) 1) seek_job)
+  session : IsSome (seek_for FirstSession (machine_at (before_asking before) 1) seek_session)
+  stays : IsSome (seek_stays asked (before_asking before) (due_run (before_asking before) (GiveCommand 1 exclusive_text ∷ during)) 1 1 quiet_resource false 7 0)
+  refuses : IsSome (seek_refuses (world_after (before_asking before) (due_run (before_asking before) (GiveCommand 1 exclusive_text ∷ during))) 1 1)
+  redone : IsRedone (world_at cheap_program witness_header (due_run witness_world (before ++ GiveCommand 1 exclusive_text ∷ during)))
+  set : IsSet (world_at cheap_program witness_header (due_run witness_world (before ++ GiveCommand 1 exclusive_text ∷ during)))
+
+shown_fails : (asked : Premises) (before during : List Event) → Shown asked before during → FailsIn asked (due_run witness_world (before ++ GiveCommand 1 exclusive_text ∷ during))
+shown_fails asked before during s =
+    record {
+      lawful = lawful_by (before ++ GiveCommand 1 exclusive_text ∷ during) s.is_run
+          (found (seek_each_daemon (world_at cheap_program witness_header (due_run witness_world (before ++ GiveCommand 1 exclusive_text ∷ during)))) s.laws);
+      fails = refused_behind asked before during (found (seek_start_under asked (before_asking before) 1 exclusive_text quiet_resource false 7) s.start)
+          (found (seek_for FirstJob (machine_at (before_asking before) 1) seek_job) s.job) (found (seek_for FirstSession (machine_at (before_asking before) 1) seek_session) s.session)
+          (found (seek_stays asked (before_asking before) (due_run (before_asking before) (GiveCommand 1 exclusive_text ∷ during)) 1 1 quiet_resource false 7 0) s.stays)
+          (found (seek_refuses (world_after (before_asking before) (due_run (before_asking before) (GiveCommand 1 exclusive_text ∷ during))) 1 1) s.refuses);
+    }
+
+shown_too_few : (asked : Premises) (before during : List Event) → Shown asked before during → AreTooFew asked (due_run witness_world (before ++ GiveCommand 1 exclusive_text ∷ during))
+shown_too_few asked before during s =
+    too_few_by asked (due_run witness_world (before ++ GiveCommand 1 exclusive_text ∷ during)) (shown_fails asked before during s) s.redone s.set
+
 -- ---- late
 
 abbrev late_asked : Premises
 late_asked = record { in_time = false; sole_writer = true; modes_over = true; no_limit = true }
 
-abbrev late_before : List Event
-late_before = []
-
-abbrev late_world : World
-late_world = world_after witness_world (due_run witness_world late_before)
-
 abbrev late_during : List Event
 late_during = Do 1 1 ∷ Do 1 2 ∷ Pass 100 None ∷ Do 1 3 ∷ []
 
-late_is_run : IsSome (seek_run witness_world late_events)
+late_shown : Shown late_asked [] late_during
 unfolding after_answer after_answer_of after_bytes after_end after_free after_input after_join_answer after_lease_answer after_renewal after_request_read after_see_request after_survey after_value_read area_next before_input begin_next begin_recoveries begin_recovery begins block_rules carry_decision carry_delta carry_lease checked_part count_event decided decoded delta_rules digits due due_step event_forms event_tests field_bytes fields_of finish finish_session first_change forms goes_on_with header_forms header_of header_tests initial_record instance_of join_on_wake kill_holders kills known leader_rules lease_next leave_holdings locks_after lvm_forms lvm_turn machine_of_header magic next_after_deciding next_after_first next_after_verify next_after_watch next_in_joining next_on_wake next_renewal on_exit on_line on_spawned on_wake own_rules padded_text pass_tests phase1_block phase2_block refuse renew_on_wake reply_words request_refusal request_rules see_requests settle settle_begin settle_next settle_on_wake settlings signal_and_refuse spelling stop_of take_input time_out time_outs told_effects u32_at u32_bytes u64_at u64_bytes value_rules within_turn
-late_is_run = refl
-
-late_laws : IsSome (seek_each_daemon (world_at cheap_program witness_header (due_run witness_world late_events)))
-unfolding after_answer after_answer_of after_bytes after_end after_free after_input after_join_answer after_lease_answer after_renewal after_request_read after_see_request after_survey after_value_read area_next before_input begin_next begin_recoveries begin_recovery begins block_rules carry_decision carry_delta carry_lease checked_part count_event decided decoded delta_rules digits due due_step event_forms event_tests field_bytes fields_of finish finish_session first_change forms goes_on_with header_forms header_of header_tests initial_record instance_of join_on_wake kill_holders kills known leader_rules lease_next leave_holdings locks_after lvm_forms lvm_turn machine_of_header magic next_after_deciding next_after_first next_after_verify next_after_watch next_in_joining next_on_wake next_renewal on_exit on_line on_spawned on_wake own_rules padded_text pass_tests phase1_block phase2_block refuse renew_on_wake reply_words request_refusal request_rules see_requests settle settle_begin settle_next settle_on_wake settlings signal_and_refuse spelling stop_of take_input time_out time_outs told_effects u32_at u32_bytes u64_at u64_bytes value_rules within_turn
-late_laws = refl
-
-late_start : IsSome (seek_start_under late_asked late_world 1 exclusive_text quiet_resource false 7)
-unfolding after_answer after_answer_of after_bytes after_end after_free after_input after_join_answer after_lease_answer after_renewal after_request_read after_see_request after_survey after_value_read area_next before_input begin_next begin_recoveries begin_recovery begins block_rules carry_decision carry_delta carry_lease checked_part count_event decided decoded delta_rules digits due due_step event_forms event_tests field_bytes fields_of finish finish_session first_change forms goes_on_with header_forms header_of header_tests initial_record instance_of join_on_wake kill_holders kills known leader_rules lease_next leave_holdings locks_after lvm_forms lvm_turn machine_of_header magic next_after_deciding next_after_first next_after_verify next_after_watch next_in_joining next_on_wake next_renewal on_exit on_line on_spawned on_wake own_rules padded_text pass_tests phase1_block phase2_block refuse renew_on_wake reply_words request_refusal request_rules see_requests settle settle_begin settle_next settle_on_wake settlings signal_and_refuse spelling stop_of take_input time_out time_outs told_effects u32_at u32_bytes u64_at u64_bytes value_rules within_turn
-late_start = refl
-
-late_job : IsSome (seek_for FirstJob (machine_at late_world 1) seek_job)
-unfolding after_answer after_answer_of after_bytes after_end after_free after_input after_join_answer after_lease_answer after_renewal after_request_read after_see_request after_survey after_value_read area_next before_input begin_next begin_recoveries begin_recovery begins block_rules carry_decision carry_delta carry_lease checked_part count_event decided decoded delta_rules digits due due_step event_forms event_tests field_bytes fields_of finish finish_session first_change forms goes_on_with header_forms header_of header_tests initial_record instance_of join_on_wake kill_holders kills known leader_rules lease_next leave_holdings locks_after lvm_forms lvm_turn machine_of_header magic next_after_deciding next_after_first next_after_verify next_after_watch next_in_joining next_on_wake next_renewal on_exit on_line on_spawned on_wake own_rules padded_text pass_tests phase1_block phase2_block refuse renew_on_wake reply_words request_refusal request_rules see_requests settle settle_begin settle_next settle_on_wake settlings signal_and_refuse spelling stop_of take_input time_out time_outs told_effects u32_at u32_bytes u64_at u64_bytes value_rules within_turn
-late_job = refl
-
-late_session : IsSome (seek_for FirstSession (machine_at late_world 1) seek_session)
-unfolding after_answer after_answer_of after_bytes after_end after_free after_input after_join_answer after_lease_answer after_renewal after_request_read after_see_request after_survey after_value_read area_next before_input begin_next begin_recoveries begin_recovery begins block_rules carry_decision carry_delta carry_lease checked_part count_event decided decoded delta_rules digits due due_step event_forms event_tests field_bytes fields_of finish finish_session first_change forms goes_on_with header_forms header_of header_tests initial_record instance_of join_on_wake kill_holders kills known leader_rules lease_next leave_holdings locks_after lvm_forms lvm_turn machine_of_header magic next_after_deciding next_after_first next_after_verify next_after_watch next_in_joining next_on_wake next_renewal on_exit on_line on_spawned on_wake own_rules padded_text pass_tests phase1_block phase2_block refuse renew_on_wake reply_words request_refusal request_rules see_requests settle settle_begin settle_next settle_on_wake settlings signal_and_refuse spelling stop_of take_input time_out time_outs told_effects u32_at u32_bytes u64_at u64_bytes value_rules within_turn
-late_session = refl
-
-late_stays : IsSome (seek_stays late_asked late_world (due_run late_world (GiveCommand 1 exclusive_text ∷ late_during)) 1 1 quiet_resource false 7 0)
-unfolding after_answer after_answer_of after_bytes after_end after_free after_input after_join_answer after_lease_answer after_renewal after_request_read after_see_request after_survey after_value_read area_next before_input begin_next begin_recoveries begin_recovery begins block_rules carry_decision carry_delta carry_lease checked_part count_event decided decoded delta_rules digits due due_step event_forms event_tests field_bytes fields_of finish finish_session first_change forms goes_on_with header_forms header_of header_tests initial_record instance_of join_on_wake kill_holders kills known leader_rules lease_next leave_holdings locks_after lvm_forms lvm_turn machine_of_header magic next_after_deciding next_after_first next_after_verify next_after_watch next_in_joining next_on_wake next_renewal on_exit on_line on_spawned on_wake own_rules padded_text pass_tests phase1_block phase2_block refuse renew_on_wake reply_words request_refusal request_rules see_requests settle settle_begin settle_next settle_on_wake settlings signal_and_refuse spelling stop_of take_input time_out time_outs told_effects u32_at u32_bytes u64_at u64_bytes value_rules within_turn
-late_stays = refl
-
-late_refuses : IsSome (seek_refuses (world_after late_world (due_run late_world (GiveCommand 1 exclusive_text ∷ late_during))) 1 1)
-unfolding after_answer after_answer_of after_bytes after_end after_free after_input after_join_answer after_lease_answer after_renewal after_request_read after_see_request after_survey after_value_read area_next before_input begin_next begin_recoveries begin_recovery begins block_rules carry_decision carry_delta carry_lease checked_part count_event decided decoded delta_rules digits due due_step event_forms event_tests field_bytes fields_of finish finish_session first_change forms goes_on_with header_forms header_of header_tests initial_record instance_of join_on_wake kill_holders kills known leader_rules lease_next leave_holdings locks_after lvm_forms lvm_turn machine_of_header magic next_after_deciding next_after_first next_after_verify next_after_watch next_in_joining next_on_wake next_renewal on_exit on_line on_spawned on_wake own_rules padded_text pass_tests phase1_block phase2_block refuse renew_on_wake reply_words request_refusal request_rules see_requests settle settle_begin settle_next settle_on_wake settlings signal_and_refuse spelling stop_of take_input time_out time_outs told_effects u32_at u32_bytes u64_at u64_bytes value_rules within_turn
-late_refuses = refl
-
-late_redone : IsRedone (world_at cheap_program witness_header (due_run witness_world late_events))
-unfolding after_answer after_answer_of after_bytes after_end after_free after_input after_join_answer after_lease_answer after_renewal after_request_read after_see_request after_survey after_value_read area_next before_input begin_next begin_recoveries begin_recovery begins block_rules carry_decision carry_delta carry_lease checked_part count_event decided decoded delta_rules digits due due_step event_forms event_tests field_bytes fields_of finish finish_session first_change forms goes_on_with header_forms header_of header_tests initial_record instance_of join_on_wake kill_holders kills known leader_rules lease_next leave_holdings locks_after lvm_forms lvm_turn machine_of_header magic next_after_deciding next_after_first next_after_verify next_after_watch next_in_joining next_on_wake next_renewal on_exit on_line on_spawned on_wake own_rules padded_text pass_tests phase1_block phase2_block refuse renew_on_wake reply_words request_refusal request_rules see_requests settle settle_begin settle_next settle_on_wake settlings signal_and_refuse spelling stop_of take_input time_out time_outs told_effects u32_at u32_bytes u64_at u64_bytes value_rules within_turn
-late_redone = refl
-
-late_set : IsSet (world_at cheap_program witness_header (due_run witness_world late_events))
-unfolding after_answer after_answer_of after_bytes after_end after_free after_input after_join_answer after_lease_answer after_renewal after_request_read after_see_request after_survey after_value_read area_next before_input begin_next begin_recoveries begin_recovery begins block_rules carry_decision carry_delta carry_lease checked_part count_event decided decoded delta_rules digits due due_step event_forms event_tests field_bytes fields_of finish finish_session first_change forms goes_on_with header_forms header_of header_tests initial_record instance_of join_on_wake kill_holders kills known leader_rules lease_next leave_holdings locks_after lvm_forms lvm_turn machine_of_header magic next_after_deciding next_after_first next_after_verify next_after_watch next_in_joining next_on_wake next_renewal on_exit on_line on_spawned on_wake own_rules padded_text pass_tests phase1_block phase2_block refuse renew_on_wake reply_words request_refusal request_rules see_requests settle settle_begin settle_next settle_on_wake settlings signal_and_refuse spelling stop_of take_input time_out time_outs told_effects u32_at u32_bytes u64_at u64_bytes value_rules within_turn
-late_set = refl
-
-late_fails : FailsIn late_asked (due_run witness_world late_events)
-late_fails =
-    record {
-      lawful = lawful_by late_events late_is_run (found (seek_each_daemon (world_at cheap_program witness_header (due_run witness_world late_events))) late_laws);
-      fails = refused_behind late_asked late_before late_during (found (seek_start_under late_asked late_world 1 exclusive_text quiet_resource false 7) late_start)
-          (found (seek_for FirstJob (machine_at late_world 1) seek_job) late_job) (found (seek_for FirstSession (machine_at late_world 1) seek_session) late_session)
-          (found (seek_stays late_asked late_world (due_run late_world (GiveCommand 1 exclusive_text ∷ late_during)) 1 1 quiet_resource false 7 0) late_stays)
-          (found (seek_refuses (world_after late_world (due_run late_world (GiveCommand 1 exclusive_text ∷ late_during))) 1 1) late_refuses);
-    }
+late_shown = record { is_run = refl; laws = refl; start = refl; job = refl; session = refl; stays = refl; refuses = refl; redone = refl; set = refl }
 
 late_too_few : AreTooFew late_asked (due_run witness_world late_events)
-late_too_few = too_few_by late_asked (due_run witness_world late_events) late_fails late_redone late_set
+late_too_few = shown_too_few late_asked [] late_during late_shown
 
 -- ---- rival
 
 abbrev rival_asked : Premises
 rival_asked = record { in_time = true; sole_writer = false; modes_over = true; no_limit = true }
 
-abbrev rival_before : List Event
-rival_before = []
-
-abbrev rival_world : World
-rival_world = world_after witness_world (due_run witness_world rival_before)
-
 abbrev rival_during : List Event
 rival_during = GiveCommand 2 (codes "acquire -r ls:r:/d:1048576 -p 9") ∷ Sample 1 1 4 ∷ Sample 2 1 4 ∷ AnswerCall 1 1 true
     ∷ AnswerCall 2 1 true ∷ Land 2 2 ∷ Do 1 2 ∷ Do 1 3 ∷ []
 
-rival_is_run : IsSome (seek_run witness_world rival_events)
+rival_shown : Shown rival_asked [] rival_during
 unfolding after_answer after_answer_of after_bytes after_end after_free after_input after_join_answer after_lease_answer after_renewal after_request_read after_see_request after_survey after_value_read area_next before_input begin_next begin_recoveries begin_recovery begins block_rules carry_decision carry_delta carry_lease checked_part count_event decided decoded delta_rules digits due due_step event_forms event_tests field_bytes fields_of finish finish_session first_change forms goes_on_with header_forms header_of header_tests initial_record instance_of join_on_wake kill_holders kills known leader_rules lease_next leave_holdings locks_after lvm_forms lvm_turn machine_of_header magic next_after_deciding next_after_first next_after_verify next_after_watch next_in_joining next_on_wake next_renewal on_exit on_line on_spawned on_wake own_rules padded_text pass_tests phase1_block phase2_block refuse renew_on_wake reply_words request_refusal request_rules see_requests settle settle_begin settle_next settle_on_wake settlings signal_and_refuse spelling stop_of take_input time_out time_outs told_effects u32_at u32_bytes u64_at u64_bytes value_rules within_turn
-rival_is_run = refl
-
-rival_laws : IsSome (seek_each_daemon (world_at cheap_program witness_header (due_run witness_world rival_events)))
-unfolding after_answer after_answer_of after_bytes after_end after_free after_input after_join_answer after_lease_answer after_renewal after_request_read after_see_request after_survey after_value_read area_next before_input begin_next begin_recoveries begin_recovery begins block_rules carry_decision carry_delta carry_lease checked_part count_event decided decoded delta_rules digits due due_step event_forms event_tests field_bytes fields_of finish finish_session first_change forms goes_on_with header_forms header_of header_tests initial_record instance_of join_on_wake kill_holders kills known leader_rules lease_next leave_holdings locks_after lvm_forms lvm_turn machine_of_header magic next_after_deciding next_after_first next_after_verify next_after_watch next_in_joining next_on_wake next_renewal on_exit on_line on_spawned on_wake own_rules padded_text pass_tests phase1_block phase2_block refuse renew_on_wake reply_words request_refusal request_rules see_requests settle settle_begin settle_next settle_on_wake settlings signal_and_refuse spelling stop_of take_input time_out time_outs told_effects u32_at u32_bytes u64_at u64_bytes value_rules within_turn
-rival_laws = refl
-
-rival_start : IsSome (seek_start_under rival_asked rival_world 1 exclusive_text quiet_resource false 7)
-unfolding after_answer after_answer_of after_bytes after_end after_free after_input after_join_answer after_lease_answer after_renewal after_request_read after_see_request after_survey after_value_read area_next before_input begin_next begin_recoveries begin_recovery begins block_rules carry_decision carry_delta carry_lease checked_part count_event decided decoded delta_rules digits due due_step event_forms event_tests field_bytes fields_of finish finish_session first_change forms goes_on_with header_forms header_of header_tests initial_record instance_of join_on_wake kill_holders kills known leader_rules lease_next leave_holdings locks_after lvm_forms lvm_turn machine_of_header magic next_after_deciding next_after_first next_after_verify next_after_watch next_in_joining next_on_wake next_renewal on_exit on_line on_spawned on_wake own_rules padded_text pass_tests phase1_block phase2_block refuse renew_on_wake reply_words request_refusal request_rules see_requests settle settle_begin settle_next settle_on_wake settlings signal_and_refuse spelling stop_of take_input time_out time_outs told_effects u32_at u32_bytes u64_at u64_bytes value_rules within_turn
-rival_start = refl
-
-rival_job : IsSome (seek_for FirstJob (machine_at rival_world 1) seek_job)
-unfolding after_answer after_answer_of after_bytes after_end after_free after_input after_join_answer after_lease_answer after_renewal after_request_read after_see_request after_survey after_value_read area_next before_input begin_next begin_recoveries begin_recovery begins block_rules carry_decision carry_delta carry_lease checked_part count_event decided decoded delta_rules digits due due_step event_forms event_tests field_bytes fields_of finish finish_session first_change forms goes_on_with header_forms header_of header_tests initial_record instance_of join_on_wake kill_holders kills known leader_rules lease_next leave_holdings locks_after lvm_forms lvm_turn machine_of_header magic next_after_deciding next_after_first next_after_verify next_after_watch next_in_joining next_on_wake next_renewal on_exit on_line on_spawned on_wake own_rules padded_text pass_tests phase1_block phase2_block refuse renew_on_wake reply_words request_refusal request_rules see_requests settle settle_begin settle_next settle_on_wake settlings signal_and_refuse spelling stop_of take_input time_out time_outs told_effects u32_at u32_bytes u64_at u64_bytes value_rules within_turn
-rival_job = refl
-
-rival_session : IsSome (seek_for FirstSession (machine_at rival_world 1) seek_session)
-unfolding after_answer after_answer_of after_bytes after_end after_free after_input after_join_answer after_lease_answer after_renewal after_request_read after_see_request after_survey after_value_read area_next before_input begin_next begin_recoveries begin_recovery begins block_rules carry_decision carry_delta carry_lease checked_part count_event decided decoded delta_rules digits due due_step event_forms event_tests field_bytes fields_of finish finish_session first_change forms goes_on_with header_forms header_of header_tests initial_record instance_of join_on_wake kill_holders kills known leader_rules lease_next leave_holdings locks_after lvm_forms lvm_turn machine_of_header magic next_after_deciding next_after_first next_after_verify next_after_watch next_in_joining next_on_wake next_renewal on_exit on_line on_spawned on_wake own_rules padded_text pass_tests phase1_block phase2_block refuse renew_on_wake reply_words request_refusal request_rules see_requests settle settle_begin settle_next settle_on_wake settlings signal_and_refuse spelling stop_of take_input time_out time_outs told_effects u32_at u32_bytes u64_at u64_bytes value_rules within_turn
-rival_session = refl
-
-rival_stays : IsSome (seek_stays rival_asked rival_world (due_run rival_world (GiveCommand 1 exclusive_text ∷ rival_during)) 1 1 quiet_resource false 7 0)
-unfolding after_answer after_answer_of after_bytes after_end after_free after_input after_join_answer after_lease_answer after_renewal after_request_read after_see_request after_survey after_value_read area_next before_input begin_next begin_recoveries begin_recovery begins block_rules carry_decision carry_delta carry_lease checked_part count_event decided decoded delta_rules digits due due_step event_forms event_tests field_bytes fields_of finish finish_session first_change forms goes_on_with header_forms header_of header_tests initial_record instance_of join_on_wake kill_holders kills known leader_rules lease_next leave_holdings locks_after lvm_forms lvm_turn machine_of_header magic next_after_deciding next_after_first next_after_verify next_after_watch next_in_joining next_on_wake next_renewal on_exit on_line on_spawned on_wake own_rules padded_text pass_tests phase1_block phase2_block refuse renew_on_wake reply_words request_refusal request_rules see_requests settle settle_begin settle_next settle_on_wake settlings signal_and_refuse spelling stop_of take_input time_out time_outs told_effects u32_at u32_bytes u64_at u64_bytes value_rules within_turn
-rival_stays = refl
-
-rival_refuses : IsSome (seek_refuses (world_after rival_world (due_run rival_world (GiveCommand 1 exclusive_text ∷ rival_during))) 1 1)
-unfolding after_answer after_answer_of after_bytes after_end after_free after_input after_join_answer after_lease_answer after_renewal after_request_read after_see_request after_survey after_value_read area_next before_input begin_next begin_recoveries begin_recovery begins block_rules carry_decision carry_delta carry_lease checked_part count_event decided decoded delta_rules digits due due_step event_forms event_tests field_bytes fields_of finish finish_session first_change forms goes_on_with header_forms header_of header_tests initial_record instance_of join_on_wake kill_holders kills known leader_rules lease_next leave_holdings locks_after lvm_forms lvm_turn machine_of_header magic next_after_deciding next_after_first next_after_verify next_after_watch next_in_joining next_on_wake next_renewal on_exit on_line on_spawned on_wake own_rules padded_text pass_tests phase1_block phase2_block refuse renew_on_wake reply_words request_refusal request_rules see_requests settle settle_begin settle_next settle_on_wake settlings signal_and_refuse spelling stop_of take_input time_out time_outs told_effects u32_at u32_bytes u64_at u64_bytes value_rules within_turn
-rival_refuses = refl
-
-rival_redone : IsRedone (world_at cheap_program witness_header (due_run witness_world rival_events))
-unfolding after_answer after_answer_of after_bytes after_end after_free after_input after_join_answer after_lease_answer after_renewal after_request_read after_see_request after_survey after_value_read area_next before_input begin_next begin_recoveries begin_recovery begins block_rules carry_decision carry_delta carry_lease checked_part count_event decided decoded delta_rules digits due due_step event_forms event_tests field_bytes fields_of finish finish_session first_change forms goes_on_with header_forms header_of header_tests initial_record instance_of join_on_wake kill_holders kills known leader_rules lease_next leave_holdings locks_after lvm_forms lvm_turn machine_of_header magic next_after_deciding next_after_first next_after_verify next_after_watch next_in_joining next_on_wake next_renewal on_exit on_line on_spawned on_wake own_rules padded_text pass_tests phase1_block phase2_block refuse renew_on_wake reply_words request_refusal request_rules see_requests settle settle_begin settle_next settle_on_wake settlings signal_and_refuse spelling stop_of take_input time_out time_outs told_effects u32_at u32_bytes u64_at u64_bytes value_rules within_turn
-rival_redone = refl
-
-rival_set : IsSet (world_at cheap_program witness_header (due_run witness_world rival_events))
-unfolding after_answer after_answer_of after_bytes after_end after_free after_input after_join_answer after_lease_answer after_renewal after_request_read after_see_request after_survey after_value_read area_next before_input begin_next begin_recoveries begin_recovery begins block_rules carry_decision carry_delta carry_lease checked_part count_event decided decoded delta_rules digits due due_step event_forms event_tests field_bytes fields_of finish finish_session first_change forms goes_on_with header_forms header_of header_tests initial_record instance_of join_on_wake kill_holders kills known leader_rules lease_next leave_holdings locks_after lvm_forms lvm_turn machine_of_header magic next_after_deciding next_after_first next_after_verify next_after_watch next_in_joining next_on_wake next_renewal on_exit on_line on_spawned on_wake own_rules padded_text pass_tests phase1_block phase2_block refuse renew_on_wake reply_words request_refusal request_rules see_requests settle settle_begin settle_next settle_on_wake settlings signal_and_refuse spelling stop_of take_input time_out time_outs told_effects u32_at u32_bytes u64_at u64_bytes value_rules within_turn
-rival_set = refl
-
-rival_fails : FailsIn rival_asked (due_run witness_world rival_events)
-rival_fails =
-    record {
-      lawful = lawful_by rival_events rival_is_run (found (seek_each_daemon (world_at cheap_program witness_header (due_run witness_world rival_events))) rival_laws);
-      fails = refused_behind rival_asked rival_before rival_during (found (seek_start_under rival_asked rival_world 1 exclusive_text quiet_resource false 7) rival_start)
-          (found (seek_for FirstJob (machine_at rival_world 1) seek_job) rival_job) (found (seek_for FirstSession (machine_at rival_world 1) seek_session) rival_session)
-          (found (seek_stays rival_asked rival_world (due_run rival_world (GiveCommand 1 exclusive_text ∷ rival_during)) 1 1 quiet_resource false 7 0) rival_stays)
-          (found (seek_refuses (world_after rival_world (due_run rival_world (GiveCommand 1 exclusive_text ∷ rival_during))) 1 1) rival_refuses);
-    }
+rival_shown = record { is_run = refl; laws = refl; start = refl; job = refl; session = refl; stays = refl; refuses = refl; redone = refl; set = refl }
 
 rival_too_few : AreTooFew rival_asked (due_run witness_world rival_events)
-rival_too_few = too_few_by rival_asked (due_run witness_world rival_events) rival_fails rival_redone rival_set
+rival_too_few = shown_too_few rival_asked [] rival_during rival_shown
 
 -- ---- sharing
 
 abbrev sharing_asked : Premises
 sharing_asked = record { in_time = true; sole_writer = true; modes_over = false; no_limit = true }
 
-abbrev sharing_before : List Event
-sharing_before = sharing_events
-
-abbrev sharing_world : World
-sharing_world = world_after witness_world (due_run witness_world sharing_before)
-
 abbrev sharing_during : List Event
 sharing_during = Do 1 1 ∷ Do 1 2 ∷ Do 1 3 ∷ []
 
-sharing_is_run : IsSome (seek_run witness_world (sharing_events ++ asking_events))
+sharing_shown : Shown sharing_asked sharing_events sharing_during
 unfolding after_answer after_answer_of after_bytes after_end after_free after_input after_join_answer after_lease_answer after_renewal after_request_read after_see_request after_survey after_value_read area_next before_input begin_next begin_recoveries begin_recovery begins block_rules carry_decision carry_delta carry_lease checked_part count_event decided decoded delta_rules digits due due_step event_forms event_tests field_bytes fields_of finish finish_session first_change forms goes_on_with header_forms header_of header_tests initial_record instance_of join_on_wake kill_holders kills known leader_rules lease_next leave_holdings locks_after lvm_forms lvm_turn machine_of_header magic next_after_deciding next_after_first next_after_verify next_after_watch next_in_joining next_on_wake next_renewal on_exit on_line on_spawned on_wake own_rules padded_text pass_tests phase1_block phase2_block refuse renew_on_wake reply_words request_refusal request_rules see_requests settle settle_begin settle_next settle_on_wake settlings signal_and_refuse spelling stop_of take_input time_out time_outs told_effects u32_at u32_bytes u64_at u64_bytes value_rules within_turn
-sharing_is_run = refl
-
-sharing_laws : IsSome (seek_each_daemon (world_at cheap_program witness_header (due_run witness_world (sharing_events ++ asking_events))))
-unfolding after_answer after_answer_of after_bytes after_end after_free after_input after_join_answer after_lease_answer after_renewal after_request_read after_see_request after_survey after_value_read area_next before_input begin_next begin_recoveries begin_recovery begins block_rules carry_decision carry_delta carry_lease checked_part count_event decided decoded delta_rules digits due due_step event_forms event_tests field_bytes fields_of finish finish_session first_change forms goes_on_with header_forms header_of header_tests initial_record instance_of join_on_wake kill_holders kills known leader_rules lease_next leave_holdings locks_after lvm_forms lvm_turn machine_of_header magic next_after_deciding next_after_first next_after_verify next_after_watch next_in_joining next_on_wake next_renewal on_exit on_line on_spawned on_wake own_rules padded_text pass_tests phase1_block phase2_block refuse renew_on_wake reply_words request_refusal request_rules see_requests settle settle_begin settle_next settle_on_wake settlings signal_and_refuse spelling stop_of take_input time_out time_outs told_effects u32_at u32_bytes u64_at u64_bytes value_rules within_turn
-sharing_laws = refl
-
-sharing_start : IsSome (seek_start_under sharing_asked sharing_world 1 exclusive_text quiet_resource false 7)
-unfolding after_answer after_answer_of after_bytes after_end after_free after_input after_join_answer after_lease_answer after_renewal after_request_read after_see_request after_survey after_value_read area_next before_input begin_next begin_recoveries begin_recovery begins block_rules carry_decision carry_delta carry_lease checked_part count_event decided decoded delta_rules digits due due_step event_forms event_tests field_bytes fields_of finish finish_session first_change forms goes_on_with header_forms header_of header_tests initial_record instance_of join_on_wake kill_holders kills known leader_rules lease_next leave_holdings locks_after lvm_forms lvm_turn machine_of_header magic next_after_deciding next_after_first next_after_verify next_after_watch next_in_joining next_on_wake next_renewal on_exit on_line on_spawned on_wake own_rules padded_text pass_tests phase1_block phase2_block refuse renew_on_wake reply_words request_refusal request_rules see_requests settle settle_begin settle_next settle_on_wake settlings signal_and_refuse spelling stop_of take_input time_out time_outs told_effects u32_at u32_bytes u64_at u64_bytes value_rules within_turn
-sharing_start = refl
-
-sharing_job : IsSome (seek_for FirstJob (machine_at sharing_world 1) seek_job)
-unfolding after_answer after_answer_of after_bytes after_end after_free after_input after_join_answer after_lease_answer after_renewal after_request_read after_see_request after_survey after_value_read area_next before_input begin_next begin_recoveries begin_recovery begins block_rules carry_decision carry_delta carry_lease checked_part count_event decided decoded delta_rules digits due due_step event_forms event_tests field_bytes fields_of finish finish_session first_change forms goes_on_with header_forms header_of header_tests initial_record instance_of join_on_wake kill_holders kills known leader_rules lease_next leave_holdings locks_after lvm_forms lvm_turn machine_of_header magic next_after_deciding next_after_first next_after_verify next_after_watch next_in_joining next_on_wake next_renewal on_exit on_line on_spawned on_wake own_rules padded_text pass_tests phase1_block phase2_block refuse renew_on_wake reply_words request_refusal request_rules see_requests settle settle_begin settle_next settle_on_wake settlings signal_and_refuse spelling stop_of take_input time_out time_outs told_effects u32_at u32_bytes u64_at u64_bytes value_rules within_turn
-sharing_job = refl
-
-sharing_session : IsSome (seek_for FirstSession (machine_at sharing_world 1) seek_session)
-unfolding after_answer after_answer_of after_bytes after_end after_free after_input after_join_answer after_lease_answer after_renewal after_request_read after_see_request after_survey after_value_read area_next before_input begin_next begin_recoveries begin_recovery begins block_rules carry_decision carry_delta carry_lease checked_part count_event decided decoded delta_rules digits due due_step event_forms event_tests field_bytes fields_of finish finish_session first_change forms goes_on_with header_forms header_of header_tests initial_record instance_of join_on_wake kill_holders kills known leader_rules lease_next leave_holdings locks_after lvm_forms lvm_turn machine_of_header magic next_after_deciding next_after_first next_after_verify next_after_watch next_in_joining next_on_wake next_renewal on_exit on_line on_spawned on_wake own_rules padded_text pass_tests phase1_block phase2_block refuse renew_on_wake reply_words request_refusal request_rules see_requests settle settle_begin settle_next settle_on_wake settlings signal_and_refuse spelling stop_of take_input time_out time_outs told_effects u32_at u32_bytes u64_at u64_bytes value_rules within_turn
-sharing_session = refl
-
-sharing_stays : IsSome (seek_stays sharing_asked sharing_world (due_run sharing_world (GiveCommand 1 exclusive_text ∷ sharing_during)) 1 1 quiet_resource false 7 0)
-unfolding after_answer after_answer_of after_bytes after_end after_free after_input after_join_answer after_lease_answer after_renewal after_request_read after_see_request after_survey after_value_read area_next before_input begin_next begin_recoveries begin_recovery begins block_rules carry_decision carry_delta carry_lease checked_part count_event decided decoded delta_rules digits due due_step event_forms event_tests field_bytes fields_of finish finish_session first_change forms goes_on_with header_forms header_of header_tests initial_record instance_of join_on_wake kill_holders kills known leader_rules lease_next leave_holdings locks_after lvm_forms lvm_turn machine_of_header magic next_after_deciding next_after_first next_after_verify next_after_watch next_in_joining next_on_wake next_renewal on_exit on_line on_spawned on_wake own_rules padded_text pass_tests phase1_block phase2_block refuse renew_on_wake reply_words request_refusal request_rules see_requests settle settle_begin settle_next settle_on_wake settlings signal_and_refuse spelling stop_of take_input time_out time_outs told_effects u32_at u32_bytes u64_at u64_bytes value_rules within_turn
-sharing_stays = refl
-
-sharing_refuses : IsSome (seek_refuses (world_after sharing_world (due_run sharing_world (GiveCommand 1 exclusive_text ∷ sharing_during))) 1 1)
-unfolding after_answer after_answer_of after_bytes after_end after_free after_input after_join_answer after_lease_answer after_renewal after_request_read after_see_request after_survey after_value_read area_next before_input begin_next begin_recoveries begin_recovery begins block_rules carry_decision carry_delta carry_lease checked_part count_event decided decoded delta_rules digits due due_step event_forms event_tests field_bytes fields_of finish finish_session first_change forms goes_on_with header_forms header_of header_tests initial_record instance_of join_on_wake kill_holders kills known leader_rules lease_next leave_holdings locks_after lvm_forms lvm_turn machine_of_header magic next_after_deciding next_after_first next_after_verify next_after_watch next_in_joining next_on_wake next_renewal on_exit on_line on_spawned on_wake own_rules padded_text pass_tests phase1_block phase2_block refuse renew_on_wake reply_words request_refusal request_rules see_requests settle settle_begin settle_next settle_on_wake settlings signal_and_refuse spelling stop_of take_input time_out time_outs told_effects u32_at u32_bytes u64_at u64_bytes value_rules within_turn
-sharing_refuses = refl
-
-sharing_redone : IsRedone (world_at cheap_program witness_header (due_run witness_world (sharing_events ++ asking_events)))
-unfolding after_answer after_answer_of after_bytes after_end after_free after_input after_join_answer after_lease_answer after_renewal after_request_read after_see_request after_survey after_value_read area_next before_input begin_next begin_recoveries begin_recovery begins block_rules carry_decision carry_delta carry_lease checked_part count_event decided decoded delta_rules digits due due_step event_forms event_tests field_bytes fields_of finish finish_session first_change forms goes_on_with header_forms header_of header_tests initial_record instance_of join_on_wake kill_holders kills known leader_rules lease_next leave_holdings locks_after lvm_forms lvm_turn machine_of_header magic next_after_deciding next_after_first next_after_verify next_after_watch next_in_joining next_on_wake next_renewal on_exit on_line on_spawned on_wake own_rules padded_text pass_tests phase1_block phase2_block refuse renew_on_wake reply_words request_refusal request_rules see_requests settle settle_begin settle_next settle_on_wake settlings signal_and_refuse spelling stop_of take_input time_out time_outs told_effects u32_at u32_bytes u64_at u64_bytes value_rules within_turn
-sharing_redone = refl
-
-sharing_set : IsSet (world_at cheap_program witness_header (due_run witness_world (sharing_events ++ asking_events)))
-unfolding after_answer after_answer_of after_bytes after_end after_free after_input after_join_answer after_lease_answer after_renewal after_request_read after_see_request after_survey after_value_read area_next before_input begin_next begin_recoveries begin_recovery begins block_rules carry_decision carry_delta carry_lease checked_part count_event decided decoded delta_rules digits due due_step event_forms event_tests field_bytes fields_of finish finish_session first_change forms goes_on_with header_forms header_of header_tests initial_record instance_of join_on_wake kill_holders kills known leader_rules lease_next leave_holdings locks_after lvm_forms lvm_turn machine_of_header magic next_after_deciding next_after_first next_after_verify next_after_watch next_in_joining next_on_wake next_renewal on_exit on_line on_spawned on_wake own_rules padded_text pass_tests phase1_block phase2_block refuse renew_on_wake reply_words request_refusal request_rules see_requests settle settle_begin settle_next settle_on_wake settlings signal_and_refuse spelling stop_of take_input time_out time_outs told_effects u32_at u32_bytes u64_at u64_bytes value_rules within_turn
-sharing_set = refl
-
-sharing_fails : FailsIn sharing_asked (due_run witness_world (sharing_events ++ asking_events))
-sharing_fails =
-    record {
-      lawful = lawful_by (sharing_events ++ asking_events) sharing_is_run (found (seek_each_daemon (world_at cheap_program witness_header (due_run witness_world (sharing_events ++ asking_events)))) sharing_laws);
-      fails = refused_behind sharing_asked sharing_before sharing_during (found (seek_start_under sharing_asked sharing_world 1 exclusive_text quiet_resource false 7) sharing_start)
-          (found (seek_for FirstJob (machine_at sharing_world 1) seek_job) sharing_job) (found (seek_for FirstSession (machine_at sharing_world 1) seek_session) sharing_session)
-          (found (seek_stays sharing_asked sharing_world (due_run sharing_world (GiveCommand 1 exclusive_text ∷ sharing_during)) 1 1 quiet_resource false 7 0) sharing_stays)
-          (found (seek_refuses (world_after sharing_world (due_run sharing_world (GiveCommand 1 exclusive_text ∷ sharing_during))) 1 1) sharing_refuses);
-    }
+sharing_shown = record { is_run = refl; laws = refl; start = refl; job = refl; session = refl; stays = refl; refuses = refl; redone = refl; set = refl }
 
 sharing_too_few : AreTooFew sharing_asked (due_run witness_world (sharing_events ++ asking_events))
-sharing_too_few = too_few_by sharing_asked (due_run witness_world (sharing_events ++ asking_events)) sharing_fails sharing_redone sharing_set
+sharing_too_few = shown_too_few sharing_asked sharing_events sharing_during sharing_shown
 
 pub premises_tell : PremisesTell
 premises_tell = record { in_time = late_too_few; sole_writer = rival_too_few; modes_over = sharing_too_few; no_limit = crowded_fails }

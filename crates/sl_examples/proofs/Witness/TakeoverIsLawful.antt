@@ -59,44 +59,6 @@ rest_of (Header_read h rest) = rest
 abbrev reading : HeaderReading
 reading = read_header cheap_language [] 1 (numbered_lines (as_bytes owner_reset_then_taken_over.source))
 
-reads : reading ≡ Header_read witness_header (rest_of reading)
-unfolding after_answer after_answer_of after_bytes after_end after_free after_input after_join_answer after_lease_answer after_renewal after_request_read after_see_request after_survey after_value_read area_next before_input begin_next begin_recoveries begin_recovery begins block_rules carry_decision carry_delta carry_lease checked_part count_event decided decoded delta_rules digits due due_step event_forms event_tests field_bytes fields_of finish finish_session first_change forms goes_on_with header_forms header_of header_tests initial_record instance_of join_on_wake kill_holders kills known leader_rules lease_next leave_holdings locks_after lvm_forms lvm_turn machine_of_header magic next_after_deciding next_after_first next_after_verify next_after_watch next_in_joining next_on_wake next_renewal on_exit on_line on_spawned on_wake own_rules padded_text pass_tests phase1_block phase2_block refuse renew_on_wake reply_words request_refusal request_rules see_requests settle settle_begin settle_next settle_on_wake settlings signal_and_refuse spelling stop_of take_input time_out time_outs told_effects u32_at u32_bytes u64_at u64_bytes value_rules within_turn
-reads = refl
-
-tells : map (λ l. l.1) (event_lines_of cheap_language witness_header (rest_of reading)) ≡ map (λ e. Ok e) witness_events
-unfolding after_answer after_answer_of after_bytes after_end after_free after_input after_join_answer after_lease_answer after_renewal after_request_read after_see_request after_survey after_value_read area_next before_input begin_next begin_recoveries begin_recovery begins block_rules carry_decision carry_delta carry_lease checked_part count_event decided decoded delta_rules digits due due_step event_forms event_tests field_bytes fields_of finish finish_session first_change forms goes_on_with header_forms header_of header_tests initial_record instance_of join_on_wake kill_holders kills known leader_rules lease_next leave_holdings locks_after lvm_forms lvm_turn machine_of_header magic next_after_deciding next_after_first next_after_verify next_after_watch next_in_joining next_on_wake next_renewal on_exit on_line on_spawned on_wake own_rules padded_text pass_tests phase1_block phase2_block refuse renew_on_wake reply_words request_refusal request_rules see_requests settle settle_begin settle_next settle_on_wake settlings signal_and_refuse spelling stop_of take_input time_out time_outs told_effects u32_at u32_bytes u64_at u64_bytes value_rules within_turn
-tells = refl
-
-is_of_the_schedule : IsOfTheSchedule
-is_of_the_schedule = record { rest = rest_of reading; reads = reads; tells = tells }
-
--- ---- the run is lawful
-
-header_found : IsSome (seek_header witness_header)
-header_found = refl
-
-run_found : IsSome (seek_run witness_world witness_events)
-unfolding after_answer after_answer_of after_bytes after_end after_free after_input after_join_answer after_lease_answer after_renewal after_request_read after_see_request after_survey after_value_read area_next before_input begin_next begin_recoveries begin_recovery begins block_rules carry_decision carry_delta carry_lease checked_part count_event decided decoded delta_rules digits due due_step event_forms event_tests field_bytes fields_of finish finish_session first_change forms goes_on_with header_forms header_of header_tests initial_record instance_of join_on_wake kill_holders kills known leader_rules lease_next leave_holdings locks_after lvm_forms lvm_turn machine_of_header magic next_after_deciding next_after_first next_after_verify next_after_watch next_in_joining next_on_wake next_renewal on_exit on_line on_spawned on_wake own_rules padded_text pass_tests phase1_block phase2_block refuse renew_on_wake reply_words request_refusal request_rules see_requests settle settle_begin settle_next settle_on_wake settlings signal_and_refuse spelling stop_of take_input time_out time_outs told_effects u32_at u32_bytes u64_at u64_bytes value_rules within_turn
-run_found = refl
-
-laws_found : IsSome (seek_each_daemon (world_at cheap_program witness_header witness_run))
-unfolding after_answer after_answer_of after_bytes after_end after_free after_input after_join_answer after_lease_answer after_renewal after_request_read after_see_request after_survey after_value_read area_next before_input begin_next begin_recoveries begin_recovery begins block_rules carry_decision carry_delta carry_lease checked_part count_event decided decoded delta_rules digits due due_step event_forms event_tests field_bytes fields_of finish finish_session first_change forms goes_on_with header_forms header_of header_tests initial_record instance_of join_on_wake kill_holders kills known leader_rules lease_next leave_holdings locks_after lvm_forms lvm_turn machine_of_header magic next_after_deciding next_after_first next_after_verify next_after_watch next_in_joining next_on_wake next_renewal on_exit on_line on_spawned on_wake own_rules padded_text pass_tests phase1_block phase2_block refuse renew_on_wake reply_words request_refusal request_rules see_requests settle settle_begin settle_next settle_on_wake settlings signal_and_refuse spelling stop_of take_input time_out time_outs told_effects u32_at u32_bytes u64_at u64_bytes value_rules within_turn
-laws_found = refl
-
-each_lawful : EachDaemon Lawful (world_at cheap_program witness_header witness_run)
-each_lawful = found (seek_each_daemon (world_at cheap_program witness_header witness_run)) laws_found
-
-is_lawful : LawfulRun cheap_program witness_header witness_run
-is_lawful =
-    record {
-      header = found (seek_header witness_header) header_found;
-      digest = cheap_is_digest;
-      is_run = found (seek_run witness_world witness_events) run_found;
-      lawful = λ d has. (each_lawful d has).orderly;
-    }
-
--- ---- the resource passes over
-
 -- A holding of the resource.
 abbrev grant : ℕ → ℕ → Grant
 grant process lver =
@@ -118,13 +80,41 @@ before = due_run witness_world owning_events
 abbrev world_then : World
 world_then = world_at cheap_program witness_header before
 
-owner_holds : world_holdings world_then ≡ record { machine = 2; held = grant 9 1 } ∷ []
-unfolding after_answer after_answer_of after_bytes after_end after_free after_input after_join_answer after_lease_answer after_renewal after_request_read after_see_request after_survey after_value_read area_next before_input begin_next begin_recoveries begin_recovery begins block_rules carry_decision carry_delta carry_lease checked_part count_event decided decoded delta_rules digits due due_step event_forms event_tests field_bytes fields_of finish finish_session first_change forms goes_on_with header_forms header_of header_tests initial_record instance_of join_on_wake kill_holders kills known leader_rules lease_next leave_holdings locks_after lvm_forms lvm_turn machine_of_header magic next_after_deciding next_after_first next_after_verify next_after_watch next_in_joining next_on_wake next_renewal on_exit on_line on_spawned on_wake own_rules padded_text pass_tests phase1_block phase2_block refuse renew_on_wake reply_words request_refusal request_rules see_requests settle settle_begin settle_next settle_on_wake settlings signal_and_refuse spelling stop_of take_input time_out time_outs told_effects u32_at u32_bytes u64_at u64_bytes value_rules within_turn
-owner_holds = refl
+-- What is found by computing: the schedule is that run, the run and its traces are lawful, and who holds the resource. One declaration computes
+-- the run once.
+record IsShown : Type 0 where
+  reads : reading ≡ Header_read witness_header (rest_of reading)
+  tells : map (λ l. l.1) (event_lines_of cheap_language witness_header (rest_of reading)) ≡ map (λ e. Ok e) witness_events
+  run_found : IsSome (seek_run witness_world witness_events)
+  laws_found : IsSome (seek_each_daemon (world_at cheap_program witness_header witness_run))
+  owner_holds : world_holdings world_then ≡ record { machine = 2; held = grant 9 1 } ∷ []
+  taker_holds : world_holdings (world_at cheap_program witness_header witness_run) ≡ record { machine = 1; held = grant 7 2 } ∷ []
 
-taker_holds : world_holdings (world_at cheap_program witness_header witness_run) ≡ record { machine = 1; held = grant 7 2 } ∷ []
+shown : IsShown
 unfolding after_answer after_answer_of after_bytes after_end after_free after_input after_join_answer after_lease_answer after_renewal after_request_read after_see_request after_survey after_value_read area_next before_input begin_next begin_recoveries begin_recovery begins block_rules carry_decision carry_delta carry_lease checked_part count_event decided decoded delta_rules digits due due_step event_forms event_tests field_bytes fields_of finish finish_session first_change forms goes_on_with header_forms header_of header_tests initial_record instance_of join_on_wake kill_holders kills known leader_rules lease_next leave_holdings locks_after lvm_forms lvm_turn machine_of_header magic next_after_deciding next_after_first next_after_verify next_after_watch next_in_joining next_on_wake next_renewal on_exit on_line on_spawned on_wake own_rules padded_text pass_tests phase1_block phase2_block refuse renew_on_wake reply_words request_refusal request_rules see_requests settle settle_begin settle_next settle_on_wake settlings signal_and_refuse spelling stop_of take_input time_out time_outs told_effects u32_at u32_bytes u64_at u64_bytes value_rules within_turn
-taker_holds = refl
+shown = record { reads = refl; tells = refl; run_found = refl; laws_found = refl; owner_holds = refl; taker_holds = refl }
+
+is_of_the_schedule : IsOfTheSchedule
+is_of_the_schedule = record { rest = rest_of reading; reads = shown.reads; tells = shown.tells }
+
+-- ---- the run is lawful
+
+header_found : IsSome (seek_header witness_header)
+header_found = refl
+
+each_lawful : EachDaemon Lawful (world_at cheap_program witness_header witness_run)
+each_lawful = found (seek_each_daemon (world_at cheap_program witness_header witness_run)) shown.laws_found
+
+is_lawful : LawfulRun cheap_program witness_header witness_run
+is_lawful =
+    record {
+      header = found (seek_header witness_header) header_found;
+      digest = cheap_is_digest;
+      is_run = found (seek_run witness_world witness_events) shown.run_found;
+      lawful = λ d has. (each_lawful d has).orderly;
+    }
+
+-- ---- the resource passes over
 
 holds_alone : (w : World) (machine process lver : ℕ) → world_holdings w ≡ record { machine = machine; held = grant process lver } ∷ [] → HoldsAlone w machine lver
 holds_alone w machine process lver only =
@@ -137,8 +127,8 @@ passes_over =
       effects = effects_of world_then (Reset 2);
       after = due_run (happens world_then (Reset 2) (effects_of world_then (Reset 2))) taking_events;
       resets = due_run-append witness_world owning_events (Reset 2 ∷ taking_events);
-      first = holds_alone world_then 2 9 1 owner_holds;
-      last = holds_alone (world_at cheap_program witness_header witness_run) 1 7 2 taker_holds;
+      first = holds_alone world_then 2 9 1 shown.owner_holds;
+      last = holds_alone (world_at cheap_program witness_header witness_run) 1 7 2 shown.taker_holds;
     }
 
 pub takeover_is_lawful : TakeoverIsLawful

@@ -24,61 +24,51 @@ ghost use Rattle.sl_examples.specs.Ballots.TwoAlive.{TwoAliveBreak};
 ghost use Rattle.sl_examples.specs.Ballots.NumberZero.{ZeroBreaks};
 
 /// Witness: there is a lawful history in which two sessions are granted holdings, one exclusive and one shared.
-#[tactic(auto, using(crate::proofs::Ballots::TwoGrantsHistory::some_are_granted))]
 pub fn some_are_granted()
     ensures { SomeAreGranted }
 {}
 
 /// Witness: there is a lawful history in which a lease passes from a session that is over to another.
-#[tactic(auto, using(crate::proofs::Ballots::TakenOverHistory::some_is_taken_over))]
 pub fn some_is_taken_over()
     ensures { SomeIsTakenOver }
 {}
 
 /// Counterexample: a write that lands after a later one of its session.
-#[tactic(auto, using(crate::proofs::Ballots::OverlapHistory::overlap_breaks))]
 pub fn overlap_breaks()
     ensures { OverlapBreaks }
 {}
 
 /// Counterexample: a read that passes over a torn block.
-#[tactic(auto, using(crate::proofs::Ballots::TornBlockHistory::torn_breaks))]
 pub fn torn_breaks()
     ensures { TornBreaks }
 {}
 
 /// Counterexample: a host that goes back to a lower instance.
-#[tactic(auto, using(crate::proofs::Ballots::OlderInstanceHistory::lower_breaks))]
 pub fn lower_breaks()
     ensures { LowerBreaks }
 {}
 
 /// Counterexample: a ballot of number 0.
-#[tactic(auto, using(crate::proofs::Ballots::NumberZeroHistory::zero_breaks))]
 pub fn zero_breaks()
     ensures { ZeroBreaks }
 {}
 
 /// Counterexample: two sessions of one id that are alive at once.
-#[tactic(auto, using(crate::proofs::Ballots::TwoAliveHistory::two_alive_break))]
 pub fn two_alive_break()
     ensures { TwoAliveBreak }
 {}
 
 /// Counterexample: evidence against a session that is alive.
-#[tactic(auto, using(crate::proofs::Ballots::FalseEvidenceHistory::false_evidence_breaks))]
 pub fn false_evidence_breaks()
     ensures { FalseEvidenceBreaks }
 {}
 
 /// Counterexample: an instance that is freed before the mark.
-#[tactic(auto, using(crate::proofs::Ballots::FreedFirstHistory::freed_first_breaks))]
 pub fn freed_first_breaks()
     ensures { FreedFirstBreaks }
 {}
 
 /// Counterexample: a look at the blocks before the instance has begun.
-#[tactic(auto, using(crate::proofs::Ballots::EarlyLookHistory::early_look_breaks))]
 pub fn early_look_breaks()
     ensures { EarlyLookBreaks }
 {}
