@@ -1,23 +1,19 @@
 //! The area in memory with each call failing in turn, and the area over files of the system.
 
-ghost use Rattle.std.specs.Prelude.{IfOk, false, ◌≡◌};
+ghost use Rattle.std.specs.Prelude.{IfSome, false, ◌≡◌};
 
-use crate::output_words::Seen::{Number, Truth};
-use crate::output_words::push_row;
+use crate::told::Told;
 use sl_area::{Area, FileArea, Geometry, MemArea, Place};
-use std::alloc::Global;
-use std::io::{ErrorKind, Read, Seek, Write};
+use std::alloc::{AllocError, Global};
+use std::fs;
+use std::io::{Read, Seek, Write};
 use std::rt::Files;
-use std::{fs, io};
 
 /// Sectors of 512 bytes and areas of a mebibyte, for three hosts.
-pub fn small() -> io::Result<Geometry>
-    ensures { IfOk result (λ g. g ≡ record { sector = 512; area = 1048576; hosts = 3; paired = false }) }
+pub fn small() -> Option<Geometry>
+    ensures { IfSome result (λ g. g ≡ record { sector = 512; area = 1048576; hosts = 3; paired = false }) }
 {
-    match Geometry::new(512, 1_048_576, 3) {
-        Ok(run) => Ok(run),
-        Err(_) => Err(io::Error::from(ErrorKind::Other)),
-    }
+    Geometry::new(512, 1_048_576, 3).ok()
 }
 
 /// Writes a sector of one byte: whether that went well.
@@ -45,7 +41,7 @@ pub fn reads<A: Area>(area: &mut A, at: Place, byte: u8) -> bool
 /// How many of two writes and a read of both went well, and the first and last byte of both sectors that were read.
 #[derive(Clone, Copy)]
 struct Round {
-    done: u32,
+    done: u64,
     ends: [u8; 4],
 }
 
@@ -54,87 +50,95 @@ fn write_and_read<A: Area>(area: &mut A, run: Geometry) -> Round
     requires { run ≡ record { sector = 512; area = 1048576; hosts = 3; paired = false } }
 {
     let mut read = [9; 1024];
-    let mut done = 0;
-    if writes(area, run.request_place(0), 1) {
-        done += 1;
-    }
-    if writes(area, run.block_place(0, 1), 2) {
-        done += 1;
-    }
-    if area.read(run.request_place(0), 2, &mut read).is_ok() {
-        done += 1;
-    }
+    let first = writes(area, run.request_place(0), 1);
+    let second = writes(area, run.block_place(0, 1), 2);
+    let both = area.read(run.request_place(0), 2, &mut read).is_ok();
     Round {
-        done,
+        done: u64::from(first) + u64::from(second) + u64::from(both),
         ends: [read[0], read[511], read[512], read[1023]],
     }
 }
 
 /// Adds the bytes of a round.
-fn push_ends(told: &mut String, ends: &[u8; 4]) -> io::Result<()> {
+fn tell_ends(told: &mut Told, ends: &[u8; 4]) {
     for end in ends.iter() {
-        push_row(told, &[Number(u64::from(*end))])?;
+        told.number(u64::from(*end));
     }
-    Ok(())
 }
 
 /// A round in an area of three sectors, of which a call fails: how many calls went well, the faults, the first and last byte of both sectors
 /// that were read; and whether the first sector of the area is zeros still.
-fn a_call_fails(alloc: Global, told: &mut String, call: u64) -> io::Result<()> {
-    let mut area = MemArea::new(alloc, 1536, vec![in alloc; call]?)?;
-    let Round { done, ends } = write_and_read(&mut area, small()?);
-    let untouched = area.content().get(..512) == Some([0; 512].as_slice());
-    push_row(told, &[Number(u64::from(done)), Number(area.faults())])?;
-    push_ends(told, &ends)?;
-    push_row(told, &[Truth(untouched)])?;
-    Ok(told.push_str(";")?)
+fn tell_round(told: &mut Told, area: &mut MemArea) {
+    let Some(run) = small() else {
+        return told.need(false);
+    };
+    let round = write_and_read(area, run);
+    told.number(round.done);
+    told.number(area.faults());
+    tell_ends(told, &round.ends);
+    told.truth(area.content().starts_with(&[0; 512]));
+    told.end(";");
+}
+
+/// An area of three sectors, of which a call fails.
+fn failing_area(alloc: Global, call: u64) -> Result<MemArea, AllocError> {
+    MemArea::new(alloc, 1536, vec![in alloc; call]?)
+}
+
+/// A round in such an area.
+fn a_call_fails(told: &mut Told, call: u64) {
+    match failing_area(told.alloc, call) {
+        Ok(mut area) => tell_round(told, &mut area),
+        Err(_) => told.need(false),
+    }
 }
 
 /// A round for each of four calls that fails.
-pub fn each_call_fails(alloc: Global, told: &mut String) -> io::Result<()> {
+pub fn each_call_fails(told: &mut Told) {
     for call in 1..=4u64 {
-        a_call_fails(alloc, told, call)?;
+        a_call_fails(told, call);
     }
-    Ok(())
 }
 
 /// An area that is a byte short of its third sector.
-fn a_short_area(alloc: Global) -> io::Result<MemArea> {
+fn short_area(alloc: Global) -> Result<MemArea, AllocError> {
     Ok(MemArea::of(vec![in alloc; 0; 1535]?, Vec::new(alloc)))
 }
 
-/// A round in an area that is a byte short of its third sector: how many calls went well, the faults, and the first byte; how a read of another
-/// sector went, and the faults.
-pub fn past_the_room(alloc: Global, told: &mut String) -> io::Result<()> {
-    let run = small()?;
-    let mut area = a_short_area(alloc)?;
-    let Round { done, ends } = write_and_read(&mut area, run);
-    push_row(
-        told,
-        &[
-            Number(u64::from(done)),
-            Number(area.faults()),
-            Number(u64::from(ends[0])),
-        ],
-    )?;
-    let past = is_read(&mut area, run.value_place(0));
-    Ok(push_row(told, &[Truth(past), Number(area.faults())])?)
+/// A round in such an area: how many calls went well, the faults, and the first byte; how a read of another sector went, and the faults.
+fn tell_short_round(told: &mut Told, area: &mut MemArea) {
+    let Some(run) = small() else {
+        return told.need(false);
+    };
+    let round = write_and_read(area, run);
+    told.number(round.done);
+    told.number(area.faults());
+    told.number(u64::from(round.ends[0]));
+    told.truth(is_read(area, run.value_place(0)));
+    told.number(area.faults());
 }
 
-/// A file that isn't there: the faults, how many calls of a round went well, and the faults then.
-pub fn a_missing_file<R: Files>(rt: &R, told: &mut String) -> io::Result<()> {
-    let run = small()?;
-    let mut area = FileArea::open(rt, "no_such_area");
-    let before = area.faults();
-    let done = write_and_read(&mut area, run).done;
-    Ok(push_row(
-        told,
-        &[
-            Number(before),
-            Number(u64::from(done)),
-            Number(area.faults()),
-        ],
-    )?)
+/// A round in an area that is a byte short of its third sector.
+pub fn past_the_room(told: &mut Told) {
+    match short_area(told.alloc) {
+        Ok(mut area) => tell_short_round(told, &mut area),
+        Err(_) => told.need(false),
+    }
+}
+
+/// In a file that isn't there: the faults, how many calls of a round went well, and the faults then.
+fn tell_missing<F: Read + Write + Seek + Drop>(told: &mut Told, area: &mut FileArea<F>) {
+    told.number(area.faults());
+    match small() {
+        Some(run) => told.number(write_and_read(area, run).done),
+        None => told.need(false),
+    }
+    told.number(area.faults());
+}
+
+/// A file that isn't there.
+pub fn a_missing_file<R: Files>(rt: &R, told: &mut Told) {
+    tell_missing(told, &mut FileArea::open(rt, "no_such_area"));
 }
 
 /// Whether the bytes are these: 700 sevens, zeros up to 1536, and 512 fives.
@@ -147,73 +151,61 @@ fn is_extended(bytes: &[u8]) -> bool {
 
 /// In a file of 700 sevens: whether its first sector is read; whether the next, which it ends in, and the fourth are; and the faults.
 fn while_short<F: Read + Write + Seek + Drop>(
-    told: &mut String,
+    told: &mut Told,
     area: &mut FileArea<F>,
     run: Geometry,
-) -> io::Result<()>
+)
     requires { run ≡ record { sector = 512; area = 1048576; hosts = 3; paired = false } }
 {
-    let first = reads(area, run.leader_place(0), 7);
-    let cut = is_read(area, run.request_place(0));
-    let past = is_read(area, run.block_place(0, 3));
-    Ok(push_row(
-        told,
-        &[Truth(first), Truth(cut), Truth(past), Number(area.faults())],
-    )?)
+    told.truth(reads(area, run.leader_place(0), 7));
+    told.truth(is_read(area, run.request_place(0)));
+    told.truth(is_read(area, run.block_place(0, 3)));
+    told.number(area.faults());
+}
+
+/// Whether a write of the fourth sector extended the file of 700 sevens with zeros before it.
+fn tell_extended<R: Files + AllocGlobal>(rt: &R, told: &mut Told) {
+    match fs::read(rt, "short_area") {
+        Ok(bytes) => told.truth(is_extended(&bytes)),
+        Err(_) => told.need(false),
+    }
 }
 
 /// Once the fourth sector is written: whether it is read; and a round with its faults.
 fn once_extended<F: Read + Write + Seek + Drop>(
-    told: &mut String,
+    told: &mut Told,
     area: &mut FileArea<F>,
     run: Geometry,
-) -> io::Result<()>
+)
     requires { run ≡ record { sector = 512; area = 1048576; hosts = 3; paired = false } }
 {
-    let back = reads(area, run.block_place(0, 2), 5);
-    let Round { done, ends } = write_and_read(area, run);
-    Ok(push_row(
-        told,
-        &[
-            Truth(back),
-            Number(u64::from(done)),
-            Number(u64::from(ends[0])),
-            Number(u64::from(ends[3])),
-            Number(area.faults()),
-        ],
-    )?)
-}
-
-/// Whether a write of a sector of fives goes well, and extends the file of 700 sevens with zeros before it.
-fn extends<R: Files + AllocGlobal, A: Area>(
-    rt: &R,
-    told: &mut String,
-    area: &mut A,
-    at: Place,
-) -> io::Result<()>
-    requires { at.size ≡ 512 }
-{
-    let written = writes(area, at, 5);
-    let extended = is_extended(fs::read(rt, "short_area")?.as_slice());
-    Ok(push_row(told, &[Truth(written), Truth(extended)])?)
+    told.truth(reads(area, run.block_place(0, 2), 5));
+    let round = write_and_read(area, run);
+    told.number(round.done);
+    told.number(u64::from(round.ends[0]));
+    told.number(u64::from(round.ends[3]));
+    told.number(area.faults());
 }
 
 /// What comes of the reads and writes of a file of 700 sevens. Between those before it is extended and those after it: whether a write of the
 /// fourth sector goes well, and extends it with zeros.
 fn of_short_file<R: Files + AllocGlobal, F: Read + Write + Seek + Drop>(
     rt: &R,
-    told: &mut String,
+    told: &mut Told,
     area: &mut FileArea<F>,
-) -> io::Result<()> {
-    let run = small()?;
-    while_short(told, area, run)?;
-    extends(rt, told, area, run.block_place(0, 2))?;
-    once_extended(told, area, run)
+) {
+    let Some(run) = small() else {
+        return told.need(false);
+    };
+    while_short(told, area, run);
+    told.truth(writes(area, run.block_place(0, 2), 5));
+    tell_extended(rt, told);
+    once_extended(told, area, run);
 }
 
 /// Makes a file of 700 sevens, and takes it away in the end.
-pub fn a_short_file<R: Files + AllocGlobal>(rt: &R, told: &mut String) -> io::Result<()> {
-    fs::write(rt, "short_area", [7; 700].as_slice())?;
-    of_short_file(rt, told, &mut FileArea::open(rt, "short_area"))?;
-    fs::remove_file(rt, "short_area")
+pub fn a_short_file<R: Files + AllocGlobal>(rt: &R, told: &mut Told) {
+    told.done(fs::write(rt, "short_area", [7; 700].as_slice()));
+    of_short_file(rt, told, &mut FileArea::open(rt, "short_area"));
+    told.done(fs::remove_file(rt, "short_area"));
 }

@@ -1,8 +1,7 @@
 //! Ballots.
 ghost use Rattle.std.specs.Prelude.{IsTrue, ◌<◌, ◌^◌, ◌≤◌};
 
-use crate::output_words::Seen::{Number, Word};
-use crate::output_words::{row, row_with, said, said_two};
+use crate::told::Told;
 use crate::word_values::{number_at, number_of, numbers_from, part, short_at, short_of, word};
 use sl_ballot::{
     Ballot, BallotStep, Limit, ballot_run, instance_of, next_mbal, stop_of, value_after_read,
@@ -10,7 +9,6 @@ use sl_ballot::{
 use sl_sector::{Block, Leader, Owner};
 use sl_text::Name;
 use sl_trace::{Instance, Stop};
-use std::alloc::{AllocError, Global};
 
 /// A block without a mode, whose value is of generation 1 where bal isn't 0.
 fn block_of(text: &str) -> Block {
@@ -21,21 +19,26 @@ fn block_of(text: &str) -> Block {
         lver: number_of(part(text, '/', 1)),
         mbal: number_of(part(text, '/', 2)),
         bal,
-        inp_gen: if bal == 0 { 0 } else { 1 },
+        inp_gen: bal.min(1),
         mode_gen: 0,
         inp: short_of(part(text, '/', 4)),
     }
 }
 
-/// The blocks of a list.
-fn blocks_of(alloc: Global, text: &str) -> Result<Vec<Block>, AllocError> {
-    let mut blocks = Vec::new(alloc);
+/// Adds a block to a list; `none` is no block.
+fn push_block(told: &mut Told, blocks: &mut Vec<Block>, text: &str) {
     if text != "none" {
-        for block in text.split(',') {
-            blocks.push(block_of(block))?;
-        }
+        told.need(blocks.push(block_of(text)).is_ok());
     }
-    Ok(blocks)
+}
+
+/// The blocks of a list.
+fn blocks_of(told: &mut Told, text: &str) -> Vec<Block> {
+    let mut blocks = Vec::new(told.alloc);
+    for block in text.split(',') {
+        push_block(told, &mut blocks, block);
+    }
+    blocks
 }
 
 /// A block, or none where it is torn.
@@ -48,40 +51,22 @@ fn block_or_torn(text: &str) -> Option<Block> {
 }
 
 /// The blocks of a read, in which one may be torn.
-fn read_of(alloc: Global, text: &str) -> Result<Vec<Option<Block>>, AllocError> {
-    let mut blocks = Vec::new(alloc);
+fn read_of(told: &mut Told, text: &str) -> Vec<Option<Block>> {
+    let mut blocks = Vec::new(told.alloc);
     for block in text.split(',') {
-        blocks.push(block_or_torn(block))?;
+        told.need(blocks.push(block_or_torn(block)).is_ok());
     }
-    Ok(blocks)
+    blocks
 }
 
 /// A block as these texts write it, and its value's generation.
-fn block_text(alloc: Global, block: Block) -> Result<String, AllocError> {
-    let Block {
-        host,
-        lver,
-        mbal,
-        bal,
-        inp,
-        inp_gen,
-        ..
-    } = block;
-    let numbers = row_with(
-        alloc,
-        "/",
-        &[
-            Number(u64::from(host)),
-            Number(lver),
-            Number(mbal),
-            Number(bal),
-            Number(u64::from(inp)),
-        ],
-    )?;
-    row(
-        alloc,
-        &[Word(numbers.as_str()), Word("gen"), Number(inp_gen)],
-    )
+fn block_text(told: &mut Told, block: Block) {
+    told.short(block.host);
+    told.number_behind("/", block.lver);
+    told.number_behind("/", block.mbal);
+    told.number_behind("/", block.bal);
+    told.number_behind("/", u64::from(block.inp));
+    told.said("gen", block.inp_gen);
 }
 
 /// The session whose id and generation the first two words are.
@@ -100,101 +85,88 @@ fn can_be(me: Owner, hosts: u32, n: u64, own: &Block) -> bool
 }
 
 /// How a ballot came out.
-fn outcome(alloc: Global, step: Result<BallotStep, Limit>) -> Result<String, AllocError> {
+fn outcome(told: &mut Told, step: Result<BallotStep, Limit>) {
     match step {
-        Ok(BallotStep::Go(block)) => block_text(alloc, block),
-        Ok(BallotStep::Won) => String::from_str(alloc, "won"),
+        Ok(BallotStep::Go(block)) => block_text(told, block),
+        Ok(BallotStep::Won) => told.word("won"),
         Ok(BallotStep::Lost(owner)) => {
-            said_two(alloc, "lost to", u64::from(owner.id), owner.generation)
+            told.said_two("lost to", u64::from(owner.id), owner.generation)
         }
-        Ok(BallotStep::Rival { host, mbal }) => said_two(alloc, "rival", u64::from(host), mbal),
-        Ok(BallotStep::Ahead { host, lver }) => said_two(alloc, "ahead", u64::from(host), lver),
-        Err(Limit) => String::from_str(alloc, "limit"),
+        Ok(BallotStep::Rival { host, mbal }) => told.said_two("rival", u64::from(host), mbal),
+        Ok(BallotStep::Ahead { host, lver }) => told.said_two("ahead", u64::from(host), lver),
+        Err(Limit) => told.word("limit"),
     }
 }
 
 /// A whole ballot: the session, the number of hosts, the instance, the own block, the blocks seen before and in the reads of its phases.
-pub fn ballot(alloc: Global, text: &str) -> Result<String, AllocError> {
+pub fn ballot(told: &mut Told, text: &str) {
     let (me, hosts, n) = (session(text), short_at(text, 2), number_at(text, 3));
     let own = block_of(word(text, 4));
     if !can_be(me, hosts, n, &own) {
-        return String::from_str(alloc, "none");
+        return told.word("none");
     }
-    let seen = blocks_of(alloc, word(text, 5))?;
-    let first = blocks_of(alloc, word(text, 6))?;
-    let second = blocks_of(alloc, word(text, 7))?;
-    outcome(alloc, ballot_run(me, hosts, n, own, &seen, &first, &second))
+    let seen = blocks_of(told, word(text, 5));
+    let first = blocks_of(told, word(text, 6));
+    let second = blocks_of(told, word(text, 7));
+    outcome(told, ballot_run(me, hosts, n, own, &seen, &first, &second));
 }
 
 /// The block with which such a ballot begins.
-pub fn begin(alloc: Global, text: &str) -> Result<String, AllocError> {
+pub fn begin(told: &mut Told, text: &str) {
     let (me, hosts, n) = (session(text), short_at(text, 2), number_at(text, 3));
     let own = block_of(word(text, 4));
     if !can_be(me, hosts, n, &own) {
-        return String::from_str(alloc, "none");
+        return told.word("none");
     }
-    let seen = blocks_of(alloc, word(text, 5))?;
+    let seen = blocks_of(told, word(text, 5));
     match Ballot::begin(me, hosts, n, own, &seen) {
-        Ok(ballot) => block_text(alloc, ballot.block()),
-        Err(Limit) => String::from_str(alloc, "limit"),
+        Ok(ballot) => block_text(told, ballot.block()),
+        Err(Limit) => told.word("limit"),
     }
 }
 
 /// The next number of a host, of so many, behind the numbers that were seen.
-pub fn mbal(alloc: Global, text: &str) -> Result<String, AllocError> {
-    let seen = numbers_from(alloc, text, 2)?;
+pub fn mbal(told: &mut Told, text: &str) {
     let hosts = short_at(text, 0);
     if hosts < 1 {
-        return String::from_str(alloc, "none");
+        return told.word("none");
     }
+    let seen = numbers_from(told, text, 2);
     match next_mbal(hosts, short_at(text, 1), &seen) {
-        Ok(number) => row(alloc, &[Number(number)]),
-        Err(Limit) => String::from_str(alloc, "limit"),
+        Ok(number) => told.number(number),
+        Err(Limit) => told.word("limit"),
     }
 }
 
 /// What stops a ballot, if anything does.
-fn stop_text(alloc: Global, stop: Option<Stop>) -> Result<String, AllocError> {
+fn stop_text(told: &mut Told, stop: Option<Stop>) {
     match stop {
-        Some(Stop::BlockTorn { host }) => said(alloc, "torn", u64::from(host)),
-        Some(Stop::BlockAhead { host, lver }) => said_two(alloc, "ahead", u64::from(host), lver),
-        Some(Stop::BlockRival { host, mbal }) => said_two(alloc, "rival", u64::from(host), mbal),
-        None => String::from_str(alloc, "goes on"),
+        Some(Stop::BlockTorn { host }) => told.said("torn", u64::from(host)),
+        Some(Stop::BlockAhead { host, lver }) => told.said_two("ahead", u64::from(host), lver),
+        Some(Stop::BlockRival { host, mbal }) => told.said_two("rival", u64::from(host), mbal),
+        None => told.word("goes on"),
     }
 }
 
 /// What stops a ballot whose own block is the first, at a read.
-pub fn stop(alloc: Global, text: &str) -> Result<String, AllocError> {
-    let read = read_of(alloc, word(text, 1))?;
-    if read.len() >= 1 << 32 {
-        return String::from_str(alloc, "none");
+pub fn stop(told: &mut Told, text: &str) {
+    let read = read_of(told, word(text, 1));
+    if read.len() < 1 << 32 {
+        stop_text(told, stop_of(&block_of(word(text, 0)), &read));
     }
-    stop_text(alloc, stop_of(&block_of(word(text, 0)), &read))
 }
 
 /// The value that a session proposes in an instance, with this own block, after this read.
-pub fn accepted(alloc: Global, text: &str) -> Result<String, AllocError> {
-    let read = read_of(alloc, word(text, 4))?;
-    let value = value_after_read(
-        session(text),
-        number_at(text, 2),
-        &block_of(word(text, 3)),
-        &read,
-    );
-    row(
-        alloc,
-        &[Number(u64::from(value.id)), Number(value.generation)],
-    )
+pub fn accepted(told: &mut Told, text: &str) {
+    let read = read_of(told, word(text, 4));
+    let own = block_of(word(text, 3));
+    let value = value_after_read(session(text), number_at(text, 2), &own, &read);
+    told.short(value.id);
+    told.number(value.generation);
 }
 
 /// The instance that an acquire of host 2 in generation 1 begins behind this leader, and by whom the resource is held, if it is.
-fn begun(
-    alloc: Global,
-    is_over: bool,
-    leader: &Leader,
-    freed: u64,
-    top: u64,
-) -> Result<String, AllocError>
+fn begun(told: &mut Told, is_over: bool, leader: &Leader, freed: u64, top: u64)
     requires leader { leader.now.lver < 2 ^ 63 }
     requires freed { freed < 2 ^ 63 }
 {
@@ -203,18 +175,16 @@ fn begun(
         generation: 1,
     };
     match instance_of(is_over, me, leader, freed, top) {
-        Instance::Begins { instance } => said(alloc, "begins", instance),
-        Instance::HeldAlready { lver, owner } => {
-            said_two(alloc, "held", lver, u64::from(owner.id))
-        }
+        Instance::Begins { instance } => told.said("begins", instance),
+        Instance::HeldAlready { lver, owner } => told.said_two("held", lver, u64::from(owner.id)),
     }
 }
 
 /// The instance that an acquire of that host begins behind a leader of instance 3: whether the leader's owner is over, whether it is held,
 /// its owner, of generation 1, the greatest instance that the host freed, and the greatest of a block.
-pub fn instance(alloc: Global, text: &str) -> Result<String, AllocError> {
+pub fn instance(told: &mut Told, text: &str) {
     let Some(name) = Name::new(b"r") else {
-        return String::from_str(alloc, "no name");
+        return told.word("no name");
     };
     let leader = Leader {
         held: word(text, 1) == "held",
@@ -227,13 +197,13 @@ pub fn instance(alloc: Global, text: &str) -> Result<String, AllocError> {
     };
     let freed = number_at(text, 3);
     if freed >= 1 << 63 {
-        return String::from_str(alloc, "none");
+        return told.word("none");
     }
     begun(
-        alloc,
+        told,
         word(text, 0) == "over",
         &leader,
         freed,
         number_at(text, 4),
-    )
+    );
 }

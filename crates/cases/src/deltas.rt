@@ -1,10 +1,8 @@
 //! A delta lease of id 1 of two, with io 100, fire 600, land 100 and rho 0.
 
-use crate::output_words::Seen::{Number, Word};
-use crate::output_words::{add, row, said};
-use crate::records::sector_of;
+use crate::told::Told;
 use crate::watches::sector_named;
-use crate::word_values::{number_of, part};
+use crate::word_values::{number_of, part, word};
 use sl_area::Geometry;
 use sl_delta::{DeltaCall, DeltaIn, DeltaLease, DeltaOut, Outcome};
 use sl_request::Bitmap;
@@ -12,7 +10,6 @@ use sl_sector::{DeltaRec, DeltaState};
 use sl_text::{Bytes, Name};
 use sl_time::Timing;
 use sl_trace::{Answer, JoinStep, Move, Reply, Stage};
-use std::alloc::{AllocError, Global};
 
 /// What each reading is below.
 const MOMENTS: u64 = 1_000_000_000_000_000;
@@ -31,25 +28,29 @@ fn lease_of(word: &str) -> Option<DeltaLease> {
 }
 
 /// The bytes of the sectors that these parts of a word name.
-fn bytes_of(alloc: Global, text: &str, names: &str) -> Result<Bytes, AllocError> {
-    let mut bytes = Vec::new(alloc);
+fn bytes_of(told: &mut Told, text: &str, names: &str) -> Bytes {
+    let mut bytes = Vec::new(told.alloc);
     for name in names.split('+') {
-        bytes.extend_from_slice(&sector_named(text, name))?;
+        told.need(bytes.extend_from_slice(&sector_named(text, name)).is_ok());
     }
-    Ok(Bytes::new(bytes))
+    Bytes::new(bytes)
+}
+
+/// An answer to the call of a lease.
+fn answered(answer: Answer) -> DeltaIn {
+    DeltaIn::Answered { call: 7, answer }
 }
 
 /// What a word brings.
-fn input_of(alloc: Global, text: &str, word: &str) -> Result<DeltaIn, AllocError> {
-    let answer = match part(word, ':', 0) {
-        "wake" => return Ok(DeltaIn::Wake(Bitmap::none())),
-        "refused" => return Ok(DeltaIn::Refused),
-        "leave" => return Ok(DeltaIn::Leave),
-        "read" => Answer::Read(bytes_of(alloc, text, part(word, ':', 2))?),
-        "written" => Answer::Written,
-        _ => Answer::Failed,
-    };
-    Ok(DeltaIn::Answered { call: 7, answer })
+fn input_of(told: &mut Told, text: &str, word: &str) -> DeltaIn {
+    match part(word, ':', 0) {
+        "wake" => DeltaIn::Wake(Bitmap::none()),
+        "refused" => DeltaIn::Refused,
+        "leave" => DeltaIn::Leave,
+        "read" => answered(Answer::Read(bytes_of(told, text, part(word, ':', 2)))),
+        "written" => answered(Answer::Written),
+        _ => answered(Answer::Failed),
+    }
 }
 
 /// A step of a joining.
@@ -74,42 +75,43 @@ fn state_text(state: DeltaState) -> &'static str {
 }
 
 /// What is done with a record: its state, generation, seq and stamp.
-fn record_text(alloc: Global, done: &str, record: &DeltaRec) -> Result<String, AllocError> {
-    row(
-        alloc,
-        &[
-            Word(done),
-            Word(state_text(record.state)),
-            Number(record.generation),
-            Number(record.seq),
-            Number(record.stamp),
-        ],
-    )
+fn record_text(told: &mut Told, done: &str, record: &DeltaRec) {
+    told.word(done);
+    told.word(state_text(record.state));
+    told.number(record.generation);
+    told.number(record.seq);
+    told.number(record.stamp);
+}
+
+/// The read of a step.
+fn read_text(told: &mut Told, step: JoinStep) {
+    told.word("read");
+    told.word(step_text(step));
 }
 
 /// A call.
-fn call_text(alloc: Global, call: &DeltaCall) -> Result<String, AllocError> {
+fn call_text(told: &mut Told, call: &DeltaCall) {
     match call {
-        DeltaCall::ReadOwn(step) => row(alloc, &[Word(" read"), Word(step_text(*step))]),
-        DeltaCall::WriteOwn { step: _, record } => record_text(alloc, " write", record),
-        DeltaCall::RenewOwn(record) => record_text(alloc, " renew", record),
-        DeltaCall::ReadAll => String::from_str(alloc, " read all"),
-        DeltaCall::FreeOwn(record) => record_text(alloc, " free", record),
+        DeltaCall::ReadOwn(step) => read_text(told, *step),
+        DeltaCall::WriteOwn { step: _, record } => record_text(told, "write", record),
+        DeltaCall::RenewOwn(record) => record_text(told, "renew", record),
+        DeltaCall::ReadAll => told.word("read all"),
+        DeltaCall::FreeOwn(record) => record_text(told, "free", record),
     }
 }
 
 /// A move of the connection.
-fn move_text(alloc: Global, moved: &Move) -> Result<String, AllocError> {
+fn move_text(told: &mut Told, moved: &Move) {
     match moved {
         Move::Register {
             lockspace: _,
             expiry,
-        } => said(alloc, " register", *expiry),
+        } => told.said("register", *expiry),
         Move::Renew {
             lockspace: _,
             expiry,
-        } => said(alloc, " move", *expiry),
-        Move::Unregister { lockspace: _ } => String::from_str(alloc, " unregister"),
+        } => told.said("move", *expiry),
+        Move::Unregister { lockspace: _ } => told.word("unregister"),
     }
 }
 
@@ -131,45 +133,33 @@ fn reply_text(reply: &Reply) -> &'static str {
     }
 }
 
+/// A word and a refusal.
+fn ended_text(told: &mut Told, word: &str, reply: &Reply) {
+    told.word(word);
+    told.word(reply_text(reply));
+}
+
 /// An outcome.
-fn outcome_text(alloc: Global, outcome: &Outcome) -> Result<String, AllocError> {
+fn outcome_text(told: &mut Told, outcome: &Outcome) {
     match outcome {
-        Outcome::Joined { generation } => said(alloc, " joined", *generation),
-        Outcome::NotJoined(reply) => row(alloc, &[Word(" refused"), Word(reply_text(reply))]),
-        Outcome::Left(reply) => row(alloc, &[Word(" left"), Word(reply_text(reply))]),
+        Outcome::Joined { generation } => told.said("joined", *generation),
+        Outcome::NotJoined(reply) => ended_text(told, "refused", reply),
+        Outcome::Left(reply) => ended_text(told, "left", reply),
     }
 }
 
-/// A step's move, if it has one.
-fn tell_move(told: &mut String, alloc: Global, out: &DeltaOut) -> Result<(), AllocError> {
-    match &out.moved {
-        Some(moved) => add(told, move_text(alloc, moved)?, ""),
-        None => Ok(()),
+/// What a step gives: whether recovery begins, its move, its call and its outcome, where it has them.
+fn tell_out(told: &mut Told, out: &DeltaOut) {
+    told.end(if out.recovers { " recovers" } else { "" });
+    if let Some(moved) = &out.moved {
+        move_text(told, moved);
     }
-}
-
-/// A step's call, if it has one.
-fn tell_call(told: &mut String, alloc: Global, out: &DeltaOut) -> Result<(), AllocError> {
-    match &out.call {
-        Some(call) => add(told, call_text(alloc, call)?, ""),
-        None => Ok(()),
+    if let Some(call) = &out.call {
+        call_text(told, call);
     }
-}
-
-/// A step's outcome, if it has one.
-fn tell_outcome(told: &mut String, alloc: Global, out: &DeltaOut) -> Result<(), AllocError> {
-    match &out.outcome {
-        Some(outcome) => add(told, outcome_text(alloc, outcome)?, ""),
-        None => Ok(()),
+    if let Some(outcome) = &out.outcome {
+        outcome_text(told, outcome);
     }
-}
-
-/// What a step gives.
-fn tell_out(told: &mut String, alloc: Global, out: &DeltaOut) -> Result<(), AllocError> {
-    told.push_str(if out.recovers { " recovers" } else { "" })?;
-    tell_move(told, alloc, out)?;
-    tell_call(told, alloc, out)?;
-    tell_outcome(told, alloc, out)
 }
 
 /// A stage.
@@ -189,70 +179,48 @@ fn stage_text(stage: Stage) -> &'static str {
 }
 
 /// What the lease gives at this reading for an input, if that fits.
-fn tell_step(
-    told: &mut String,
-    alloc: Global,
-    lease: &mut DeltaLease,
-    now: u64,
-    input: DeltaIn,
-) -> Result<(), AllocError> {
-    if lease.fits(&input) && now < MOMENTS {
-        tell_out(told, alloc, &lease.step(alloc, now, input)?)
-    } else {
-        told.push_str(" unfit")
+fn tell_step(told: &mut Told, lease: &mut DeltaLease, now: u64, input: DeltaIn) {
+    if !lease.fits(&input) || now >= MOMENTS {
+        return told.word("unfit");
+    }
+    match lease.step(told.alloc, now, input) {
+        Ok(out) => tell_out(told, &out),
+        Err(_) => told.need(false),
     }
 }
 
-/// The reading of the last renewal.
-fn tell_last(told: &mut String, last: Option<u64>) -> Result<(), AllocError> {
-    match last {
-        Some(renewed) => write!(told, " {renewed}"),
-        None => told.push_str(" none"),
-    }
+/// What the lease gives for an input `KIND:NOW..`.
+fn tell_input(told: &mut Told, lease: &mut DeltaLease, text: &str, word: &str) {
+    let now = number_of(part(word, ':', 1));
+    let input = input_of(told, text, word);
+    tell_step(told, lease, now, input);
 }
 
-/// What the lease tells at a word: `stage`, `last`, or an input `KIND:NOW..`.
-fn tell(
-    told: &mut String,
-    alloc: Global,
-    lease: &mut DeltaLease,
-    text: &str,
-    word: &str,
-) -> Result<(), AllocError> {
+/// What the lease tells at a word: `stage`, `last`, or an input.
+fn tell(told: &mut Told, lease: &mut DeltaLease, text: &str, word: &str) {
     match word {
-        "stage" => write!(told, " {}", stage_text(lease.state())),
-        "last" => tell_last(told, lease.last_renewal()),
-        _ => {
-            let input = input_of(alloc, text, word)?;
-            tell_step(told, alloc, lease, number_of(part(word, ':', 1)), input)
+        "stage" => told.word(stage_text(lease.state())),
+        "last" => told.number_or_none(lease.last_renewal()),
+        _ => tell_input(told, lease, text, word),
+    }
+    told.end(";");
+}
+
+/// What the lease tells at each word behind the first that tells no sector.
+fn tell_all(told: &mut Told, lease: &mut DeltaLease, text: &str) {
+    told.end(" ");
+    for word in text.split(' ').skip(1) {
+        if part(word, '=', 1).is_empty() {
+            tell(told, lease, text, word);
         }
     }
 }
 
-/// .. if the word tells no sector.
-fn tell_word(
-    told: &mut String,
-    alloc: Global,
-    lease: &mut DeltaLease,
-    text: &str,
-    word: &str,
-) -> Result<(), AllocError> {
-    if part(word, '=', 1).is_empty() {
-        tell(told, alloc, lease, text, word)?;
-        told.push_str(";")?;
-    }
-    Ok(())
-}
-
 /// What a delta lease gives at these words: the first is `start` or `joined:NOW`; a word `NAME=..` tells a sector, in which later words name
 /// what is read.
-pub fn delta(alloc: Global, text: &str) -> Result<String, AllocError> {
-    let Some(mut lease) = lease_of(part(text, ' ', 0)) else {
-        return String::from_str(alloc, "no run");
-    };
-    let mut all = String::new(alloc);
-    for word in text.split(' ').skip(1) {
-        tell_word(&mut all, alloc, &mut lease, text, word)?;
+pub fn delta(told: &mut Told, text: &str) {
+    match lease_of(word(text, 0)) {
+        Some(mut lease) => tell_all(told, &mut lease, text),
+        None => told.word("no run"),
     }
-    Ok(all)
 }

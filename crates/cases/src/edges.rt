@@ -2,80 +2,77 @@
 //!
 //! What comes of a case is a word or a number for each thing that is looked at; each case says which.
 
+use crate::told::Told;
 use crate::{areas, faulty_adapters, gates, outside, planned, streams};
 use sl_outside::LiveDevices;
-use std::io;
 use std::process::Processes;
 use std::rt::Files;
 use std::sync::Wait;
 use std::thread::Threads;
 use std::time::Clock;
 
-/// Adds what comes of a case of streams; whether it is one.
-fn of_streams<R: Files + AllocGlobal>(rt: &R, case: &str, told: &mut String) -> io::Result<bool> {
-    let alloc = rt.alloc();
+/// Tells what comes of a case in memory; whether it is one.
+fn is_in_memory(told: &mut Told, case: &str) -> bool {
     match case {
-        "each read fails in turn" => streams::each_read_fails(alloc, told)?,
-        "each write fails in turn" => streams::each_write_fails(alloc, told)?,
-        "a full sink fails" => streams::a_full_sink(alloc, told)?,
-        "an interrupted read" => faulty_adapters::an_interrupted_read(told)?,
-        "a write of nothing" => faulty_adapters::a_write_of_nothing(told)?,
-        "files of the system" => streams::files_of_the_system(rt, alloc, told)?,
-        _ => return Ok(false),
+        "each read fails in turn" => streams::each_read_fails(told),
+        "each write fails in turn" => streams::each_write_fails(told),
+        "a full sink fails" => streams::a_full_sink(told),
+        "an interrupted read" => faulty_adapters::an_interrupted_read(told),
+        "a write of nothing" => faulty_adapters::a_write_of_nothing(told),
+        "each call of an area fails in turn" => areas::each_call_fails(told),
+        "a call past the room" => areas::past_the_room(told),
+        "a planned spawner" => planned::a_planned_spawner(told),
+        _ => return false,
     }
-    Ok(true)
+    true
 }
 
-/// Adds what comes of a case of areas; whether it is one.
-fn of_areas<R: Files + AllocGlobal>(rt: &R, case: &str, told: &mut String) -> io::Result<bool> {
-    let alloc = rt.alloc();
+/// Tells what comes of a case of files; whether it is one.
+fn is_of_files<R: Files + AllocGlobal>(rt: &R, told: &mut Told, case: &str) -> bool {
     match case {
-        "each call of an area fails in turn" => areas::each_call_fails(alloc, told)?,
-        "a call past the room" => areas::past_the_room(alloc, told)?,
-        "a missing file" => areas::a_missing_file(rt, told)?,
-        "a short file" => areas::a_short_file(rt, told)?,
-        _ => return Ok(false),
+        "files of the system" => streams::files_of_the_system(rt, told),
+        "a missing file" => areas::a_missing_file(rt, told),
+        "a short file" => areas::a_short_file(rt, told),
+        _ => return false,
     }
-    Ok(true)
+    true
 }
 
-/// Adds what comes of a case of child programs; whether it is one.
-fn of_children<R: Files + Processes + Clock + Wait + AllocGlobal + Copy + Drop>(
+/// Tells what comes of a case of child programs; whether it is one.
+fn is_of_children<R: Files + Processes + Clock + Wait + Copy + Drop>(
     rt: &R,
+    told: &mut Told,
     case: &str,
-    told: &mut String,
-) -> io::Result<bool> {
-    let alloc = rt.alloc();
+) -> bool {
     match case {
-        "a child ends" => outside::a_child_ends(rt, alloc, told)?,
-        "children are signalled" => outside::children_are_signalled(rt, alloc, told)?,
-        "a planned spawner" => planned::a_planned_spawner(alloc, told)?,
-        _ => return Ok(false),
+        "a child ends" => outside::a_child_ends(rt, told),
+        "children are signalled" => outside::children_are_signalled(rt, told),
+        _ => return false,
     }
-    Ok(true)
+    true
 }
 
-/// Adds what comes of a case of other devices.
+/// Tells what comes of a case of other devices.
 fn of_devices<
     R: Files + Clock + Wait + Threads + AllocGlobal + Copy + Drop + Send + Sync,
     D: LiveDevices,
->(rt: &R, devices: &mut D, case: &str, told: &mut String) -> io::Result<()> {
+>(rt: &R, devices: &mut D, told: &mut Told, case: &str) {
     match case {
         "files are made" => outside::files_are_made(rt, devices, told),
         "the clock goes on" => outside::the_clock_goes_on(rt, devices, told),
         "words differ" => outside::words_differ(devices, told),
-        "a gate and a disk of two threads" => gates::two_threads(*rt, rt.alloc(), told),
-        _ => Ok(told.push_str("no such case")?),
+        "a gate and a disk of two threads" => gates::two_threads(*rt, told),
+        _ => told.word("no such case"),
     }
 }
 
-/// Adds what comes of a case.
-pub fn push_told<
+/// Tells what comes of a case.
+pub fn tell<
     R: Files + Processes + Clock + Wait + Threads + AllocGlobal + Copy + Drop + Send + Sync,
     D: LiveDevices,
->(rt: &R, devices: &mut D, case: &str, told: &mut String) -> io::Result<()> {
-    if of_streams(rt, case, told)? || of_areas(rt, case, told)? || of_children(rt, case, told)? {
-        return Ok(());
+>(rt: &R, devices: &mut D, told: &mut Told, case: &str) {
+    if is_in_memory(told, case) || is_of_files(rt, told, case) || is_of_children(rt, told, case) {
+        return;
     }
-    of_devices(rt, devices, case, told)
+    of_devices(rt, devices, told, case);
 }

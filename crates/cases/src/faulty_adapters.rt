@@ -1,8 +1,7 @@
 //! Adapters over a reader and a writer that misbehave.
 
-use crate::output_words::Seen::{Number, Word};
-use crate::output_words::push_row;
-use crate::streams::{count_seen, went};
+use crate::streams::{tell_count, went};
+use crate::told::Told;
 use sl_io::{ReadSource, Sink, Source, WriteSink, write_all};
 use std::io;
 use std::io::{ErrorKind, Read, Write};
@@ -44,44 +43,34 @@ impl Write for Stuck {
 }
 
 /// Reads once: what came of it, with the faults behind it.
-fn push_read(
-    told: &mut String,
-    source: &mut ReadSource<Restless>,
-    buffer: &mut [u8],
-) -> io::Result<()> {
-    let count = count_seen(&source.read(buffer));
-    Ok(push_row(told, &[count, Number(source.faults())])?)
+fn tell_read(told: &mut Told, source: &mut ReadSource<Restless>, buffer: &mut [u8]) {
+    tell_count(told, &source.read(buffer));
+    told.number(source.faults());
 }
 
 /// Three reads: what came of each, with the faults behind it; the first is interrupted within, the second fails.
-pub fn an_interrupted_read(told: &mut String) -> io::Result<()> {
+pub fn an_interrupted_read(told: &mut Told) {
     let mut source = ReadSource::new(Restless(0));
     let mut buffer = [0; 4];
-    for _ in 0..3 {
-        push_read(told, &mut source, &mut buffer)?;
-    }
-    let word = if buffer[0] == b'x' { "x" } else { "?" };
-    Ok(push_row(told, &[Word(word)])?)
+    tell_read(told, &mut source, &mut buffer);
+    tell_read(told, &mut source, &mut buffer);
+    tell_read(told, &mut source, &mut buffer);
+    told.word(if buffer[0] == b'x' { "x" } else { "?" });
 }
 
-/// A write of three bytes and one of none: what came of each, and the faults.
-fn push_taken(told: &mut String, sink: &mut WriteSink<Stuck>) -> io::Result<()> {
-    let some = count_seen(&sink.write(b"abc"));
-    let none = count_seen(&sink.write(b""));
-    Ok(push_row(told, &[some, none, Number(sink.faults())])?)
-}
-
-/// A write that takes none, and a flush: what came of each, with the faults behind it.
-fn push_flushed(told: &mut String, sink: &mut WriteSink<Stuck>) -> io::Result<()> {
-    let written = went(&write_all(sink, b"c"));
-    push_row(told, &[Word(written), Number(sink.faults())])?;
-    let flush = went(&sink.flush());
-    Ok(push_row(told, &[Word(flush), Number(sink.faults())])?)
+/// A write of three bytes and one of none: what came of each, and the faults. Then one that takes none, and a flush: what came of each, with
+/// the faults behind it.
+fn tell_taken(told: &mut Told, sink: &mut WriteSink<Stuck>) {
+    tell_count(told, &sink.write(b"abc"));
+    tell_count(told, &sink.write(b""));
+    told.number(sink.faults());
+    told.word(went(&write_all(sink, b"c")));
+    told.number(sink.faults());
+    told.word(went(&sink.flush()));
+    told.number(sink.faults());
 }
 
 /// A write of three bytes and one of none; then one that takes none, and a flush.
-pub fn a_write_of_nothing(told: &mut String) -> io::Result<()> {
-    let mut sink = WriteSink::new(Stuck(0));
-    push_taken(told, &mut sink)?;
-    push_flushed(told, &mut sink)
+pub fn a_write_of_nothing(told: &mut Told) {
+    tell_taken(told, &mut WriteSink::new(Stuck(0)));
 }

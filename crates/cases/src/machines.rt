@@ -1,34 +1,21 @@
 //! A clock, times, a watchdog daemon, a recovery.
 
-use crate::output_words::Seen::{Number, Word};
-use crate::output_words::{add, row, said, truth, truth_word};
+use crate::told::Told;
 use crate::word_values::{number_at, number_of, numbers_from, part, short_of, word};
 use sl_escalate::Recovery;
 use sl_text::Name;
 use sl_time::{Clock, MemClock, Timing, TimingBad};
 use sl_trace::{Sent, Signal};
 use sl_wdmd::Wdmd;
-use std::alloc::{AllocError, Global};
 
 /// The times.
-fn times(alloc: Global, timing: &Timing) -> Result<String, AllocError> {
-    row(
-        alloc,
-        &[
-            Word("renew"),
-            Number(timing.renew()),
-            Word("fail"),
-            Number(timing.fail()),
-            Word("gone"),
-            Number(timing.gone()),
-            Word("dead"),
-            Number(timing.dead()),
-            Word("join_max"),
-            Number(timing.join_max()),
-            Word("take"),
-            Number(timing.take()),
-        ],
-    )
+fn times(told: &mut Told, timing: &Timing) {
+    told.said("renew", timing.renew());
+    told.said("fail", timing.fail());
+    told.said("gone", timing.gone());
+    told.said("dead", timing.dead());
+    told.said("join_max", timing.join_max());
+    told.said("take", timing.take());
 }
 
 /// Which number makes no times.
@@ -42,122 +29,141 @@ fn bad_text(bad: TimingBad) -> &'static str {
 }
 
 /// The times that four numbers make: io, fire, land and rho.
-pub fn timing(alloc: Global, text: &str) -> Result<String, AllocError> {
+pub fn timing(told: &mut Told, text: &str) {
     match Timing::new(
         number_at(text, 0),
         number_at(text, 1),
         number_at(text, 2),
         number_at(text, 3),
     ) {
-        Ok(timing) => times(alloc, &timing),
-        Err(bad) => String::from_str(alloc, bad_text(bad)),
+        Ok(timing) => times(told, &timing),
+        Err(bad) => told.word(bad_text(bad)),
     }
+}
+
+/// What a clock tells at each word.
+fn readings(told: &mut Told, clock: &mut MemClock, text: &str) {
+    for _ in text.split(' ') {
+        told.number(clock.now());
+    }
+    told.end(" ");
 }
 
 /// What a clock tells whose readings are these.
-pub fn clock(alloc: Global, text: &str) -> Result<String, AllocError> {
-    let mut clock = MemClock::new(numbers_from(alloc, text, 0)?);
-    let mut told = String::new(alloc);
-    for _ in text.split(' ') {
-        write!(told, "{} ", clock.now())?;
-    }
-    Ok(told)
+pub fn clock(told: &mut Told, text: &str) {
+    let readings_told = numbers_from(told, text, 0);
+    readings(told, &mut MemClock::new(readings_told), text);
 }
 
 /// Registers a name that isn't registered.
-fn register(wdmd: &mut Wdmd, name: Name, expiry: u64) -> Result<(), AllocError> {
-    if wdmd.is_registered(name) {
-        Ok(())
-    } else {
-        wdmd.register(name, expiry)
+fn register(told: &mut Told, wdmd: &mut Wdmd, name: Name, expiry: u64) {
+    if !wdmd.is_registered(name) {
+        told.need(wdmd.register(name, expiry).is_ok());
     }
+    told.word("-");
 }
 
-/// Whether a name is registered, or whether the test at the reading that it is holds.
-fn holds(wdmd: &Wdmd, kind: &str, name: Name) -> bool {
-    if kind == "is_registered" {
-        wdmd.is_registered(name)
-    } else {
-        wdmd.test(number_of(name.as_str()))
+/// Moves the expiry of a name.
+fn renew(told: &mut Told, wdmd: &mut Wdmd, name: Name, expiry: u64) {
+    wdmd.renew(name, expiry);
+    told.word("-");
+}
+
+/// Unregisters a name.
+fn unregister(told: &mut Told, wdmd: &mut Wdmd, name: Name) {
+    wdmd.unregister(name);
+    told.word("-");
+}
+
+/// What a watchdog daemon does with a name: it is registered with an expiry, moved, unregistered; whether it is registered, or whether the test
+/// at the reading that it is holds.
+fn of_name(told: &mut Told, wdmd: &mut Wdmd, kind: &str, name: Name, expiry: u64) {
+    match kind {
+        "register" => register(told, wdmd, name, expiry),
+        "renew" => renew(told, wdmd, name, expiry),
+        "unregister" => unregister(told, wdmd, name),
+        "is_registered" => told.truth(wdmd.is_registered(name)),
+        _ => told.truth(wdmd.test(number_of(name.as_str()))),
     }
 }
 
 /// What a watchdog daemon does at a word: `register:NAME:EXPIRY`, `renew:NAME:EXPIRY`, `unregister:NAME`, `is_registered:NAME`, `test:NOW`.
-fn watched(alloc: Global, wdmd: &mut Wdmd, word: &str) -> Result<String, AllocError> {
+fn watched(told: &mut Told, wdmd: &mut Wdmd, word: &str) {
     let expiry = number_of(part(word, ':', 2));
-    let Some(name) = Name::new(part(word, ':', 1).as_bytes()) else {
-        return String::from_str(alloc, "no name");
-    };
-    let kind = part(word, ':', 0);
-    match kind {
-        "register" => register(wdmd, name, expiry)?,
-        "renew" => wdmd.renew(name, expiry),
-        "unregister" => wdmd.unregister(name),
-        _ => return truth(alloc, holds(wdmd, kind, name)),
+    match Name::new(part(word, ':', 1).as_bytes()) {
+        Some(name) => of_name(told, wdmd, part(word, ':', 0), name, expiry),
+        None => told.word("no name"),
     }
-    String::from_str(alloc, "-")
+}
+
+/// What a watchdog daemon does at each word.
+fn all_watched(told: &mut Told, wdmd: &mut Wdmd, text: &str) {
+    for word in text.split(' ') {
+        watched(told, wdmd, word);
+    }
+    told.end(" ");
 }
 
 /// What a watchdog daemon does.
-pub fn wdmd(alloc: Global, text: &str) -> Result<String, AllocError> {
-    let mut wdmd = Wdmd::new(alloc);
-    let mut told = String::new(alloc);
-    for word in text.split(' ') {
-        add(&mut told, watched(alloc, &mut wdmd, word)?, " ")?;
+pub fn wdmd(told: &mut Told, text: &str) {
+    all_watched(told, &mut Wdmd::new(told.alloc), text);
+}
+
+/// The word of a signal.
+fn signal_text(signal: Signal) -> &'static str {
+    match signal {
+        Signal::Term => "term",
+        Signal::Kill => "kill",
     }
-    Ok(told)
 }
 
 /// A signal with its process.
-fn signal(alloc: Global, sent: Option<Sent>) -> Result<String, AllocError> {
+fn sent_text(told: &mut Told, sent: Option<Sent>) {
     match sent {
-        Some(
-            Sent {
-                process,
-                signal: Signal::Term,
-            },
-        ) => said(alloc, "term", u64::from(process)),
-        Some(
-            Sent {
-                process,
-                signal: Signal::Kill,
-            },
-        ) => said(alloc, "kill", u64::from(process)),
-        None => String::from_str(alloc, "-"),
+        Some(sent) => told.said(signal_text(sent.signal), u64::from(sent.process)),
+        None => told.word("-"),
     }
+}
+
+/// The recovery hears of a process that has exited.
+fn exited(told: &mut Told, recovery: &mut Recovery, process: u32) {
+    recovery.exited(process);
+    told.word("-");
 }
 
 /// What a recovery does at a word: `step:NOW`, `exited:PROCESS`, `clear`.
-fn recovered(alloc: Global, recovery: &mut Recovery, word: &str) -> Result<String, AllocError> {
+fn recovered(told: &mut Told, recovery: &mut Recovery, word: &str) {
     match part(word, ':', 0) {
-        "step" => signal(alloc, recovery.step(number_of(part(word, ':', 1)))),
-        "exited" => {
-            recovery.exited(short_of(part(word, ':', 1)));
-            String::from_str(alloc, "-")
-        }
-        _ => truth(alloc, recovery.clear()),
+        "step" => sent_text(told, recovery.step(number_of(part(word, ':', 1)))),
+        "exited" => exited(told, recovery, short_of(part(word, ':', 1))),
+        _ => told.truth(recovery.clear()),
     }
+    told.end(",");
 }
 
 /// The processes that the parts of a word are.
-fn holders_of(alloc: Global, word: &str) -> Result<Vec<u32>, AllocError> {
-    let mut holders = Vec::new(alloc);
+fn holders_of(told: &mut Told, word: &str) -> Vec<u32> {
+    let mut holders = Vec::new(told.alloc);
     for holder in word.split(',') {
-        holders.push(short_of(holder))?;
+        told.need(holders.push(short_of(holder)).is_ok());
     }
-    Ok(holders)
+    holders
+}
+
+/// What a recovery does at each word behind the third.
+fn all_recovered(told: &mut Told, recovery: &mut Recovery, text: &str) {
+    for word in text.split(' ').skip(3) {
+        recovered(told, recovery, word);
+    }
+    told.end(" ");
 }
 
 /// What a recovery does with this grace, from this reading on, with these holders; a step in front of it does nothing.
-pub fn recovery(alloc: Global, text: &str) -> Result<String, AllocError> {
-    let mut recovery = Recovery::new(alloc, number_at(text, 0));
-    let holders = holders_of(alloc, word(text, 2))?;
+pub fn recovery(told: &mut Told, text: &str) {
+    let holders = holders_of(told, word(text, 2));
     let now = number_at(text, 1);
-    let early = recovery.step(now).is_none() && recovery.clear();
-    recovery.begin(now, &holders)?;
-    let mut told = row(alloc, &[Word(truth_word(early)), Word("")])?;
-    for word in text.split(' ').skip(3) {
-        add(&mut told, recovered(alloc, &mut recovery, word)?, ", ")?;
-    }
-    Ok(told)
+    let mut recovery = Recovery::new(told.alloc, number_at(text, 0));
+    told.truth(recovery.step(now).is_none() && recovery.clear());
+    told.need(recovery.begin(now, &holders).is_ok());
+    all_recovered(told, &mut recovery, text);
 }

@@ -11,7 +11,7 @@
 //! - `edges`: adapters over the system, and streams with faults: `areas`, `faulty_adapters`, `gates`, `outside`, `planned`, `streams`.
 //! - `machines`: a clock, times, a watchdog daemon, a recovery, a watch, a delta lease.
 //!
-//! `word_values` has what the others read of words, and `output_words` how they print words and numbers.
+//! `word_values` has what the others read of words, and `told` how they print words and numbers.
 //!
 //! In a text of several words single spaces keep them apart; a word that is left out is read as the empty word or as 0.
 #![tactic(auto)]
@@ -25,7 +25,6 @@ mod faulty_adapters;
 mod gates;
 mod lines;
 mod machines;
-mod output_words;
 mod outside;
 mod planned;
 mod readings;
@@ -33,11 +32,12 @@ mod records;
 mod replies;
 mod streams;
 mod texts;
+mod told;
 mod watches;
 mod word_values;
 
+use crate::told::Told;
 use sl_outside::{FileDevices, LiveDevices};
-use std::alloc::{AllocError, Global};
 use std::io;
 use std::process::Processes;
 use std::rt::Files;
@@ -45,114 +45,112 @@ use std::sync::Wait;
 use std::thread::Threads;
 use std::time::Clock;
 
-/// What a kind of text, or of what follows here, makes of a text.
-fn texts_of(alloc: Global, kind: &str, text: &str) -> Result<String, AllocError> {
+/// Tells what a kind of text, or of what follows here, makes of a text.
+fn texts_of(told: &mut Told, kind: &str, text: &str) {
     match kind {
-        "words" => texts::words(alloc, text),
-        "number" => texts::number(alloc, text),
-        "within" => texts::within(alloc, text),
-        "multiple" => texts::multiple(alloc, text),
-        "hex" => texts::hex(alloc, text),
-        "hex_bytes" => texts::hex_bytes(alloc, text),
-        "name" => texts::name(alloc, text),
-        "path" => texts::path(alloc, text),
-        "before" => texts::before(alloc, text),
-        _ => records_of(alloc, kind, text),
+        "words" => texts::words(told, text),
+        "number" => texts::number(told, text),
+        "within" => texts::within(told, text),
+        "multiple" => texts::multiple(told, text),
+        "hex" => texts::hex(told, text),
+        "hex_bytes" => texts::hex_bytes(told, text),
+        "name" => texts::name(told, text),
+        "path" => texts::path(told, text),
+        "before" => texts::before(told, text),
+        _ => records_of(told, kind, text),
     }
 }
 
 /// What a kind of record, or of what follows here, makes of a text.
-fn records_of(alloc: Global, kind: &str, text: &str) -> Result<String, AllocError> {
+fn records_of(told: &mut Told, kind: &str, text: &str) {
     match kind {
-        "sector" => records::sector(alloc, text),
-        "large" => records::large(alloc, text),
-        "decode" => readings::decoded(alloc, text),
-        "digest" => readings::digested(alloc, text),
-        "block_of" => records::block_of(alloc, text),
-        "pair_of" => records::pair_of(alloc, text),
-        "leader_of" => records::leader_of(alloc, text),
-        "value" => records::value(alloc, text),
-        "next_seq" => records::next_seq(alloc, text),
-        _ => areas_of(alloc, kind, text),
+        "sector" => records::sector(told, text),
+        "large" => records::large(told, text),
+        "decode" => readings::decoded(told, text),
+        "digest" => readings::digested(told, text),
+        "block_of" => records::block_of(told, text),
+        "pair_of" => records::pair_of(told, text),
+        "leader_of" => records::leader_of(told, text),
+        "value" => records::value(told, text),
+        "next_seq" => records::next_seq(told, text),
+        _ => areas_of(told, kind, text),
     }
 }
 
 /// What a kind of area, of request or of what follows here makes of a text.
-fn areas_of(alloc: Global, kind: &str, text: &str) -> Result<String, AllocError> {
+fn areas_of(told: &mut Told, kind: &str, text: &str) {
     match kind {
-        "geometry" => records::geometry(alloc, text),
-        "places" => records::places(alloc, text),
-        "paired" => records::paired(alloc, text),
-        "pairs" => records::pairs(alloc, text),
-        "place" => records::place(alloc, text),
-        "asked" => records::asked(alloc, text),
-        "bits" => records::bits(alloc, text),
-        _ => lines_of(alloc, kind, text),
+        "geometry" => records::geometry(told, text),
+        "places" => records::places(told, text),
+        "paired" => records::paired(told, text),
+        "pairs" => records::pairs(told, text),
+        "place" => records::place(told, text),
+        "asked" => records::asked(told, text),
+        "bits" => records::bits(told, text),
+        _ => lines_of(told, kind, text),
     }
 }
 
 /// What a kind of line, of a command or of what follows here makes of a text.
-fn lines_of(alloc: Global, kind: &str, text: &str) -> Result<String, AllocError> {
+fn lines_of(told: &mut Told, kind: &str, text: &str) {
     match kind {
-        "command" => commands::command(alloc, text),
-        "default_name" => commands::default_name(alloc, text),
-        "reply" => replies::reply(alloc, text),
-        "event" => lines::event(alloc, text),
-        "header" => lines::header(alloc, text),
-        "line" => lines::line(alloc, text),
-        "refusals" => lines::refusals(alloc),
-        "test" => lines::test(alloc, text),
-        _ => machines_of(alloc, kind, text),
+        "command" => commands::command(told, text),
+        "default_name" => commands::default_name(told, text),
+        "reply" => replies::reply(told, text),
+        "event" => lines::event(told, text),
+        "header" => lines::header(told, text),
+        "line" => lines::line(told, text),
+        "refusals" => lines::refusals(told),
+        "test" => lines::test(told, text),
+        _ => machines_of(told, kind, text),
     }
 }
 
 /// What a kind of machine, or of what follows here, makes of a text.
-fn machines_of(alloc: Global, kind: &str, text: &str) -> Result<String, AllocError> {
+fn machines_of(told: &mut Told, kind: &str, text: &str) {
     match kind {
-        "timing" => machines::timing(alloc, text),
-        "clock" => machines::clock(alloc, text),
-        "wdmd" => machines::wdmd(alloc, text),
-        "recovery" => machines::recovery(alloc, text),
-        "watch" => watches::watch(alloc, text),
-        "delta" => deltas::delta(alloc, text),
-        _ => ballots_of(alloc, kind, text),
+        "timing" => machines::timing(told, text),
+        "clock" => machines::clock(told, text),
+        "wdmd" => machines::wdmd(told, text),
+        "recovery" => machines::recovery(told, text),
+        "watch" => watches::watch(told, text),
+        "delta" => deltas::delta(told, text),
+        _ => ballots_of(told, kind, text),
     }
 }
 
 /// What a kind of ballot makes of a text.
-fn ballots_of(alloc: Global, kind: &str, text: &str) -> Result<String, AllocError> {
+fn ballots_of(told: &mut Told, kind: &str, text: &str) {
     match kind {
-        "ballot" => ballots::ballot(alloc, text),
-        "begin" => ballots::begin(alloc, text),
-        "mbal" => ballots::mbal(alloc, text),
-        "stop" => ballots::stop(alloc, text),
-        "accepted" => ballots::accepted(alloc, text),
-        "instance" => ballots::instance(alloc, text),
-        _ => String::from_str(alloc, "a kind of no text"),
+        "ballot" => ballots::ballot(told, text),
+        "begin" => ballots::begin(told, text),
+        "mbal" => ballots::mbal(told, text),
+        "stop" => ballots::stop(told, text),
+        "accepted" => ballots::accepted(told, text),
+        "instance" => ballots::instance(told, text),
+        _ => told.word("a kind of no text"),
     }
 }
 
-/// What a line's kind makes of its text.
-fn told<
+/// Tells what a line's kind makes of its text.
+fn tell<
     R: Files + Processes + Clock + Wait + Threads + AllocGlobal + Copy + Drop + Send + Sync,
     D: LiveDevices,
->(rt: &R, devices: &mut D, line: &str) -> io::Result<String> {
-    let alloc = rt.alloc();
-    let (kind, text) = line.split_once(' ').unwrap_or((line, ""));
-    if kind != "edge" {
-        return Ok(texts_of(alloc, kind, text)?);
+>(rt: &R, devices: &mut D, told: &mut Told, line: &str) {
+    match line.split_once(' ') {
+        Some(("edge", case)) => edges::tell(rt, devices, told, case),
+        Some((kind, text)) => texts_of(told, kind, text),
+        None => texts_of(told, line, ""),
     }
-    let mut told = String::new(alloc);
-    edges::push_told(rt, devices, text, &mut told)?;
-    Ok(told)
 }
 
 fn main(rt: HostRuntime) -> io::Result<()> {
     let mut devices = FileDevices::new(rt, rt.alloc());
     for line in rt.lines(rt.alloc()) {
         let line = line?;
-        let text = told(&rt, &mut devices, line.as_str())?;
-        println!(rt; "{line}: {text}")?;
+        let mut told = Told::new(rt.alloc());
+        tell(&rt, &mut devices, &mut told, line.as_str());
+        println!(rt; "{line}:{}", told.whole()?)?;
     }
     Ok(())
 }

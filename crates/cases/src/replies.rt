@@ -1,11 +1,10 @@
 //! Replies: each by the name of its case here.
 
-use crate::word_values::shown;
+use crate::told::Told;
 use sl_command::push_reply_text;
 use sl_sector::Owner;
 use sl_text::{Data, Name, Seq};
 use sl_trace::{DeltaOwner, DeltaVersion, HostState, Limited, Reply, SessionOf, StateOf};
-use std::alloc::{AllocError, Global};
 
 const FIRST: DeltaVersion = DeltaVersion {
     generation: 4,
@@ -25,84 +24,159 @@ fn owned(name: Name) -> DeltaOwner {
     }
 }
 
-/// A reply with numbers alone.
-fn plain(case: &str) -> Option<Reply> {
+/// What is printed of a reply.
+fn tell(told: &mut Told, reply: Reply) {
+    let mut text = Vec::new(told.alloc);
+    told.need(push_reply_text(&mut text, &reply).is_ok());
+    told.bytes(&text);
+}
+
+/// What is printed of the reply of this name: one with numbers alone, or another.
+pub fn reply(told: &mut Told, case: &str) {
     match case {
-        "done" => Some(Reply::Done),
-        "started" => Some(Reply::Started {
-            lver: 7,
-            process: 1_000_001,
-        }),
-        "id_held" => Some(Reply::IdHeld {
-            first: FIRST,
-            later: Some(FIRST),
-        }),
-        "id_held_torn" => Some(Reply::IdHeld {
-            first: FIRST,
-            later: None,
-        }),
-        "held" => Some(Reply::Held {
-            lver: 9,
-            owner: OWNER,
-        }),
-        "io_timeout" => Some(Reply::IoTimeout {
-            call: 1,
-            from: 2,
-            to: 3,
-        }),
-        "bad_command" => Some(Reply::BadCommand { column: 12 }),
-        _ => None,
+        "done" => tell(told, Reply::Done),
+        "started" => tell(
+            told,
+            Reply::Started {
+                lver: 7,
+                process: 1_000_001,
+            },
+        ),
+        "id_held" => tell(
+            told,
+            Reply::IdHeld {
+                first: FIRST,
+                later: Some(FIRST),
+            },
+        ),
+        "id_held_torn" => tell(
+            told,
+            Reply::IdHeld {
+                first: FIRST,
+                later: None,
+            },
+        ),
+        "held" => tell(
+            told,
+            Reply::Held {
+                lver: 9,
+                owner: OWNER,
+            },
+        ),
+        "io_timeout" => tell(
+            told,
+            Reply::IoTimeout {
+                call: 1,
+                from: 2,
+                to: 3,
+            },
+        ),
+        "bad_command" => tell(told, Reply::BadCommand { column: 12 }),
+        _ => refused(told, case),
     }
 }
 
-/// A reply that a request or a limit has.
-fn refused(case: &str) -> Option<Reply> {
+/// A reply that a request or a limit has, or another.
+fn refused(told: &mut Told, case: &str) {
     match case {
-        "request_old" => Some(Reply::RequestOld {
-            held: 7,
-            stored: Some(8),
-        }),
-        "request_old_torn" => Some(Reply::RequestOld {
-            held: 7,
-            stored: None,
-        }),
-        "limit_holders" => Some(Reply::Limit {
-            which: Limited::Holders,
-        }),
-        "limit_gen" => Some(Reply::Limit {
-            which: Limited::Gen,
-        }),
-        _ => None,
+        "request_old" => tell(
+            told,
+            Reply::RequestOld {
+                held: 7,
+                stored: Some(8),
+            },
+        ),
+        "request_old_torn" => tell(
+            told,
+            Reply::RequestOld {
+                held: 7,
+                stored: None,
+            },
+        ),
+        "limit_holders" => tell(
+            told,
+            Reply::Limit {
+                which: Limited::Holders,
+            },
+        ),
+        "limit_gen" => tell(
+            told,
+            Reply::Limit {
+                which: Limited::Gen,
+            },
+        ),
+        "value" => value(told, &[0, 255]),
+        "value_of_no_bytes" => value(told, b""),
+        _ => named(told, case),
     }
 }
 
-/// A reply with a name, or with bytes.
-fn named(case: &str, name: Name, bytes: Data) -> Option<Reply> {
+/// A reply with a value of these bytes.
+fn value(told: &mut Told, bytes: &[u8]) {
+    match Data::new(bytes) {
+        Some(bytes) => tell(
+            told,
+            Reply::Value {
+                lver: 1,
+                seq: 2,
+                bytes,
+            },
+        ),
+        None => told.word("no bytes"),
+    }
+}
+
+/// A reply with a name.
+fn named(told: &mut Told, case: &str) {
+    match Name::new(b"h1") {
+        Some(name) => of_name(told, case, name),
+        None => told.word("no name"),
+    }
+}
+
+/// A reply with this name, or with a list.
+fn of_name(told: &mut Told, case: &str, name: Name) {
     match case {
-        "value" => Some(Reply::Value {
-            lver: 1,
-            seq: 2,
-            bytes,
-        }),
-        "id_lost" => Some(Reply::IdLost {
-            own: owned(name),
-            found: Some(owned(name)),
-        }),
-        "id_lost_torn" => Some(Reply::IdLost {
-            own: owned(name),
-            found: None,
-        }),
-        "wrong_delta" => Some(Reply::WrongDelta {
-            lockspace: name,
-            id: 2,
-        }),
-        _ => None,
+        "id_lost" => tell(
+            told,
+            Reply::IdLost {
+                own: owned(name),
+                found: Some(owned(name)),
+            },
+        ),
+        "id_lost_torn" => tell(
+            told,
+            Reply::IdLost {
+                own: owned(name),
+                found: None,
+            },
+        ),
+        "wrong_delta" => tell(
+            told,
+            Reply::WrongDelta {
+                lockspace: name,
+                id: 2,
+            },
+        ),
+        "hosts" => hosts(told),
+        "sessions" => sessions(told, name),
+        "no_sessions" => tell(told, Reply::Sessions(Seq::new(Vec::new(told.alloc)))),
+        _ => told.word("no reply"),
     }
 }
 
 /// A state of a host.
 fn state(id: u32, state: HostState) -> StateOf {
     StateOf { id, state }
+}
+
+/// A reply with three hosts.
+fn hosts(told: &mut Told) {
+    let mut states = Vec::new(told.alloc);
+    told.need(states.push(state(1, HostState::Live)).is_ok());
+    told.need(states.push(state(2, HostState::Free)).is_ok());
+    told.need(states.push(state(3, HostState::Dead)).is_ok());
+    tell(told, Reply::Hosts(Seq::new(states)));
 }
 
 /// A session of generation 4.
@@ -114,60 +188,10 @@ fn session(lockspace: Name, id: u32) -> SessionOf {
     }
 }
 
-/// A reply with a list.
-fn listed(alloc: Global, case: &str, name: Name) -> Result<Option<Reply>, AllocError> {
-    match case {
-        "hosts" => {
-            let states = vec![in alloc;
-                state(1, HostState::Live),
-                state(2, HostState::Free),
-                state(3, HostState::Dead),
-            ]?;
-            Ok(Some(Reply::Hosts(Seq::new(states))))
-        }
-        "sessions" => {
-            let sessions = vec![in alloc; session(name, 1), session(name, 3)]?;
-            Ok(Some(Reply::Sessions(Seq::new(sessions))))
-        }
-        "no_sessions" => Ok(Some(Reply::Sessions(Seq::new(Vec::new(alloc))))),
-        _ => Ok(None),
-    }
-}
-
-/// What is printed of a reply.
-fn reply_text(alloc: Global, reply: &Reply) -> Result<String, AllocError> {
-    let mut text = Vec::new(alloc);
-    push_reply_text(&mut text, reply)?;
-    shown(alloc, &text)
-}
-
-/// What is printed of a reply with a list.
-fn list_text(alloc: Global, case: &str, name: Name) -> Result<String, AllocError> {
-    match listed(alloc, case, name)? {
-        Some(reply) => reply_text(alloc, &reply),
-        None => String::from_str(alloc, "no reply"),
-    }
-}
-
-/// A reply without a list.
-fn unlisted(case: &str, name: Name, bytes: Data, none: Data) -> Option<Reply> {
-    match case {
-        "value_of_no_bytes" => named("value", name, none),
-        _ => plain(case).or(refused(case)).or(named(case, name, bytes)),
-    }
-}
-
-/// What is printed of the reply of this name.
-pub fn reply(alloc: Global, case: &str) -> Result<String, AllocError> {
-    let (Some(name), Some(bytes), Some(none)) = (
-        Name::new(b"h1"),
-        Data::new(&[0, 255]),
-        Data::new(b""),
-    ) else {
-        return String::from_str(alloc, "no name");
-    };
-    match unlisted(case, name, bytes, none) {
-        Some(reply) => reply_text(alloc, &reply),
-        None => list_text(alloc, case, name),
-    }
+/// A reply with two sessions.
+fn sessions(told: &mut Told, name: Name) {
+    let mut sessions = Vec::new(told.alloc);
+    told.need(sessions.push(session(name, 1)).is_ok());
+    told.need(sessions.push(session(name, 3)).is_ok());
+    tell(told, Reply::Sessions(Seq::new(sessions)));
 }

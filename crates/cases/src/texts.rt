@@ -1,117 +1,129 @@
 //! Words, numbers, digits, names.
 
-use crate::output_words::{add, truth};
-use crate::word_values::{digits_of, number_at, shown, word};
-use sl_text::hex::{read_hex, read_hex_bytes};
+use crate::told::Told;
+use crate::word_values::{number_at, word};
+use sl_text::hex::{push_hex, read_hex, read_hex_bytes};
 use sl_text::number::{
     is_multiple, push_number, read_number, read_number_within, read_short_number,
 };
 use sl_text::words::Words;
 use sl_text::{FilePath, Name};
-use std::alloc::{AllocError, Global};
 
 /// The next word with its column.
-fn next_word(alloc: Global, words: &mut Words<'_>) -> Result<String, AllocError> {
-    let column = words.column();
-    let piece = shown(alloc, words.next_piece().unwrap_or(b""))?;
-    format!(in alloc; "{column} '{piece}'")
+fn next_word(told: &mut Told, words: &mut Words<'_>) {
+    told.number(words.column() as u64);
+    told.quoted(words.next_piece().unwrap_or(b""));
+    told.end(",");
 }
 
 /// Each word with its column, and the column behind the last.
-pub fn words(alloc: Global, text: &str) -> Result<String, AllocError> {
+pub fn words(told: &mut Told, text: &str) {
     let mut words = Words::new(text.as_bytes());
-    let mut told = String::new(alloc);
     for _ in text.split(' ') {
-        add(&mut told, next_word(alloc, &mut words)?, ", ")?;
+        next_word(told, &mut words);
     }
-    write!(told, "{}", words.column())?;
-    Ok(told)
+    told.number(words.column() as u64);
 }
 
 /// A number as it is written.
-fn written(alloc: Global, number: u64) -> Result<String, AllocError> {
-    let mut text = Vec::new(alloc);
-    push_number(&mut text, number)?;
-    shown(alloc, &text)
+fn written(told: &mut Told, number: u64) {
+    let mut text = Vec::new(told.alloc);
+    told.need(push_number(&mut text, number).is_ok());
+    told.bytes(&text);
 }
 
 /// A number as it is written, and as a short one.
-fn both_written(alloc: Global, number: u64, short: u32) -> Result<String, AllocError> {
-    let number = written(alloc, number)?;
-    format!(in alloc; "{number}, short {short}")
+fn both_written(told: &mut Told, number: u64, short: u32) {
+    written(told, number);
+    told.end(", short");
+    told.short(short);
 }
 
 /// The number, and the short number.
-pub fn number(alloc: Global, text: &str) -> Result<String, AllocError> {
+pub fn number(told: &mut Told, text: &str) {
     match (
         read_number(text.as_bytes()),
         read_short_number(text.as_bytes()),
     ) {
-        (Some(number), Some(short)) => both_written(alloc, number, short),
-        _ => String::from_str(alloc, "none"),
-    }
-}
-
-/// A number, or none.
-fn number_or_none(alloc: Global, number: Option<u64>) -> Result<String, AllocError> {
-    match number {
-        Some(number) => written(alloc, number),
-        None => String::from_str(alloc, "none"),
+        (Some(number), Some(short)) => both_written(told, number, short),
+        _ => told.word("none"),
     }
 }
 
 /// The number within the bounds that stand in front of it.
-pub fn within(alloc: Global, text: &str) -> Result<String, AllocError> {
+pub fn within(told: &mut Told, text: &str) {
     let (low, high) = (number_at(text, 0), number_at(text, 1));
-    number_or_none(
-        alloc,
-        read_number_within(word(text, 2).as_bytes(), low, high),
-    )
+    match read_number_within(word(text, 2).as_bytes(), low, high) {
+        Some(number) => written(told, number),
+        None => told.word("none"),
+    }
 }
 
 /// Whether a number is a multiple of the one in front of it.
-pub fn multiple(alloc: Global, text: &str) -> Result<String, AllocError> {
+pub fn multiple(told: &mut Told, text: &str) {
     let step = number_at(text, 0);
-    let is = 0 < step && is_multiple(word(text, 1).as_bytes(), step);
-    truth(alloc, is)
+    told.truth(0 < step && is_multiple(word(text, 1).as_bytes(), step));
+}
+
+/// Bytes as digits.
+pub fn digits(told: &mut Told, bytes: &[u8]) {
+    let mut text = Vec::new(told.alloc);
+    told.need(push_hex(&mut text, bytes).is_ok());
+    told.bytes(&text);
 }
 
 /// How many bytes, and their digits.
-fn digits(alloc: Global, bytes: &[u8]) -> Result<String, AllocError> {
-    let digits = digits_of(alloc, bytes)?;
-    format!(in alloc; "{} bytes {digits}", bytes.len())
+fn counted_digits(told: &mut Told, bytes: &[u8]) {
+    told.number(bytes.len() as u64);
+    told.word("bytes");
+    digits(told, bytes);
 }
 
 /// The bytes of a word of digits, at most 256.
-pub fn hex(alloc: Global, text: &str) -> Result<String, AllocError> {
+pub fn hex(told: &mut Told, text: &str) {
     match read_hex(text.as_bytes()) {
-        Some(data) => digits(alloc, data.as_slice()),
-        None => String::from_str(alloc, "none"),
+        Some(data) => counted_digits(told, data.as_slice()),
+        None => told.word("none"),
     }
 }
 
 /// The bytes of a word of so many digits at least and at most.
-pub fn hex_bytes(alloc: Global, text: &str) -> Result<String, AllocError> {
+pub fn hex_bytes(told: &mut Told, text: &str) {
     let (low, high) = (number_at(text, 0) as usize, number_at(text, 1) as usize);
-    match read_hex_bytes(alloc, word(text, 2).as_bytes(), low, high)? {
-        Some(bytes) => digits(alloc, bytes.as_slice()),
-        None => String::from_str(alloc, "none"),
+    match read_hex_bytes(told.alloc, word(text, 2).as_bytes(), low, high) {
+        Ok(Some(bytes)) => counted_digits(told, bytes.as_slice()),
+        Ok(None) => told.word("none"),
+        Err(_) => told.need(false),
     }
+}
+
+/// How many bytes a name has, and the name as it is shown and as it is looked into.
+fn name_text(told: &mut Told, name: &Name) {
+    told.number(name.as_str().len() as u64);
+    let done = write!(told.text, " bytes {name} {name:?}").is_ok();
+    told.need(done);
 }
 
 /// A name.
-pub fn name(alloc: Global, text: &str) -> Result<String, AllocError> {
+pub fn name(told: &mut Told, text: &str) {
     match Name::new(text.as_bytes()) {
-        Some(name) => format!(in alloc; "{} bytes {name} {name:?}", name.as_str().len()),
-        None => String::from_str(alloc, "none"),
+        Some(name) => name_text(told, &name),
+        None => told.word("none"),
     }
 }
 
+/// .. of a path.
+fn path_text(told: &mut Told, path: &FilePath) {
+    told.number(path.as_str().len() as u64);
+    let done = write!(told.text, " bytes {path} {path:?}").is_ok();
+    told.need(done);
+}
+
 /// A path.
-pub fn path(alloc: Global, text: &str) -> Result<String, AllocError> {
+pub fn path(told: &mut Told, text: &str) {
     match FilePath::new(text.as_bytes()) {
-        Some(path) => format!(in alloc; "{} bytes {path} {path:?}", path.as_str().len()),
-        None => String::from_str(alloc, "none"),
+        Some(path) => path_text(told, &path),
+        None => told.word("none"),
     }
 }
 
@@ -127,12 +139,18 @@ fn is_path_before(first: &[u8], second: &[u8]) -> Option<bool> {
     Some(first.is_before(&second))
 }
 
+/// A word, and whether it is.
+fn truth_of(told: &mut Told, word: &str, is: bool) {
+    told.word(word);
+    told.truth(is);
+}
+
 /// Whether the first of two words comes before the second, as names or as paths.
-pub fn before(alloc: Global, text: &str) -> Result<String, AllocError> {
+pub fn before(told: &mut Told, text: &str) {
     let (first, second) = (word(text, 0).as_bytes(), word(text, 1).as_bytes());
     match (is_name_before(first, second), is_path_before(first, second)) {
-        (Some(is), _) => format!(in alloc; "name {is}"),
-        (None, Some(is)) => format!(in alloc; "path {is}"),
-        (None, None) => String::from_str(alloc, "none"),
+        (Some(is), _) => truth_of(told, "name", is),
+        (None, Some(is)) => truth_of(told, "path", is),
+        (None, None) => told.word("none"),
     }
 }

@@ -2,8 +2,8 @@
 
 ghost use Rattle.std.specs.Prelude.{◌≡◌};
 
-use crate::output_words::{add, said, said_two};
 use crate::records::sector_of;
+use crate::told::Told;
 use crate::word_values::{number_of, part, short_of};
 use sl_area::Geometry;
 use sl_sector::Image;
@@ -11,7 +11,7 @@ use sl_text::Bytes;
 use sl_time::Timing;
 use sl_trace::{Evidence, HostState};
 use sl_watch::Watch;
-use std::alloc::{AllocError, Global};
+use std::alloc::Global;
 use std::marker::Model;
 
 /// A watch of a run with sectors of 512 bytes and two hosts.
@@ -41,19 +41,16 @@ impl Pair {
     }
 
     /// Takes a look at an id's sector.
-    fn saw(
-        &mut self,
-        alloc: Global,
-        before: u64,
-        after: u64,
-        id: u32,
-        sector: &[u8; 512],
-    ) -> Result<(), AllocError> {
-        let image = Image::of_bytes(Bytes::from_slice(alloc, sector)?);
-        if 1 <= id && id <= 2 {
-            self.watch.saw(before, after, id, &image);
+    fn saw(&mut self, told: &mut Told, before: u64, after: u64, id: u32, sector: &[u8; 512]) {
+        match Bytes::from_slice(told.alloc, sector) {
+            Ok(bytes) => {
+                let image = Image::of_bytes(bytes);
+                if 1 <= id && id <= 2 {
+                    self.watch.saw(before, after, id, &image);
+                }
+            }
+            Err(_) => told.need(false),
         }
-        Ok(())
     }
 
     /// Why a generation of an id counts as over.
@@ -95,12 +92,12 @@ pub fn sector_named(text: &str, name: &str) -> [u8; 512] {
 }
 
 /// Evidence.
-fn evidence(alloc: Global, over: Option<Evidence>) -> Result<String, AllocError> {
+fn evidence(told: &mut Told, over: Option<Evidence>) {
     match over {
-        Some(Evidence::Newer { generation }) => said(alloc, "newer", generation),
-        Some(Evidence::Freed { generation }) => said(alloc, "freed", generation),
-        Some(Evidence::Silent { from, to }) => said_two(alloc, "silent", from, to),
-        None => String::from_str(alloc, "none"),
+        Some(Evidence::Newer { generation }) => told.said("newer", generation),
+        Some(Evidence::Freed { generation }) => told.said("freed", generation),
+        Some(Evidence::Silent { from, to }) => told.said_two("silent", from, to),
+        None => told.word("none"),
     }
 }
 
@@ -116,51 +113,41 @@ fn state(state: HostState) -> &'static str {
 }
 
 /// Takes the look that a word tells.
-fn look(alloc: Global, pair: &mut Pair, text: &str, word: &str) -> Result<(), AllocError> {
+fn look(told: &mut Told, pair: &mut Pair, text: &str, word: &str) {
     pair.saw(
-        alloc,
+        told,
         number_of(part(word, ':', 1)),
         number_of(part(word, ':', 2)),
         short_of(part(word, ':', 3)),
         &sector_named(text, part(word, ':', 4)),
-    )
+    );
 }
 
 /// What the watch tells at a word: `saw:BEFORE:AFTER:ID:NAME`, `over:ID:GENERATION`, `still:ID`, `status:ID:NOW`.
-fn told(alloc: Global, pair: &mut Pair, text: &str, word: &str) -> Result<String, AllocError> {
-    let (first, second) = (part(word, ':', 1), part(word, ':', 2));
+fn tell(told: &mut Told, pair: &mut Pair, text: &str, word: &str) {
+    let (id, number) = (short_of(part(word, ':', 1)), number_of(part(word, ':', 2)));
     match part(word, ':', 0) {
-        "saw" => look(alloc, pair, text, word)?,
-        "over" => return evidence(alloc, pair.over(short_of(first), number_of(second))),
-        "still" => return format!(in alloc; "{}", pair.unchanged(short_of(first))),
-        "status" => {
-            return String::from_str(
-                alloc,
-                state(pair.status(short_of(first), number_of(second))),
-            );
-        }
-        _ => {}
+        "saw" => return look(told, pair, text, word),
+        "over" => evidence(told, pair.over(id, number)),
+        "still" => told.number(pair.unchanged(id)),
+        "status" => told.word(state(pair.status(id, number))),
+        _ => return,
     }
-    Ok(String::new(alloc))
+    told.end(",");
 }
 
-/// Adds what a word made the watch tell, if anything.
-fn add_told(all: &mut String, told: String) -> Result<(), AllocError> {
-    if told.is_empty() {
-        Ok(())
-    } else {
-        add(all, told, ", ")
+/// What a watch tells at each word.
+fn tell_all(told: &mut Told, pair: &mut Pair, text: &str) {
+    for word in text.split(' ') {
+        tell(told, pair, text, word);
     }
+    told.end(" ");
 }
 
 /// What a watch tells that sees these sectors. A word `NAME=..` tells a sector.
-pub fn watch(alloc: Global, text: &str) -> Result<String, AllocError> {
-    let Some(mut pair) = Pair::new(alloc) else {
-        return String::from_str(alloc, "no run");
-    };
-    let mut all = String::new(alloc);
-    for word in text.split(' ') {
-        add_told(&mut all, told(alloc, &mut pair, text, word)?)?;
+pub fn watch(told: &mut Told, text: &str) {
+    match Pair::new(told.alloc) {
+        Some(mut pair) => tell_all(told, &mut pair, text),
+        None => told.word("no run"),
     }
-    Ok(all)
 }

@@ -1,8 +1,7 @@
 //! Words and numbers of a text.
 
-use sl_text::hex::push_hex;
+use crate::told::Told;
 use sl_text::number::{read_number, read_short_number};
-use std::alloc::{AllocError, Global};
 
 /// The part with this place, from 0 on, of a text whose parts this character keeps apart.
 pub fn part(text: &str, separator: char, place: usize) -> &str {
@@ -35,22 +34,10 @@ pub fn short_at(text: &str, place: usize) -> u32 {
 }
 
 /// The numbers that these words are, from the word with this place on.
-pub fn numbers_from(alloc: Global, text: &str, place: usize) -> Result<Vec<u64>, AllocError> {
-    let mut numbers = Vec::new(alloc);
+pub fn numbers_from(told: &mut Told, text: &str, place: usize) -> Vec<u64> {
+    let mut numbers = Vec::new(told.alloc);
     for word in text.split(' ').skip(place) {
-        numbers.push(number_of(word))?;
+        told.need(numbers.push(number_of(word)).is_ok());
     }
-    Ok(numbers)
-}
-
-/// Bytes as digits.
-pub fn digits_of(alloc: Global, bytes: &[u8]) -> Result<String, AllocError> {
-    let mut text = Vec::new(alloc);
-    push_hex(&mut text, bytes)?;
-    shown(alloc, &text)
-}
-
-/// Bytes as text.
-pub fn shown(alloc: Global, bytes: &[u8]) -> Result<String, AllocError> {
-    String::from_str(alloc, std::str::from_utf8(bytes).unwrap_or("no text"))
+    numbers
 }
