@@ -58,8 +58,8 @@ pub fn an_interrupted_read(told: &mut Told) {
     told.word(if buffer[0] == b'x' { "x" } else { "?" });
 }
 
-/// A write of three bytes and one of none: what came of each, and the faults. Then one that takes none, and a flush: what came of each, with
-/// the faults behind it.
+/// A write of three bytes and one of none: what came of each, and the faults. Then one that takes none, and a flush: what came of each,
+/// with the faults behind it.
 fn tell_taken(told: &mut Told, sink: &mut WriteSink<Stuck>) {
     tell_count(told, &sink.write(b"abc"));
     tell_count(told, &sink.write(b""));

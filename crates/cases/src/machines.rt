@@ -75,8 +75,8 @@ fn unregister(told: &mut Told, wdmd: &mut Wdmd, name: Name) {
     told.word("-");
 }
 
-/// What a watchdog daemon does with a name: it is registered with an expiry, moved, unregistered; whether it is registered, or whether the test
-/// at the reading that it is holds.
+/// What a watchdog daemon does with a name: it is registered with an expiry, moved, unregistered; whether it is registered, or whether the
+/// test at the reading that it is holds.
 fn of_name(told: &mut Told, wdmd: &mut Wdmd, kind: &str, name: Name, expiry: u64) {
     match kind {
         "register" => register(told, wdmd, name, expiry),

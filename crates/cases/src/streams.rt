@@ -58,8 +58,8 @@ fn failing_sink(alloc: Global, call: u64) -> Result<MemSink, AllocError> {
     MemSink::new(alloc, 9, vec![in alloc; 2]?, vec![in alloc; call]?)
 }
 
-/// How all of five bytes is written to such a sink, the faults, how many bytes were taken, and how another is written and how many are taken
-/// then.
+/// How all of five bytes is written to such a sink, the faults, how many bytes were taken, and how another is written and how many are
+/// taken then.
 fn tell_writes(told: &mut Told, sink: &mut MemSink) {
     told.word(went(&write_all(sink, b"block")));
     told.number(sink.faults());
