@@ -1,5 +1,5 @@
 pub mod TopLaws
-pub mod TopRules
+pub mod LeftBehind
 pub mod ToldLaws
 pub mod RecordFacts
 pub mod NextLaws

@@ -98,9 +98,10 @@ shows_blocks ClearMode = false
 abbrev pub stop_told : Option Block → LeaseStep → List (Option Block) → Option (Option Stop)
 stop_told own step read = elim (shows_blocks step) [ false ↦ None | true ↦ option_map (λ b. stop_of b read) own ]
 
--- The greatest number in an instance, one by one.
-abbrev pub mbals_found : ℕ → List (Option Block) → ℕ
-mbals_found n read = fold (λ top x. max top x) 0 (map (λ b. b.mbal) (filter (λ b. b.lver == n) (present read)))
+-- The greater of a number and that of a block in an instance.
+abbrev pub top_within : ℕ → ℕ → Option Block → ℕ
+top_within n top None = top
+top_within n top (Some b) = cond (b.lver == n) (max top b.mbal) top
 
 -- The greatest number of the own block's instance after a read at this step.
 abbrev pub top_told : LeaseStep → Option Block → List (Option Block) → Option TopNumber → Option TopNumber

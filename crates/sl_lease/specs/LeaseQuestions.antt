@@ -25,7 +25,7 @@ use Rattle.sl_trace.specs.declared.effects.LeaseStep.{LeaseStep}
 use Rattle.sl_trace.specs.declared.reply.Reply.TheVariants.{Held as HeldBy, TornLeader, WrongArea}
 use Rattle.sl_words.specs.Words.{choose, present, some_is}
 use Rattle.std.specs.Option.{option_map_or}
-use Rattle.std.specs.Prelude.{Bool, List, None, Option, Some, false, filter, fold, if◌then◌else◌, map, max, not, option_and_then, true, [], ℕ, ◌+◌, ◌==◌, ◌∷◌, ◌≡◌}
+use Rattle.std.specs.Prelude.{Bool, List, None, Option, Some, cond, false, filter, fold, if◌then◌else◌, map, max, not, option_and_then, true, [], ℕ, ◌+◌, ◌==◌, ◌∷◌, ◌≡◌}
 
 -- What is kept of the blocks that were read last is so: the greatest number, in an open ballot's instance where one is open.
 pub record TopStands (l : LeaseState) (read : List (Option Block)) : Type 0 where
@@ -71,9 +71,10 @@ area_asked p k aim name (Some l) read =
 abbrev pub phase2_with : Side → Held → Block → List (Option Block) → LeaseNext
 phase2_with z h own read = WriteBlock Phase2Write (moded_block (phase2_block z.me own (ballot_blocks own read)) h.shared (gen_with z h))
 
--- The greatest lver of the own block and of the other blocks read, one by one.
-abbrev pub tops_found : Block → List (Option Block) → ℕ
-tops_found own read = fold (λ top x. max top x) own.lver (map (λ b. b.lver) (filter (λ b. not (b.host == own.host)) (present read)))
+-- The greater of a number and the lver of a block of another host than the own one.
+abbrev pub top_beside : Block → ℕ → Option Block → ℕ
+top_beside own top None = top
+top_beside own top (Some b) = cond (b.host == own.host) top (max top b.lver)
 
 -- The free that is owed, unless its instance is held.
 abbrev pub owed_with : LeaseState → Held → Option ℕ

@@ -54,9 +54,10 @@ merged_with first last = map (λ k. later_pair (slice_index_or first k None) (sl
 abbrev pub blocks_of_pairs : List (Option PairBlock) → List (Option Block)
 blocks_of_pairs pairs = map (λ p. option_map (λ q. q.block) p) pairs
 
--- The greatest lver among them, one by one.
-abbrev pub lvers_found : List (Option PairBlock) → ℕ
-lvers_found pairs = fold (λ top x. max top x) 0 (map (λ p. p.block.lver) (present pairs))
+-- The greater of a number and the lver of one, if it was read.
+abbrev pub top_of : ℕ → Option PairBlock → ℕ
+top_of top None = top
+top_of top (Some p) = max top p.block.lver
 
 -- The leader of a read of the area: the one that is spelled; with pairs a torn one is made from these.
 abbrev pub leader_with : Sizes → List ℕ → List (Option PairBlock) → Option Leader

@@ -3,7 +3,7 @@
 //! The leader, then its names, then the blocks are looked at, and the first that isn't right refuses. A torn block may hide a later
 //! instance, so an acquire begins none beside it. Where all is right, the leader and the blocks tell which instance begins, or who holds
 //! the resource.
-ghost use Rattle.sl_lease.specs.LeaseQuestions.{TopStands, area_asked, owner_over, tops_found};
+ghost use Rattle.sl_lease.specs.LeaseQuestions.{TopStands, area_asked, owner_over, top_beside};
 ghost use Rattle.sl_lease.specs.Bounds.{IsRead};
 ghost use Rattle.sl_lease.specs.Side.{known_with, place_of};
 ghost use Rattle.sl_lease.specs.Steps.{IsFitNext};
@@ -22,30 +22,25 @@ use sl_sector::{Block, Leader};
 use sl_text::Name;
 use sl_trace::{Aim, Instance, LeaseNext, Reply};
 
-/// Whether a block is of another host than the own one.
-fn is_of_other(own: &Block, block: &Block) -> bool
-    ensures { result ≡ not (block.now.host == own.now.host) }
+/// The greater of a number and the lver of a block of another host than the own one.
+fn top_beside(own: &Block, top: u64, block: &Option<Block>) -> u64
+    ensures { result ≡ top_beside own.now top block.now }
 {
-    block.host != own.host
+    match block {
+        Some(block) if block.host != own.host => top.max(block.lver),
+        _ => top,
+    }
 }
 
 /// The greatest lver of the own block and of the other blocks read.
-#[tactic(auto, using(crate::proofs::TopRules::tops))]
 fn top_lver(own: &Block, read: &[Option<Block>]) -> u64
     ensures { result ≡ top_lver own.now read.now }
 {
-    top_found(own, read)
-}
-
-/// The same, as it is found one by one.
-fn top_found(own: &Block, read: &[Option<Block>]) -> u64
-    ensures { result ≡ tops_found own.now read.now }
-{
-    read.iter()
-        .filter_map(|block| *block)
-        .filter(|block| is_of_other(own, block))
-        .map(|block| block.lver)
-        .fold(own.lver, |top, lver| top.max(lver))
+    let mut top = own.lver;
+    for block in read {
+        top = top_beside(own, top, block);
+    }
+    top
 }
 
 /// Whether the leader's owner counts as over.

@@ -13,7 +13,7 @@ ghost use Rattle.sl_trace.specs.LeaseDecisions.{after_phase1, after_phase2, ende
 ghost use Rattle.sl_trace.specs.Leases.{shared_elsewhere};
 ghost use Rattle.sl_trace.specs.declared.lease.LeaseNext.TheVariants.{WriteLeader};
 ghost use Rattle.sl_sector.specs.declared.sector.Block.{Block};
-ghost use Rattle.sl_words.specs.Words.{present};
+ghost use Rattle.sl_words.specs.Words.{present, some_is};
 ghost use Rattle.std.specs.Prelude.{Bool, IsTrue, List, Option, find, length, ℕ, ◌<◌, ◌^◌, ◌≡◌};
 
 use crate::kept_changes::is_ahead;
@@ -58,13 +58,26 @@ fn is_shared_by_other<E: Evidence>(id: u32, evidence: &E, block: &Block) -> bool
     block.host != id && block.shared && !evidence.is_over(block.host, block.mode_gen)
 }
 
+/// Whether a block was read and shows it.
+fn shows_shared<E: Evidence>(id: u32, evidence: &E, block: &Option<Block>) -> bool
+    ensures { result ≡ some_is (is_shared_beside id (E.over evidence.now)) block.now }
+{
+    match block {
+        Some(block) => is_shared_by_other(id, evidence, block),
+        None => false,
+    }
+}
+
 /// The first block read that shows another's shared mode.
 fn shared_elsewhere<E: Evidence>(id: u32, evidence: &E, read: &[Option<Block>]) -> Option<Block>
     ensures { result ≡ find (is_shared_beside id (E.over evidence.now)) (present read.now) }
 {
-    read.iter()
-        .filter_map(|block| *block)
-        .find(|block| is_shared_by_other(id, evidence, block))
+    for block in read {
+        if shows_shared(id, evidence, block) {
+            return *block;
+        }
+    }
+    None
 }
 
 /// The leader that a session writes for the resource of this name.

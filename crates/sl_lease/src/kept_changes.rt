@@ -3,7 +3,7 @@ ghost use Rattle.sl_area.specs.AreaSizes.{layout_of};
 ghost use Rattle.sl_host_state.specs.HeardInputs.{concludes_at, is_last_phase, is_phase_step, won_at, won_hearing};
 ghost use Rattle.sl_host_state.specs.HostStands.{top_mbal};
 ghost use Rattle.sl_lease.specs.Bounds.{IsBegun, IsInstance};
-ghost use Rattle.sl_lease.specs.Changes.{ballot_over, is_phase2_write, is_settled_by, mbals_found, name_found, name_told, settles_read, shows_blocks, stop_told, top_told};
+ghost use Rattle.sl_lease.specs.Changes.{ballot_over, is_phase2_write, is_settled_by, name_found, name_told, settles_read, shows_blocks, stop_told, top_told, top_within};
 ghost use Rattle.sl_trace.specs.Ballots.{is_ahead};
 ghost use Rattle.sl_trace.specs.LeaseDecisions.{read_of_step};
 ghost use Rattle.sl_trace.specs.Leases.{is_free_of, is_leader_of, is_second};
@@ -109,14 +109,26 @@ fn read_leader_settles(me: Owner, n: u64, leader: &Option<Leader>) -> bool
     }
 }
 
+/// Whether a block, if it was read, is of a later instance than `n`.
+fn is_above(n: u64, block: &Option<Block>) -> bool
+    ensures { result ≡ some_is (λ b. nat_lt n b.lver) block.now }
+{
+    match block {
+        Some(block) => n < block.lver,
+        None => false,
+    }
+}
+
 /// Whether a block that was read is of a later instance than `n`.
 fn is_any_above(n: u64, blocks: &[Option<Block>]) -> bool
     ensures { result ≡ list_any (λ b. nat_lt n b.lver) (present blocks.now) }
 {
-    blocks
-        .iter()
-        .filter_map(|block| *block)
-        .any(|block| n < block.lver)
+    for block in blocks {
+        if is_above(n, block) {
+            return true;
+        }
+    }
+    false
 }
 
 /// Whether leader and blocks show that the free of instance `n` isn't needed.
@@ -328,23 +340,25 @@ pub(crate) fn won_told(
     }
 }
 
+/// The greater of a number and that of a block in an instance.
+fn top_within(n: u64, top: u64, block: &Option<Block>) -> u64
+    ensures { result ≡ top_within n top block.now }
+{
+    match block {
+        Some(block) if block.lver == n => top.max(block.mbal),
+        _ => top,
+    }
+}
+
 /// The greatest number that the blocks show in an instance.
-#[tactic(auto, using(crate::proofs::TopRules::tops))]
 fn top_mbal(n: u64, read: &[Option<Block>]) -> u64
     ensures { result ≡ top_mbal n read.now }
 {
-    top_found(n, read)
-}
-
-/// The same, one by one.
-fn top_found(n: u64, read: &[Option<Block>]) -> u64
-    ensures { result ≡ mbals_found n read.now }
-{
-    read.iter()
-        .filter_map(|block| *block)
-        .filter(|block| block.lver == n)
-        .map(|block| block.mbal)
-        .fold(0, |top, mbal| top.max(mbal))
+    let mut top = 0;
+    for block in read {
+        top = top_within(n, top, block);
+    }
+    top
 }
 
 /// The greatest number of the own block's instance after a read at this step.

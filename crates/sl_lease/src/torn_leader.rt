@@ -3,42 +3,56 @@
 ghost use Rattle.sl_area.specs.AreaSizes.{layout_of};
 ghost use Rattle.sl_area.specs.AreaRecords.{fresh_leader};
 ghost use Rattle.sl_area.specs.TornLeader.{greatest_lver, leader_made};
-ghost use Rattle.sl_lease.specs.Reads.{lvers_found};
+ghost use Rattle.sl_lease.specs.Reads.{top_of};
 ghost use Rattle.sl_sector.specs.Records.{IsLeader};
-ghost use Rattle.sl_words.specs.Words.{present};
+ghost use Rattle.sl_words.specs.Words.{present, some_is};
 ghost use Rattle.std.specs.Prelude.{IfSome, None, find, ◌==◌, ◌≡◌};
 
 use sl_area::Geometry;
 use sl_sector::{Leader, PairBlock};
 use sl_text::Name;
 
+/// The greater of a number and the lver of one, if it was read.
+fn top_of(top: u64, pair: &Option<PairBlock>) -> u64
+    ensures { result ≡ top_of top pair.now }
+{
+    match pair {
+        Some(pair) => top.max(pair.block.lver),
+        None => top,
+    }
+}
+
 /// The greatest lver among them; 0 where there is none.
-#[tactic(auto, using(crate::proofs::TopRules::tops))]
 fn greatest_lver(pairs: &[Option<PairBlock>]) -> u64
     ensures { result ≡ greatest_lver (present pairs.now) }
 {
-    lver_found(pairs)
+    let mut top = 0;
+    for pair in pairs {
+        top = top_of(top, pair);
+    }
+    top
 }
 
-/// The same, as it is found one by one.
-fn lver_found(pairs: &[Option<PairBlock>]) -> u64
-    ensures { result ≡ lvers_found pairs.now }
+/// Whether one was read and has this lver.
+fn has_lver(pair: &Option<PairBlock>, lver: u64) -> bool
+    ensures { result ≡ some_is (λ p. p.block.lver == lver) pair.now }
 {
-    pairs
-        .iter()
-        .filter_map(|pair| *pair)
-        .map(|pair| pair.block.lver)
-        .fold(0, |top, lver| top.max(lver))
+    match pair {
+        Some(pair) => pair.block.lver == lver,
+        None => false,
+    }
 }
 
 /// The first of them with this lver.
 fn first_with(pairs: &[Option<PairBlock>], lver: u64) -> Option<PairBlock>
     ensures { result ≡ find (λ p. p.block.lver == lver) (present pairs.now) }
 {
-    pairs
-        .iter()
-        .filter_map(|pair| *pair)
-        .find(|pair| pair.block.lver == lver)
+    for pair in pairs {
+        if has_lver(pair, lver) {
+            return *pair;
+        }
+    }
+    None
 }
 
 /// The leader for which a torn one is taken: never held, with the names that the least host's block of the greatest lver has. Where all
