@@ -11,6 +11,7 @@ ghost use Rattle.std.specs.List.{list_any};
 ghost use Rattle.std.specs.Prelude.{Bool, IsSome, None, OnErr, OnOk, Some, cond, filter, find, is_none, not, max, nat_eq, nat_lt, option_map, slice_get, take, true, unwrap_or, [], ℕ, ◌%◌, ◌&&◌, ◌+◌, ◌++◌, ◌-◌, ◌<◌, ◌==◌, ◌^◌, ◌∷◌, ◌≡◌, ◌≤◌};
 
 use crate::area::Area;
+use crate::firsts::{note_first, pass_on};
 use crate::rising::Rising;
 use indexmap::IndexMap;
 use sl_host_state::{OpenCall, ValuePair};
@@ -98,21 +99,6 @@ type WithinCall = (
     FilePath,
 );
 
-/// Notes the first call on an area, where it has none.
-fn note_first(firsts: &mut IndexMap<Area, u64>, spot: Spot, number: u64)
-    requires { 0 < spare firsts.old }
-    ensures firsts { (at : SpotOf) → get same_spot firsts.new at ≡ cond (same_spot spot at) (Some (unwrap_or (get same_spot firsts.old spot) number)) (get same_spot firsts.old at) }
-    ensures room { spare firsts.old ≤ spare firsts.new + 1 }
-{
-    let key = Area::at(spot);
-    if firsts.get(&key).is_none() {
-        match firsts.insert(key, number) {
-            Ok(_) => {}
-            Err(_) => unreachable!(),
-        }
-    }
-}
-
 /// Whether the call of this number is the first on an area.
 fn is_first(firsts: &IndexMap<Area, u64>, spot: &Spot, number: u64) -> bool
     ensures { result ≡ some_is (λ n. n == number) (get same_spot firsts.now spot.now) }
@@ -120,35 +106,6 @@ fn is_first(firsts: &IndexMap<Area, u64>, spot: &Spot, number: u64) -> bool
     match firsts.get(&Area::at(*spot)) {
         Some(first) => *first == number,
         None => false,
-    }
-}
-
-/// Notes another first call on an area that has one.
-fn replace_first(firsts: &mut IndexMap<Area, u64>, spot: &Spot, number: u64)
-    requires { IsSome (get same_spot firsts.old spot.now) }
-    ensures firsts { (at : SpotOf) → get same_spot firsts.new at ≡ cond (same_spot spot.now at) (Some number) (get same_spot firsts.old at) }
-    ensures room { spare firsts.old ≤ spare firsts.new }
-{
-    match firsts.get_index_of(&Area::at(*spot)) {
-        Some(index) => {
-            let (_, first) = firsts.pair_mut(index);
-            *first = number;
-        }
-        None => unreachable!(),
-    }
-}
-
-/// Notes what is now the first call on an area that has one, or that there is none.
-fn pass_on(firsts: &mut IndexMap<Area, u64>, spot: &Spot, next: Option<u64>)
-    requires { IsSome (get same_spot firsts.old spot.now) }
-    ensures firsts { (at : SpotOf) → get same_spot firsts.new at ≡ cond (same_spot spot.now at) next (get same_spot firsts.old at) }
-    ensures room { spare firsts.old ≤ spare firsts.new }
-{
-    match next {
-        Some(number) => replace_first(firsts, spot, number),
-        None => {
-            firsts.swap_remove(&Area::at(*spot));
-        }
     }
 }
 
@@ -166,7 +123,7 @@ fn move_on(
     ensures room { spare firsts.old ≤ spare firsts.new }
 {
     if is_first(firsts, spot, number) {
-        pass_on(firsts, spot, calls.next_on(number, spot, area));
+        pass_on(firsts, &Area::at(*spot), calls.next_on(number, spot, area));
     }
 }
 
@@ -296,7 +253,11 @@ impl OpenCalls {
     {
         let _within: Option<WithinCall> = None;
         let (session, one) = (call.session, writes(&call));
-        note_first(&mut self.firsts, area_of(&call, self.area), call.number);
+        note_first(
+            &mut self.firsts,
+            Area::at(area_of(&call, self.area)),
+            call.number,
+        );
         self.calls.put(call.number, call);
         count_one(&mut self.writes, session, one);
         count_one(&mut self.counts, session, true);

@@ -17,7 +17,7 @@ invariant_of-self c =
       subst AreNumbered (sym items) (own_push (λ d. d.number) c.self.inside.calls.items c.args.call i.0),
       (λ at.
           c.note_first.ensures.firsts at
-          ∙ (ap (λ s. cond (same_spot s at) (Some (unwrap_or (get same_spot c.self.inside.firsts s) c.args.call.number)) (get same_spot c.self.inside.firsts at)) c.area_of.ensures
+          ∙ (ap (λ s. cond (same_spot s at) (Some (unwrap_or (get same_spot c.self.inside.firsts s) c.args.call.number)) (get same_spot c.self.inside.firsts at)) (c.at.ensures ∙ c.area_of.ensures)
           ∙ (ap (λ r. cond (same_spot (area_of c.self.inside.area c.args.call) at) (Some (unwrap_or r c.args.call.number)) (get same_spot c.self.inside.firsts at)) (i.1 (area_of c.self.inside.area c.args.call))
           ∙ (ap (λ r. cond (same_spot (area_of c.self.inside.area c.args.call) at) (Some (unwrap_or (first_on c.self.inside.area (area_of c.self.inside.area c.args.call) (values_of c.self.inside.calls.items)) c.args.call.number)) r) (i.1 at)
           ∙ (first_push c.self.inside.area at c.args.call (values_of c.self.inside.calls.items)
