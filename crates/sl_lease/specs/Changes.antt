@@ -22,7 +22,7 @@ use Rattle.sl_trace.specs.declared.effects.Work.{Work}
 use Rattle.sl_words.specs.Words.{choose, present, some_is}
 use Rattle.std.specs.List.{list_any}
 use Rattle.std.specs.Option.{option_or}
-use Rattle.std.specs.Prelude.{Bool, List, None, Option, Some, cond, false, filter, fold, if◌then◌else◌, map, max, nat_lt, not, option_and_then, option_map, true, ℕ, ◌&&◌, ◌==◌, ◌||◌}
+use Rattle.std.specs.Prelude.{Bool, List, None, Option, Some, cond, false, if◌then◌else◌, max, nat_lt, not, option_and_then, option_map, true, ℕ, ◌&&◌, ◌==◌, ◌||◌}
 
 -- ---- one more call
 

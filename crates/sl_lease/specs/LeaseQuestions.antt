@@ -23,9 +23,9 @@ use Rattle.sl_trace.specs.declared.effects.LeaseRead.TheVariants.{OfArea, OfBloc
 use Rattle.sl_trace.specs.declared.effects.LeaseStep.TheVariants.{ClearMode, FreeLeader, Phase1Read, Phase1Write, Phase2Read, Phase2Write, ReadAgain, ReadArea, ReadBeforeBlock, ReadBeforeFree, SetMode, TakeLeader}
 use Rattle.sl_trace.specs.declared.effects.LeaseStep.{LeaseStep}
 use Rattle.sl_trace.specs.declared.reply.Reply.TheVariants.{Held as HeldBy, TornLeader, WrongArea}
-use Rattle.sl_words.specs.Words.{choose, present, some_is}
+use Rattle.sl_words.specs.Words.{choose, some_is}
 use Rattle.std.specs.Option.{option_map_or}
-use Rattle.std.specs.Prelude.{Bool, List, None, Option, Some, cond, false, filter, fold, if◌then◌else◌, map, max, not, option_and_then, true, [], ℕ, ◌+◌, ◌==◌, ◌∷◌, ◌≡◌}
+use Rattle.std.specs.Prelude.{Bool, List, None, Option, Some, cond, false, if◌then◌else◌, max, not, option_and_then, true, [], ℕ, ◌+◌, ◌==◌, ◌∷◌, ◌≡◌}
 
 -- What is kept of the blocks that were read last is so: the greatest number, in an open ballot's instance where one is open.
 pub record TopStands (l : LeaseState) (read : List (Option Block)) : Type 0 where

@@ -12,7 +12,7 @@ use Rattle.sl_trace.specs.LeaseDecisions.{asked_again}
 use Rattle.sl_trace.specs.declared.effects.LeaseStep.{LeaseStep}
 use Rattle.sl_words.specs.Words.{present}
 use Rattle.std.specs.List.{list_any, range_with_len}
-use Rattle.std.specs.Prelude.{Bool, IfSome, IsTrue, List, None, Option, Some, cond, drop, false, fold, is_none, is_some, length, map, max, option_map, slice_index_or, true, ℕ, ◌*◌, ◌-◌, ◌≡◌}
+use Rattle.std.specs.Prelude.{Bool, IfSome, IsTrue, List, None, Option, Some, cond, drop, false, is_none, is_some, length, map, max, option_map, slice_index_or, true, ℕ, ◌*◌, ◌-◌, ◌≡◌}
 
 -- How many sectors a read at this step gives: the blocks', and at some steps leader and request before them.
 abbrev pub sectors_read : Sizes → LeaseStep → ℕ

@@ -11,7 +11,7 @@ ghost use Rattle.sl_trace.specs.LeaseDecisions.{named_area_next, whole_area_next
 ghost use Rattle.sl_trace.specs.Leases.{instance_for, top_lver};
 ghost use Rattle.sl_trace.specs.declared.lease.Instance.TheVariants.{Begins};
 ghost use Rattle.sl_sector.specs.Records.{IsLeader};
-ghost use Rattle.std.specs.Prelude.{IfSome, is_none, length, not, option_map, position, ◌+◌, ◌<◌, ◌==◌, ◌^◌, ◌≡◌, ◌≤◌, ℕ};
+ghost use Rattle.std.specs.Prelude.{IfSome, is_none, length, option_map, position, ◌+◌, ◌<◌, ◌^◌, ◌≡◌, ◌≤◌, ℕ};
 
 use crate::kept_changes::is_leader_of;
 use crate::lease::Lease;

@@ -5,7 +5,7 @@ use Rattle.sl_trace.specs.declared.command.LockspaceArg.{LockspaceArg}
 use Rattle.sl_words.specs.Words.{some_is}
 use Rattle.sl_member.proofs.MembersTogether.{gap_is}
 use Rattle.sl_member.specs.Members.{MemberKept}
-use Rattle.sl_words.proofs.CaseLaws.{none_some, some_value}
+use Rattle.sl_words.proofs.CaseLaws.{none_some}
 use Rattle.std.proofs.Common.{ap, arith, refl, suc, sym, zero, ◌∙◌}
 use Rattle.std.proofs.lemmas.Bool.{le-ltb, lt-ltb}
 use Rattle.std.specs.List.{list_any, position_or_len}

@@ -2,17 +2,18 @@
 use Rattle.sl_words.proofs.Lists.{there_is}
 use Rattle.sl_tables.proofs.ScansFind.{next_is, take_all}
 use Rattle.sl_tables.proofs.SlotsStand.{above_here, apart, below_kept, kept, number_at, rising_kept}
-use Rattle.sl_tables.specs.Holdings.{AreLed, AreNotedBelow, HoldingsState, IsIndex, Leads, fits, holder_in, is_held_at, is_holder, is_in_mode, is_of_process, least_holder, noted_first, sooner, without_first}
+use Rattle.sl_tables.specs.Holdings.{AreLed, AreNotedBelow, HoldingsState, IsIndex, Leads, fits, holder_in, is_held_at, is_holder, is_in_mode, is_of_process, least_holder, noted_first, sooner, sought_of, without_first}
 use Rattle.sl_tables.specs.declared.holdings.Holder.TheVariants.{Above, Anyone, Is, IsNot}
 use Rattle.sl_tables.specs.declared.holdings.Holder.{Holder}
 use Rattle.sl_tables.specs.declared.holdings.Sought.{Sought}
 use Rattle.sl_tables.specs.Rising.{AreBelow, AreRising, RisingState, items_of}
 use Rattle.sl_trace.specs.declared.effects.Grant.{Grant}
 use Rattle.sl_trace.specs.declared.effects.Spot.{Spot}
-use Rattle.sl_words.proofs.CaseLaws.{none_some, some_value}
+use Rattle.sl_words.proofs.CaseLaws.{false_is_true, none_some, some_value}
 use Rattle.sl_words.proofs.WordLaws.{and_true}
 use Rattle.sl_words.specs.Words.{choose, least, some_is}
 use Rattle.std.proofs.Common.{ap, arith, refl, subst, sym, true≢false, ◌∙◌}
+use Rattle.std.proofs.lemmas.Bool.Decides.{Decides-eqb}
 use Rattle.std.proofs.lemmas.List.{append-nil}
 use Rattle.std.specs.Cmp.{IsEquivalence, nat_eq_equiv}
 use Rattle.std.specs.List.{AllByRecursion}
@@ -100,6 +101,22 @@ module _ {T : Type 0} where
       by : (o : Option (ℕ × T)) → option_map (λ p. p.0) o ≡ None → option_map (λ p. p.1) o ≡ None
       by None at = refl
       by (Some q) at = absurd (none_some q.0 (sym at))
+
+-- What is led by the number that is noted does not come before it, nor do those sought among it.
+pub led_by : (t u : ℕ × Grant → Bool) (n : ℕ) (o : Option ℕ) (items : List (ℕ × Grant)) → ((p : ℕ × Grant) → t p ≡ true → u p ≡ true) → some_is (λ k. k == n) o ≡ true
+    → AllByRecursion (λ p. u p ≡ true → Leads p.0 o) items → AllByRecursion (λ p. t p ≡ true → n ≤ p.0) items
+led_by t u n o [] sought is led = tt
+led_by t u n None (q ∷ items) sought is led = absurd (false_is_true is)
+led_by t u n (Some k) (q ∷ items) sought is led =
+    ((λ on. let le = led.0 (sought q on) in let one = (Decides-eqb k n).0 is in omega (arith, le, one)), led_by t u n (Some k) items sought is led.1)
+
+-- Those sought of a process are of it.
+pub is_of_sought : (process : ℕ) (g : Grant) → fits (sought_of process) g ≡ true → is_of_process process g ≡ true
+is_of_sought process g h = by (g.process == process) h
+  where
+    by : (b : Bool) → (b && true && true && true) ≡ true → b ≡ true
+    by true on = refl
+    by false on = on
 
 -- ---- what is noted, with one more
 

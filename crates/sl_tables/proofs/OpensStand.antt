@@ -4,9 +4,7 @@ use Rattle.sl_tables.specs.Opens.{AreNumbered, OpenState, area_of, first_on, is_
 use Rattle.sl_tables.specs.SpotsCompare.{spot_equiv}
 use Rattle.sl_trace.specs.Traces.{same_spot}
 use Rattle.sl_trace.specs.declared.effects.Spot.{Spot}
-use Rattle.indexmap.proofs.MapLemmas.{Found-position}
 use Rattle.sl_words.proofs.CaseLaws.{none_some, some_value}
-use Rattle.std.proofs.lemmas.Map.Made.{lookup_key_passes}
 use Rattle.sl_words.proofs.Lists.{contains_cases, contains_none, find_inside}
 use Rattle.sl_tables.proofs.SlotsStand.{apart}
 use Rattle.sl_tables.specs.Rising.{AreRising}
@@ -18,20 +16,9 @@ use Rattle.std.specs.List.{AllByRecursion}
 use Rattle.std.proofs.Common.{ap, arith, inl, inr, refl, subst, sym, true≢false, ◌∙◌}
 use Rattle.std.proofs.lemmas.List.Folds.{find-append}
 use Rattle.std.specs.Cmp.{nat_eq_equiv}
-use Rattle.std.specs.Map.{keys_of, lookup, values_of}
+use Rattle.std.specs.Map.{lookup, values_of}
 use Rattle.std.specs.Option.{option_or}
-use Rattle.std.specs.Prelude.{Bool, Contains, List, None, Option, Some, [], cond, false, filter, find, map, min, nat_eq, nat_lt, not, option_map, position, slice_get, suc, true, unwrap_or, zero, ℕ, ◌&&◌, ◌++◌, ◌<◌, ◌==◌, ◌∷◌, ◌≡◌, ◌⊎◌}
-
--- ---- by key
-
-key_there : {K V : Type 0} (es : List (K × V)) (i : ℕ) (k : K) (v : V) → slice_get es i ≡ Some (k, v) → slice_get (keys_of es) i ≡ Some k
-key_there [] i k v h = absurd (none_some (k, v) h)
-key_there (e ∷ es) zero k v h = ap (λ q. Some q.0) (some_value e (k, v) h)
-key_there (e ∷ es) (suc i) k v h = key_there es i k v h
-
--- The key at the place that was found is the one sought.
-pub key_passes : {K V : Type 0} (eq : K → K → Bool) (sought : K) (es : List (K × V)) (i : ℕ) (k : K) (v : V) → position (eq sought) (keys_of es) ≡ Some i → slice_get es i ≡ Some (k, v) → eq sought k ≡ true
-key_passes eq sought es i k v at there = lookup_key_passes (eq sought) es k ((Found-position (eq sought) es i at).key ∙ key_there es i k v there)
+use Rattle.std.specs.Prelude.{Bool, Contains, List, None, Option, Some, [], cond, false, filter, find, map, min, nat_eq, nat_lt, not, option_map, true, unwrap_or, ℕ, ◌&&◌, ◌++◌, ◌<◌, ◌==◌, ◌∷◌, ◌≡◌, ◌⊎◌}
 
 -- ---- by area
 

@@ -1,7 +1,8 @@
 //! An index: of each key the number of an element, so that none of those which have the key has a number below it.
 
 ghost use Rattle.indexmap.specs.IndexMap.{get, index_map_len, spare};
-ghost use Rattle.std.specs.Prelude.{IsSome, None, Some, cond, unwrap_or, ◌+◌, ◌<◌, ◌≡◌, ◌≤◌};
+ghost use Rattle.sl_words.specs.Words.{some_is};
+ghost use Rattle.std.specs.Prelude.{IsSome, None, Some, cond, unwrap_or, ◌+◌, ◌<◌, ◌==◌, ◌≡◌, ◌≤◌};
 
 use indexmap::IndexMap;
 use std::hash::Hash;
@@ -17,6 +18,16 @@ pub(crate) fn note_first<K: Eq + Hash + Copy>(firsts: &mut IndexMap<K, u64>, key
             Ok(_) => {}
             Err(_) => unreachable!(),
         }
+    }
+}
+
+/// Whether this number is the first of a key.
+pub(crate) fn is_first<K: Eq + Hash>(firsts: &IndexMap<K, u64>, key: &K, number: u64) -> bool
+    ensures { result ≡ some_is (λ n. n == number) (get K.eq firsts.now key.now) }
+{
+    match firsts.get(key) {
+        Some(first) => *first == number,
+        None => false,
     }
 }
 

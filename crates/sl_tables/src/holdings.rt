@@ -15,7 +15,7 @@ ghost use Rattle.std.specs.Map.{values_of};
 ghost use Rattle.std.specs.Prelude.{None, OnErr, OnOk, cond, filter, find, is_some, length, max, nat_eq, not, option_map, slice_get, take, true, [], ℕ, ◌&&◌, ◌+◌, ◌++◌, ◌-◌, ◌<◌, ◌==◌, ◌^◌, ◌∷◌, ◌≡◌, ◌≤◌};
 
 use crate::area::Area;
-use crate::firsts::{note_first, pass_on};
+use crate::firsts::{is_first, note_first, pass_on};
 use crate::rising::Rising;
 use indexmap::IndexMap;
 use sl_trace::{Grant, Mode, Spot};
@@ -251,12 +251,9 @@ fn leave_area(areas: &mut IndexMap<Area, u64>, held: &Rising<Grant>, spot: &Spot
     ensures firsts { (at : SpotOf) → get same_spot areas.new at ≡ cond (same_spot spot.now at && some_is (λ n. n == number) (get same_spot areas.old spot.now)) (first_at spot.now held.now.items) (get same_spot areas.old at) }
     ensures room { spare areas.old ≤ spare areas.new }
 {
-    match areas.get(&Area::at(*spot)).copied() {
-        Some(first) if first == number => {
-            let next = held.seek(number, &Sought::at(*spot));
-            pass_on(areas, &Area::at(*spot), next);
-        }
-        _ => {}
+    let key = Area::at(*spot);
+    if is_first(areas, &key, number) {
+        pass_on(areas, &key, held.seek(number, &Sought::at(*spot)));
     }
 }
 
@@ -271,12 +268,8 @@ fn leave_process(
     ensures firsts { (p : ℕ) → get nat_eq processes.new p ≡ cond (nat_eq process p && some_is (λ n. n == number) (get nat_eq processes.old process)) (first_of process held.now.items) (get nat_eq processes.old p) }
     ensures room { spare processes.old ≤ spare processes.new }
 {
-    match processes.get(&process).copied() {
-        Some(first) if first == number => {
-            let next = held.seek(number, &Sought::of(process));
-            pass_on(processes, &process, next);
-        }
-        _ => {}
+    if is_first(processes, &process, number) {
+        pass_on(processes, &process, held.seek(number, &Sought::of(process)));
     }
 }
 

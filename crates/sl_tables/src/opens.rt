@@ -8,10 +8,10 @@ ghost use Rattle.sl_trace.specs.Traces.{same_spot};
 ghost use Rattle.sl_trace.specs.declared.effects.Spot.{Spot as SpotOf};
 ghost use Rattle.sl_words.specs.Words.{some_is};
 ghost use Rattle.std.specs.List.{list_any};
-ghost use Rattle.std.specs.Prelude.{Bool, IsSome, None, OnErr, OnOk, Some, cond, filter, find, is_none, not, max, nat_eq, nat_lt, option_map, slice_get, take, true, unwrap_or, [], ℕ, ◌%◌, ◌&&◌, ◌+◌, ◌++◌, ◌-◌, ◌<◌, ◌==◌, ◌^◌, ◌∷◌, ◌≡◌, ◌≤◌};
+ghost use Rattle.std.specs.Prelude.{Bool, IsSome, None, OnErr, OnOk, Some, cond, filter, find, is_none, not, max, nat_eq, nat_lt, option_map, slice_get, take, true, [], ℕ, ◌%◌, ◌&&◌, ◌+◌, ◌++◌, ◌-◌, ◌<◌, ◌==◌, ◌^◌, ◌∷◌, ◌≡◌, ◌≤◌};
 
 use crate::area::Area;
-use crate::firsts::{note_first, pass_on};
+use crate::firsts::{is_first, note_first, pass_on};
 use crate::rising::Rising;
 use indexmap::IndexMap;
 use sl_host_state::{OpenCall, ValuePair};
@@ -99,16 +99,6 @@ type WithinCall = (
     FilePath,
 );
 
-/// Whether the call of this number is the first on an area.
-fn is_first(firsts: &IndexMap<Area, u64>, spot: &Spot, number: u64) -> bool
-    ensures { result ≡ some_is (λ n. n == number) (get same_spot firsts.now spot.now) }
-{
-    match firsts.get(&Area::at(*spot)) {
-        Some(first) => *first == number,
-        None => false,
-    }
-}
-
 /// The call of this number was answered: where it was the first on its area, the next is.
 fn move_on(
     firsts: &mut IndexMap<Area, u64>,
@@ -122,8 +112,9 @@ fn move_on(
         (next_on area spot.now number calls.now.items) (get same_spot firsts.old at) }
     ensures room { spare firsts.old ≤ spare firsts.new }
 {
-    if is_first(firsts, spot, number) {
-        pass_on(firsts, &Area::at(*spot), calls.next_on(number, spot, area));
+    let key = Area::at(*spot);
+    if is_first(firsts, &key, number) {
+        pass_on(firsts, &key, calls.next_on(number, spot, area));
     }
 }
 
