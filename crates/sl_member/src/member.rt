@@ -168,9 +168,9 @@ impl Member {
           room = 0;
         }) }
     {
-        let own = own_sector(timing, geometry, host, &who);
         let asked = Asked::new(alloc, geometry.hosts())?;
         let watch = Watch::new(alloc, timing, geometry)?;
+        let own = own_sector(timing, geometry, host, &who);
         Ok(Member {
             timing: *timing,
             geometry: *geometry,

@@ -36,3 +36,9 @@ returns c =
     ∙ ap (λ (zs : List MemberKept). unwrap_or (position (comes_behind x.state.who.lockspace) zs) (length zs)) c.deref.ensures.value))
     ∙ ap (λ r. P (with_member x.state (states items)) r) (c.min-self-inside.ensures ∙ ap (min c.self.inside.room) c.room.ensures)
     ∙ ap (λ (v : MembersState). record v { members = with_member x.state v.members; room = min v.room x.room }) c.self.view_is
+
+pub unreachable-requires : goal.unreachable-requires
+unreachable-requires c =
+    let run : RunOf = record { timing = c.self.inside.timing; sizes = c.self.inside.geometry; host = c.self.inside.host } in
+    let few : length c.self.inside.items.items < c.self.inside.most = few_kept c.args.self.now run c.self.inside.items.items c.self.inside.most c.self.inside.room c.self.view_is c.requires.place in
+    omega (arith, few, c.self.invariant.2, c.in-Err.ensures.full)

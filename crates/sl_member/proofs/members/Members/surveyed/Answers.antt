@@ -2,7 +2,7 @@ use Rattle.sl_member.proofs.MembersByNumber.{changed_kept, changed_members, has_
 use Rattle.sl_member.proofs.members.Members.surveyed.Goals as goal
 use Rattle.sl_member.specs.Members.{MemberKept, RunOf}
 use Rattle.sl_member.specs.HostMembers.{told_survey}
-use Rattle.std.proofs.Common.{ap, position, refl, sym, ◌∙◌}
+use Rattle.std.proofs.Common.{IsTrue, ap, length, position, refl, subst, sym, ◌*◌, ◌≡◌, ◌∙◌}
 
 pub invariant_of-self : goal.invariant_of-self
 invariant_of-self g c =
@@ -32,3 +32,15 @@ returns-in-Some g c =
 pub returns-in-None : goal.returns-in-None
 returns-in-None g c =
     none_kept c.args.self.now _ c.self.inside.items.items c.self.inside.most c.self.inside.room c.args.number (told_survey c.args.self.now.run c.args.before c.args.after (g.S.Sectors.bytes c.args.sectors.now)) (sym (c.place_of.ensures.exact ∙ ap (λ ms. position (has_number c.args.number) ms) c.deref.ensures.value) ∙ c.in-None.is) c.self.view_is
+
+pub surveyed-requires-clause-cut : goal.surveyed-requires-clause-cut
+surveyed-requires-clause-cut g c =
+    let x : MemberKept = c.index_mut.result.now in
+    subst (λ (r : RunOf). IsTrue (g.S.Sectors.is_cut c.args.sectors.now r.sizes.sector)) (sym (run_kept c.args.self.now _ c.self.inside.items.items c.self.inside.most c.self.inside.room c.args.number c.in-Some.place x c.self.invariant.0
+    (sym (c.place_of.ensures.exact ∙ ap (λ ms. position (has_number c.args.number) ms) c.deref.ensures.value) ∙ c.in-Some.is) c.index_mut.ensures.value c.self.view_is)) c.requires.cut
+
+pub surveyed-requires-clause-many : goal.surveyed-requires-clause-many
+surveyed-requires-clause-many g c =
+    let x : MemberKept = c.index_mut.result.now in
+    subst (λ (r : RunOf). length (g.S.Sectors.bytes c.args.sectors.now) ≡ r.sizes.hosts * r.sizes.sector) (sym (run_kept c.args.self.now _ c.self.inside.items.items c.self.inside.most c.self.inside.room c.args.number c.in-Some.place x c.self.invariant.0
+    (sym (c.place_of.ensures.exact ∙ ap (λ ms. position (has_number c.args.number) ms) c.deref.ensures.value) ∙ c.in-Some.is) c.index_mut.ensures.value c.self.view_is)) c.requires.many
