@@ -1,5 +1,5 @@
 use Rattle.indexmap.specs.IndexMap.{spare}
-use Rattle.sl_tables.proofs.SlotsStand.{below_set, not_set, not_there, replaced, rising_set, set_at}
+use Rattle.sl_tables.proofs.SlotsStand.{below_set, items_rise, not_set, not_there, replaced, rising_set, set_at}
 use Rattle.sl_tables.proofs.rising.Rising.set.Goals as goal
 use Rattle.sl_tables.specs.Rising.{AreBelow, AreRising, gaps_in, items_of}
 use Rattle.std.proofs.Common.{ap, nat_eq, subst, sym, ◌≡◌, ◌≤◌, ◌∙◌}
@@ -27,3 +27,9 @@ returns-in-None-clause-state g c =
     let none = ap (λ o. lookup (nat_eq c.args.number) o.items) (sym v) ∙ not_there c.args.number c.self.inside.slots.entries c.self.invariant.0 (sym c.in-None.ensures.found) in
     let items = sym (not_set c.args.number c.args.item c.args.self.now.items none) in
     λ j. record { items = items j; next = c.args.self.now.next; room = c.args.self.now.room; gaps = c.args.self.now.gaps }
+
+pub returns-in-Some-clause-rising : goal.returns-in-Some-clause-rising
+returns-in-Some-clause-rising g c = subst (λ v. AreRising v.items) c.self.view_is (items_rise c.self.inside.slots.entries c.self.invariant.0)
+
+pub returns-in-None-clause-rising : goal.returns-in-None-clause-rising
+returns-in-None-clause-rising g c = subst (λ v. AreRising v.items) c.self.view_is (items_rise c.self.inside.slots.entries c.self.invariant.0)
