@@ -147,8 +147,26 @@ fn push_step(
     Ok(all)
 }
 
-/// Adds the lines of what is told of a history: how many.
+/// Adds the lines of what is told of a history, by which the locks go on: how many.
 #[tactic(auto, using(crate::proofs::LiveLaws::whole_text, crate::proofs::LiveLaws::whole_count))]
+fn push_entries(
+    out: &mut Vec<u8>,
+    machine: usize,
+    locks: &mut Along,
+    history: &[Entry],
+) -> Result<u64, AllocError>
+    ensures text { OnOk result (out.new.items ≡ out.old.items ++ history_text machine locks.old history.now) }
+    ensures count { IfOk result (λ n. n ≡ count_replies locks.old history.now) }
+{
+    let mut count = 0u64;
+    for index in 0..history.len() {
+        let told = push_step(out, machine, locks, &history[index])?;
+        count = sum(count, told)?;
+    }
+    Ok(count)
+}
+
+/// Adds the lines of what is told of a history of a daemon of this header, whose first job has this number: how many.
 fn push_history(
     out: &mut Vec<u8>,
     machine: usize,
@@ -160,12 +178,7 @@ fn push_history(
     ensures count { IfOk result (λ n. n ≡ count_replies (begun_along header.now first_job) history.now) }
 {
     let mut locks = Along::new(*out.allocator(), header, first_job);
-    let mut count = 0u64;
-    for index in 0..history.len() {
-        let told = push_step(out, machine, &mut locks, &history[index])?;
-        count = sum(count, told)?;
-    }
-    Ok(count)
+    push_entries(out, machine, &mut locks, history)
 }
 
 /// Adds the lines of the histories of all machines, in order: how many.

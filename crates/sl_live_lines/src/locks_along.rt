@@ -7,7 +7,7 @@ ghost use Rattle.std.specs.Option.{option_copied, option_to_list};
 ghost use Rattle.std.specs.Prelude.{IfOk, OnErr, OnOk, ◌==◌, ◌≡◌};
 
 use crate::given_lines::GivenLine;
-use sl_locks::{LineReply, LockInput, LvmLocks};
+use sl_locks::{LineReply, LockInput, LvmLocks, StepTold};
 use sl_run::Header;
 use sl_text::{Bytes, Seq};
 use sl_trace::{Effects, Entry, Input, JobReply, copy_reply};
@@ -113,6 +113,20 @@ fn lock_of(alloc: Global, input: &Input) -> Result<LockInput, AllocError>
     }
 }
 
+/// What an entry is to the locks, and the reply to the ask with this number as effects that are it alone. An `Err` is want of memory.
+fn heard_by(
+    alloc: Global,
+    asked: Option<u64>,
+    entry: &Entry,
+) -> Result<(LockInput, Effects), AllocError>
+    ensures input { IfOk result (λ heard. heard.0 ≡ lock_of entry.now.input) }
+    ensures replies { IfOk result (λ heard. heard.1.replies ≡ option_to_list (heard_in asked entry.now.effects.replies)) }
+{
+    let replies = copy_heard(alloc, asked, entry.effects.replies.as_slice())?;
+    let input = lock_of(alloc, &entry.input)?;
+    Ok((input, effects_of(alloc, replies)))
+}
+
 /// The number of the job behind an input. An `Err` is want of a number.
 fn job_behind(input: &Input, job: u64) -> Result<u64, AllocError>
     ensures { IfOk result (λ next. next ≡ job_behind input.now job) }
@@ -185,14 +199,10 @@ impl Along {
         ensures err { OnErr result (self.new ≡ self.old) }
     {
         let next = job_behind(&entry.input, self.job)?;
-        let asked = self.asked_by(entry);
-        let heard = copy_heard(self.alloc, asked, entry.effects.replies.as_slice())?;
-        let input = lock_of(self.alloc, &entry.input)?;
         self.locks.reserve()?;
-        let told = self
-            .locks
-            .turn(self.job, input, effects_of(self.alloc, heard));
+        let (input, heard) = heard_by(self.alloc, self.asked_by(entry), entry)?;
+        let StepTold { line, .. } = self.locks.turn(self.job, input, heard);
         self.job = next;
-        Ok(told.line)
+        Ok(line)
     }
 }

@@ -121,13 +121,26 @@ fn first_left(calls: &Open, starts: &Open) -> Option<Unanswered>
     Some(Unanswered::Start { number, process })
 }
 
-/// A call or a start of the history that nothing in it answers, if there is one. An `Err` is want of memory.
+/// A call of these or a start of the history that nothing answers, if there is one. An `Err` is want of memory.
 #[tactic(auto, using(crate::proofs::AnswerLaws::all_answered, crate::proofs::AnswerLaws::is_unanswered))]
+fn first_beside(
+    alloc: Global,
+    calls: &Open,
+    history: &[Entry],
+) -> Result<Option<Unanswered>, AllocError>
+    requires { Keeps calls_made history.now (open_calls (reverse history.now)) calls.now }
+    ensures none { IfOk result (λ left. IfNone left (IsAnswered history.now)) }
+    ensures some { IfOk result (λ left. IfSome left (IsUnanswered history.now)) }
+{
+    let starts = starts_left(alloc, history)?;
+    Ok(first_left(calls, &starts))
+}
+
+/// A call or a start of the history that nothing in it answers, if there is one. An `Err` is want of memory.
 pub fn first_unanswered(alloc: Global, history: &[Entry]) -> Result<Option<Unanswered>, AllocError>
     ensures none { IfOk result (λ left. IfNone left (IsAnswered history.now)) }
     ensures some { IfOk result (λ left. IfSome left (IsUnanswered history.now)) }
 {
     let calls = calls_left(alloc, history)?;
-    let starts = starts_left(alloc, history)?;
-    Ok(first_left(&calls, &starts))
+    first_beside(alloc, &calls, history)
 }
