@@ -34,7 +34,7 @@ use std::alloc::{AllocError, Global};
 use std::marker::Model;
 
 /// How a session stands.
-#[derive(Clone, Copy, Debug, PartialEq, Eq)]
+#[derive(Clone, Copy)]
 pub enum Standing {
     /// It joins.
     Joins,
