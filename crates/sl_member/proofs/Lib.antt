@@ -5,7 +5,6 @@ pub mod MemberParts
 pub mod CallsWork
 pub mod MembersByNumber
 pub mod MembersTogether
-pub mod LookedThrough
 pub mod CalledMembers
 pub mod HostsHear
 pub mod PartsHear

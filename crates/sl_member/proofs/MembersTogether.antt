@@ -50,7 +50,7 @@ first_or_all n l le = by (nat_lt n l) refl where
   by true is = refl
   by false is = grind (arith, nat_tests)
 
-pub gap_is : (p : MemberKept → Bool) (ms : List MemberKept) → unwrap_or (position p ms) (length ms) ≡ position_or_len p ms
+gap_is : (p : MemberKept → Bool) (ms : List MemberKept) → unwrap_or (position p ms) (length ms) ≡ position_or_len p ms
 gap_is p ms = first_or_all (position_or_len p ms) (length ms) (prefix_len-le-length (λ m. not (p m)) ms)
 
 -- Whether a member's lockspace comes behind this one.

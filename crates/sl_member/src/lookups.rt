@@ -20,12 +20,7 @@ pub(crate) fn place_of(items: &[Member], number: u64) -> Option<usize>
     ensures exact { result ≡ position (λ m. number == m.state.who.number) items.now }
     ensures within { IfSome result (λ k. k < length items.now) }
 {
-    for place in 0..items.len() {
-        if has_number(&items[place], number) {
-            return Some(place);
-        }
-    }
-    None
+    items.iter().position(|member| has_number(member, number))
 }
 
 /// Whether a member's lockspace comes behind this one.
@@ -40,36 +35,32 @@ pub(crate) fn gap_of(items: &[Member], lockspace: &Name) -> usize
     ensures exact { result ≡ unwrap_or (position (λ m. is_text_before lockspace.now m.state.who.lockspace) items.now) (length items.now) }
     ensures within { result ≤ length items.now }
 {
-    for place in 0..items.len() {
-        if is_behind(&items[place], lockspace) {
-            return place;
-        }
+    match place_behind(items, lockspace) {
+        Some(place) => place,
+        None => items.len(),
     }
-    items.len()
+}
+
+/// The place of the first member whose lockspace comes behind this one.
+fn place_behind(items: &[Member], lockspace: &Name) -> Option<usize>
+    ensures exact { result ≡ position (λ m. is_text_before lockspace.now m.state.who.lockspace) items.now }
+    ensures within { IfSome result (λ k. k < length items.now) }
+{
+    items.iter().position(|member| is_behind(member, lockspace))
 }
 
 /// The first member of this lockspace.
 pub(crate) fn find_named<'a>(items: &'a [Member], lockspace: &Name) -> Option<&'a Member>
     ensures { option_map (λ m. m.now) result ≡ find (λ m. bytes_eq m.state.who.lockspace lockspace.now) items.entry.now }
 {
-    for member in items {
-        if member.is_named(lockspace) {
-            return Some(member);
-        }
-    }
-    None
+    items.iter().find(|member| member.is_named(lockspace))
 }
 
 /// The first member that is for this job.
 pub(crate) fn find_for<'a>(items: &'a [Member], job: u64) -> Option<&'a Member>
     ensures { option_map (λ m. m.now) result ≡ find (λ m. some_is (λ j. j == job) m.state.who.job) items.entry.now }
 {
-    for member in items {
-        if is_for(member, job) {
-            return Some(member);
-        }
-    }
-    None
+    items.iter().find(|member| is_for(member, job))
 }
 
 /// Whether a member is for this job.
@@ -93,12 +84,7 @@ fn is_joining_by(member: &Member, job: u64) -> bool
 pub(crate) fn find_joining<'a>(items: &'a [Member], job: u64) -> Option<&'a Member>
     ensures { option_map (λ m. m.now) result ≡ find (λ m. is_joining_by job m.state) items.entry.now }
 {
-    for member in items {
-        if is_joining_by(member, job) {
-            return Some(member);
-        }
-    }
-    None
+    items.iter().find(|member| is_joining_by(member, job))
 }
 
 /// Whether a member is joined and of this lockspace.

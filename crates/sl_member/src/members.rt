@@ -110,12 +110,7 @@ fn reserve_places(items: &mut Vec<Member>, most: usize) -> Result<(), AllocError
 fn is_any_late(items: &[Member], now: u64) -> bool
     ensures { result ≡ list_any (λ m. late_by m.run.timing now m.state) items.now }
 {
-    for member in items {
-        if member.is_late(now) {
-            return true;
-        }
-    }
-    false
+    items.iter().any(|member| member.is_late(now))
 }
 
 /// Begins the recovery of a member if it is late.
@@ -186,12 +181,7 @@ fn leave_all(items: &mut [Member], lockspace: &LockspaceArg, begun: Begun, job: 
 fn is_any_left(items: &[Member], lockspace: &LockspaceArg) -> bool
     ensures { result ≡ list_any (λ m. m.state.joined && is_session_arg m.state.who lockspace.now) items.now }
 {
-    for member in items {
-        if is_left_by(member, lockspace) {
-            return true;
-        }
-    }
-    false
+    items.iter().any(|member| is_left_by(member, lockspace))
 }
 
 impl Members {
