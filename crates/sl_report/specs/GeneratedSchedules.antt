@@ -10,7 +10,6 @@ use Rattle.sl_run.specs.declared.event.Event.TheVariants.{AnswerCall, Crash, Do,
 use Rattle.sl_run.specs.declared.event.Event.{Event}
 use Rattle.sl_run.specs.declared.header.Header.{Header}
 use Rattle.sl_run.specs.declared.header.ResourceLine.{ResourceLine}
-use Rattle.sl_trace.specs.Sessions.{sessions}
 use Rattle.sl_text.specs.Forms.{coloned, spaced}
 use Rattle.sl_trace.specs.CommandForms.{moded_word}
 use Rattle.sl_trace.specs.WatchdogConnections.{test_holds}

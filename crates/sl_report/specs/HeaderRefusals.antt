@@ -5,7 +5,6 @@ use Rattle.sl_run.specs.declared.event.Refusal.TheVariants.{LimitFire, LimitGeom
 use Rattle.sl_run.specs.declared.event.Refusal.{Refusal}
 use Rattle.sl_run.specs.declared.header.Disk.{Disk}
 use Rattle.sl_run.specs.declared.header.Header.{Header}
-use Rattle.sl_trace.specs.Sessions.{sessions}
 use Rattle.sl_words.specs.Words.{some_is}
 use Rattle.std.specs.Int.{is_in_range}
 use Rattle.std.specs.List.{list_any}

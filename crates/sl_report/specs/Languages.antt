@@ -5,7 +5,6 @@ use Rattle.sl_report.specs.HeaderLines.{HeaderLine}
 use Rattle.sl_run.specs.Worlds.{Program, whole_program}
 use Rattle.sl_run.specs.declared.event.Event.{Event}
 use Rattle.sl_run.specs.declared.event.Refusal.{Refusal}
-use Rattle.sl_words.specs.Words.{least}
 use Rattle.std.specs.Prelude.{Bool, List, None, Option, Some, if◌then◌else◌, true, [], ℕ, ◌==◌, ◌||◌, ◌∷◌}
 
 -- A language of schedules.

@@ -3,7 +3,7 @@ use Rattle.sl_due.specs.Due.{IsHostTrace}
 use Rattle.sl_due.specs.IdleJobs.{NoIdleJob}
 use Rattle.sl_run.specs.Caused.{IsCaused}
 use Rattle.sl_run.specs.Lawful.{Lawful}
-use Rattle.sl_report.specs.GeneratedSchedules.{IsGenerated, gen_header, gen_line, gen_lines}
+use Rattle.sl_report.specs.GeneratedSchedules.{IsGenerated, gen_header, gen_line}
 use Rattle.sl_report.specs.Languages.{Language}
 use Rattle.sl_report.specs.Reports.{end_line, no_counts, run_counts, run_lines}
 use Rattle.sl_report.specs.RefusalLines.{refusal_line}
@@ -18,7 +18,7 @@ use Rattle.sl_run.specs.declared.event.Refusal.{Refusal}
 use Rattle.sl_run.specs.declared.header.Header.{Header}
 use Rattle.sl_text.specs.Forms.{as_bytes}
 use Rattle.std.specs.Int.{is_in_range}
-use Rattle.std.specs.Prelude.{Bool, IsTrue, List, MatchBool, length, nat_le, [], ℕ, ◌++◌, ◌==◌, ◌↔◌, ◌∷◌, ◌≡◌, ◌≤◌}
+use Rattle.std.specs.Prelude.{Bool, IsTrue, List, MatchBool, length, nat_le, [], ℕ, ◌++◌, ◌==◌, ◌∷◌, ◌≡◌}
 
 -- A run as it must be, whatever it does: each daemon does what is due, so its trace is lawful, each refusal has its cause and no job is
 -- left idle; at no moment do two running holders conflict.
@@ -103,16 +103,6 @@ abbrev pub GenHeadline : Program → ℕ → ℕ → ℕ → Bool → List ℕ �
 GenHeadline p seed hosts events paired written status =
     MatchBool (status == 0) (GenOf p seed hosts events paired written)
     (IsTrue (is_in_range 4 5 status) × ((report : List ℕ) → GenOf p seed hosts events paired report → IsFrontOf written report))
-
--- What is written is the plain program's text: so `gen` has one output, and the program computes it.
-abbrev pub PlainGen : Program → Type 0
-PlainGen p =
-    (seed hosts events : ℕ) (paired : Bool) → IsTrue (is_in_range 1 16 hosts) → events ≤ 1000000 → (written : List ℕ) →
-    GenOf p seed hosts events paired written ↔ (written ≡ as_bytes (gen_lines p seed hosts events paired))
-
--- The plain program computes the report, of whose run this is promised.
-abbrev pub PlainReplay : Promise → Language → Type 0
-PlainReplay promised lang = (source : List ℕ) → (status : ℕ) × ReplayOf promised lang source (as_bytes (replay_lines lang source)) status
 
 -- What is written, and promised so much of its run, is the plain program's report: so the report is one, and the program computes it.
 abbrev pub Headline : Promise → Language → Type 0

@@ -1,5 +1,5 @@
 -- What is written for an event, and the counts of the last line.
-use Rattle.sl_run.specs.Conflicts.{Holding, conflicts, has_conflict, world_holdings}
+use Rattle.sl_run.specs.Conflicts.{Holding, has_conflict, holding, world_uses}
 use Rattle.sl_run.specs.EventChanges.{happens, number_of_step}
 use Rattle.sl_run.specs.Inputs.{input_of, is_ask, machine_of}
 use Rattle.sl_run.specs.Locks.{Told, locks_after, told_effects}
@@ -71,15 +71,15 @@ pub record Counts : Type 0 where
 abbrev pub no_counts : Counts
 no_counts = record { events = 0; calls = 0; grants = 0; refusals = 0; conflicts = 0 }
 
--- The holdings of the other machines.
+-- What the other machines hold, and what lingers of what they held.
 abbrev pub held_by_others : World → ℕ → List Holding
-held_by_others w m = filter (λ h. not (h.machine == m)) (world_holdings w)
+held_by_others w m = filter (λ h. not (h.machine == m)) (world_uses w)
 
 -- How many of these grants leave a conflict, given in turn.
 abbrev pub conflicts_after : List Holding → ℕ → List Grant → List Grant → ℕ
 conflicts_after others m held [] = 0
 conflicts_after others m held (g ∷ gs) =
-    (if has_conflict (others ++ map (λ k. record { machine = m; held = k }) (held ++ g ∷ [])) then 1 else 0) + conflicts_after others m (held ++ g ∷ []) gs
+    (if has_conflict (others ++ map (holding m) (held ++ g ∷ [])) then 1 else 0) + conflicts_after others m (held ++ g ∷ []) gs
 
 -- The conflicts of a machine's steps, one after another, with what it held before them.
 abbrev pub conflicts_of : List Holding → ℕ → List Grant → List Effects → ℕ

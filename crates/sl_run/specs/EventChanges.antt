@@ -1,7 +1,7 @@
 -- What an event changes in a world.
 use Rattle.sl_area.specs.AreaSizes.{sector_with}
-use Rattle.sl_run.specs.Locks.{fresh_locks, locks_after}
-use Rattle.sl_run.specs.Worlds.{Course, Daemon, Dropped, Fate, In_flight, Landed, Machine, Sampling, Stamp, Torn, World, change_machine, daemons_on, flight_of, is_in_flight, is_write_course, landed_at, machine_at, new_daemon, next_numbers, reading_now, sector_size, setting_of, stamp_now}
+use Rattle.sl_run.specs.Locks.{fresh_locks, left_locks, locks_after}
+use Rattle.sl_run.specs.Worlds.{Course, Daemon, Dropped, Fate, In_flight, Landed, Machine, Sampling, Stamp, Torn, World, change_machine, daemons_on, flight_of, is_in_flight, is_write_course, landed_at, lingering_now, machine_at, new_daemon, next_numbers, reading_now, sector_size, setting_of, stamp_now}
 use Rattle.sl_run.specs.declared.event.Event.TheVariants.{Crash, Do, DropWrite, ExitOf, Land, Pass, Reset, Restart, Sample, StartDaemon, Tear, Test}
 use Rattle.sl_run.specs.declared.event.Event.{Event}
 use Rattle.sl_trace.specs.WatchdogConnections.{after_move, test_holds}
@@ -49,6 +49,7 @@ after_effects now fx a =
       connections = fold after_move a.connections fx.moves;
       calls = fold (λ cs c. new_course now (daemon_number a) c ∷ cs) a.calls fx.calls;
       holdings = held_after fx a.holdings;
+      locks = left_locks fx a.locks;
     }
 
 -- The daemon with one more entry.
@@ -166,10 +167,19 @@ after_start w m name a =
 abbrev pub after_crash : Machine → Machine
 after_crash a = record a { daemon = None; ended = daemons_on a }
 
--- The machine goes down.
+-- The machine goes down. What it holds lingers from now on, beside what lingers of earlier resets; and lvmlockd's locks are gone.
 abbrev pub after_reset : World → Machine → Machine
 after_reset w a =
-    record a { up = false; connections = []; daemon = None; ended = daemons_on a; holdings = []; resets = stamp_now w a ∷ a.resets }
+    record a {
+      up = false;
+      connections = [];
+      daemon = None;
+      ended = daemons_on a;
+      holdings = [];
+      lingering = map (λ g. record { held = g; reset = w.moment }) a.holdings ++ lingering_now w a;
+      resets = stamp_now w a ∷ a.resets;
+      locks = fresh_locks w.header;
+    }
 
 -- The machine comes up; the last keepalive rests on now.
 abbrev pub after_restart : World → Machine → Machine

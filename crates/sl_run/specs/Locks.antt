@@ -1,6 +1,6 @@
 -- lvmlockd on a machine: its locks, and how its lines become steps of the daemon. A line is one step that takes a number; then each ask
 -- is a step of its own, at the same reading, until the line is answered or an ask waits.
-use Rattle.sl_run.specs.Lvm.{Lvm, lock_process, lvm_turn, no_locks}
+use Rattle.sl_run.specs.Lvm.{Lvm, lock_process, lvm_turn, no_locks, without_ended}
 use Rattle.sl_run.specs.declared.turn.LvmIn.TheVariants.{Ended, Line as TextLine, Reply as HostReply}
 use Rattle.sl_run.specs.declared.turn.LvmOut.TheVariants.{Ask, Quiet, Reply as LineReply}
 use Rattle.sl_run.specs.declared.turn.LvmOut.{LvmOut}
@@ -49,6 +49,10 @@ replied_locks fx k =
       | Some a ↦ after_turn k (lvm_turn k.lvm (HostReply a.reply))
     ]
 
+-- The locks without those whose holdings a step, or the machine itself, has ended.
+abbrev pub left_locks : Effects → Locks → Locks
+left_locks fx k = record k { lvm = without_ended fx.ends k.lvm }
+
 -- Whether lvmlockd itself ends by the input.
 abbrev pub is_lock_exit : Input → Bool
 is_lock_exit (Exit p) = p == lock_process
@@ -65,7 +69,7 @@ turned_locks i fx k = replied_locks fx k
 
 -- The locks after a step with this number, input and effects, and the reply to the line, if it has come.
 unfoldable pub locks_after : ℕ → Input → Effects → Locks → Locks × Told
-locks_after number i fx k = ended_locks i (turned_locks i fx (numbered_locks number i k))
+locks_after number i fx k = ended_locks i (turned_locks i fx (numbered_locks number i (left_locks fx k)))
 
 -- What is told of a step's effects: not the reply to an ask.
 unfoldable pub told_effects : ℕ → Input → Effects → Locks → Effects

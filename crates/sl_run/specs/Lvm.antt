@@ -1,6 +1,8 @@
 -- The locks of a machine: which are held, which value of a group was last seen, and how far the line that runs has come. A line becomes
--- a few asks of the host, one after another; the host's reply decides what comes next.
-use Rattle.sl_run.specs.LockNames.{Lock, is_volume, lockspace_of, resource_of, same_lock}
+-- a few asks of the host, one after another; the host's reply decides what comes next. A lock is taken where its acquire is answered ok, and
+-- is held no longer than its holding stands: whatever ends that, a release that was begun (however it is answered), an exit or a reset,
+-- takes it from the table.
+use Rattle.sl_run.specs.LockNames.{Lock, group_path, is_volume, lockspace_of, resource_of, same_lock}
 use Rattle.sl_run.specs.LvmLines.{Deactivates, Gives, Gives_writing, Informs, LvmLine, Starts, Stops, Takes, Takes_comparing, lvm_line_in}
 use Rattle.sl_run.specs.declared.turn.LvmIn.TheVariants.{Ended, Line as TextLine, Reply as HostReply}
 use Rattle.sl_run.specs.declared.turn.LvmIn.{LvmIn}
@@ -10,14 +12,15 @@ use Rattle.sl_text.specs.Forms.{coloned, spaced}
 use Rattle.sl_trace.specs.CommandForms.{command_words}
 use Rattle.sl_trace.specs.EffectTexts.{is_ok_reply, mode_word, reply_text}
 use Rattle.sl_trace.specs.CountLimits.{most_processes}
-use Rattle.sl_trace.specs.Traces.{is_shared}
+use Rattle.sl_trace.specs.Traces.{is_shared, same_place}
 use Rattle.sl_trace.specs.declared.command.Command.TheVariants.{Acquire, AddLockspace, GetLvb, Release, RemLockspace, SetLvb}
 use Rattle.sl_trace.specs.declared.command.Command.{Command}
+use Rattle.sl_trace.specs.declared.effects.End.{End}
 use Rattle.sl_trace.specs.declared.effects.Mode.{Mode}
-use Rattle.sl_trace.specs.declared.reply.Reply.TheVariants.{Ahead, BadCommand as Misread, Busy, IoFault, IoTimeout, NoSession, NotHeld, Rival, Value, ValueSet, ValueTorn}
+use Rattle.sl_trace.specs.declared.reply.Reply.TheVariants.{Ahead, BadCommand as Misread, Busy, NotHeld, Rival, Value, ValueSet, ValueTorn}
 use Rattle.sl_trace.specs.declared.reply.Reply.{Reply}
 use Rattle.std.specs.List.{list_any}
-use Rattle.std.specs.Prelude.{Bool, Err, List, None, Ok, Option, Result, Some, bytes_eq, codes, false, filter, find, if◌then◌else◌, map, nat_lt, not, true, unwrap_or, [], ℕ, ◌&&◌, ◌++◌, ◌+◌, ◌==◌, ◌∷◌}
+use Rattle.std.specs.Prelude.{Bool, Err, List, None, Ok, Option, Result, Some, bytes_eq, codes, false, filter, find, if◌then◌else◌, map, nat_lt, not, true, unwrap_or, [], ℕ, ◌&&◌, ◌*◌, ◌++◌, ◌+◌, ◌==◌, ◌∷◌}
 
 -- The process that holds for lvmlockd: it acts by lines alone.
 abbrev pub lock_process : ℕ
@@ -84,9 +87,13 @@ first_held m group name = find (λ h. is_volume_of group name h.lock) m.held
 abbrev pub with_lock : Lock → Mode → Lvm → Lvm
 with_lock l mode m = record m { held = m.held ++ record { lock = l; mode = mode } ∷ [] }
 
--- Without it.
-abbrev pub without_lock : Lock → Lvm → Lvm
-without_lock l m = record m { held = filter (λ h. not (same_lock h.lock l)) m.held }
+-- Whether one of these ends is that of the lock's holding.
+abbrev pub ends_lock : ℕ → List End → Lock → Bool
+ends_lock area ends l = list_any (λ e. e.process == lock_process && same_place e.path e.offset (group_path l.group) (l.number * area)) ends
+
+-- Without the locks whose holdings these end.
+abbrev pub without_ended : List End → Lvm → Lvm
+without_ended ends m = record m { held = filter (λ h. not (ends_lock m.area ends h.lock)) m.held }
 
 -- With nothing known of a group's value.
 abbrev pub without_seen : List ℕ → Lvm → Lvm
@@ -173,18 +180,9 @@ abbrev pub after_writing : Lvm → Lock → Reply → Lvm × LvmOut
 after_writing m l (ValueSet lver seq) = asks_release l None (with_seen l.group lver seq m)
 after_writing m l r = asks_release l (Some r) (without_seen l.group m)
 
--- Whether a lock is no longer held after this reply to its release.
-abbrev pub is_given_up : Reply → Bool
-is_given_up (IoFault call) = true
-is_given_up (IoTimeout call from to) = true
-is_given_up NotHeld = true
-is_given_up NoSession = true
-is_given_up r = is_ok_reply r
-
 -- After the reply to a release: where it is ok, what the write before it was refused for is told.
-abbrev pub after_releasing : Lvm → Lock → Option Reply → Reply → Lvm × LvmOut
-after_releasing m l refused r =
-    passes_on (if is_ok_reply r then unwrap_or refused r else r) (if is_given_up r then without_lock l m else m)
+abbrev pub after_releasing : Lvm → Option Reply → Reply → Lvm × LvmOut
+after_releasing m refused r = passes_on (if is_ok_reply r then unwrap_or refused r else r) m
 
 -- After the host's reply, by how far the line has come.
 unfoldable pub goes_on_with : Lvm → Reply → Course → Lvm × LvmOut
@@ -192,7 +190,7 @@ goes_on_with m r Moving = passes_on r m
 goes_on_with m r (Acquiring l mode again compares) = after_acquiring m l mode again compares r
 goes_on_with m r (Reading l) = after_reading m l r
 goes_on_with m r (Writing l) = after_writing m l r
-goes_on_with m r (Releasing l refused) = after_releasing m l refused r
+goes_on_with m r (Releasing l refused) = after_releasing m refused r
 
 -- A line, or the column where it fails.
 abbrev pub begins_line : Lvm → Result LvmLine ℕ → Lvm × LvmOut

@@ -1,29 +1,34 @@
--- What is promised of lvmlockd's lines: what they say is taken is held, asks are few, and `ok same` tells the truth.
+-- What is promised of lvmlockd's lines: what they tell is held, asks are few, and `ok same` tells the truth.
 use Rattle.sl_area.specs.AreaLayout.{value_offset}
-use Rattle.sl_run.specs.Caused.{IsCaused}
 use Rattle.sl_run.specs.LockNames.{Lock, group_lock, group_path}
 use Rattle.sl_run.specs.Lvm.{Acquiring, HeldLock, Reading, comparison, is_seen}
-use Rattle.sl_run.specs.EventChanges.{happens, number_of_step}
+use Rattle.sl_run.specs.EventChanges.{number_of_step}
 use Rattle.sl_run.specs.Inputs.{input_of, machine_of}
 use Rattle.sl_run.specs.Locks.{locks_after}
-use Rattle.sl_run.specs.Runs.{AfterEachFront, EachDaemon, Happening}
-use Rattle.sl_run.specs.Safety.{LawfulRun, world_at}
+use Rattle.sl_run.specs.Runs.{AfterEachFront, Happening}
+use Rattle.sl_run.specs.Safety.{world_at}
 use Rattle.sl_run.specs.Worlds.{Course as MadeCall, Machine, Program, World, machine_at}
 use Rattle.sl_run.specs.declared.header.Header.{Header}
 use Rattle.sl_sector.specs.declared.sector.Rec.TheVariants.{ValueIs}
 use Rattle.sl_sector.specs.declared.sector.ValueRec.{ValueRec}
 use Rattle.sl_trace.specs.Traces.{record_of, same_place}
 use Rattle.sl_trace.specs.declared.effects.Effects.{Effects}
+use Rattle.sl_trace.specs.declared.effects.Mode.TheVariants.{Shared}
 use Rattle.sl_trace.specs.declared.effects.Mode.{Mode}
 use Rattle.sl_trace.specs.declared.input.Input.{Input}
 use Rattle.std.specs.Prelude.{Bool, Contains, IsSomeAnd, IsTrue, List, Some, true, [], ℕ, ◌*◌, ◌++◌, ◌<◌, ◌∷◌, ◌≡◌, ◌≤◌}
 use Rattle.sl_run.specs.Volumes.{IsActiveVolume, VolumesAreExclusive}
 
--- A lock that lvmlockd's lines take in an event, which is what their ok reply says, is held after it.
-abbrev pub LocksAreTaken : World → Happening → Type 0
-LocksAreTaken w x =
-    (m : ℕ) (a b : Machine) (l : HeldLock) → machine_at w m ≡ Some a → machine_at (happens w x.0 x.1) m ≡ Some b →
-    Contains b.locks.lvm.held l → (Contains a.locks.lvm.held l → ⊥) → IsActiveVolume (happens w x.0 x.1) b l.lock.group l.lock.number l.mode
+-- Each lock that a machine's table has, which is what its lines tell, is a holding of the machine, in the lock's mode.
+abbrev pub LocksAreHeld : World → Type 0
+LocksAreHeld w =
+    (m : ℕ) (a : Machine) (l : HeldLock) → machine_at w m ≡ Some a → Contains a.locks.lvm.held l → IsActiveVolume w a l.lock.group l.lock.number l.mode
+
+-- So no logical volume is told active on two machines, unless both share it.
+abbrev pub ToldVolumesAreExclusive : World → Type 0
+ToldVolumesAreExclusive w =
+    (m k : ℕ) (a b : Machine) (x y : HeldLock) → machine_at w m ≡ Some a → machine_at w k ≡ Some b → (m ≡ k → ⊥) → Contains a.locks.lvm.held x →
+    Contains b.locks.lvm.held y → x.lock.group ≡ y.lock.group → x.lock.number ≡ y.lock.number → (x.mode ≡ Shared) × (y.mode ≡ Shared)
 
 -- An acquire is asked again at most so often for one line as the header has it.
 abbrev pub AsksAreFew : World → Type 0
@@ -66,8 +71,5 @@ pub record VolumesAreSafe (program : Program) (h : Header) (xs : List Happening)
   pub exclusive : VolumesAreExclusive (world_at program h xs)
   pub few : AsksAreFew (world_at program h xs)
   pub same : SameIsUnchanged program h xs
-  pub taken : (before : List Happening) (x : Happening) (rest : List Happening) → xs ≡ before ++ x ∷ rest → LocksAreTaken (world_at program h before) x
-
-abbrev pub VolumeTheorem : Type 0
-VolumeTheorem =
-    (program : Program) (h : Header) (xs : List Happening) → LawfulRun program h xs → EachDaemon IsCaused (world_at program h xs) → VolumesAreSafe program h xs
+  pub held : AfterEachFront xs (λ now. LocksAreHeld (world_at program h now))
+  pub told : AfterEachFront xs (λ now. ToldVolumesAreExclusive (world_at program h now))

@@ -50,16 +50,17 @@ pub record SessionId : Type 0 where
   pub daemon : ℕ
   pub number : ℕ
 
--- A session with all that it stands in.
+-- A session with all that it stands in, and the moment.
 pub record Found : Type 0 where
   pub machine : Machine
   pub daemon : Daemon
   pub session : Session
+  pub now : ℕ
 
 -- The session that is meant.
 abbrev pub session_of_world : World → SessionId → Option Found
 session_of_world w i =
-    option_and_then (λ a. option_and_then (λ d. option_map (λ s. record { machine = a; daemon = d; session = s })
+    option_and_then (λ a. option_and_then (λ d. option_map (λ s. record { machine = a; daemon = d; session = s; now = w.moment })
     (session_numbered d.setting d.trace i.number)) (daemon_numbered a i.daemon)) (machine_at w i.machine)
 
 -- This session is meant.
@@ -100,16 +101,18 @@ is_course_of i c = c.daemon == i.daemon && c.call.session == i.number
 abbrev pub has_write_in_flight : SessionId → Machine → Bool
 has_write_in_flight i a = list_any (λ c. is_course_of i c && is_write_course c && is_open a c) a.calls
 
--- Whether its machine was reset since its daemon began.
+-- Whether its machine was reset since its daemon began, more than `land` ago: no write that its processes had in flight then can land any
+-- more.
 abbrev pub was_reset : Found → Bool
-was_reset f = not (is_empty (resets_after f.machine f.daemon.begun.step))
+was_reset f = list_any (λ r. nat_lt (r.moment + f.daemon.setting.timing.land) f.now) (resets_after f.machine f.daemon.begun.step)
 
 -- Whether the write of its free has landed whole.
 abbrev pub free_landed : SessionId → Found → Bool
 free_landed i f =
     some_is (λ c. list_any (λ d. is_course_of i d && d.call.number == c.call.number && is_landed d.fate) f.machine.calls) (free_write (calls_of (trace_of f) f.session))
 
--- Over: its free has landed, or it has ended or its machine was reset, with no write of it in flight.
+-- Over: its free has landed, or it has ended or its machine was reset more than `land` ago, with no write of it in flight. Till then what it
+-- held at the reset may still be written.
 abbrev pub is_over : SessionId → Found → Bool
 is_over i f = free_landed i f || (is_some (ended_after (trace_of f) f.session) || was_reset f) && not (has_write_in_flight i f.machine)
 

@@ -26,7 +26,7 @@ use Rattle.sl_trace.specs.declared.input.Numbers.{Numbers}
 use Rattle.sl_words.specs.Words.{choose, first_of_list, some_is}
 use Rattle.std.specs.List.{range_with_len}
 use Rattle.std.specs.Option.{option_map_or}
-use Rattle.std.specs.Prelude.{Bool, List, None, Option, Some, bytes_eq, false, filter, filter_map, find, flat_map, if◌then◌else◌, is_none, is_some, map, nat_lt, option_map, replicate, slice_get, slice_set, true, [], ℕ, ◌&&◌, ◌*◌, ◌++◌, ◌+◌, ◌-◌, ◌/◌, ◌==◌, ◌||◌, ◌∷◌}
+use Rattle.std.specs.Prelude.{Bool, List, None, Option, Some, bytes_eq, false, filter, filter_map, find, flat_map, if◌then◌else◌, is_none, is_some, map, nat_le, nat_lt, option_map, replicate, slice_get, slice_set, true, [], ℕ, ◌&&◌, ◌*◌, ◌++◌, ◌+◌, ◌-◌, ◌/◌, ◌==◌, ◌||◌, ◌∷◌}
 
 -- When something happened: the number of the step, the moment, and the clock of the machine, in thousandths of a millisecond. Of two
 -- things the one with the lesser step came first; all that happens between two entries of the run has a step of its own.
@@ -74,6 +74,12 @@ pub record Daemon : Type 0 where
   pub trace : Trace
   pub stamps : List Stamp
 
+-- What a machine held when it was reset: a write of its process that was in flight then may land for `land` longer.
+pub record Lingering : Type 0 where
+  pub held : Grant
+  -- the moment of the reset
+  pub reset : ℕ
+
 -- A machine.
 pub record Machine : Type 0 where
   pub up : Bool
@@ -92,6 +98,8 @@ pub record Machine : Type 0 where
   pub calls : List Course
   -- in the order of their grants
   pub holdings : List Grant
+  -- what it held when it was reset: of the last reset first, and of those before what lingered then
+  pub lingering : List Lingering
   -- the newest first
   pub resets : List Stamp
   -- lvmlockd's, made anew with each daemon
@@ -233,6 +241,14 @@ reading_now a = reading_of a.clock
 abbrev pub stamp_now : World → Machine → Stamp
 stamp_now w a = record { step = w.step; moment = w.moment; clock = a.clock }
 
+-- Whether a write that was in flight at that reset may land still.
+abbrev pub lingers : ℕ → ℕ → Lingering → Bool
+lingers land moment l = nat_le moment (l.reset + land)
+
+-- What lingers on a machine.
+abbrev pub lingering_now : World → Machine → List Lingering
+lingering_now w a = filter (lingers w.header.timing.land w.moment) a.lingering
+
 -- Each daemon that ever began on a machine, the newest first.
 abbrev pub daemons_on : Machine → List Daemon
 daemons_on a = elim a.daemon [ None ↦ a.ended | Some d ↦ d ∷ a.ended ]
@@ -342,6 +358,7 @@ machine_of_header p g h m =
       used = is_some (first_daemon p g h m given);
       calls = [];
       holdings = [];
+      lingering = [];
       resets = [];
       locks = fresh_locks h;
     }

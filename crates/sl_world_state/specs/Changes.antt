@@ -6,11 +6,12 @@ use Rattle.sl_run.specs.Premises.{growth_of}
 use Rattle.sl_run.specs.Locks.{fresh_locks}
 use Rattle.sl_run.specs.declared.event.Event.TheVariants.{Crash, Do, DropWrite, Land, Pass, Reset, Restart, Sample, StartDaemon, Tear, Test}
 use Rattle.sl_run.specs.declared.event.Event.{Event}
+use Rattle.sl_run.specs.Worlds.{lingers}
 use Rattle.sl_run.specs.declared.header.Header.{Header}
 use Rattle.sl_time.specs.Times.{reading_of}
 use Rattle.sl_trace.specs.WatchdogConnections.{test_holds}
 use Rattle.std.specs.List.{enumerate_from}
-use Rattle.std.specs.Prelude.{Bool, List, None, Option, Some, false, filter, if◌then◌else◌, map, slice_get, slice_set, true, unwrap_or, [], ℕ, ◌+◌, ◌==◌, ◌||◌, ◌∷◌}
+use Rattle.std.specs.Prelude.{Bool, List, None, Option, Some, false, filter, if◌then◌else◌, map, slice_get, slice_set, true, unwrap_or, [], ℕ, ◌++◌, ◌+◌, ◌==◌, ◌||◌, ◌∷◌}
 
 -- ---- time
 
@@ -102,15 +103,17 @@ first_cut moment (Some r) = Some r
 abbrev pub cut_flight : ℕ → FlightState → FlightState
 cut_flight moment f = record f { own = false; cut = first_cut moment f.cut }
 
--- The machine has gone down: each of its writes has a moment from which on it may not land for ever.
-abbrev pub reset_machine : ℕ → MachineState → MachineState
-reset_machine moment s =
+-- The machine has gone down: each of its writes has a moment from which on it may not land for ever, and what it held lingers.
+abbrev pub reset_machine : Header → ℕ → MachineState → MachineState
+reset_machine h moment s =
     record s {
       up = false;
       connections = [];
       runs = false;
       starting = [];
       held = [];
+      lingering = map (λ g. record { held = g; reset = moment }) s.held ++ filter (lingers h.timing.land moment) s.lingering;
+      locks = fresh_locks h;
       flights = map (cut_flight moment) (filter lands s.flights);
     }
 
@@ -132,6 +135,6 @@ first_kept (DropWrite m c) k = change_machine_in m (change_flight c dropped_flig
 first_kept (Test m) k = change_machine_in m (tested_machine k.moment) k
 first_kept (StartDaemon m name) k = named_in name (change_machine_in m (started_machine k.header) k)
 first_kept (Crash m) k = change_machine_in m crashed_machine k
-first_kept (Reset m) k = change_machine_in m (reset_machine k.moment) k
+first_kept (Reset m) k = change_machine_in m (reset_machine k.header k.moment) k
 first_kept (Restart m) k = change_machine_in m (restarted_machine k.moment) k
 first_kept e k = k

@@ -33,6 +33,7 @@ first_machine h m =
       starting = [];
       flights = [];
       held = [];
+      lingering = [];
       locks = fresh_locks h;
     }
 

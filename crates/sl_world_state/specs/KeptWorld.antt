@@ -1,5 +1,6 @@
 -- What is kept of a world.
 use Rattle.sl_run.specs.Locks.{Locks}
+use Rattle.sl_run.specs.Worlds.{Lingering}
 use Rattle.sl_run.specs.declared.header.Header.{Header}
 use Rattle.sl_trace.specs.WatchdogConnections.{Connection}
 use Rattle.sl_trace.specs.declared.effects.Grant.{Grant}
@@ -50,6 +51,8 @@ pub record MachineState : Type 0 where
   -- the newest first
   pub flights : List FlightState
   pub held : List Grant
+  -- what it held when it was reset
+  pub lingering : List Lingering
   pub locks : Locks
 
 -- The world: what its next event asks for.

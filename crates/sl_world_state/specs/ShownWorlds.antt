@@ -73,6 +73,7 @@ shown h a =
       starting = starting_of a.daemon;
       flights = map (flight_of_course h a) (flights a);
       held = a.holdings;
+      lingering = a.lingering;
       locks = a.locks;
     }
 

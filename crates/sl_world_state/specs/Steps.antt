@@ -5,7 +5,7 @@ use Rattle.sl_world_state.specs.KeptWorld.{FlightState, KeptState, MachineState,
 use Rattle.sl_world_state.specs.ShownWorlds.{place_in, write_in}
 use Rattle.sl_run.specs.Inputs.{machine_of}
 use Rattle.sl_run.specs.Refusals.{sectors_of}
-use Rattle.sl_run.specs.Locks.{locks_after}
+use Rattle.sl_run.specs.Locks.{left_locks, locks_after}
 use Rattle.sl_run.specs.declared.event.Event.{Event}
 use Rattle.sl_run.specs.declared.header.Header.{Header}
 use Rattle.sl_trace.specs.WatchdogConnections.{after_move}
@@ -62,7 +62,8 @@ stepped_machine h i fx s =
 
 -- What the machine did itself, without a daemon.
 abbrev pub owned_machine : Effects → MachineState → MachineState
-owned_machine fx s = record s { connections = fold after_move s.connections fx.moves; held = held_after fx s.held }
+owned_machine fx s =
+    record s { connections = fold after_move s.connections fx.moves; held = held_after fx s.held; locks = left_locks fx s.locks }
 
 -- One step of the daemon of machine m, or what the machine itself does.
 abbrev pub taken_kept : ℕ → Option Input → Effects → KeptState → KeptState
