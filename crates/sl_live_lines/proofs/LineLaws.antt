@@ -4,7 +4,7 @@ use Rattle.sl_live_lines.specs.LocksAlong.{AlongState, along, due_ask, line_give
 use Rattle.sl_live_lines.specs.declared.given_lines.GivenLine.{GivenLine}
 use Rattle.sl_live_lines.specs.declared.audited_lines.Looked.TheVariants.{Fits, Wrong}
 use Rattle.sl_trace.specs.declared.effects.Entry.{Entry}
-use Rattle.sl_words.proofs.CaseLaws.{false_is_true, no_value, none_some, not_both, some_value}
+use Rattle.sl_words.proofs.CaseLaws.{no_value, none_some, not_both, some_value}
 use Rattle.std.proofs.Common.{ap, append_assoc, arith, if◌then◌else◌, length, refl, slice_index_or, subst, suc, sym, take, zero, ◌++◌, ◌+◌, ◌-◌, ◌<◌, ◌∙◌, ◌∷◌, ◌≡◌, ◌≤◌, [], ℕ}
 use Rattle.std.proofs.lemmas.List.{append-nil, length-append, take_more}
 use Rattle.std.specs.Option.{option_to_list}

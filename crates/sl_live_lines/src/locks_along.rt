@@ -4,7 +4,7 @@ ghost use Rattle.sl_live_lines.specs.LocksAlong.{asked_along, begun_along, due_a
 ghost use Rattle.sl_locks.specs.Replies.{told_as};
 ghost use Rattle.std.specs.List.{find};
 ghost use Rattle.std.specs.Option.{option_copied, option_to_list};
-ghost use Rattle.std.specs.Prelude.{IfOk, OnErr, OnOk, ◌==◌, ◌≡◌};
+ghost use Rattle.std.specs.Prelude.{IfOk, OnErr, OnOk, [], ◌==◌, ◌≡◌};
 
 use crate::given_lines::GivenLine;
 use sl_locks::{LineReply, LockInput, LvmLocks, StepTold};
@@ -86,7 +86,8 @@ fn copy_heard(
 
 /// Effects that are these replies alone.
 fn effects_of(alloc: Global, replies: Vec<JobReply>) -> Effects
-    ensures { result.replies ≡ replies.items }
+    ensures replies { result.replies ≡ replies.items }
+    ensures ends { result.ends ≡ [] }
 {
     Effects {
         ends: Seq::new(Vec::new(alloc)),
@@ -121,6 +122,7 @@ fn heard_by(
 ) -> Result<(LockInput, Effects), AllocError>
     ensures input { IfOk result (λ heard. heard.0 ≡ lock_of entry.now.input) }
     ensures replies { IfOk result (λ heard. heard.1.replies ≡ option_to_list (heard_in asked entry.now.effects.replies)) }
+    ensures ends { IfOk result (λ heard. heard.1.ends ≡ []) }
 {
     let replies = copy_heard(alloc, asked, entry.effects.replies.as_slice())?;
     let input = lock_of(alloc, &entry.input)?;
@@ -201,6 +203,7 @@ impl Along {
         let next = job_behind(&entry.input, self.job)?;
         self.locks.reserve()?;
         let (input, heard) = heard_by(self.alloc, self.asked_by(entry), entry)?;
+        self.locks.leave(&entry.effects);
         let StepTold { line, .. } = self.locks.turn(self.job, input, heard);
         self.job = next;
         Ok(line)

@@ -6,3 +6,4 @@ pub mod FirstReplies
 pub mod StepLaws
 pub mod ValueLaws
 pub mod PartLaws
+pub mod EndLaws

@@ -1,11 +1,11 @@
 -- The parts of a step are those of the definition.
 use Rattle.sl_locks.specs.Steps.{ask_numbered, given_number, heard_by, is_asked, lock_input, turned_by}
-use Rattle.sl_locks.specs.Tables.{has_room, locks_of}
+use Rattle.sl_locks.specs.Tables.{locks_of}
 use Rattle.sl_locks.specs.declared.ask.Ask.{Ask}
 use Rattle.sl_locks.specs.declared.line_steps.LockInput.TheVariants.{Exit as LockExit, Line as LockLine, Nothing, Number as LockNumber}
 use Rattle.sl_locks.specs.declared.line_steps.LockInput.{LockInput}
 use Rattle.sl_locks.specs.declared.table.LvmLocks.{LvmLocks}
-use Rattle.sl_run.specs.Locks.{Locks, Told, ended_locks, locks_after, numbered_locks, replied_locks, told_effects, turned_locks}
+use Rattle.sl_run.specs.Locks.{Locks, Told, ended_locks, left_locks, locks_after, numbered_locks, replied_locks, told_effects, turned_locks}
 use Rattle.sl_trace.specs.declared.effects.Effects.{Effects}
 use Rattle.sl_trace.specs.declared.effects.JobReply.{JobReply}
 use Rattle.std.proofs.Common.{List, None, Option, Some, [], ap, arith, cond, eqb, refl, sym, ℕ, ◌≡◌, ◌∙◌, ◌∷◌}
@@ -53,17 +53,33 @@ turns_are Nothing fx k = replied fx k
 
 -- ---- the whole step
 
-pub step_is : (n : ℕ) (i : LockInput) (fx : Effects) (t : LvmLocks) (k : Locks) (turned : Locks × Told) → k ≡ locks_of (given_number n i t)
-    → turned ≡ turned_by i (find (is_asked k.asked) fx.replies) k → ended_locks (lock_input i) turned ≡ locks_after n (lock_input i) fx (locks_of t)
+pub step_is : (n : ℕ) (i : LockInput) (fx : Effects) (t left : LvmLocks) (k : Locks) (turned : Locks × Told) → locks_of left ≡ left_locks fx (locks_of t)
+    → k ≡ locks_of (given_number n i left) → turned ≡ turned_by i (find (is_asked k.asked) fx.replies) k
+    → ended_locks (lock_input i) turned ≡ locks_after n (lock_input i) fx (locks_of t)
 unfolding locks_after
-step_is n i fx t k turned numbered is =
-    ap (ended_locks (lock_input i)) (is ∙ sym (turns_are i fx k) ∙ ap (turned_locks (lock_input i) fx) (numbered ∙ numbers_are n i t))
+step_is n i fx t left k turned first numbered is =
+    ap (ended_locks (lock_input i)) (is ∙ sym (turns_are i fx k)
+    ∙ ap (turned_locks (lock_input i) fx) (numbered ∙ numbers_are n i left ∙ ap (numbered_locks n (lock_input i)) first))
 
-pub told_is : (n : ℕ) (i : LockInput) (fx : Effects) (t : LvmLocks) (asked : Option ℕ) → asked ≡ (locks_of (given_number n i t)).asked
+-- What has left the table is no ask.
+ask_left : (n : ℕ) (fx : Effects) (k : Locks) (due : Option (List ℕ)) → k.due ≡ due
+    → (numbered_locks n (lock_input LockLine) (left_locks fx k)).asked ≡ (numbered_locks n (lock_input LockLine) k).asked
+ask_left n fx k None is = rw is refl
+ask_left n fx k (Some ask) is = rw is refl
+
+asked_left : (n : ℕ) (i : LockInput) (fx : Effects) (k : Locks) → (numbered_locks n (lock_input i) (left_locks fx k)).asked ≡ (numbered_locks n (lock_input i) k).asked
+asked_left n LockLine fx k = ask_left n fx k k.due refl
+asked_left n (LockNumber text) fx k = refl
+asked_left n (LockExit p) fx k = refl
+asked_left n Nothing fx k = refl
+
+pub told_is : (n : ℕ) (i : LockInput) (fx : Effects) (t left : LvmLocks) (asked : Option ℕ) → locks_of left ≡ left_locks fx (locks_of t)
+    → asked ≡ (locks_of (given_number n i left)).asked
     → record fx { replies = filter (λ a. not (is_asked asked a)) fx.replies } ≡ told_effects n (lock_input i) fx (locks_of t)
 unfolding told_effects
-told_is n i fx t asked is =
-    ap (λ (o : Option ℕ). record fx { replies = filter (λ a. not (is_asked o a)) fx.replies }) (is ∙ ap (λ (k : Locks). k.asked) (numbers_are n i t))
+told_is n i fx t left asked first is =
+    ap (λ (o : Option ℕ). record fx { replies = filter (λ a. not (is_asked o a)) fx.replies })
+    (is ∙ ap (λ (k : Locks). k.asked) (numbers_are n i left ∙ ap (numbered_locks n (lock_input i)) first) ∙ asked_left n i fx (locks_of t))
 
 -- An ask is due where its text is.
 pub some_due : {A B : Type 0} (f : A → B) (o : Option A) → is_some o ≡ is_some (option_map f o)

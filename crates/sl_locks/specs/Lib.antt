@@ -4,3 +4,4 @@ pub mod Asks
 pub mod Replies
 pub mod Tables
 pub mod Steps
+pub mod Ends

@@ -122,7 +122,7 @@ fn push_resource(
 }
 
 /// Where a lock's area begins.
-fn offset_of(geometry: &Geometry, lock: &Lock) -> u64
+pub(crate) fn offset_of(geometry: &Geometry, lock: &Lock) -> u64
     ensures { result ≡ lock.now.number * geometry.now.area }
 {
     u64::from(lock.number) * geometry.area()

@@ -9,6 +9,7 @@
 #![tactic(auto)]
 
 mod ask;
+mod ends;
 mod line;
 mod line_steps;
 mod line_turns;

@@ -165,6 +165,7 @@ impl LvmLocks {
         ensures line { told_as result.line ≡ (locks_after number (lock_input input) effects (locks_of self.old)).1 }
         ensures effects { result.effects ≡ told_effects number (lock_input input) effects (locks_of self.old) }
     {
+        self.leave(&effects);
         self.take_number(number, &input);
         let asked = self.asked;
         let (effects, reply) = split_reply(effects, asked);

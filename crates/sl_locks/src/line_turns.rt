@@ -15,7 +15,7 @@ use crate::ask::{Ask, LOCK_PROCESS};
 use crate::line::{Kind, read_line};
 use crate::lock::{HeldLock, Lock};
 use crate::reply::LineReply;
-use crate::table::{Answer, LvmLocks, Stage, copied, forget, give_up, hold, see};
+use crate::table::{Answer, LvmLocks, Stage, copied, forget, hold, see};
 use sl_text::{Name, Seq};
 use sl_trace::{Mode, Reply};
 use std::mem;
@@ -69,19 +69,6 @@ fn is_torn(reply: &Reply) -> bool
     ensures { result ≡ is_torn reply.now }
 {
     matches!(reply, Reply::ValueTorn)
-}
-
-/// Whether a lock is no longer held after this reply to its release.
-fn is_given_up(reply: &Reply) -> bool
-    ensures { result ≡ lvm.is_given_up reply.now }
-{
-    match reply {
-        Reply::IoFault { .. } => true,
-        Reply::IoTimeout { .. } => true,
-        Reply::NotHeld => true,
-        Reply::NoSession => true,
-        other => is_ok(other),
-    }
 }
 
 impl LvmLocks {
@@ -289,13 +276,10 @@ impl LvmLocks {
     }
 
     /// After the reply to a release: where it is ok, what the write before it was refused for is told.
-    fn after_releasing(&mut self, lock: Lock, reply: Reply) -> Answer
-        ensures { left_by self.new result ≡ after_turn (locks_of self.old) (lvm.after_releasing (lvm_of self.old) lock self.old.refused reply) }
+    fn after_releasing(&mut self, reply: Reply) -> Answer
+        ensures { left_by self.new result ≡ after_turn (locks_of self.old) (lvm.after_releasing (lvm_of self.old) self.old.refused reply) }
     {
         let refused = mem::replace(&mut self.refused, None);
-        if is_given_up(&reply) {
-            give_up(&mut self.held, lock);
-        }
         if is_ok(&reply) {
             return self.pass_on(refused.unwrap_or(reply));
         }
@@ -318,7 +302,7 @@ impl LvmLocks {
             } => self.after_acquiring(lock, mode, again, compares, reply),
             Stage::Reading { lock } => self.after_reading(lock, reply),
             Stage::Writing { lock } => self.after_writing(lock, reply),
-            Stage::Releasing { lock } => self.after_releasing(lock, reply),
+            Stage::Releasing { .. } => self.after_releasing(reply),
         }
     }
 

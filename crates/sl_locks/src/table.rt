@@ -5,20 +5,20 @@
 //! of what is held, so that `info` takes no memory.
 
 ghost use Rattle.sl_locks.specs.Tables.{has_room, locks_of, lvm_of};
-ghost use Rattle.sl_run.specs.LockNames.{same_lock};
 ghost use Rattle.sl_run.specs.Lvm as lvm;
-ghost use Rattle.sl_run.specs.Locks.{fresh_locks};
+ghost use Rattle.sl_run.specs.Locks.{fresh_locks, left_locks};
 ghost use Rattle.std.specs.Option.{option_copied, option_map};
 ghost use Rattle.std.specs.Prelude.{IfOk, OnOk, None, Some, bytes_eq, filter, is_some, length, not, true, [], ◌++◌, ◌<◌, ◌∷◌, ◌≡◌, ◌≤◌};
 ghost use Rattle.std.specs.Vec.{vec_capacity, vec_len};
 
 use crate::ask::{Ask, push_ask_text};
+use crate::ends::drop_ended;
 use crate::lock::{HeldLock, Lock, SeenValue};
 use crate::reply::LineReply;
 use sl_area::Geometry;
 use sl_run::Header;
 use sl_text::{Bytes, Name};
-use sl_trace::{Mode, Reply};
+use sl_trace::{Effects, Mode, Reply};
 use std::alloc::{AllocError, Global};
 
 /// What the last ask of the line that runs was for.
@@ -177,6 +177,14 @@ impl LvmLocks {
             .any(|value| value.is_version(group, lver, seq))
     }
 
+    /// Locks leave the table whose holdings a step, or the machine itself, has ended. It takes no memory, and leaves the room for a step as it is.
+    pub fn leave(&mut self, effects: &Effects)
+        ensures left { locks_of self.new ≡ left_locks effects.now (locks_of self.old) }
+        ensures room { has_room self.old ≡ true → has_room self.new ≡ true }
+    {
+        drop_ended(&mut self.held, effects.ends.as_slice(), &self.geometry);
+    }
+
     // ---- how a turn ends
 
     /// The host is asked, and the line is then so far.
@@ -213,13 +221,6 @@ pub(crate) fn hold(held: &mut Vec<HeldLock>, lock: Lock, mode: Mode)
     ensures { held.new.items ≡ held.old.items ++ record { lock = lock; mode = mode } ∷ [] }
 {
     held.push_reserved(HeldLock { lock, mode });
-}
-
-/// A lock is no longer held.
-pub(crate) fn give_up(held: &mut Vec<HeldLock>, lock: Lock)
-    ensures { held.new.items ≡ filter (λ h. not (same_lock h.lock lock)) held.old.items }
-{
-    held.retain(|held| !held.lock.is_same(&lock));
 }
 
 /// Nothing is known of a group's value.

@@ -10,16 +10,16 @@ use Rattle.std.proofs.Common.{ap, ◌∙◌}
 pub returns-clause-stays : goal.returns-clause-stays
 returns-clause-stays c =
     ap (λ (p : Locks × Told). p.0) (c.end_by.ensures (told_as c.hear-line.result)
-    ∙ step_is c.args.number c.args.input c.args.effects c.args.self.now (locks_of c.take_number.new.self) (left_by c.hear-line.new.self c.hear-line.result)
-    (ap locks_of c.take_number.ensures) (c.hear-line.ensures ∙ ap (λ o. turned_by c.args.input o (locks_of c.take_number.new.self)) c.split_reply-effects.ensures.found))
+    ∙ step_is c.args.number c.args.input c.args.effects c.args.self.now c.leave.new.self (locks_of c.take_number.new.self) (left_by c.hear-line.new.self c.hear-line.result)
+    c.leave.ensures.left (ap locks_of c.take_number.ensures) (c.hear-line.ensures ∙ ap (λ o. turned_by c.args.input o (locks_of c.take_number.new.self)) c.split_reply-effects.ensures.found))
 
 pub returns-clause-line : goal.returns-clause-line
 returns-clause-line c =
     ap (λ (p : Locks × Told). p.1) (c.end_by.ensures (told_as c.hear-line.result)
-    ∙ step_is c.args.number c.args.input c.args.effects c.args.self.now (locks_of c.take_number.new.self) (left_by c.hear-line.new.self c.hear-line.result)
-    (ap locks_of c.take_number.ensures) (c.hear-line.ensures ∙ ap (λ o. turned_by c.args.input o (locks_of c.take_number.new.self)) c.split_reply-effects.ensures.found))
+    ∙ step_is c.args.number c.args.input c.args.effects c.args.self.now c.leave.new.self (locks_of c.take_number.new.self) (left_by c.hear-line.new.self c.hear-line.result)
+    c.leave.ensures.left (ap locks_of c.take_number.ensures) (c.hear-line.ensures ∙ ap (λ o. turned_by c.args.input o (locks_of c.take_number.new.self)) c.split_reply-effects.ensures.found))
 
 pub returns-clause-effects : goal.returns-clause-effects
 returns-clause-effects c =
     c.split_reply-effects.ensures.rest
-    ∙ told_is c.args.number c.args.input c.args.effects c.args.self.now c.take_number.new.self.asked (ap (λ (t : LvmLocks). t.asked) c.take_number.ensures)
+    ∙ told_is c.args.number c.args.input c.args.effects c.args.self.now c.leave.new.self c.take_number.new.self.asked c.leave.ensures.left (ap (λ (t : LvmLocks). t.asked) c.take_number.ensures)
