@@ -327,13 +327,13 @@ no_other_by reached on p h now x run old i g past e later also whole joined =
   where
     by : StoodBefore p h now i g past e → shows_other (setting_in g) past g.session e.input ≡ false
     by s = here s.machine s.daemon s.its s.setting s.place where
-      here : (a : Machine) (d : Daemon) → IsSession (world_at p h now) i (found_with a d g.session) → d.setting ≡ setting_in g
+      here : (a : Machine) (d : Daemon) → IsSession (world_at p h now) i (found_with (world_at p h now) a d g.session) → d.setting ≡ setting_in g
           → ((d.trace ≡ past) × (trace_of g ≡ e ∷ past)) ⊎ ((l : Trace) × (d.trace ≡ l ++ e ∷ past)) → shows_other (setting_in g) past g.session e.input ≡ false
       here a d its setting (inr was) =
-          subst (λ st. shows_other st past g.session e.input ≡ false) setting (old i (found_with a d g.session) past e was.0 its was.1 joined)
+          subst (λ st. shows_other st past g.session e.input ≡ false) setting (old i (found_with (world_at p h now) a d g.session) past e was.0 its was.1 joined)
       here a d its setting (inl new) =
           is_false (shows_other (setting_in g) past g.session e.input)
-          (λ other. reads_own reached on p h now x i (found_with a d g.session) g past e
+          (λ other. reads_own reached on p h now x i (found_with (world_at p h now) a d g.session) g past e
           (record { run = run; its = its; also = also; same = refl; setting = setting; before = new.0; after = new.1; joined = joined })
           (told_other (setting_in g) past g.session e.input (survey_in past g.session e.input) refl other))
 

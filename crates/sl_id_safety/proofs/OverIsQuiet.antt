@@ -1,4 +1,5 @@
 -- A session that is over makes no call any more.
+use Rattle.sl_id_safety.proofs.State.FindingFrames.{never_reset}
 use Rattle.sl_run_law.proofs.Course.MachinesMirror.{machines_mirror}
 use Rattle.sl_run_law.proofs.Course.EntriesAreStamped.{entries_are_stamped}
 use Rattle.sl_run_law.specs.Course.Mirrors.{Mirrors}
@@ -21,13 +22,13 @@ use Rattle.sl_words.proofs.Numbers.{less_is_other}
 use Rattle.sl_words.proofs.Options.{some_of}
 use Rattle.sl_run.specs.Runs.{Happening}
 use Rattle.sl_run.specs.Safety.{Found, HasJoined, IsSession, LawfulRun, SessionId, free_landed, has_write_in_flight, is_over, session_of_world, setting_in, trace_of, was_reset, world_at}
-use Rattle.sl_run.specs.Worlds.{Daemon, Machine, Program, Stamp, daemon_numbered, daemons_on, resets_after}
+use Rattle.sl_run.specs.Worlds.{Daemon, Machine, Program, Stamp, daemon_numbered, daemons_on}
 use Rattle.sl_run.specs.declared.header.Header.{Header}
 use Rattle.sl_trace.specs.Sessions.{calls_of, ended_after, free_write, is_call_of, joined_after}
 use Rattle.sl_trace.specs.Traces.{Submitted, Trace, submitted}
 use Rattle.sl_run_law.proofs.Watchdog.Stamps.{same_length}
 use Rattle.sl_words.proofs.CaseLaws.{one_value, true_is_false}
-use Rattle.sl_words.specs.Words.{is_empty, some_is}
+use Rattle.sl_words.specs.Words.{some_is}
 use Rattle.std.proofs.Common.{ap, arith, inl, inr, refl, subst, sym, ◌∙◌}
 use Rattle.std.specs.Prelude.{Bool, Contains, List, None, Option, Some, [], false, is_some, length, not, true, ℕ, ◌&&◌, ◌++◌, ◌<◌, ◌||◌, ◌∷◌, ◌≡◌, ◌⊎◌}
 
@@ -95,12 +96,9 @@ goes_on p h now rest run i f g its also =
 
 -- ---- one that is over is quiet
 
-is_nothing : (rs : List Stamp) → rs ≡ [] → not (is_empty rs) ≡ true → ⊥
-is_nothing rs none is = true_is_false (sym is ∙ ap (λ xs. not (is_empty xs)) none)
-
 -- A daemon that runs was not reset.
 pub not_reset : (f : Found) → Mirrors f.machine → f.machine.daemon ≡ Some f.daemon → was_reset f ≡ true → ⊥
-not_reset f mirror runs reset = is_nothing (resets_after f.machine f.daemon.begun.step) (mirror.kept f.daemon (mirror.running f.daemon runs)) reset
+not_reset f mirror runs reset = true_is_false (sym reset ∙ never_reset f (mirror.kept f.daemon (mirror.running f.daemon runs)))
 
 pub over_cases : (free ended reset flying : Bool) → (free || (ended || reset) && not flying) ≡ true → (free ≡ true) ⊎ ((ended ≡ true) × (flying ≡ false)) ⊎ (reset ≡ true)
 over_cases true ended reset flying is = inl refl

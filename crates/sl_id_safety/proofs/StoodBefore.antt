@@ -127,14 +127,14 @@ had_begun st (x ∷ later) e past s h its k joined =
     (begun_if_joined st x (later ++ e ∷ past) s h its k
     (marks_stay.joined (x ∷ later) (e ∷ past) s k (joined_more e past s k joined))) k joined
 
-abbrev pub found_with : Machine → Daemon → Session → Found
-found_with a d s = record { machine = a; daemon = d; session = s }
+abbrev pub found_with : World → Machine → Daemon → Session → Found
+found_with w a d s = record { machine = a; daemon = d; session = s; now = w.moment }
 
 -- The session before the event: the entry is the newest, or was there.
 pub record StoodBefore (p : Program) (h : Header) (now : List Happening) (i : SessionId) (g : Found) (past : Trace) (e : Entry) : Type 0 where
   pub machine : Machine
   pub daemon : Daemon
-  pub its : IsSession (world_at p h now) i (found_with machine daemon g.session)
+  pub its : IsSession (world_at p h now) i (found_with (world_at p h now) machine daemon g.session)
   pub setting : daemon.setting ≡ setting_in g
   pub place : ((daemon.trace ≡ past) × (trace_of g ≡ e ∷ past)) ⊎ ((l : Trace) × (daemon.trace ≡ l ++ e ∷ past))
 
@@ -186,8 +186,8 @@ stood_before p h now x run i g its later e past whole k joined =
         record {
           machine = a;
           daemon = c.daemon;
-          its = found_on (world_at p h now) i a o.at ∙ ap (session_with i a) there
-              ∙ ap (λ q. option_map (found_with a c.daemon) q) session;
+          its = found_on (world_at p h now) i a o.at ∙ ap (session_with (world_at p h now).moment i a) there
+              ∙ ap (λ q. option_map (found_with (world_at p h now) a c.daemon) q) session;
           setting = c.setting;
           place = parts;
         }

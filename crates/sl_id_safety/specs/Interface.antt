@@ -1,4 +1,5 @@
--- What the argument over ballots may use of the ids of a lawful run, in words of its worlds.
+-- What the argument over ballots may use of the ids of a lawful run, in words of its worlds. A session whose machine was reset is over no
+-- sooner than `land` later: so whatever is said of sessions that are not over is said of what lingers of their holdings, too.
 use Rattle.sl_id_safety.specs.State.IdStates.{own_courses}
 use Rattle.sl_run.specs.Runs.{Happening}
 use Rattle.sl_run.specs.Safety.{DeltaInvariant, EvidenceIsTrue, Found, GenerationsRise, HasJoined, IsSession, LawfulRun, OneForEachId, OwnSectorIsAlone, OwnSectorStands, ReadsNoOther, SameId, SessionId, found_generation, is_over, same_lockspace, setting_in, trace_of, world_at}

@@ -1,5 +1,5 @@
 -- Runs in which two sessions are joined at once: where a watch, or the wait before a verify read, is one too short.
-use Rattle.sl_ids.proofs.ExampleRuns.{Acts, at, bound, claim_of, each_of, first, first_changes, first_claims, first_renewal, idle, is_new, more, names_differ, new, one_name, other, pair, pass, renewal_of, same, second, second_changes, second_claims, second_renewal, terms, then, two_name, unbegun}
+use Rattle.sl_ids.proofs.ExampleRuns.{Acts, at, bound, claim_of, each_of, first, first_changes, first_claims, first_renewal, idle, is_new, more, names_differ, new, one_name, pair, pass, renewal_of, second, second_changes, second_claims, second_renewal, terms, then, two_name, unbegun}
 use Rattle.sl_ids.proofs.DerivedLaws.{go_on, listed}
 use Rattle.sl_ids.specs.Examples.{ShorterWaitFails, ShorterWatchFails}
 use Rattle.sl_ids.specs.Interface.{Newer}

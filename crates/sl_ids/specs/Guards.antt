@@ -12,8 +12,8 @@ use Rattle.std.specs.Prelude.{Some, false, true, ℕ, ◌+◌, ◌<◌, ◌≡�
 abbrev pub terms_of : TimingNumbers → Terms
 terms_of t = record { gone = gone t; hold = hold t; watch = hold t + gone t; wait = gone t; silence = gone t }
 
--- The watchdog's word for each session that a bound speaks of, which is what `guarded_is_bounded` gives of one that is connected or has a
--- write in flight: it may act, by the point whose moment the state keeps.
+-- The watchdog's word for each session that a bound speaks of, one that is connected, has a write in flight, or was connected at a reset of
+-- its machine not longer than `land` ago: it may act, by the point whose moment the state keeps.
 pub record AreGuarded (t : TimingNumbers) (w : State) : Type 0 where
   pub pending : (s : SessionId) → (w.session s).pending ≡ true
       → (registered : Point) × (registered.moment ≡ (w.session s).registered) × MayAct t registered w.now

@@ -9,7 +9,7 @@ use Rattle.std.specs.Prelude.{List, None, Some, false, true, [], ◌+◌, ◌<�
 pub record IsBounded (r : Terms) (w : State) : Type 0 where
   -- while a claim may still land, its session is connected, or the claim is in flight
   pub pending : (s : SessionId) → (w.session s).pending ≡ true → w.now < (w.session s).registered + r.gone
-  -- so is a verified session that is not over: connected, or with a write in flight
+  -- so is a verified session that is not over: connected, with a write in flight, or reset a short time ago while it was connected
   pub acting : (s : SessionId) → (w.session s).verified ≡ true → (w.session s).over ≡ false → w.now < (w.session s).renewed + r.gone
 
 -- ---- the start

@@ -47,7 +47,8 @@ pub record Session : Type 0 where
   pub verified : Bool
   -- its first renewal was answered ok, or it was joined at first
   pub joined : Bool
-  -- its free has landed; or its joining was refused, it has ended or its machine was reset, and no write of it is in flight
+  -- its free has landed; or its joining was refused, it has ended or its machine was reset more than `land` ago, and no write of it is in
+  -- flight
   pub over : Bool
   -- the landing that its deciding read showed, and the landing of its claim; 0 and 0 where it was joined at first
   pub base : ℕ

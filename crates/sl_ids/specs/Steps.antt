@@ -171,8 +171,8 @@ pub record Renew (w v : State) (s : SessionId) : Type 0 where
 abbrev pub after_end : Session → Session
 after_end s = record s { over = true; pending = false }
 
--- The session s is over: its joining was refused, it has ended, or its machine was reset, and no write of it is in flight. Nothing is
--- asked here: that a session is not over while it may act is what the bounds mean.
+-- The session s is over: its joining was refused, it has ended, or its machine was reset more than `land` ago, and no write of it is in
+-- flight. Nothing is asked here: that a session is not over while it may act is what the bounds mean.
 pub record End (w v : State) (s : SessionId) : Type 0 where
   pub same : SameLandings w v
   pub changes : ChangesOnly w v s (after_end (w.session s))

@@ -1,6 +1,6 @@
 -- A change of one call in flight changes the session whose call it is, and no other; and one more landing changes what a session takes
 -- from its sector only where it is the session's own.
-use Rattle.sl_id_safety.proofs.State.FindingFrames.{found_moves, found_on, is_found, moved, own_apart, own_mapped, same_moved, session_on}
+use Rattle.sl_id_safety.proofs.State.FindingFrames.{found_moves, found_on, found_then, is_found, moved, own_apart, own_mapped, same_moved, session_on}
 use Rattle.sl_id_safety.proofs.State.Frames.{SameThere}
 use Rattle.sl_id_safety.proofs.State.LandingFrames.{Grows, number_there}
 use Rattle.sl_id_safety.proofs.State.SectorFrames.{SameIf, ThereIf, same_still, seqs_same}
@@ -86,6 +86,7 @@ pub record ChangesCall (w v : World) (m n : ℕ) (turn : Course → Course) : Ty
   pub machine : Machine
   pub course : Course
   pub machines : length v.machines ≡ length w.machines
+  pub moment : v.moment ≡ w.moment
   pub at : machine_at w m ≡ Some machine
   pub flight : flight_of machine n ≡ Some course
   pub later : machine_at v m ≡ Some (change_call n turn machine)
@@ -114,13 +115,13 @@ its_call : (i : SessionId) (turn : Course → Course) (c : Course) → ((turn c)
 its_call i turn c k =
     ap (λ d. d == i.daemon && (turn c).call.session == i.number) k.0 ∙ ap (λ x. c.daemon == i.daemon && x.session == i.number) k.1
 
-found_same : (w v : World) (path : List ℕ) (offset : ℕ) (i : SessionId) (a b : Machine) (o p : Option Found) → session_on i a ≡ o
+found_same : (w v : World) (path : List ℕ) (offset : ℕ) (i : SessionId) (n : ℕ) (a b : Machine) (o p : Option Found) → session_on n i a ≡ o
     → p ≡ option_map (moved b) o → own_courses i b ≡ own_courses i a → b.daemon ≡ a.daemon → b.resets ≡ a.resets
     → ((f : Found) → o ≡ Some f → ThereIf w v path offset i f) → SameIf w v path offset i o p
-found_same w v path offset i a b None p at is own daemon resets there = subst (λ q. SameIf w v path offset i None q) (sym is) tt
-found_same w v path offset i a b (Some f) p at is own daemon resets there =
+found_same w v path offset i n a b None p at is own daemon resets there = subst (λ q. SameIf w v path offset i None q) (sym is) tt
+found_same w v path offset i n a b (Some f) p at is own daemon resets there =
     subst (λ q. SameIf w v path offset i (Some f) q) (sym is)
-    (same_moved i a b f (is_found i a f at) own (ap (λ o. some_is (λ d. d.number == i.daemon) o) daemon) resets, there f refl)
+    (same_moved n i a b f (is_found n i a f at) own (ap (λ o. some_is (λ d. d.number == i.daemon) o) daemon) resets, there f refl)
 
 on_same : (w v : World) (path : List ℕ) (offset : ℕ) (i : SessionId) (o p : Option Found) → p ≡ o → ((f : Found) → o ≡ Some f → ThereIf w v path offset i f)
     → SameIf w v path offset i o p
@@ -128,10 +129,10 @@ on_same w v path offset i None p is there = subst (λ q. SameIf w v path offset 
 on_same w v path offset i (Some f) p is there = subst (λ q. SameIf w v path offset i (Some f) q) (sym is) (same_still i f, there f refl)
 
 -- On another machine each session is found as before.
-pub elsewhere_same : (w v : World) (path : List ℕ) (offset : ℕ) (i : SessionId) → machine_at v i.machine ≡ machine_at w i.machine
+pub elsewhere_same : (w v : World) (path : List ℕ) (offset : ℕ) (i : SessionId) → v.moment ≡ w.moment → machine_at v i.machine ≡ machine_at w i.machine
     → ((f : Found) → session_of_world w i ≡ Some f → ThereIf w v path offset i f) → SameIf w v path offset i (session_of_world w i) (session_of_world v i)
-elsewhere_same w v path offset i same there =
-    on_same w v path offset i (session_of_world w i) (session_of_world v i) (ap (λ o. option_and_then (session_on i) o) same) there
+elsewhere_same w v path offset i moment same there =
+    on_same w v path offset i (session_of_world w i) (session_of_world v i) (ap (λ n. option_and_then (session_on n i) (machine_at v i.machine)) moment ∙ ap (λ o. option_and_then (session_on w.moment i) o) same) there
 
 on_machine_same : (w v : World) (path : List ℕ) (offset m n : ℕ) (turn : Course → Course) (i : SessionId) (k : ChangesCall w v m n turn) → i.machine ≡ m
     → (i ≡ caller m k.course → ⊥) → ((f : Found) → session_of_world w i ≡ Some f → ThereIf w v path offset i f)
@@ -142,8 +143,8 @@ on_machine_same w v path offset m n turn i k same other there =
     let own : own_courses i b ≡ own_courses i a =
     own_apart i a n k.course turn k.distinct k.flight (not_its_call i m k.course same other) (λ c. its_call i turn c (k.keeps c)) in
     subst (λ o. SameIf w v path offset i o (session_of_world v i)) (sym (found_on w i a (ap (machine_at w) same ∙ k.at)))
-    (subst (λ p. SameIf w v path offset i (session_on i a) p) (sym (found_on v i b (ap (machine_at v) same ∙ k.later)))
-    (found_same w v path offset i a b (session_on i a) (session_on i b) refl (found_moves i a b refl) own refl refl
+    (subst (λ p. SameIf w v path offset i (session_on w.moment i a) p) (sym (found_then w v i b k.moment (ap (machine_at v) same ∙ k.later)))
+    (found_same w v path offset i w.moment a b (session_on w.moment i a) (session_on w.moment i b) refl (found_moves w.moment i a b refl) own refl refl
     (λ f on. there f (found_on w i a (ap (machine_at w) same ∙ k.at) ∙ on))))
 
 -- Each session but the caller is found as before.
@@ -153,7 +154,7 @@ pub others_same : (w v : World) (path : List ℕ) (offset m n : ℕ) (turn : Cou
 others_same w v path offset m n turn i k other there =
     elim (same_or_apart i.machine m) as (λ z. SameIf w v path offset i (session_of_world w i) (session_of_world v i)) [
       | inl same ↦ on_machine_same w v path offset m n turn i k same other there
-      | inr apart ↦ elsewhere_same w v path offset i (k.elsewhere i.machine apart) there
+      | inr apart ↦ elsewhere_same w v path offset i k.moment (k.elsewhere i.machine apart) there
     ]
 
 its_changed : (i : SessionId) (n : ℕ) (turn : Course → Course) (c : Course) (t : Bool) → ((turn c).daemon ≡ c.daemon) × ((turn c).call ≡ c.call)
@@ -166,9 +167,9 @@ pub caller_found : (w v : World) (m n : ℕ) (turn : Course → Course) (k : Cha
     → session_of_world w i ≡ Some f → (f.machine ≡ k.machine) × (session_of_world v i ≡ Some (moved (change_call n turn k.machine) f))
 caller_found w v m n turn k i f same h =
     let a : Machine = k.machine in
-    let on : session_on i a ≡ Some f = sym (found_on w i a (ap (machine_at w) same ∙ k.at)) ∙ h in (
-      (is_found i a f on).machine,
-      found_on v i (change_call n turn a) (ap (machine_at v) same ∙ k.later) ∙ found_moves i a (change_call n turn a) refl
+    let on : session_on w.moment i a ≡ Some f = sym (found_on w i a (ap (machine_at w) same ∙ k.at)) ∙ h in (
+      (is_found w.moment i a f on).machine,
+      found_then w v i (change_call n turn a) k.moment (ap (machine_at v) same ∙ k.later) ∙ found_moves w.moment i a (change_call n turn a) refl
           ∙ ap (option_map (moved (change_call n turn a))) on,
     )
 

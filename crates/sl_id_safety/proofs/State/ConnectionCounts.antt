@@ -12,8 +12,8 @@ use Rattle.sl_run.specs.LawfulDelta.{LawfulDeciding, LawfulDeltaCall, LawfulFirs
 use Rattle.sl_run.specs.LawfulConnections.{is_covered}
 use Rattle.sl_run_law.specs.Moment.MomentsFollowSteps.{point_of}
 use Rattle.sl_words.proofs.Lists.{find_fails, find_inside, got_inside}
-use Rattle.sl_run.specs.Safety.{Found, SessionId, trace_of, was_reset}
-use Rattle.sl_run.specs.Worlds.{Course, Daemon, Stamp, World, daemons_on, resets_after}
+use Rattle.sl_run.specs.Safety.{Found, SessionId, trace_of}
+use Rattle.sl_run.specs.Worlds.{Course, Daemon, Stamp, World, daemons_on}
 use Rattle.sl_run.specs.declared.header.Header.{Header}
 use Rattle.sl_sector.specs.declared.sector.Rec.TheVariants.{DeltaIs}
 use Rattle.sl_run_law.proofs.Sessions.FrontAnswersStay.{front_answers_stay}
@@ -33,12 +33,11 @@ use Rattle.sl_run_law.proofs.Watchdog.FoundCalls.{call_inside, call_owner}
 use Rattle.sl_run_law.proofs.Watchdog.Machines.{first_by}
 use Rattle.sl_run_law.specs.Watchdog.ActingTimes.{acting_stamp, registering_entry, renewal_entry}
 use Rattle.sl_run_law.specs.Watchdog.WatchdogLaws.{ActsStill, StandsConnected}
-use Rattle.sl_words.proofs.CaseLaws.{false_is_true, no_value, none_some, not_both, one_value, some_value, true_is_false}
+use Rattle.sl_words.proofs.CaseLaws.{false_is_true, none_some, not_both, one_value, some_value}
 use Rattle.sl_words.proofs.WordLaws.{some_is_true}
-use Rattle.sl_words.specs.Words.{is_empty}
 use Rattle.std.proofs.Common.{ap, refl, sym, ◌∙◌}
 use Rattle.std.proofs.lemmas.Bool.{eq-eqb, eqb-true}
-use Rattle.std.specs.Prelude.{Bool, List, None, Option, Some, [], cond, false, find, is_some, not, option_and_then, true, ℕ, ◌&&◌, ◌==◌, ◌∷◌, ◌≡◌}
+use Rattle.std.specs.Prelude.{Bool, List, None, Option, Some, [], cond, false, find, is_some, option_and_then, true, ℕ, ◌&&◌, ◌==◌, ◌∷◌, ◌≡◌}
 
 -- ---- options and lists
 
@@ -71,26 +70,6 @@ pub running_since : (w : World) (i : SessionId) (f : Found) → IsBeside w i f �
 running_since w i f b runs =
     let d = some_is_true (λ (d : Daemon). d.number == f.daemon.number) f.machine.daemon runs in
     since_is w i f b d.0 (b.mirrors.running d.0 d.1) d.2
-
-kept_by : (e : Bool) → not e ≡ false → e ≡ false → ⊥
-kept_by true h is = true_is_false is
-kept_by false h is = true_is_false h
-
--- One whose machine was not reset.
-pub kept_since : (w : World) (i : SessionId) (f : Found) → IsBeside w i f → was_reset f ≡ false → since_restart f.machine ≡ Some f.daemon
-kept_since w i f b kept_is = by (since_restart f.machine) refl where
-  lost : (since_restart f.machine ≡ Some f.daemon → ⊥) → ⊥
-  lost never = kept_by (is_empty (resets_after f.machine f.daemon.begun.step)) kept_is (b.mirrors.lost f.daemon b.has never)
-
-  same : (x : Daemon) → since_restart f.machine ≡ Some x → (t : Bool) → (x.number == f.daemon.number) ≡ t → since_restart f.machine ≡ Some f.daemon
-  same x since true is = since_is w i f b x since is
-  same x since false is =
-      absurd (lost (λ its. true_is_false (sym (eq-eqb x.number f.daemon.number
-      (ap (λ (z : Daemon). z.number) (one_value x f.daemon (since_restart f.machine) since its))) ∙ is)))
-
-  by : (o : Option Daemon) → since_restart f.machine ≡ o → since_restart f.machine ≡ Some f.daemon
-  by None none = absurd (lost (λ its. no_value f.daemon (since_restart f.machine) its none))
-  by (Some x) since = same x since (x.number == f.daemon.number) refl
 
 -- ---- the stamp from which the connection counts
 

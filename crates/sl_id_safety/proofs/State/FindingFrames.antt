@@ -3,8 +3,8 @@ use Rattle.sl_id_safety.proofs.State.Frames.{Same, flying_same, is_running}
 use Rattle.sl_id_safety.specs.State.IdStates.{own_courses}
 use Rattle.sl_words.proofs.Lists.{contains_first, contains_more}
 use Rattle.sl_run.specs.EventChanges.{change_call}
-use Rattle.sl_run.specs.Safety.{Found, SessionId, is_course_of, session_of_world}
-use Rattle.sl_run.specs.Worlds.{Course, Daemon, Machine, World, change_machine, daemon_numbered, daemons_on, flight_of, is_open, machine_at}
+use Rattle.sl_run.specs.Safety.{Found, SessionId, is_course_of, session_of_world, was_reset}
+use Rattle.sl_run.specs.Worlds.{Course, Daemon, Machine, World, change_machine, daemon_numbered, daemons_on, flight_of, is_open, machine_at, resets_after}
 use Rattle.sl_run_law.proofs.CourseLists.{changed_if}
 use Rattle.sl_run_law.proofs.FatesStay.{every_map, numbered}
 use Rattle.sl_run_law.proofs.MachineWalk.{index}
@@ -12,10 +12,10 @@ use Rattle.sl_run_law.specs.FatesStay.{AreDistinct, Every}
 use Rattle.sl_trace.specs.Sessions.{session_numbered}
 use Rattle.sl_trace.specs.declared.session.Session.{Session}
 use Rattle.sl_words.proofs.CaseLaws.{none_some, not_both, some_value, true_is_false}
-use Rattle.sl_words.specs.Words.{is_empty}
 use Rattle.std.proofs.Common.{ap, arith, refl, subst, sym, tests, ◌∙◌}
 use Rattle.std.proofs.lemmas.Bool.{eqb-true}
-use Rattle.std.specs.Prelude.{Bool, Contains, List, None, Option, Some, cond, false, filter, find, if◌then◌else◌, map, nat_lt, not, option_and_then, option_map, slice_get, slice_set, suc, true, zero, [], ℕ, ◌-◌, ◌==◌, ◌∷◌, ◌≡◌}
+use Rattle.std.specs.List.{list_any}
+use Rattle.std.specs.Prelude.{Bool, Contains, List, None, Option, Some, cond, false, filter, find, if◌then◌else◌, map, nat_lt, option_and_then, option_map, slice_get, slice_set, suc, true, zero, [], ℕ, ◌+◌, ◌-◌, ◌==◌, ◌∷◌, ◌≡◌}
 
 -- ---- machines
 
@@ -50,24 +50,29 @@ changed_elsewhere w m n f ne = elsewhere_by w m n f (machine_at w m) refl ne
 
 -- ---- sessions of a machine
 
--- The session that is meant, on its machine.
-abbrev pub session_with : SessionId → Machine → Option Daemon → Option Found
-session_with i a o =
-    option_and_then (λ d. option_map (λ s. record { machine = a; daemon = d; session = s }) (session_numbered d.setting d.trace i.number)) o
+-- The session that is meant, on its machine, at this moment.
+abbrev pub session_with : ℕ → SessionId → Machine → Option Daemon → Option Found
+session_with n i a o =
+    option_and_then (λ d. option_map (λ s. record { machine = a; daemon = d; session = s; now = n }) (session_numbered d.setting d.trace i.number)) o
 
-abbrev pub session_on : SessionId → Machine → Option Found
-session_on i a = session_with i a (daemon_numbered a i.daemon)
+abbrev pub session_on : ℕ → SessionId → Machine → Option Found
+session_on n i a = session_with n i a (daemon_numbered a i.daemon)
 
 -- The world finds it on its machine.
-pub found_on : (w : World) (i : SessionId) (a : Machine) → machine_at w i.machine ≡ Some a → session_of_world w i ≡ session_on i a
-found_on w i a h = ap (λ o. option_and_then (session_on i) o) h
+pub found_on : (w : World) (i : SessionId) (a : Machine) → machine_at w i.machine ≡ Some a → session_of_world w i ≡ session_on w.moment i a
+found_on w i a h = ap (λ o. option_and_then (session_on w.moment i) o) h
+
+-- .. at the moment of an earlier world.
+pub found_then : (w v : World) (i : SessionId) (a : Machine) → v.moment ≡ w.moment → machine_at v i.machine ≡ Some a → session_of_world v i ≡ session_on w.moment i a
+found_then w v i a moment h = found_on v i a h ∙ ap (λ n. session_on n i a) moment
 
 pub not_found : (w : World) (i : SessionId) → machine_at w i.machine ≡ None → session_of_world w i ≡ None
-not_found w i h = ap (λ o. option_and_then (session_on i) o) h
+not_found w i h = ap (λ o. option_and_then (session_on w.moment i) o) h
 
 -- What is said of one that is found.
-pub record IsFound (i : SessionId) (a : Machine) (f : Found) : Type 0 where
+pub record IsFound (n : ℕ) (i : SessionId) (a : Machine) (f : Found) : Type 0 where
   pub machine : f.machine ≡ a
+  pub now : f.now ≡ n
   pub daemon : daemon_numbered a i.daemon ≡ Some f.daemon
   pub session : session_numbered f.daemon.setting f.daemon.trace i.number ≡ Some f.session
   pub number : f.daemon.number ≡ i.daemon
@@ -89,48 +94,48 @@ pub find_passes : {A : Type 0} (p : A → Bool) (xs : List A) (x : A) → find p
 find_passes p [] x h = absurd (none_some x h)
 find_passes p (y ∷ xs) x h = passes_by p y xs x (p y) refl h (find_passes p xs x)
 
-found_by : (i : SessionId) (a : Machine) (d : Daemon) (f : Found) (s : Option Session) → daemon_numbered a i.daemon ≡ Some d
-    → session_numbered d.setting d.trace i.number ≡ s → option_map (λ x. record { machine = a; daemon = d; session = x }) s ≡ Some f → IsFound i a f
-found_by i a d f None at is h = absurd (none_some f h)
-found_by i a d f (Some s) at is h =
-    let x : Found = record { machine = a; daemon = d; session = s } in
+found_by : (n : ℕ) (i : SessionId) (a : Machine) (d : Daemon) (f : Found) (s : Option Session) → daemon_numbered a i.daemon ≡ Some d
+    → session_numbered d.setting d.trace i.number ≡ s → option_map (λ x. record { machine = a; daemon = d; session = x; now = n }) s ≡ Some f → IsFound n i a f
+found_by n i a d f None at is h = absurd (none_some f h)
+found_by n i a d f (Some s) at is h =
+    let x : Found = record { machine = a; daemon = d; session = s; now = n } in
     let p = find_passes (λ y. y.number == i.daemon) (daemons_on a) d at in
-    let this : IsFound i a x = record { machine = refl; daemon = at; session = is; number = eqb-true d.number i.daemon p.test; has = p.there } in
-    subst (IsFound i a) (some_value x f h) this
+    let this : IsFound n i a x = record { machine = refl; now = refl; daemon = at; session = is; number = eqb-true d.number i.daemon p.test; has = p.there } in
+    subst (IsFound n i a) (some_value x f h) this
 
-found_in : (i : SessionId) (a : Machine) (f : Found) (o : Option Daemon) → daemon_numbered a i.daemon ≡ o → session_with i a o ≡ Some f → IsFound i a f
-found_in i a f None at h = absurd (none_some f h)
-found_in i a f (Some d) at h = found_by i a d f (session_numbered d.setting d.trace i.number) at refl h
+found_in : (n : ℕ) (i : SessionId) (a : Machine) (f : Found) (o : Option Daemon) → daemon_numbered a i.daemon ≡ o → session_with n i a o ≡ Some f → IsFound n i a f
+found_in n i a f None at h = absurd (none_some f h)
+found_in n i a f (Some d) at h = found_by n i a d f (session_numbered d.setting d.trace i.number) at refl h
 
-pub is_found : (i : SessionId) (a : Machine) (f : Found) → session_on i a ≡ Some f → IsFound i a f
-is_found i a f h = found_in i a f (daemon_numbered a i.daemon) refl h
+pub is_found : (n : ℕ) (i : SessionId) (a : Machine) (f : Found) → session_on n i a ≡ Some f → IsFound n i a f
+is_found n i a f h = found_in n i a f (daemon_numbered a i.daemon) refl h
 
-on_by : (w : World) (i : SessionId) (f : Found) (o : Option Machine) → machine_at w i.machine ≡ o → option_and_then (session_on i) o ≡ Some f
-    → (a : Machine) × (machine_at w i.machine ≡ Some a) × IsFound i a f
+on_by : (w : World) (i : SessionId) (f : Found) (o : Option Machine) → machine_at w i.machine ≡ o → option_and_then (session_on w.moment i) o ≡ Some f
+    → (a : Machine) × (machine_at w i.machine ≡ Some a) × IsFound w.moment i a f
 on_by w i f None at h = absurd (none_some f h)
-on_by w i f (Some a) at h = (a, at, is_found i a f h)
+on_by w i f (Some a) at h = (a, at, is_found w.moment i a f h)
 
 -- A session of a world is found on a machine.
 pub on_machine : (w : World) (i : SessionId) (f : Found) → session_of_world w i ≡ Some f
-    → (a : Machine) × (machine_at w i.machine ≡ Some a) × IsFound i a f
+    → (a : Machine) × (machine_at w i.machine ≡ Some a) × IsFound w.moment i a f
 on_machine w i f h = on_by w i f (machine_at w i.machine) refl h
 
 -- The same, on a machine with the same daemons.
 abbrev pub moved : Machine → Found → Found
 moved b f = record f { machine = b }
 
-moves_in : (a b : Machine) (d : Daemon) (s : Option Session)
-    → option_map (λ x. let y : Found = record { machine = b; daemon = d; session = x } in y) s
-    ≡ option_map (moved b) (option_map (λ x. let y : Found = record { machine = a; daemon = d; session = x } in y) s)
-moves_in a b d None = refl
-moves_in a b d (Some s) = refl
+moves_in : (n : ℕ) (a b : Machine) (d : Daemon) (s : Option Session)
+    → option_map (λ x. let y : Found = record { machine = b; daemon = d; session = x; now = n } in y) s
+    ≡ option_map (moved b) (option_map (λ x. let y : Found = record { machine = a; daemon = d; session = x; now = n } in y) s)
+moves_in n a b d None = refl
+moves_in n a b d (Some s) = refl
 
-pub moves_by : (i : SessionId) (a b : Machine) (o : Option Daemon) → session_with i b o ≡ option_map (moved b) (session_with i a o)
-moves_by i a b None = refl
-moves_by i a b (Some d) = moves_in a b d (session_numbered d.setting d.trace i.number)
+pub moves_by : (n : ℕ) (i : SessionId) (a b : Machine) (o : Option Daemon) → session_with n i b o ≡ option_map (moved b) (session_with n i a o)
+moves_by n i a b None = refl
+moves_by n i a b (Some d) = moves_in n a b d (session_numbered d.setting d.trace i.number)
 
-pub found_moves : (i : SessionId) (a b : Machine) → daemons_on b ≡ daemons_on a → session_on i b ≡ option_map (moved b) (session_on i a)
-found_moves i a b h = ap (λ ds. session_with i b (find (λ d. d.number == i.daemon) ds)) h ∙ moves_by i a b (daemon_numbered a i.daemon)
+pub found_moves : (n : ℕ) (i : SessionId) (a b : Machine) → daemons_on b ≡ daemons_on a → session_on n i b ≡ option_map (moved b) (session_on n i a)
+found_moves n i a b h = ap (λ ds. session_with n i b (find (λ d. d.number == i.daemon) ds)) h ∙ moves_by n i a b (daemon_numbered a i.daemon)
 
 -- ---- the session's own calls
 
@@ -185,10 +190,14 @@ own_apart i a n g f distinct at other stays =
 
 -- ---- the same, on a machine that changes otherwise
 
+-- Where no reset came since its daemon began, none was long ago.
+pub never_reset : (f : Found) → resets_after f.machine f.daemon.begun.step ≡ [] → was_reset f ≡ false
+never_reset f none = ap (λ rs. list_any (λ r. nat_lt (r.moment + f.daemon.setting.timing.land) f.now) rs) none
+
 -- A session stays the same where its calls, what runs and the resets stay.
-pub same_moved : (i : SessionId) (a b : Machine) (f : Found) → IsFound i a f → own_courses i b ≡ own_courses i a
+pub same_moved : (n : ℕ) (i : SessionId) (a b : Machine) (f : Found) → IsFound n i a f → own_courses i b ≡ own_courses i a
     → is_running i.daemon b ≡ is_running i.daemon a → b.resets ≡ a.resets → Same i f (moved b f)
-same_moved i a b f found calls runs resets =
+same_moved n i a b f found calls runs resets =
     let own : own_courses i b ≡ own_courses i f.machine = calls ∙ ap (own_courses i) (sym found.machine) in
     let run : is_running i.daemon b ≡ is_running i.daemon f.machine = runs ∙ ap (is_running i.daemon) (sym found.machine) in
     record {
@@ -199,6 +208,6 @@ same_moved i a b f found calls runs resets =
       trace = refl;
       stamps = refl;
       runs = ap (λ n. is_running n b) found.number ∙ run ∙ ap (λ n. is_running n f.machine) (sym found.number);
-      reset = ap (λ rs. not (is_empty (filter (λ r. nat_lt f.daemon.begun.step r.step) rs))) (resets ∙ ap (λ x. x.resets) (sym found.machine));
+      reset = ap (λ rs. list_any (λ r. nat_lt (r.moment + f.daemon.setting.timing.land) f.now) (filter (λ r. nat_lt f.daemon.begun.step r.step) rs)) (resets ∙ ap (λ x. x.resets) (sym found.machine));
       flying = flying_same i f.machine b own run;
     }

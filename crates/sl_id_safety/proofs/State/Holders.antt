@@ -63,7 +63,7 @@ numbered k (a ∷ ms) q there =
       | inr more ↦ let r = numbered (k + 1) ms q more in let same : (k + 1) + r.0 ≡ k + suc r.0 = omega arith in (suc r.0, r.1, r.2 ∙ same)
     ]
 
-has_number : (k : ℕ) (ms : List Machine) (n : ℕ) (a : Machine) → slice_get ms n ≡ Some a → Contains (enumerate_from k ms) (k + n, a)
+pub has_number : (k : ℕ) (ms : List Machine) (n : ℕ) (a : Machine) → slice_get ms n ≡ Some a → Contains (enumerate_from k ms) (k + n, a)
 has_number k [] n a at = absurd (none_some a at)
 has_number k (b ∷ ms) zero a at =
     let same : k ≡ k + 0 = omega arith in
@@ -116,15 +116,15 @@ pub record HoldsFirst (p : Program) (h : Header) (path : List ℕ) (offset : ℕ
   pub sector : is_sector_of (layout_at p h) path offset found.session ≡ true
 
 session_on_by : (p : Program) (h : Header) (m : ℕ) (a : Machine) (d : Daemon) (s : Session) → machine_at (world_with p h) m ≡ Some a → daemon_numbered a 0 ≡ Some d → d.trace ≡ []
-    → Contains (sessions d.setting []) s → IsSession (world_with p h) (record { machine = m; daemon = 0; number = s.number }) (record { machine = a; daemon = d; session = s })
+    → Contains (sessions d.setting []) s → IsSession (world_with p h) (record { machine = m; daemon = 0; number = s.number }) (record { machine = a; daemon = d; session = s; now = 0 })
 session_on_by p h m a d s at first none there =
     let i : SessionId = record { machine = m; daemon = 0; number = s.number } in
     let place = placed_at (sessions d.setting []) s there in
     let number : place.0 ≡ s.number = sym (session_number d.setting [] place.0 s place.1) in
     let its : session_numbered d.setting d.trace s.number ≡ Some s =
     ap (λ es. session_numbered d.setting es s.number) none ∙ subst (λ k. session_numbered d.setting [] k ≡ Some s) number place.1 in
-    found_on (world_with p h) i a at ∙ ap (session_with i a) first
-    ∙ ap (option_map (λ (y : Session). let x : Found = record { machine = a; daemon = d; session = y } in x)) its
+    found_on (world_with p h) i a at ∙ ap (session_with 0 i a) first
+    ∙ ap (option_map (λ (y : Session). let x : Found = record { machine = a; daemon = d; session = y; now = 0 } in x)) its
 
 no_entries : (p : Program) (h : Header) (m : ℕ) (a : Machine) (d : Daemon) → machine_at (world_with p h) m ≡ Some a → daemon_numbered a 0 ≡ Some d → d.trace ≡ []
 no_entries p h m a d at first =
@@ -136,7 +136,7 @@ holds_by : (p : Program) (h : Header) (path : List ℕ) (offset m : ℕ) (a : Ma
 holds_by p h path offset m a n at x =
     subst (λ (y : IdName). HoldsFirst p h path offset (session_named_so y)) (sym x.name)
     (record {
-      found = record { machine = a; daemon = x.daemon; session = x.session };
+      found = record { machine = a; daemon = x.daemon; session = x.session; now = 0 };
       is = session_on_by p h m a x.daemon x.session at x.first (no_entries p h m a x.daemon at x.first) x.there;
       sector = x.sector;
     })

@@ -1,7 +1,7 @@
 -- The watchdogs keep an id's bounds: whoever may still land a claim, or has verified one and is not over, may act by its connection.
 use Rattle.sl_run_law.specs.Course.Mirrors.{since_restart}
 use Rattle.sl_id_safety.proofs.State.SessionBesideTrace.{beside, join_none, join_there, write_waits}
-use Rattle.sl_id_safety.proofs.State.ConnectionCounts.{IsGuardedAt, acts_at, after_value, by_connection, jobless, kept_since, not_joined, running_since, stamp_is, then_value}
+use Rattle.sl_id_safety.proofs.State.ConnectionCounts.{IsGuardedAt, acts_at, after_value, by_connection, jobless, not_joined, running_since, stamp_is, then_value}
 use Rattle.sl_id_safety.proofs.State.JoinOrder.{decided_newest, deciding_registers, verified_newest}
 use Rattle.sl_id_safety.specs.State.Facts.{VerifyReadsHaveClaimed}
 use Rattle.sl_id_safety.specs.State.IdStates.{blank, claim_bytes, claim_may_land, deciding_sample, has_begun, id_state, is_sector_of, join_course, own_courses, renewed_by_now, runs_still, sample_showing, session_named_so, standing_by, standing_of, verifying_sample, watched_bytes}
@@ -22,7 +22,7 @@ use Rattle.sl_trace.specs.declared.session.Session.{Session}
 use Rattle.sl_trace.specs.declared.stage.Stage.{Stage}
 use Rattle.sl_trace.specs.Traces.{Submitted, Trace}
 use Rattle.sl_trace.specs.declared.effects.JoinStep.TheVariants.{ClaimWrite, DecidingRead, VerifyRead}
-use Rattle.sl_run_law.proofs.Watchdog.WatchdogLaws.{covered_are_connected, writers_may_act}
+use Rattle.sl_run_law.proofs.Watchdog.WatchdogLaws.{covered_are_connected, covered_may_act, writers_may_act}
 use Rattle.sl_run_law.proofs.Watchdog.ConnectionStands.{covered_open}
 use Rattle.sl_run_law.specs.Watchdog.ActingTimes.{acting_stamp}
 use Rattle.sl_run_law.specs.Watchdog.WatchdogLaws.{ActsStill}
@@ -86,7 +86,7 @@ lands_open i f c mine lands = by (is_write_course c) (is_none c.answered) (is_in
   by true true false r true own h = absurd (false_is_true h)
 
 -- A claim that may land is a write in flight.
-claim_flies : (i : SessionId) (f : Found) (c : Course) → Contains (own_courses i f.machine) c → may_land c ≡ true → has_write_in_flight i f.machine ≡ true
+pub claim_flies : (i : SessionId) (f : Found) (c : Course) → Contains (own_courses i f.machine) c → may_land c ≡ true → has_write_in_flight i f.machine ≡ true
 claim_flies i f c own lands =
     let there = kept_inside (is_course_of i) f.machine.calls c own in
     any_of (λ (x : Course). is_course_of i x && is_write_course x && is_open f.machine x) f.machine.calls c (lands_open i f c there.1 lands) there.0
@@ -212,8 +212,8 @@ going_acts p h xs run i f is verify over true flies = by_flight p h xs run i f i
 going_acts p h xs run i f is verify over false quiet =
     let w : World = world_at p h xs in
     let n = not_over_by (free_landed i f) (is_some (ended_after (trace_of f) f.session)) (was_reset f) (has_write_in_flight i f.machine) over quiet in
-    by_cover p h xs run i f is (kept_since w i f (beside p h xs run i f is) n.1)
-    (going_covers p h xs run i f is verify (not_some (ended_after (trace_of f) f.session) n.0) (joined_after (trace_of f) f.session) refl)
+    let covered = going_covers p h xs run i f is verify (not_some (ended_after (trace_of f) f.session) n.0) (joined_after (trace_of f) f.session) refl in
+    record { acts = covered_may_act p h xs run i f is n.1 covered; covered = covered }
 
 abbrev renewed_for : Option ℕ → Option Stamp → Option Sampling → Option Course → ℕ
 renewed_for joined acting verifying read =

@@ -149,7 +149,7 @@ record StandsFirst (name : List ℕ) (s : IdSession) : Type 0 where
 
 stands_by : (p : Program) (h : Header) (path : List ℕ) (offset m n : ℕ) (i : SessionId) (line : SessionLine) (g : Given)
     → StandsFirst line.name (standing_of (world_with p h) path offset i
-    (record { machine = machine_of_header p (layout_at p h) h m; daemon = daemon_of_line p (layout_at p h) h m line; session = given_session (n, g) }))
+    (record { machine = machine_of_header p (layout_at p h) h m; daemon = daemon_of_line p (layout_at p h) h m line; session = given_session (n, g); now = 0 }))
 unfolding machine_of_header
 stands_by p h path offset m n i line g =
     record {
@@ -168,18 +168,20 @@ stands_by p h path offset m n i line g =
       renewed = refl;
     }
 
-same_found : (f : Found) (a : Machine) (d : Daemon) (s : Session) → f.machine ≡ a → f.daemon ≡ d → f.session ≡ s → f ≡ record { machine = a; daemon = d; session = s }
-same_found f a d s one two three =
-    ap (λ x. let y : Found = record { machine = x; daemon = f.daemon; session = f.session } in y) one
-    ∙ ap (λ x. let y : Found = record { machine = a; daemon = x; session = f.session } in y) two
-    ∙ ap (λ x. let y : Found = record { machine = a; daemon = d; session = x } in y) three
+same_found : (f : Found) (a : Machine) (d : Daemon) (s : Session) → f.machine ≡ a → f.daemon ≡ d → f.session ≡ s → f.now ≡ 0
+    → f ≡ record { machine = a; daemon = d; session = s; now = 0 }
+same_found f a d s one two three first =
+    ap (λ x. let y : Found = record { machine = x; daemon = f.daemon; session = f.session; now = f.now } in y) one
+    ∙ ap (λ x. let y : Found = record { machine = a; daemon = x; session = f.session; now = f.now } in y) two
+    ∙ ap (λ x. let y : Found = record { machine = a; daemon = d; session = x; now = f.now } in y) three
+    ∙ ap (λ x. let y : Found = record { machine = a; daemon = d; session = s; now = x } in y) first
 
 stands_first : (p : Program) (h : Header) (path : List ℕ) (offset : ℕ) (i : SessionId) (f : Found) → (x : IsFirst p h i f)
     → StandsFirst x.daemon.line.name (standing_of (world_with p h) path offset i f)
 stands_first p h path offset i f x =
     let line : SessionLine = x.daemon.line in
     subst (λ (y : Found). StandsFirst line.name (standing_of (world_with p h) path offset i y))
-    (sym (same_found f (machine_of_header p (layout_at p h) h i.machine) (daemon_of_line p (layout_at p h) h i.machine line) (given_session (i.number, x.given)) x.machine x.daemon.is x.session))
+    (sym (same_found f (machine_of_header p (layout_at p h) h i.machine) (daemon_of_line p (layout_at p h) h i.machine line) (given_session (i.number, x.given)) x.machine x.daemon.is x.session x.now))
     (stands_by p h path offset i.machine i.number i line x.given)
 
 pub standing_where : (w : World) (path : List ℕ) (offset : ℕ) (i : SessionId) (f : Found) (b c : Bool) → b ≡ true → c ≡ true

@@ -66,9 +66,9 @@ found_later mirror p h now rest run i f at =
     let tracks : Tracks Continues f.machine l.machine =
     subst (λ b. Tracks Continues f.machine b) same (subst (λ a. Tracks Continues a t.0) (sym on.2.machine) t.2) in
     record {
-      found = record { machine = l.machine; daemon = l.daemon; session = f.session };
-      at = found_on v i l.machine l.at ∙ ap (session_with i l.machine) there
-          ∙ ap (λ o. option_map (λ s. let y : Found = record { machine = l.machine; daemon = l.daemon; session = s } in y) o) session;
+      found = record { machine = l.machine; daemon = l.daemon; session = f.session; now = v.moment };
+      at = found_on v i l.machine l.at ∙ ap (session_with v.moment i l.machine) there
+          ∙ ap (λ o. option_map (λ s. let y : Found = record { machine = l.machine; daemon = l.daemon; session = s; now = v.moment } in y) o) session;
       session = refl;
       goes = l.goes;
       tracks = tracks;

@@ -201,12 +201,13 @@ pub record IsFirst (p : Program) (h : Header) (i : SessionId) (f : Found) : Type
   pub given : Given
   pub at : slice_get (givens h i.machine) i.number ≡ Some given
   pub session : f.session ≡ given_session (i.number, given)
+  pub now : f.now ≡ 0
   pub place : ℕ
   pub line : SessionLine
   pub there : slice_get h.sessions place ≡ Some line
   pub of_line : IsGivenOf h i.machine line given
 
-first_by : (p : Program) (h : Header) (i : SessionId) (a : Machine) (f : Found) → a ≡ machine_of_header p (layout_at p h) h i.machine → IsFound i a f → IsFirst p h i f
+first_by : (p : Program) (h : Header) (i : SessionId) (a : Machine) (f : Found) → a ≡ machine_of_header p (layout_at p h) h i.machine → IsFound 0 i a f → IsFirst p h i f
 first_by p h i a f is found =
     let d = is_daemon p h i.machine f.daemon (subst (λ (y : Machine). Contains (daemons_on y) f.daemon) is found.has) in
     let at : slice_get (map given_session (enumerate_from 0 (givens h i.machine))) i.number ≡ Some f.session =
@@ -220,6 +221,7 @@ first_by p h i a f is found =
       given = r.0;
       at = r.1;
       session = r.2 ∙ ap (λ n. given_session (n, r.0)) (nothing_before i.number);
+      now = found.now;
       place = line.place;
       line = line.element;
       there = line.at;

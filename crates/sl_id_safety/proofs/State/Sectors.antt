@@ -171,14 +171,14 @@ pub record HasSession (p : Program) (h : Header) (s : SessionLine) : Type 0 wher
 session_by : (p : Program) (h : Header) (m n : ℕ) (line : SessionLine) (g : Given) → machine_at (world_with p h) m ≡ Some (machine_of_header p (layout_at p h) h m)
     → find (λ x. x.machine == m) h.sessions ≡ Some line → slice_get (givens h m) n ≡ Some g
     → IsSession (world_with p h) (record { machine = m; daemon = 0; number = n })
-    (record { machine = machine_of_header p (layout_at p h) h m; daemon = daemon_of_line p (layout_at p h) h m line; session = given_session (n, g) })
+    (record { machine = machine_of_header p (layout_at p h) h m; daemon = daemon_of_line p (layout_at p h) h m line; session = given_session (n, g); now = 0 })
 session_by p h m n line g at is gives =
     let i : SessionId = record { machine = m; daemon = 0; number = n } in
     let a : Machine = machine_of_header p (layout_at p h) h m in
     let d : Daemon = daemon_of_line p (layout_at p h) h m line in
     let plus : 0 + n ≡ n = omega arith in
-    found_on (world_with p h) i a at ∙ ap (session_with i a) (daemon_there p h m line is)
-    ∙ ap (option_map (λ (s : Session). let x : Found = record { machine = a; daemon = d; session = s } in x))
+    found_on (world_with p h) i a at ∙ ap (session_with 0 i a) (daemon_there p h m line is)
+    ∙ ap (option_map (λ (s : Session). let x : Found = record { machine = a; daemon = d; session = s; now = 0 } in x))
     (session_at_place 0 (givens h m) n g gives ∙ ap (λ k. Some (given_session (k, g))) plus)
 
 pub has_session : (p : Program) (h : Header) (s : SessionLine) → IsHeader h → Contains h.sessions s → HasSession p h s
@@ -190,7 +190,7 @@ has_session p h s ok there =
     let line = finds (λ (x : SessionLine). x.machine == s.machine) h.sessions s (eq-eqb s.machine s.machine refl) there in
     record {
       session = record { machine = s.machine; daemon = 0; number = place.0 };
-      found = record { machine = machine_of_header p (layout_at p h) h s.machine; daemon = daemon_of_line p (layout_at p h) h s.machine line.0; session = given_session (place.0, gives.0) };
+      found = record { machine = machine_of_header p (layout_at p h) h s.machine; daemon = daemon_of_line p (layout_at p h) h s.machine line.0; session = given_session (place.0, gives.0); now = 0 };
       is = session_by p h s.machine place.0 line.0 gives.0 (machine_there p h s.machine member.machine.0 member.machine.1) line.1 place.1;
       given = gives.0;
       of_line = is_given h s.machine s gives.0 gives.1;

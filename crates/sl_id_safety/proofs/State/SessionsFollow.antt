@@ -194,12 +194,12 @@ over_then w i f k n s b e =
 abbrev Follows : SessionId → SessionId → Found → Found → Type 0
 Follows i k f g = (is_over i f ≡ true) × ((c d : Course) → Contains (own_courses i f.machine) c → Contains (own_courses k g.machine) d → c.made.step < d.made.step)
 
-abbrev found_of : Machine → Daemon → Session → Found
-found_of a d s = record { machine = a; daemon = d; session = s }
+abbrev found_of : ℕ → Machine → Daemon → Session → Found
+found_of n a d s = record { machine = a; daemon = d; session = s; now = n }
 
 -- The other session of the same daemon.
 abbrev beside : Found → Session → Found
-beside f s = record { machine = f.machine; daemon = f.daemon; session = s }
+beside f s = record { machine = f.machine; daemon = f.daemon; session = s; now = f.now }
 
 follows_begun : (w : World) (i k : SessionId) (f : Found) (s : Session) → IsKnown w i f → IsKnown w k (beside f s) → i.number < k.number → f.session.lockspace ≡ s.lockspace
     → BeganAt (setting_in f) (trace_of f) k.number s → Follows i k f (beside f s)
@@ -243,7 +243,8 @@ same_daemon w i k f g one two machine daemon =
     let a = one_value f.machine g.machine (machine_at w k.machine) (ap (λ m. machine_at w m) (sym machine) ∙ one.there.at) two.there.at in
     let d = one_value f.daemon g.daemon (daemon_numbered g.machine k.daemon)
     (ap (λ x. daemon_numbered x k.daemon) (sym a) ∙ ap (λ n. daemon_numbered f.machine n) (sym daemon) ∙ one.there.found) two.there.found in
-    ap (λ x. found_of x f.daemon g.session) a ∙ ap (λ x. found_of g.machine x g.session) d
+    ap (λ x. found_of f.now x f.daemon g.session) a ∙ ap (λ x. found_of f.now g.machine x g.session) d
+    ∙ ap (λ n. found_of n g.machine g.daemon g.session) (one.there.now ∙ sym two.there.now)
 
 -- A daemon's sessions of one lockspace follow one another.
 pub sessions_follow_given : Grounds → DaemonsAreGiven → SessionsFollow

@@ -26,7 +26,7 @@ use Rattle.sl_trace.specs.declared.session.Session.{Session}
 use Rattle.sl_trace.specs.Traces.{Submitted}
 use Rattle.sl_trace.specs.declared.effects.Call.{Call}
 use Rattle.sl_trace.specs.declared.effects.JoinStep.{JoinStep}
-use Rattle.std.proofs.Common.{ap, arith, inl, inr, subst, ◌∙◌}
+use Rattle.std.proofs.Common.{ap, arith, inl, inr, refl, subst, ◌∙◌}
 use Rattle.std.proofs.lemmas.Bool.{eqb-true}
 use Rattle.std.specs.Prelude.{Bool, Contains, List, Option, Some, [], cond, false, filter, option_and_then, option_map, true, ℕ, ◌++◌, ◌+◌, ◌<◌, ◌==◌, ◌∷◌, ◌≡◌, ◌≤◌, ◌⊎◌}
 
@@ -49,21 +49,22 @@ pub record IsThere (w : World) (i : SessionId) (f : Found) : Type 0 where
   pub found : daemon_numbered f.machine i.daemon ≡ Some f.daemon
   pub session : session_numbered f.daemon.setting f.daemon.trace i.number ≡ Some f.session
   pub number : f.session.number ≡ i.number
+  pub now : f.now ≡ w.moment
 
-abbrev found_as : Machine → Daemon → Session → Found
-found_as a d s = record { machine = a; daemon = d; session = s }
+abbrev found_as : ℕ → Machine → Daemon → Session → Found
+found_as n a d s = record { machine = a; daemon = d; session = s; now = n }
 
-abbrev sessions_in : SessionId → Machine → Daemon → Option Found
-sessions_in i a d = option_map (found_as a d) (session_numbered d.setting d.trace i.number)
+abbrev sessions_in : ℕ → SessionId → Machine → Daemon → Option Found
+sessions_in n i a d = option_map (found_as n a d) (session_numbered d.setting d.trace i.number)
 
-abbrev daemons_in : SessionId → Machine → Option Found
-daemons_in i a = option_and_then (sessions_in i a) (daemon_numbered a i.daemon)
+abbrev daemons_in : ℕ → SessionId → Machine → Option Found
+daemons_in n i a = option_and_then (sessions_in n i a) (daemon_numbered a i.daemon)
 
 pub is_there : (w : World) (i : SessionId) (f : Found) → IsSession w i f → IsThere w i f
 is_there w i f its =
-    let one = then_value (daemons_in i) (machine_at w i.machine) f its in
-    let two = then_value (sessions_in i one.0) (daemon_numbered one.0 i.daemon) f one.2 in
-    let three = mapped_value (found_as one.0 two.0) (session_numbered two.0.setting two.0.trace i.number) f two.2 in
+    let one = then_value (daemons_in w.moment i) (machine_at w i.machine) f its in
+    let two = then_value (sessions_in w.moment i one.0) (daemon_numbered one.0 i.daemon) f one.2 in
+    let three = mapped_value (found_as w.moment one.0 two.0) (session_numbered two.0.setting two.0.trace i.number) f two.2 in
     let d = find_inside (λ (x : Daemon). x.number == i.daemon) (daemons_on one.0) two.0 two.1 in
     subst (λ g. IsThere w i g) three.2 (
     record {
@@ -73,6 +74,7 @@ is_there w i f its =
       found = two.1;
       session = three.1;
       number = session_number two.0.setting two.0.trace i.number three.0 three.1;
+      now = refl;
     }
     )
 

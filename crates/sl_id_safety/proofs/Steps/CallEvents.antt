@@ -174,14 +174,15 @@ abbrev pub with_call : World → ℕ → ℕ → (Course → Course) → World
 with_call u m n turn = next_step (change_machine m (change_call n turn) u)
 
 changes_by : (w u v : World) (m n : ℕ) (turn : Course → Course) (a : Machine) (c : Course) → u.machines ≡ w.machines → v ≡ with_call u m n turn
-    → length v.machines ≡ length w.machines → machine_at w m ≡ Some a → flight_of a n ≡ Some c → ((x : Course) → ((turn x).daemon ≡ x.daemon) × ((turn x).call ≡ x.call))
+    → length v.machines ≡ length w.machines → v.moment ≡ w.moment → machine_at w m ≡ Some a → flight_of a n ≡ Some c → ((x : Course) → ((turn x).daemon ≡ x.daemon) × ((turn x).call ≡ x.call))
     → AreDistinct a.calls → ChangesCall w v m n turn
-changes_by w u v m n turn a c same is machines at flies keeps distinct =
+changes_by w u v m n turn a c same is machines moment at flies keeps distinct =
     let on : (k : ℕ) → machine_at u k ≡ machine_at w k = λ k. ap (λ ms. machine_at (record w { machines = ms }) k) same in
     record {
       machine = a;
       course = c;
       machines = machines;
+      moment = moment;
       at = at;
       flight = flies;
       later = ap (λ x. machine_at x m) is ∙ changed_here u m (change_call n turn) a (on m ∙ at);
@@ -303,7 +304,7 @@ landing_event w e m n fate whole bytes f is distinct =
     let u : World = add_landing m f.course.call whole (bytes f.course) w in
     let g : Goes (time_of e) 1 w (between w e) = event_goes w e [] in
     record {
-      changes = changes_by w u (between w e) m n (fated fate) f.machine f.course refl is g.machines f.at f.flight (fate_keeps fate) distinct;
+      changes = changes_by w u (between w e) m n (fated fate) f.machine f.course refl is g.machines (moment_by u (between w e) m n (fated fate) is) f.at f.flight (fate_keeps fate) distinct;
       machine = refl;
       course = refl;
       landings = lands_by w u (between w e) m n (fated fate) is;
@@ -318,7 +319,7 @@ unfolding changes_by
 fate_event w e m n fate f is distinct =
     let g : Goes (time_of e) 1 w (between w e) = event_goes w e [] in
     record {
-      changes = changes_by w w (between w e) m n (fated fate) f.machine f.course refl is g.machines f.at f.flight (fate_keeps fate) distinct;
+      changes = changes_by w w (between w e) m n (fated fate) f.machine f.course refl is g.machines (moment_by w (between w e) m n (fated fate) is) f.at f.flight (fate_keeps fate) distinct;
       machine = refl;
       course = refl;
       landings = lands_by w w (between w e) m n (fated fate) is;
@@ -333,7 +334,7 @@ unfolding changes_by
 sample_event w e m n k f is distinct =
     let g : Goes (time_of e) 1 w (between w e) = event_goes w e [] in
     record {
-      changes = changes_by w w (between w e) m n (sampled_more w k) f.machine f.course refl is g.machines f.at f.flight (sample_keeps w k) distinct;
+      changes = changes_by w w (between w e) m n (sampled_more w k) f.machine f.course refl is g.machines (moment_by w (between w e) m n (sampled_more w k) is) f.at f.flight (sample_keeps w k) distinct;
       machine = refl;
       course = refl;
       landings = lands_by w w (between w e) m n (sampled_more w k) is;

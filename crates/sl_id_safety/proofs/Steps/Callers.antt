@@ -67,8 +67,8 @@ pub record Caller (w v : World) (m n : ℕ) (fate : Fate) (y : Write w v m n fat
 
 -- ---- it is there
 
-found_in : (w : World) (i : SessionId) (a : Machine) (d : Daemon) (s : Session) → machine_at w i.machine ≡ Some a → session_with i a (Some d) ≡ Some (record { machine = a; daemon = d; session = s })
-    → session_on i a ≡ session_with i a (Some d) → session_of_world w i ≡ Some (record { machine = a; daemon = d; session = s })
+found_in : (w : World) (i : SessionId) (a : Machine) (d : Daemon) (s : Session) → machine_at w i.machine ≡ Some a → session_with w.moment i a (Some d) ≡ Some (record { machine = a; daemon = d; session = s; now = w.moment })
+    → session_on w.moment i a ≡ session_with w.moment i a (Some d) → session_of_world w i ≡ Some (record { machine = a; daemon = d; session = s; now = w.moment })
 found_in w i a d s at is same = found_on w i a at ∙ same ∙ is
 
 -- The session of a call is there.
@@ -81,10 +81,10 @@ writer_found b p h now run m a c at has =
     let number : c.call.session ≡ s.0.number = ap (λ (z : Call). z.session) (sym t.is.call) ∙ s.2 in
     let its : session_numbered t.daemon.setting t.daemon.trace c.call.session ≡ Some s.0 = ap (session_numbered t.daemon.setting t.daemon.trace) number ∙ s.1 in
     let i : SessionId = caller m c in
-    let f : Found = record { machine = a; daemon = t.daemon; session = s.0 } in (
+    let f : Found = record { machine = a; daemon = t.daemon; session = s.0; now = w.moment } in (
       f,
-      found_on w i a at ∙ ap (session_with i a) t.numbered
-          ∙ ap (option_map (λ (z : Session). let y : Found = record { machine = a; daemon = t.daemon; session = z } in y)) its,
+      found_on w i a at ∙ ap (session_with w.moment i a) t.numbered
+          ∙ ap (option_map (λ (z : Session). let y : Found = record { machine = a; daemon = t.daemon; session = z; now = w.moment } in y)) its,
     )
 
 pub calls_own : (m : ℕ) (c : Course) → is_course_of (caller m c) c ≡ true

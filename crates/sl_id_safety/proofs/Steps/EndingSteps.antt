@@ -4,7 +4,7 @@ use Rattle.sl_run_law.specs.Course.Mirrors.{Mirrors, since_restart}
 use Rattle.sl_run_law.specs.Course.CourseLaws.{MachinesMirror}
 use Rattle.sl_run_law.proofs.Front.RunsFromFronts.{last_event}
 use Rattle.sl_id_safety.proofs.State.CallFrames.{elsewhere_same}
-use Rattle.sl_id_safety.proofs.State.FindingFrames.{IsFound, changed_elsewhere, found_moves, found_on, is_found, moved, on_machine, session_on, session_with}
+use Rattle.sl_id_safety.proofs.State.FindingFrames.{IsFound, changed_elsewhere, found_moves, found_on, found_then, is_found, moved, on_machine, session_on, session_with}
 use Rattle.sl_id_safety.proofs.State.Frames.{Same, SameThere, begun_past, ended, flying_same, is_running, standing_past}
 use Rattle.sl_id_safety.proofs.State.LandingFrames.{same_landings}
 use Rattle.sl_id_safety.proofs.State.SectorFrames.{SameIf, SameSector, history_same, sector_same, session_same_if}
@@ -17,7 +17,7 @@ use Rattle.sl_ids.specs.Runs.{Reached}
 use Rattle.sl_ids.specs.State.{Session as IdSession, SessionId as IdName, State}
 use Rattle.sl_ids.specs.Terms.{Terms}
 use Rattle.sl_id_safety.proofs.Steps.CallEvents.{on_one, passes}
-use Rattle.sl_id_safety.proofs.Steps.Endings.{EndsOf, EndsOn, ends_of, last_one, not_running, over_stays, pending_before}
+use Rattle.sl_id_safety.proofs.Steps.Endings.{EndsOf, EndsOn, ends_of, last_one, long_ago, not_running, over_stays, pending_before, resets_found}
 use Rattle.sl_id_safety.proofs.Steps.EventFrames.{StayDistinct, first_writers}
 use Rattle.sl_id_safety.proofs.Steps.OneSessionTurns.{OneTurns, Turns, flags_stay, flags_turn, of_number, one_turns}
 use Rattle.sl_id_safety.specs.Steps.EventParts.{EndingsGoOn, IsEndingEvent, between, state_between}
@@ -37,12 +37,13 @@ use Rattle.sl_run_law.specs.WorldsGoOn.{Goes, time_of}
 use Rattle.sl_trace.specs.Sessions.{sessions}
 use Rattle.sl_words.proofs.CaseLaws.{is_false, not_both, one_value, true_is_false}
 use Rattle.sl_words.proofs.OrderLaws.{same_or_apart}
-use Rattle.sl_words.specs.Words.{is_empty, some_is}
-use Rattle.std.proofs.Common.{ap, arith, inl, inr, refl, subst, sym, ◌∙◌}
+use Rattle.sl_words.specs.Words.{some_is}
+use Rattle.std.proofs.Common.{ap, arith, inl, inr, refl, subst, sym, tests, ◌∙◌}
 use Rattle.std.proofs.lemmas.Bool.{eqb-true}
 use Rattle.std.proofs.lemmas.Option.{slice_get_past}
+use Rattle.std.specs.List.{list_any}
 use Rattle.std.specs.Option.{option_map_or}
-use Rattle.std.specs.Prelude.{Bool, List, None, Option, Some, cond, false, filter, is_none, is_some, length, nat_lt, not, option_map, true, [], ℕ, ◌&&◌, ◌++◌, ◌+◌, ◌==◌, ◌∷◌, ◌≡◌, ◌≤◌, ◌⊎◌}
+use Rattle.std.specs.Prelude.{Bool, List, None, Option, Some, cond, false, filter, is_none, is_some, length, nat_lt, not, option_map, true, [], ℕ, ◌&&◌, ◌++◌, ◌+◌, ◌==◌, ◌||◌, ◌∷◌, ◌≡◌, ◌≤◌, ◌⊎◌}
 
 -- ---- a session of the machine
 
@@ -97,12 +98,12 @@ ending_if w v path offset i f g e t =
     subst (λ b. Ending (stood w path offset i f (counts w path offset i f)) (stood v path offset i g b))
     (sym (counts_same w v path offset i f g t.layout e)) (ending_by w v path offset i f g (counts w path offset i f) e t)
 
-ending_in : (w v : World) (path : List ℕ) (offset : ℕ) (i : SessionId) (a b : Machine) (o : Option Found) → session_on i a ≡ o → b.calls ≡ a.calls
-    → b.daemon ≡ None → ((step : ℕ) → is_empty (resets_after a step) ≡ false → is_empty (resets_after b step) ≡ false) → SameSector w v path offset
+ending_in : (w v : World) (path : List ℕ) (offset : ℕ) (i : SessionId) (a b : Machine) (o : Option Found) → session_on w.moment i a ≡ o → b.calls ≡ a.calls
+    → b.daemon ≡ None → ((land step : ℕ) → long_ago land w.moment b step ≡ long_ago land w.moment a step) → SameSector w v path offset
     → Ending (standing_by w path offset i o) (standing_by v path offset i (option_map (moved b) o))
 ending_in w v path offset i a b None at calls none resets s = record { blank = λ h. refl; flags = λ h. absurd (true_is_false (sym h)) }
 ending_in w v path offset i a b (Some f) at calls none resets s =
-    ending_if w v path offset i f (moved b f) (ends_of i f a b (is_found i a f at).machine calls none resets) (sector_same w v path offset s i f)
+    ending_if w v path offset i f (moved b f) (ends_of w.moment i f a b (is_found w.moment i a f at) calls none resets) (sector_same w v path offset s i f)
 
 -- Each session of the machine.
 ending_at : (w v : World) (path : List ℕ) (offset m : ℕ) (e : EndsOn w v m) → SameSector w v path offset → (n : IdName) → n.machine ≡ m
@@ -110,16 +111,16 @@ ending_at : (w v : World) (path : List ℕ) (offset m : ℕ) (e : EndsOn w v m) 
 ending_at w v path offset m e s n here =
     let i : SessionId = session_named_so n in
     let before = found_on w i e.before (ap (machine_at w) here ∙ e.at) in
-    let after = found_on v i e.after (ap (machine_at v) here ∙ e.later) ∙ found_moves i e.before e.after e.daemons in
+    let after = found_then w v i e.after e.moment (ap (machine_at v) here ∙ e.later) ∙ found_moves w.moment i e.before e.after e.daemons in
     subst (λ o. Ending (standing_by w path offset i o) (session_at v path offset n)) (sym before)
-    (subst (λ o. Ending (standing_by w path offset i (session_on i e.before)) (standing_by v path offset i o)) (sym after)
-    (ending_in w v path offset i e.before e.after (session_on i e.before) refl e.calls e.none e.resets s))
+    (subst (λ o. Ending (standing_by w path offset i (session_on w.moment i e.before)) (standing_by v path offset i o)) (sym after)
+    (ending_in w v path offset i e.before e.after (session_on w.moment i e.before) refl e.calls e.none e.resets s))
 
 -- ---- all others
 
-same_steady : (i : SessionId) (a b : Machine) (f : Found) → IsFound i a f → b.calls ≡ a.calls → b.daemon ≡ None → is_running f.daemon.number a ≡ false
-    → is_empty (resets_after b f.daemon.begun.step) ≡ is_empty (resets_after a f.daemon.begun.step) → Same i f (moved b f)
-same_steady i a b f found calls none idle resets =
+same_steady : (n : ℕ) (i : SessionId) (a b : Machine) (f : Found) → IsFound n i a f → b.calls ≡ a.calls → b.daemon ≡ None → is_running f.daemon.number a ≡ false
+    → ((land step : ℕ) → long_ago land n b step ≡ long_ago land n a step) → Same i f (moved b f)
+same_steady n i a b f found calls none idle resets =
     let own : own_courses i b ≡ own_courses i f.machine = ap (λ cs. filter (is_course_of i) cs) (calls ∙ ap (λ x. x.calls) (sym found.machine)) in
     let before : is_running f.daemon.number f.machine ≡ false = ap (is_running f.daemon.number) found.machine ∙ idle in
     let run : is_running i.daemon b ≡ is_running i.daemon f.machine =
@@ -132,17 +133,17 @@ same_steady i a b f found calls none idle resets =
       trace = refl;
       stamps = refl;
       runs = not_running f.daemon.number b none ∙ sym before;
-      reset = ap not (resets ∙ ap (λ x. is_empty (resets_after x f.daemon.begun.step)) (sym found.machine));
+      reset = resets_found n i f a b found resets;
       flying = flying_same i f.machine b own run;
     }
 
 steady_in : (w v : World) (path : List ℕ) (offset m : ℕ) (e : EndsOn w v m) → SameSector w v path offset → (i : SessionId) → (i.daemon ≡ e.daemon → ⊥)
-    → (o : Option Found) → session_on i e.before ≡ o → SameIf w v path offset i o (option_map (moved e.after) o)
+    → (o : Option Found) → session_on w.moment i e.before ≡ o → SameIf w v path offset i o (option_map (moved e.after) o)
 steady_in w v path offset m e s i apart None at = tt
 steady_in w v path offset m e s i apart (Some f) at =
-    let found : IsFound i e.before f = is_found i e.before f at in
+    let found : IsFound w.moment i e.before f = is_found w.moment i e.before f at in
     let k = e.steady f.daemon found.has (λ same. apart (sym found.number ∙ same)) in (
-      same_steady i e.before e.after f found e.calls e.none k.0 k.1,
+      same_steady w.moment i e.before e.after f found e.calls e.none k e.resets,
       record { layout = s.layout; own = λ t u. sector_same w v path offset s i f },
     )
 
@@ -150,17 +151,17 @@ steady_at : (w v : World) (path : List ℕ) (offset m : ℕ) (e : EndsOn w v m) 
     → (i.daemon ≡ e.daemon → ⊥) → SameIf w v path offset i (session_of_world w i) (session_of_world v i)
 steady_at w v path offset m e s i here apart =
     let before = found_on w i e.before (ap (machine_at w) here ∙ e.at) in
-    let after = found_on v i e.after (ap (machine_at v) here ∙ e.later) ∙ found_moves i e.before e.after e.daemons in
+    let after = found_then w v i e.after e.moment (ap (machine_at v) here ∙ e.later) ∙ found_moves w.moment i e.before e.after e.daemons in
     subst (λ o. SameIf w v path offset i o (session_of_world v i)) (sym before)
-    (subst (λ o. SameIf w v path offset i (session_on i e.before) o) (sym after)
-    (steady_in w v path offset m e s i apart (session_on i e.before) refl))
+    (subst (λ o. SameIf w v path offset i (session_on w.moment i e.before) o) (sym after)
+    (steady_in w v path offset m e s i apart (session_on w.moment i e.before) refl))
 
 other_by : (w v : World) (path : List ℕ) (offset m : ℕ) (e : EndsOn w v m) → SameSector w v path offset → (i : SessionId)
     → (i.machine ≡ m) ⊎ (i.machine ≡ m → ⊥) → ((i.machine ≡ m) × (i.daemon ≡ e.daemon) → ⊥)
     → SameIf w v path offset i (session_of_world w i) (session_of_world v i)
 other_by w v path offset m e s i (inl here) other = steady_at w v path offset m e s i here (λ same. other (here, same))
 other_by w v path offset m e s i (inr apart) other =
-    elsewhere_same w v path offset i (e.elsewhere i.machine apart) (λ f at. record { layout = s.layout; own = λ t u. sector_same w v path offset s i f })
+    elsewhere_same w v path offset i e.moment (e.elsewhere i.machine apart) (λ f at. record { layout = s.layout; own = λ t u. sector_same w v path offset s i f })
 
 -- ---- sessions of one daemon
 
@@ -214,10 +215,10 @@ abbrev pub sessions_of : Option Daemon → ℕ
 sessions_of None = 0
 sessions_of (Some d) = length (sessions d.setting d.trace)
 
-few_by : (i : SessionId) (a : Machine) (o : Option Daemon) → sessions_of o ≤ i.number → session_with i a o ≡ None
-few_by i a None h = refl
-few_by i a (Some d) h =
-    ap (λ o. option_map (λ s. let y : Found = record { machine = a; daemon = d; session = s } in y) o)
+few_by : (n : ℕ) (i : SessionId) (a : Machine) (o : Option Daemon) → sessions_of o ≤ i.number → session_with n i a o ≡ None
+few_by n i a None h = refl
+few_by n i a (Some d) h =
+    ap (λ o. option_map (λ s. let y : Found = record { machine = a; daemon = d; session = s; now = n } in y) o)
     (slice_get_past (sessions d.setting d.trace) i.number h)
 
 -- Beyond those none has begun.
@@ -225,7 +226,7 @@ pub few_begun : (w : World) (path : List ℕ) (offset m d : ℕ) (a : Machine) �
     → (session_at w path offset (of_number m d k)).begun ≡ false
 few_begun w path offset m d a at k h =
     let i : SessionId = session_named_so (of_number m d k) in
-    ap (λ o. (standing_by w path offset i o).begun) (found_on w i a at ∙ few_by i a (daemon_numbered a d) h)
+    ap (λ o. (standing_by w path offset i o).begun) (found_on w i a at ∙ few_by w.moment i a (daemon_numbered a d) h)
 
 -- ---- the step
 
@@ -285,26 +286,27 @@ crash_ends w m may =
       calls = refl;
       daemons = refl;
       none = refl;
-      resets = λ step h. h;
+      resets = λ land step. refl;
       moment = no_time w.moment (between w (Crash m)).moment g.moment;
       daemon = d.0.number;
-      steady = λ x has apart. (ap (λ o. some_is (λ y. y.number == x.number) o) d.1 ∙ other_number d.0.number x.number apart, refl);
+      steady = λ x has apart. ap (λ o. some_is (λ y. y.number == x.number) o) d.1 ∙ other_number d.0.number x.number apart;
     }
 
-longer : (r : Stamp) (rs : List Stamp) (t : Bool) → is_empty rs ≡ false → is_empty (cond t (r ∷ rs) rs) ≡ false
-longer r rs true h = refl
-longer r rs false h = h
+longer : (late : Stamp → Bool) (r : Stamp) (rs : List Stamp) (t : Bool) → late r ≡ false → list_any late (cond t (r ∷ rs) rs) ≡ list_any late rs
+longer late r rs true h = ap (λ b. b || list_any late rs) h
+longer late r rs false h = refl
 
--- A reset is one more.
-one_reset : (w : World) (a : Machine) (step : ℕ) → is_empty (resets_after a step) ≡ false → is_empty (resets_after (after_reset w a) step) ≡ false
-one_reset w a step h = longer (stamp_now w a) (resets_after a step) (nat_lt step w.step) h
+not_yet : (n land : ℕ) → nat_lt (n + land) n ≡ false
+not_yet n land = grind (arith, tests)
+
+-- A reset is one more, of this moment.
+one_reset : (w : World) (a : Machine) (land step : ℕ) → long_ago land w.moment (after_reset w a) step ≡ long_ago land w.moment a step
+one_reset w a land step =
+    longer (λ r. nat_lt (r.moment + land) w.moment) (stamp_now w a) (resets_after a step) (nat_lt step w.step) (not_yet w.moment land)
 
 -- The number of the daemon since the last restart.
 abbrev since_number : Machine → ℕ
 since_number a = option_map_or (λ d. d.number) (since_restart a) 0
-
-not_since : (a : Machine) (d : Daemon) → (d.number ≡ since_number a → ⊥) → since_restart a ≡ Some d → ⊥
-not_since a d apart h = apart (sym (ap (λ o. option_map_or (λ (x : Daemon). x.number) o 0) h))
 
 idle_by : (a : Machine) (d : Daemon) (o : Option Daemon) → Mirrors a → a.daemon ≡ o → (d.number ≡ since_number a → ⊥) → is_running d.number a ≡ false
 idle_by a d None mirror is apart = not_running d.number a is
@@ -331,10 +333,7 @@ reset_ends w m may mirrors =
       resets = one_reset w a;
       moment = no_time w.moment (between w (Reset m)).moment g.moment;
       daemon = since_number a;
-      steady = λ d has apart. (
-        idle_by a d a.daemon k refl apart,
-        one_reset w a d.begun.step (k.lost d has (not_since a d apart)) ∙ sym (k.lost d has (not_since a d apart)),
-      );
+      steady = λ d has apart. idle_by a d a.daemon k refl apart;
     }
 
 -- Each ending is one on a machine.

@@ -1,5 +1,5 @@
 -- A daemon's end, and a reset of its machine: of its sessions one may lose its claim, or end.
-use Rattle.sl_id_safety.proofs.State.FindingFrames.{find_passes, moved}
+use Rattle.sl_id_safety.proofs.State.FindingFrames.{IsFound, find_passes, moved}
 use Rattle.sl_id_safety.proofs.State.Frames.{SamePast, decides_past, flying_of, free_landed_by, free_of, is_running, join_past, open_while}
 use Rattle.sl_id_safety.specs.State.IdStates.{claim_may_land, deciding_sample, join_course, own_courses, runs_still}
 use Rattle.sl_words.proofs.Lists.{contains_cases, contains_none}
@@ -9,13 +9,17 @@ use Rattle.sl_trace.specs.Sessions.{calls_of, ended_after, free_write, is_join_c
 use Rattle.sl_trace.specs.declared.effects.JoinStep.TheVariants.{ClaimWrite}
 use Rattle.sl_words.proofs.CaseLaws.{is_false, not_both, true_is_false}
 use Rattle.sl_words.proofs.WordLaws.{and_true, or_true}
-use Rattle.sl_words.specs.Words.{is_empty, some_is}
+use Rattle.sl_words.specs.Words.{some_is}
 use Rattle.std.proofs.Common.{ap, inl, inr, refl, sym, ◌∙◌}
 use Rattle.std.proofs.lemmas.Bool.{and_from, or_left, or_right}
 use Rattle.std.specs.List.{list_any}
-use Rattle.std.specs.Prelude.{Bool, Contains, List, None, Option, Some, false, filter, is_none, is_some, not, true, [], ℕ, ◌&&◌, ◌==◌, ◌||◌, ◌∷◌, ◌≡◌, ◌⊎◌}
+use Rattle.std.specs.Prelude.{Bool, Contains, List, None, Option, Some, false, filter, is_none, is_some, nat_lt, not, true, [], ℕ, ◌&&◌, ◌+◌, ◌==◌, ◌||◌, ◌∷◌, ◌≡◌, ◌⊎◌}
 
 -- ---- what ends
+
+-- Whether a reset of the machine after this step is more than `land` ago.
+abbrev pub long_ago : ℕ → ℕ → Machine → ℕ → Bool
+long_ago land now a step = list_any (λ r. nat_lt (r.moment + land) now) (resets_after a step)
 
 -- A machine on which a daemon's run ends, or which is reset.
 pub record EndsOn (w v : World) (m : ℕ) : Type 0 where
@@ -27,12 +31,12 @@ pub record EndsOn (w v : World) (m : ℕ) : Type 0 where
   pub calls : after.calls ≡ before.calls
   pub daemons : daemons_on after ≡ daemons_on before
   pub none : after.daemon ≡ None
-  pub resets : (step : ℕ) → is_empty (resets_after before step) ≡ false → is_empty (resets_after after step) ≡ false
+  -- a reset of this moment is not long ago
+  pub resets : (land step : ℕ) → long_ago land w.moment after step ≡ long_ago land w.moment before step
   pub moment : v.moment ≡ w.moment
   -- the daemon whose sessions may change: for all others nothing changes
   pub daemon : ℕ
-  pub steady : (d : Daemon) → Contains (daemons_on before) d → (d.number ≡ daemon → ⊥)
-      → (is_running d.number before ≡ false) × (is_empty (resets_after after d.begun.step) ≡ is_empty (resets_after before d.begun.step))
+  pub steady : (d : Daemon) → Contains (daemons_on before) d → (d.number ≡ daemon → ⊥) → is_running d.number before ≡ false
 
 -- ---- a session of the machine
 
@@ -67,13 +71,9 @@ writes_more r c h =
 pub record EndsOf (i : SessionId) (f g : Found) : Type 0 where
   pub past : SamePast i f g
   pub stops : runs_still g ≡ false
-  pub reset : was_reset f ≡ true → was_reset g ≡ true
+  pub reset : was_reset g ≡ was_reset f
   pub flying : has_write_in_flight i g.machine ≡ true → has_write_in_flight i f.machine ≡ true
   pub claim : (c : Course) → join_course i ClaimWrite g.machine ≡ Some c → may_land c ≡ true → has_write_in_flight i g.machine ≡ true
-
-not_empty : (b c : Bool) → (b ≡ false → c ≡ false) → not b ≡ true → not c ≡ true
-not_empty true c f h = absurd (true_is_false (sym h))
-not_empty false c f h = ap not (f refl)
 
 flies_after : (i : SessionId) (a b : Machine) → b.calls ≡ a.calls → is_running i.daemon b ≡ false → has_write_in_flight i b ≡ true
     → has_write_in_flight i a ≡ true
@@ -96,15 +96,23 @@ claim_flies i b c stops at lands =
 pub not_running : (n : ℕ) (b : Machine) → b.daemon ≡ None → is_running n b ≡ false
 not_running n b h = ap (λ (o : Option Daemon). some_is (λ d. d.number == n) o) h
 
-pub ends_of : (i : SessionId) (f : Found) (a b : Machine) → f.machine ≡ a → b.calls ≡ a.calls → b.daemon ≡ None
-    → ((step : ℕ) → is_empty (resets_after a step) ≡ false → is_empty (resets_after b step) ≡ false) → EndsOf i f (moved b f)
-ends_of i f a b on calls none resets =
-    let same : b.calls ≡ f.machine.calls = calls ∙ ap (λ x. x.calls) (sym on) in
+-- Where no reset comes that is long ago, none has come for the session.
+pub resets_found : (n : ℕ) (i : SessionId) (f : Found) (a b : Machine) → IsFound n i a f
+    → ((land step : ℕ) → long_ago land n b step ≡ long_ago land n a step) → was_reset (moved b f) ≡ was_reset f
+resets_found n i f a b found resets =
+    let land : ℕ = f.daemon.setting.timing.land in
+    let step : ℕ = f.daemon.begun.step in
+    ap (λ k. long_ago land k b step) found.now ∙ resets land step ∙ ap (λ k. long_ago land k a step) (sym found.now)
+    ∙ ap (λ x. long_ago land f.now x step) (sym found.machine)
+
+pub ends_of : (n : ℕ) (i : SessionId) (f : Found) (a b : Machine) → IsFound n i a f → b.calls ≡ a.calls → b.daemon ≡ None
+    → ((land step : ℕ) → long_ago land n b step ≡ long_ago land n a step) → EndsOf i f (moved b f)
+ends_of n i f a b found calls none resets =
+    let same : b.calls ≡ f.machine.calls = calls ∙ ap (λ x. x.calls) (sym found.machine) in
     record {
       past = record { calls = ap (λ cs. filter (is_course_of i) cs) same; session = refl; setting = refl; begun = refl; trace = refl; stamps = refl };
       stops = not_running f.daemon.number b none;
-      reset = not_empty (is_empty (resets_after f.machine f.daemon.begun.step)) (is_empty (resets_after b f.daemon.begun.step))
-          (λ h. resets f.daemon.begun.step (ap (λ x. is_empty (resets_after x f.daemon.begun.step)) (sym on) ∙ h));
+      reset = resets_found n i f a b found resets;
       flying = flies_after i f.machine b same (not_running i.daemon b none);
       claim = λ c. claim_flies i b c (not_running i.daemon b none);
     }
@@ -181,5 +189,5 @@ over_stays i f g e h =
     sym (ap (λ es. is_some (ended_after es g.session)) s.trace ∙ ap (λ x. is_some (ended_after (trace_of f) x)) s.session) in
     over_by (free_landed i f) (is_some (ended_after (trace_of f) f.session) || was_reset f) (has_write_in_flight i f.machine) (free_landed i g)
     (is_some (ended_after (trace_of g) g.session) || was_reset g) (has_write_in_flight i g.machine) (sym (free_same i f g s))
-    (or_more (is_some (ended_after (trace_of f) f.session)) (was_reset f) (is_some (ended_after (trace_of g) g.session)) (was_reset g) same e.reset)
+    (or_more (is_some (ended_after (trace_of f) f.session)) (was_reset f) (is_some (ended_after (trace_of g) g.session)) (was_reset g) same (λ was. e.reset ∙ was))
     e.flying h

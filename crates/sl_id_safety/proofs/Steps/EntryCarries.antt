@@ -9,7 +9,7 @@ use Rattle.sl_run_law.specs.Course.CallStamps.{IsStampOf}
 use Rattle.sl_run_law.proofs.Front.RunsFromFronts.{last_event}
 use Rattle.sl_run_law.proofs.Front.JoinedLists.{placed_at}
 use Rattle.sl_id_safety.proofs.State.TraceBridge.{IsKnown, known}
-use Rattle.sl_id_safety.proofs.State.FindingFrames.{found_on, is_found, session_on}
+use Rattle.sl_id_safety.proofs.State.FindingFrames.{found_on, found_then, is_found, never_reset, session_on}
 use Rattle.sl_id_safety.proofs.State.SessionFacts.{grounds}
 use Rattle.sl_id_safety.proofs.Steps.EventFrames.{StayDistinct, after_event, entry_of, step_sector}
 use Rattle.sl_id_safety.proofs.Steps.OtherSessions.{IsOfEntry}
@@ -36,10 +36,10 @@ use Rattle.sl_trace.specs.declared.session.Session.{Session}
 use Rattle.sl_trace.specs.declared.effects.Call.{Call}
 use Rattle.sl_words.proofs.CaseLaws.{is_false, not_both}
 use Rattle.sl_words.proofs.WordLaws.{and_true}
-use Rattle.sl_words.specs.Words.{is_empty, some_is}
+use Rattle.sl_words.specs.Words.{some_is}
 use Rattle.std.proofs.Common.{ap, arith, inl, inr, refl, subst, sym, ◌∙◌}
 use Rattle.std.proofs.lemmas.Bool.{eqb-true}
-use Rattle.std.specs.Prelude.{List, Some, false, filter, nat_lt, not, slice_get, true, [], ℕ, ◌++◌, ◌<◌, ◌==◌, ◌∷◌, ◌≡◌}
+use Rattle.std.specs.Prelude.{List, Some, false, filter, nat_lt, slice_get, true, [], ℕ, ◌++◌, ◌<◌, ◌==◌, ◌∷◌, ◌≡◌}
 
 -- ---- what was kept
 
@@ -73,18 +73,18 @@ none_new i now number calls (x ∷ xs) never each =
 
 -- ---- one session
 
--- The session before, and after.
-abbrev before : {p : Program} {h : Header} {now : List Happening} {x : Happening} → IsEntry p h now x → Session → Found
-before e s = record { machine = e.machine; daemon = e.daemon; session = s }
-
 abbrev pub stamp_of : {p : Program} {h : Header} {now : List Happening} {x : Happening} → IsEntry p h now x → Stamp
 stamp_of {p = p} {h = h} {now = now} {x = x} e = stamp_now (between (world_at p h now) x.0) e.machine
+
+-- The session before, and after.
+abbrev before : {p : Program} {h : Header} {now : List Happening} {x : Happening} → IsEntry p h now x → Session → Found
+before e s = record { machine = e.machine; daemon = e.daemon; session = s; now = (stamp_of e).moment }
 
 abbrev pub stepped : {p : Program} {h : Header} {now : List Happening} {x : Happening} → IsEntry p h now x → Machine
 stepped e = after_step (stamp_of e) e.input e.effects e.machine
 
 abbrev pub after : {p : Program} {h : Header} {now : List Happening} {x : Happening} → IsEntry p h now x → Session → Found
-after e s = record { machine = stepped e; daemon = entered (stamp_of e) e.input e.effects e.machine e.daemon; session = s }
+after e s = record { machine = stepped e; daemon = entered (stamp_of e) e.input e.effects e.machine e.daemon; session = s; now = (stamp_of e).moment }
 
 running_is : (a : Machine) (d : Daemon) → a.daemon ≡ Some d → some_is (λ x. x.number == d.number) a.daemon ≡ true
 running_is a d runs = ap (λ o. some_is (λ x. x.number == d.number) o) runs ∙ number_itself d.number
@@ -127,8 +127,8 @@ through_by distinct mirror written p h now x run e i s here had its =
           (λ c n. fresh_of (stamp_of e) d.number e.effects.calls c n.0) own.each;
       ran = running_is a d e.runs;
       runs = running_is b g.daemon still;
-      was_up = ap (λ rs. not (is_empty rs)) (sym (resets_same d.begun.step) ∙ up);
-      is_up = ap (λ rs. not (is_empty rs)) up;
+      was_up = never_reset (before e s) (sym (resets_same d.begun.step) ∙ up);
+      is_up = never_reset g up;
       number = k.there.daemon;
       had = had;
       silent = λ n ended j c at. is_false (c.session == s.number) (λ mine.
@@ -153,10 +153,11 @@ pub record Carried (p : Program) (h : Header) (now : List Happening) (x : Happen
   pub through : Through p h (now ++ x ∷ []) (between (world_at p h now) x.0) i f found
 
 before_is : {p : Program} {h : Header} {now : List Happening} {x : Happening} (e : IsEntry p h now x) (f : Found) → f.machine ≡ e.machine → f.daemon ≡ e.daemon
-    → before e f.session ≡ f
-before_is e f machine daemon =
-    ap (λ a. let y : Found = record { machine = a; daemon = e.daemon; session = f.session } in y) (sym machine)
-    ∙ ap (λ d. let y : Found = record { machine = f.machine; daemon = d; session = f.session } in y) (sym daemon)
+    → f.now ≡ (stamp_of e).moment → before e f.session ≡ f
+before_is e f machine daemon moment =
+    ap (λ a. let y : Found = record { machine = a; daemon = e.daemon; session = f.session; now = (stamp_of e).moment } in y) (sym machine)
+    ∙ ap (λ d. let y : Found = record { machine = f.machine; daemon = d; session = f.session; now = (stamp_of e).moment } in y) (sym daemon)
+    ∙ ap (λ n. let y : Found = record f { now = n } in y) (sym moment)
 
 -- Each of them goes through it.
 pub carried : StayDistinct → MachinesMirror → LandingsAreWritten → (p : Program) (h : Header) (now : List Happening) (x : Happening)
@@ -165,16 +166,16 @@ pub carried : StayDistinct → MachinesMirror → LandingsAreWritten → (p : Pr
 carried distinct mirror written p h now x run e i is f at =
     let u : World = between (world_at p h now) x.0 in
     let v : World = after_event p h now x in
-    let on : session_on i e.machine ≡ Some f = sym (found_on u i e.machine (ap (machine_at u) is.0 ∙ e.at)) ∙ at in
-    let own = own_found (stamp_of e) e.input e.effects e.machine e.daemon i f e.runs is.1 on in
-    let its : session_of_world v i ≡ Some (after e f.session) = found_on v i (stepped e) (ap (machine_at v) is.0 ∙ e.later) ∙ own.1 in
+    let on : session_on u.moment i e.machine ≡ Some f = sym (found_on u i e.machine (ap (machine_at u) is.0 ∙ e.at)) ∙ at in
+    let own = own_found u.moment (stamp_of e) e.input e.effects e.machine e.daemon i f e.runs is.1 on in
+    let its : session_of_world v i ≡ Some (after e f.session) = found_then u v i (stepped e) e.moment (ap (machine_at v) is.0 ∙ e.later) ∙ own.1 in
     let k : IsKnown v i (after e f.session) = known grounds p h (now ++ x ∷ []) run i (after e f.session) its in
     let had : session_numbered e.daemon.setting e.daemon.trace f.session.number ≡ Some f.session =
     ap (λ n. session_numbered e.daemon.setting e.daemon.trace n) k.there.number
-    ∙ subst (λ d. session_numbered d.setting d.trace i.number ≡ Some f.session) own.0 (is_found i e.machine f on).session in
+    ∙ subst (λ d. session_numbered d.setting d.trace i.number ≡ Some f.session) own.0 (is_found u.moment i e.machine f on).session in
     record {
       found = after e f.session;
       at = its;
-      through = subst (λ k. Through p h (now ++ x ∷ []) u i k (after e f.session)) (before_is e f (is_found i e.machine f on).machine own.0)
+      through = subst (λ k. Through p h (now ++ x ∷ []) u i k (after e f.session)) (before_is e f (is_found u.moment i e.machine f on).machine own.0 (is_found u.moment i e.machine f on).now)
           (through_by distinct mirror written p h now x run e i f.session is.0 had its);
     }

@@ -14,10 +14,10 @@ use Rattle.sl_trace.specs.Traces.{Submitted}
 use Rattle.sl_trace.specs.declared.effects.JoinStep.TheVariants.{ClaimWrite}
 use Rattle.sl_words.proofs.CaseLaws.{is_false, not_both, true_is_false}
 use Rattle.sl_words.proofs.WordLaws.{and_true, or_true}
-use Rattle.sl_words.specs.Words.{is_empty, some_is}
+use Rattle.sl_words.specs.Words.{some_is}
 use Rattle.std.proofs.Common.{ap, inl, inr, refl, sym, ◌∙◌}
 use Rattle.std.specs.List.{list_any}
-use Rattle.std.specs.Prelude.{Bool, List, None, Option, Some, false, is_none, is_some, map, nat_lt, not, filter, option_map, true, [], ℕ, ◌&&◌, ◌==◌, ◌||◌, ◌∷◌, ◌≡◌}
+use Rattle.std.specs.Prelude.{Bool, List, None, Option, Some, false, is_none, is_some, map, nat_lt, not, filter, option_map, true, [], ℕ, ◌&&◌, ◌+◌, ◌==◌, ◌||◌, ◌∷◌, ◌≡◌}
 
 -- ---- fates
 
@@ -96,7 +96,7 @@ runs_same : (i : SessionId) (a b : Machine) → b.daemon ≡ a.daemon → is_run
 runs_same i a b h = ap (λ o. some_is (λ d. d.number == i.daemon) o) h
 
 reset_same : (f : Found) (b : Machine) → b.resets ≡ f.machine.resets → was_reset (moved b f) ≡ was_reset f
-reset_same f b h = ap (λ rs. not (is_empty (filter (λ r. nat_lt f.daemon.begun.step r.step) rs))) h
+reset_same f b h = ap (λ rs. list_any (λ r. nat_lt (r.moment + f.daemon.setting.timing.land) f.now) (filter (λ r. nat_lt f.daemon.begun.step r.step) rs)) h
 
 freed : (i : SessionId) (f : Found) (b : Machine) (n : ℕ) (fate : Fate) → Turns i f b n fate → FliesAt n (own_courses i f.machine) → free_landed i f ≡ true
     → free_landed i (moved b f) ≡ true

@@ -1,6 +1,6 @@
 -- Where the machines of a world keep their calls, daemons and resets, and nothing lands, its ids stay.
 use Rattle.sl_run_law.specs.Course.Mirrors.{AreNumbered}
-use Rattle.sl_id_safety.proofs.State.FindingFrames.{find_passes, found_moves, found_on, is_found, moved, moves_by, not_found, same_moved, session_on, session_with}
+use Rattle.sl_id_safety.proofs.State.FindingFrames.{find_passes, found_moves, found_on, found_then, is_found, moved, moves_by, not_found, same_moved, session_on, session_with}
 use Rattle.sl_id_safety.proofs.State.Frames.{is_running}
 use Rattle.sl_id_safety.proofs.State.SectorFrames.{SameFound, SameSector, history_same, sector_same, session_same}
 use Rattle.sl_id_safety.proofs.State.WriterFrames.{KeepsGiven, given_on, holder_same}
@@ -64,9 +64,9 @@ not_there ds n (Some d) numbered is h =
 -- ---- sessions stay
 
 -- What stays of a session on its machine.
-record Stays (i : SessionId) (a b : Machine) : Type 0 where
-  found : session_on i b ≡ option_map (moved b) (session_on i a)
-  runs : (f : Found) → session_on i a ≡ Some f → is_running i.daemon b ≡ is_running i.daemon a
+record Stays (n : ℕ) (i : SessionId) (a b : Machine) : Type 0 where
+  found : session_on n i b ≡ option_map (moved b) (session_on n i a)
+  runs : (f : Found) → session_on n i a ≡ Some f → is_running i.daemon b ≡ is_running i.daemon a
 
 not_given : (given : List Given) (n : ℕ) → given ≡ [] → slice_get (map given_session (enumerate_from 0 given)) n ≡ None
 not_given given n h = ap (λ gs. slice_get (map given_session (enumerate_from 0 gs)) n) h
@@ -74,47 +74,47 @@ not_given given n h = ap (λ gs. slice_get (map given_session (enumerate_from 0 
 none_begun : (d : Daemon) (n : ℕ) → d.setting.given ≡ [] → d.trace ≡ [] → session_numbered d.setting d.trace n ≡ None
 none_begun d n given trace = ap (λ es. session_numbered d.setting es n) trace ∙ not_given d.setting.given n given
 
-new_by : (i : SessionId) (b : Machine) (d : Daemon) (ds : List Daemon) (t : Bool) → d.setting.given ≡ [] → d.trace ≡ [] → (d.number == i.daemon) ≡ t → t ≡ true
-    → session_with i b (cond t (Some d) (find (λ x. x.number == i.daemon) ds)) ≡ None
-new_by i b d ds true given trace is this =
-    ap (λ o. option_map (λ s. let y : Found = record { machine = b; daemon = d; session = s } in y) o) (none_begun d i.number given trace)
-new_by i b d ds false given trace is this = absurd (true_is_false (sym this))
+new_by : (n : ℕ) (i : SessionId) (b : Machine) (d : Daemon) (ds : List Daemon) (t : Bool) → d.setting.given ≡ [] → d.trace ≡ [] → (d.number == i.daemon) ≡ t → t ≡ true
+    → session_with n i b (cond t (Some d) (find (λ x. x.number == i.daemon) ds)) ≡ None
+new_by n i b d ds true given trace is this =
+    ap (λ o. option_map (λ s. let y : Found = record { machine = b; daemon = d; session = s; now = n } in y) o) (none_begun d i.number given trace)
+new_by n i b d ds false given trace is this = absurd (true_is_false (sym this))
 
-started_new : (i : SessionId) (a b : Machine) (s : Starts a b) → b.ended ≡ a.ended → (s.daemon.number == i.daemon) ≡ true
-    → Stays i a b
-started_new i a b s ended is =
+started_new : (n : ℕ) (i : SessionId) (a b : Machine) (s : Starts a b) → b.ended ≡ a.ended → (s.daemon.number == i.daemon) ≡ true
+    → Stays n i a b
+started_new n i a b s ended is =
     let same : i.daemon ≡ length (daemons_on a) = sym (eqb-true s.daemon.number i.daemon is) ∙ s.number ∙ ap (λ ds. length ds) (sym (old_daemons a b s)) in
     let none : daemon_numbered a i.daemon ≡ None =
     not_there (daemons_on a) i.daemon (daemon_numbered a i.daemon) s.numbered same refl in
-    let before : session_on i a ≡ None = ap (session_with i a) none in
-    let after : session_on i b ≡ None =
-    ap (λ ds. session_with i b (find (λ x. x.number == i.daemon) ds)) (new_daemons a b s ended)
-    ∙ new_by i b s.daemon a.ended (s.daemon.number == i.daemon) s.given s.trace refl is in
+    let before : session_on n i a ≡ None = ap (session_with n i a) none in
+    let after : session_on n i b ≡ None =
+    ap (λ ds. session_with n i b (find (λ x. x.number == i.daemon) ds)) (new_daemons a b s ended)
+    ∙ new_by n i b s.daemon a.ended (s.daemon.number == i.daemon) s.given s.trace refl is in
     record { found = after ∙ sym (ap (option_map (moved b)) before); runs = λ f h. absurd (none_some f (sym before ∙ h)) }
 
-other_by : (i : SessionId) (b : Machine) (d : Daemon) (ds : List Daemon) (t : Bool) → t ≡ false
-    → session_with i b (cond t (Some d) (find (λ x. x.number == i.daemon) ds)) ≡ session_with i b (find (λ x. x.number == i.daemon) ds)
-other_by i b d ds true h = absurd (true_is_false h)
-other_by i b d ds false h = refl
+other_by : (n : ℕ) (i : SessionId) (b : Machine) (d : Daemon) (ds : List Daemon) (t : Bool) → t ≡ false
+    → session_with n i b (cond t (Some d) (find (λ x. x.number == i.daemon) ds)) ≡ session_with n i b (find (λ x. x.number == i.daemon) ds)
+other_by n i b d ds true h = absurd (true_is_false h)
+other_by n i b d ds false h = refl
 
-started_other : (i : SessionId) (a b : Machine) (s : Starts a b) → b.ended ≡ a.ended → (s.daemon.number == i.daemon) ≡ false → Stays i a b
-started_other i a b s ended is =
+started_other : (n : ℕ) (i : SessionId) (a b : Machine) (s : Starts a b) → b.ended ≡ a.ended → (s.daemon.number == i.daemon) ≡ false → Stays n i a b
+started_other n i a b s ended is =
     record {
-      found = ap (λ ds. session_with i b (find (λ x. x.number == i.daemon) ds)) (new_daemons a b s ended)
-          ∙ other_by i b s.daemon a.ended (s.daemon.number == i.daemon) is
-          ∙ ap (λ ds. session_with i b (find (λ x. x.number == i.daemon) ds)) (sym (old_daemons a b s)) ∙ moves_by i a b (daemon_numbered a i.daemon);
+      found = ap (λ ds. session_with n i b (find (λ x. x.number == i.daemon) ds)) (new_daemons a b s ended)
+          ∙ other_by n i b s.daemon a.ended (s.daemon.number == i.daemon) is
+          ∙ ap (λ ds. session_with n i b (find (λ x. x.number == i.daemon) ds)) (sym (old_daemons a b s)) ∙ moves_by n i a b (daemon_numbered a i.daemon);
       runs = λ f h. ap (λ o. some_is (λ d. d.number == i.daemon) o) s.begins ∙ is ∙ sym (ap (λ o. some_is (λ d. d.number == i.daemon) o) s.none);
     }
 
-started_by : (i : SessionId) (a b : Machine) (s : Starts a b) (t : Bool) → b.ended ≡ a.ended → (s.daemon.number == i.daemon) ≡ t
-    → Stays i a b
-started_by i a b s true ended is = started_new i a b s ended is
-started_by i a b s false ended is = started_other i a b s ended is
+started_by : (n : ℕ) (i : SessionId) (a b : Machine) (s : Starts a b) (t : Bool) → b.ended ≡ a.ended → (s.daemon.number == i.daemon) ≡ t
+    → Stays n i a b
+started_by n i a b s true ended is = started_new n i a b s ended is
+started_by n i a b s false ended is = started_other n i a b s ended is
 
-stays_by : (i : SessionId) (a b : Machine) → b.ended ≡ a.ended → (b.daemon ≡ a.daemon) ⊎ Starts a b → Stays i a b
-stays_by i a b ended (inl daemon) =
-    record { found = found_moves i a b (same_daemons a b daemon ended); runs = λ f h. ap (λ o. some_is (λ d. d.number == i.daemon) o) daemon }
-stays_by i a b ended (inr s) = started_by i a b s (s.daemon.number == i.daemon) ended refl
+stays_by : (n : ℕ) (i : SessionId) (a b : Machine) → b.ended ≡ a.ended → (b.daemon ≡ a.daemon) ⊎ Starts a b → Stays n i a b
+stays_by n i a b ended (inl daemon) =
+    record { found = found_moves n i a b (same_daemons a b daemon ended); runs = λ f h. ap (λ o. some_is (λ d. d.number == i.daemon) o) daemon }
+stays_by n i a b ended (inr s) = started_by n i a b s (s.daemon.number == i.daemon) ended refl
 
 -- ---- what machines were given stays
 
@@ -145,12 +145,13 @@ given_stays a b ended (inr s) =
 
 -- ---- worlds
 
--- A world whose machines keep all that, and where nothing lands.
+-- A world whose machines keep all that, where nothing lands and no time passes.
 pub record StaysStill (w v : World) : Type 0 where
   pub layout : v.layout ≡ w.layout
   pub header : v.header ≡ w.header
   pub landings : v.landings ≡ w.landings
   pub machines : length v.machines ≡ length w.machines
+  pub moment : v.moment ≡ w.moment
   pub each : EachMachine (λ m. IsStill) w v
 
 none_there : (ms ns : List Machine) (k : ℕ) → length ns ≡ length ms → slice_get ms k ≡ None → slice_get ns k ≡ None
@@ -203,12 +204,12 @@ still_sector w v path offset s =
       writers = every_one (λ l. writer_of v l ≡ writer_of w l) (history_of w path offset) (still_writer w v s);
     }
 
-found_as : (w v : World) (path : List ℕ) (offset : ℕ) (i : SessionId) (a b : Machine) (o p : Option Found) → session_on i a ≡ o
-    → p ≡ option_map (moved b) o → IsStill a b → Stays i a b → SameSector w v path offset → SameFound w v path offset i o p
-found_as w v path offset i a b None p at is still stays s = subst (λ q. SameFound w v path offset i None q) (sym is) tt
-found_as w v path offset i a b (Some f) p at is still stays s =
+found_as : (w v : World) (path : List ℕ) (offset n : ℕ) (i : SessionId) (a b : Machine) (o p : Option Found) → session_on n i a ≡ o
+    → p ≡ option_map (moved b) o → IsStill a b → Stays n i a b → SameSector w v path offset → SameFound w v path offset i o p
+found_as w v path offset n i a b None p at is still stays s = subst (λ q. SameFound w v path offset i None q) (sym is) tt
+found_as w v path offset n i a b (Some f) p at is still stays s =
     subst (λ q. SameFound w v path offset i (Some f) q) (sym is)
-    (same_moved i a b f (is_found i a f at) (ap (λ cs. filter (is_course_of i) cs) still.calls) (stays.runs f at) still.resets, sector_same w v path offset s i f)
+    (same_moved n i a b f (is_found n i a f at) (ap (λ cs. filter (is_course_of i) cs) still.calls) (stays.runs f at) still.resets, sector_same w v path offset s i f)
 
 world_by : (w v : World) (path : List ℕ) (offset : ℕ) (i : SessionId) (o : Option Machine) → machine_at w i.machine ≡ o → StaysStill w v
     → SameFound w v path offset i (session_of_world w i) (session_of_world v i)
@@ -217,10 +218,10 @@ world_by w v path offset i None at s =
     (subst (λ p. SameFound w v path offset i None p) (sym (not_found v i (machine_gone w v i.machine s.machines at))) tt)
 world_by w v path offset i (Some a) at s =
     let b = s.each i.machine a at in
-    let stays : Stays i a b.0 = stays_by i a b.0 b.2.ended b.2.daemon in
+    let stays : Stays w.moment i a b.0 = stays_by w.moment i a b.0 b.2.ended b.2.daemon in
     subst (λ o. SameFound w v path offset i o (session_of_world v i)) (sym (found_on w i a at))
-    (subst (λ p. SameFound w v path offset i (session_on i a) p) (sym (found_on v i b.0 b.1))
-    (found_as w v path offset i a b.0 (session_on i a) (session_on i b.0) refl stays.found b.2 stays (still_sector w v path offset s)))
+    (subst (λ p. SameFound w v path offset i (session_on w.moment i a) p) (sym (found_then w v i b.0 s.moment b.1))
+    (found_as w v path offset w.moment i a b.0 (session_on w.moment i a) (session_on w.moment i b.0) refl stays.found b.2 stays (still_sector w v path offset s)))
 
 -- Each session stands as before.
 pub still_session : (w v : World) (path : List ℕ) (offset : ℕ) → StaysStill w v → (n : IdName) → session_at v path offset n ≡ session_at w path offset n

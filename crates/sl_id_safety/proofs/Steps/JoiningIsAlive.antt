@@ -16,7 +16,7 @@ use Rattle.sl_id_safety.proofs.State.SessionFacts.{grounds, renewals_have_verifi
 use Rattle.sl_id_safety.proofs.State.RenewalsHaveVerified.{none_joining}
 use Rattle.sl_id_safety.proofs.State.SeqsRise.{all_renew}
 use Rattle.sl_id_safety.proofs.State.SampleFrames.{join_is, joining_is}
-use Rattle.sl_id_safety.proofs.State.FindingFrames.{find_passes}
+use Rattle.sl_id_safety.proofs.State.FindingFrames.{find_passes, never_reset}
 use Rattle.sl_id_safety.proofs.State.JoiningSteps.{ranks_of}
 use Rattle.sl_id_safety.proofs.State.Tails.{front_at}
 use Rattle.sl_id_safety.proofs.State.TracesInTime.{refused_by, stamp_below}
@@ -43,7 +43,7 @@ use Rattle.sl_trace.specs.declared.effects.Purpose.TheVariants.{Joining, Leaving
 use Rattle.sl_trace.specs.declared.effects.Purpose.{Purpose}
 use Rattle.sl_words.proofs.CaseLaws.{false_is_true, none_some, not_both, one_value, true_is_false}
 use Rattle.sl_words.proofs.WordLaws.{and_true}
-use Rattle.sl_words.specs.Words.{is_empty, some_is}
+use Rattle.sl_words.specs.Words.{some_is}
 use Rattle.std.proofs.Common.{ap, arith, inl, inr, refl, sym, tests, ◌∙◌}
 use Rattle.std.proofs.lemmas.Bool.{eq-eqb, eqb-true}
 use Rattle.std.specs.List.{list_any}
@@ -158,7 +158,7 @@ pub not_reset : (p : Program) (h : Header) (xs : List Happening) → LawfulRun p
 not_reset p h xs run i f n step c r =
     let d = runs_now (world_at p h xs) i f n step c r in
     let m = machines_mirror p h xs run i.machine f.machine r.known.there.at in
-    ap (λ (x : Daemon). not (is_empty (resets_after f.machine x.begun.step))) (sym d.1.same) ∙ ap (λ rs. not (is_empty rs)) (m.kept d.0 (m.running d.0 d.1.runs))
+    never_reset f (ap (λ (x : Daemon). resets_after f.machine x.begun.step) (sym d.1.same) ∙ m.kept d.0 (m.running d.0 d.1.runs))
 
 -- ---- it has a job
 

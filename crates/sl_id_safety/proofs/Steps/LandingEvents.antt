@@ -26,7 +26,6 @@ use Rattle.sl_ids.specs.Runs.{IsBounded, Later}
 use Rattle.sl_ids.specs.Steps.{Passes, Step}
 use Rattle.sl_ids.specs.Terms.{Terms}
 use Rattle.sl_words.proofs.Lists.{contains_first}
-use Rattle.sl_words.proofs.Numbers.{refl_le}
 use Rattle.sl_run.specs.EventChanges.{fated, flight_at, next_step, write_bytes}
 use Rattle.sl_run.specs.Refusals.{may_happen}
 use Rattle.sl_run.specs.Premises.{spells_something, torn_bytes}
@@ -229,6 +228,7 @@ still_here w =
       header = refl;
       landings = refl;
       machines = refl;
+      moment = refl;
       each = λ m a at. (a, at, record { calls = refl; resets = refl; ended = refl; daemon = inl refl });
     }
 
@@ -238,7 +238,7 @@ landed_before : (r : Terms) (w v : World) (path : List ℕ) (offset : ℕ) → v
 landed_before r w v path offset is high =
     one_step r (id_state w path offset) (id_state v path offset)
     (subst (λ z. Step r (id_state w path offset) (id_state z path offset)) (sym is)
-    (Passes (still_passes w (next_step w) path offset (refl_le w.moment) (still_here w)))) high
+    (Passes (still_passes w (next_step w) path offset (still_here w)))) high
 
 does : RestsOn → (p : Program) (h : Header) (now : List Happening) (x : Happening) (path : List ℕ) (offset : ℕ) → LawfulRun p h (now ++ x ∷ []) → IsIdPlace p h path offset
     → (r : Terms) (m n : ℕ) → x.0 ≡ Do m n → (f : Flies (world_at p h now) m n IsDone) → is_write_course f.course ≡ true → (b : Bool) → is_in_flight f.course.fate ≡ b

@@ -6,7 +6,7 @@ use Rattle.sl_run_law.specs.Course.CallStamps.{IsStampOf, stamp_in}
 use Rattle.sl_run_law.proofs.Front.JoinedLists.{contains_append}
 use Rattle.sl_id_safety.proofs.State.BeginsWhereEnded.{BeganAt, late_call}
 use Rattle.sl_id_safety.proofs.State.TraceBridge.{IsKnown, known}
-use Rattle.sl_id_safety.proofs.State.FindingFrames.{find_passes, found_on, session_on, session_with}
+use Rattle.sl_id_safety.proofs.State.FindingFrames.{find_passes, found_on, found_then, session_on, session_with}
 use Rattle.sl_id_safety.proofs.State.CallLaws.{own_call}
 use Rattle.sl_id_safety.proofs.State.SessionFacts.{grounds}
 use Rattle.sl_id_safety.proofs.State.SampleFrames.{showed}
@@ -118,10 +118,10 @@ daemon_here : (n : ℕ) (a : Machine) (d : Daemon) → a.daemon ≡ Some d → (
 daemon_here n a d runs same =
     ap (λ o. find (λ x. x.number == n) (with_running o a.ended)) runs ∙ ap (λ b. cond b (Some d) (find (λ x. x.number == n) a.ended)) same
 
-no_session : (i : SessionId) (a : Machine) (d : Daemon) (o : Option Session) → session_numbered d.setting d.trace i.number ≡ o
-    → option_map (λ s. let y : Found = record { machine = a; daemon = d; session = s } in y) o ≡ None → o ≡ None
-no_session i a d None is h = refl
-no_session i a d (Some s) is h = absurd (none_some (let y : Found = record { machine = a; daemon = d; session = s } in y) (sym h))
+no_session : (n : ℕ) (i : SessionId) (a : Machine) (d : Daemon) (o : Option Session) → session_numbered d.setting d.trace i.number ≡ o
+    → option_map (λ s. let y : Found = record { machine = a; daemon = d; session = s; now = n } in y) o ≡ None → o ≡ None
+no_session n i a d None is h = refl
+no_session n i a d (Some s) is h = absurd (none_some (let y : Found = record { machine = a; daemon = d; session = s; now = n } in y) (sym h))
 
 blank_by : (w : World) (path : List ℕ) (offset : ℕ) (i : SessionId) (g : Found) (b c : Bool) → c ≡ false
     → elim (b && c) as (λ z. IdSession) [ false ↦ blank | true ↦ standing_of w path offset i g ] ≡ blank
@@ -149,12 +149,12 @@ new_are_blank p h now x path offset run e n is at =
     let u : World = between (world_at p h now) x.0 in
     let v : World = after_event p h now x in
     let d : Daemon = entered (stamp_of e) e.input e.effects e.machine e.daemon in
-    let before : session_on i e.machine ≡ None = sym (found_on u i e.machine (ap (machine_at u) is.0 ∙ e.at)) ∙ at in
+    let before : session_on u.moment i e.machine ≡ None = sym (found_on u i e.machine (ap (machine_at u) is.0 ∙ e.at)) ∙ at in
     let none : session_numbered e.daemon.setting e.daemon.trace i.number ≡ None =
-    no_session i e.machine e.daemon (session_numbered e.daemon.setting e.daemon.trace i.number) refl
-    (ap (session_with i e.machine) (sym (daemon_here i.daemon e.machine e.daemon e.runs is.1)) ∙ before) in
+    no_session u.moment i e.machine e.daemon (session_numbered e.daemon.setting e.daemon.trace i.number) refl
+    (ap (session_with u.moment i e.machine) (sym (daemon_here i.daemon e.machine e.daemon e.runs is.1)) ∙ before) in
     let found : session_of_world v i ≡ option_map (after e) (session_numbered d.setting d.trace i.number) =
-    found_on v i (stepped e) (ap (machine_at v) is.0 ∙ e.later)
-    ∙ ap (session_with i (stepped e)) (daemon_here i.daemon (stepped e) d (step_runs (stamp_of e) e.input e.effects e.machine e.daemon e.runs) is.1) in
+    found_then u v i (stepped e) e.moment (ap (machine_at v) is.0 ∙ e.later)
+    ∙ ap (session_with u.moment i (stepped e)) (daemon_here i.daemon (stepped e) d (step_runs (stamp_of e) e.input e.effects e.machine e.daemon e.runs) is.1) in
     ap (standing_by v path offset i) found
     ∙ new_blank p h now x path offset run e i is none (session_numbered d.setting d.trace i.number) refl found

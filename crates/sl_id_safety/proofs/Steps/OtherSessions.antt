@@ -2,7 +2,7 @@
 use Rattle.sl_run_law.proofs.Course.ResetsBeforeNow.{step_resets}
 use Rattle.sl_run_law.specs.Course.CourseLaws.{MachinesMirror}
 use Rattle.sl_id_safety.proofs.State.CallFrames.{elsewhere_same}
-use Rattle.sl_id_safety.proofs.State.FindingFrames.{find_passes, found_on, is_found, moved, own_untouched, same_moved, session_on}
+use Rattle.sl_id_safety.proofs.State.FindingFrames.{find_passes, found_on, found_then, is_found, moved, own_untouched, same_moved, session_on}
 use Rattle.sl_id_safety.proofs.State.Frames.{is_running, of_daemon}
 use Rattle.sl_id_safety.proofs.State.SectorFrames.{SameIf, SameSector, sector_same, session_same_if}
 use Rattle.sl_id_safety.specs.State.IdStates.{own_courses, session_at, session_named_so}
@@ -218,13 +218,13 @@ other_calls i now j fx a d runs other free =
 
 -- ---- they stay
 
-found_other : (w v : World) (path : List ℕ) (offset : ℕ) (i : SessionId) (a b : Machine) (o p : Option Found) → session_on i a ≡ o
+found_other : (w v : World) (path : List ℕ) (offset n : ℕ) (i : SessionId) (a b : Machine) (o p : Option Found) → session_on n i a ≡ o
     → p ≡ option_map (moved b) o → own_courses i b ≡ own_courses i a → is_running i.daemon b ≡ is_running i.daemon a → b.resets ≡ a.resets
     → SameSector w v path offset → SameIf w v path offset i o p
-found_other w v path offset i a b None p at is own runs resets s = subst (λ q. SameIf w v path offset i None q) (sym is) tt
-found_other w v path offset i a b (Some f) p at is own runs resets s =
+found_other w v path offset n i a b None p at is own runs resets s = subst (λ q. SameIf w v path offset i None q) (sym is) tt
+found_other w v path offset n i a b (Some f) p at is own runs resets s =
     subst (λ q. SameIf w v path offset i (Some f) q) (sym is)
-    (same_moved i a b f (is_found i a f at) own runs resets, record { layout = s.layout; own = λ t u. sector_same w v path offset s i f })
+    (same_moved n i a b f (is_found n i a f at) own runs resets, record { layout = s.layout; own = λ t u. sector_same w v path offset s i f })
 
 -- Through an entry each session stays but those of the daemon that takes it.
 abbrev pub OtherStays : Program → Header → List Happening → Happening → List ℕ → ℕ → SessionId → Type 0
@@ -268,8 +268,8 @@ other_here distinct p h now x run path offset s e i here other =
     let b : Machine = after_step stamp e.input e.effects a in
     let own = other_calls i stamp e.input e.effects a e.daemon e.runs other (free_of_answers distinct p h now x run e i other) in
     subst (λ o. SameIf u v path offset i o (session_of_world v i)) (sym (found_on u i a (ap (machine_at u) here ∙ e.at)))
-    (subst (λ q. SameIf u v path offset i (session_on i a) q) (sym (found_on v i b (ap (machine_at v) here ∙ e.later)))
-    (found_other u v path offset i a b (session_on i a) (session_on i b) refl (other_found stamp e.input e.effects a e.daemon i e.runs other) own
+    (subst (λ q. SameIf u v path offset i (session_on u.moment i a) q) (sym (found_then u v i b e.moment (ap (machine_at v) here ∙ e.later)))
+    (found_other u v path offset u.moment i a b (session_on u.moment i a) (session_on u.moment i b) refl (other_found u.moment stamp e.input e.effects a e.daemon i e.runs other) own
     (other_runs stamp e.input e.effects a e.daemon i e.runs) (step_resets stamp e.input e.effects a) s))
 
 -- A session is of the daemon that takes the entry.
@@ -289,7 +289,7 @@ other_stays distinct p h now x run path offset s e i other =
     elim (same_or_apart i.machine (machine_of x.0)) as (λ z. OtherStays p h now x path offset i) [
       | inl here ↦ other_here distinct p h now x run path offset s e i here
           (other_daemon i e.daemon.number (machine_of x.0) (e.daemon.number == i.daemon) here refl other)
-      | inr apart ↦ elsewhere_same u v path offset i (e.elsewhere i.machine apart)
+      | inr apart ↦ elsewhere_same u v path offset i e.moment (e.elsewhere i.machine apart)
           (λ f at. record { layout = s.layout; own = λ t k. sector_same u v path offset s i f })
     ]
 

@@ -1,14 +1,18 @@
--- Quiet events, and what a machine does by itself: nothing of an id changes but the moment.
+-- Quiet events, and what a machine does by itself: nothing of an id changes but the moment, and with it which
+-- sessions are over.
 use Rattle.sl_run_law.specs.Course.Mirrors.{AreNumbered}
 use Rattle.sl_run_law.specs.Course.CourseLaws.{MachinesMirror}
 use Rattle.sl_run_law.proofs.Front.RunsFromFronts.{last_event, settled_later}
 use Rattle.sl_id_safety.proofs.State.LandingFrames.{same_landings}
 use Rattle.sl_id_safety.proofs.State.StateFrames.{one_step}
-use Rattle.sl_id_safety.specs.State.IdStates.{id_state}
+use Rattle.sl_id_safety.specs.State.IdStates.{id_state, session_at}
 use Rattle.sl_id_safety.proofs.Steps.IdsStayStill.{IsStill, StaysStill, still_sector, still_session}
 use Rattle.sl_id_safety.specs.Steps.EventParts.{IsQuietEvent, OwnStepsGoOn, QuietChangesGoOn, between, state_between}
+use Rattle.sl_id_safety.proofs.State.SectorFrames.{SameSector}
+use Rattle.sl_id_safety.proofs.Steps.TimePasses.{SomeEnd, at_moment, names_in, some_end, time_does, time_names}
+use Rattle.sl_ids.proofs.DerivedLaws.{go_on}
 use Rattle.sl_ids.specs.Guards.{terms_of}
-use Rattle.sl_ids.specs.Steps.{Pass, Passes}
+use Rattle.sl_ids.specs.Steps.{Pass, Passes, after_end}
 use Rattle.sl_run_law.proofs.Landing.OneArrival.{changed_landings}
 use Rattle.sl_run_law.proofs.Landing.InputNeedsDaemon.{own_makes_none}
 use Rattle.sl_words.proofs.Lists.{set_length}
@@ -31,7 +35,7 @@ use Rattle.sl_run_law.specs.Machines.{EachMachine}
 use Rattle.sl_trace.specs.declared.effects.Effects.{Effects}
 use Rattle.sl_words.proofs.CaseLaws.{none_some}
 use Rattle.std.proofs.Common.{ap, arith, inl, inr, refl, subst, sym, ◌∙◌}
-use Rattle.std.specs.Prelude.{List, None, Option, Some, length, slice_set, true, [], ℕ, ◌++◌, ◌+◌, ◌-◌, ◌∷◌, ◌≡◌, ◌≤◌}
+use Rattle.std.specs.Prelude.{Contains, List, None, Option, Some, length, slice_set, true, [], ℕ, ◌++◌, ◌+◌, ◌-◌, ◌∷◌, ◌≡◌, ◌≤◌, ◌⊎◌}
 
 -- ---- machines
 
@@ -111,7 +115,8 @@ quiet_lands (Restart m) w q = changed_landings m (after_restart w) w
 
 -- ---- quiet events
 
-quiet_still : (w : World) (e : Event) → IsQuietEvent w e → may_happen w e ≡ true → IsOrderly w → StaysStill w (between w e)
+-- Once its time has passed, an event changes nothing more.
+quiet_still : (w : World) (e : Event) → IsQuietEvent w e → may_happen w e ≡ true → IsOrderly w → StaysStill (at_moment (between w e).moment w) (between w e)
 quiet_still w e quiet may o =
     let g : Goes (time_of e) 1 w (between w e) = event_goes w e [] in
     record {
@@ -119,6 +124,7 @@ quiet_still w e quiet may o =
       header = g.header;
       landings = quiet_lands e w quiet;
       machines = g.machines;
+      moment = refl;
       each = each_first (λ m. IsStill) e w (λ none. still) (asked w e quiet may o);
     }
 
@@ -126,22 +132,42 @@ no_earlier : (n m d : ℕ) → m ≡ n + d → n ≤ m
 no_earlier n m d h = omega (arith, h)
 
 -- Where a world stays still its id passes.
-pub still_passes : (w v : World) (path : List ℕ) (offset : ℕ) → w.moment ≤ v.moment → StaysStill w v → Pass (id_state w path offset) (id_state v path offset)
-still_passes w v path offset later s =
-    record { later = later; same = same_landings w v path offset (still_sector w v path offset s); sessions = still_session w v path offset s }
+pub still_passes : (w v : World) (path : List ℕ) (offset : ℕ) → StaysStill w v → Pass (id_state w path offset) (id_state v path offset)
+still_passes w v path offset s =
+    record { later = equal_is_least w.moment v.moment s.moment; same = same_landings w v path offset (still_sector w v path offset s); sessions = still_session w v path offset s }
 
 pub orderly : MachinesMirror → (p : Program) (h : Header) (now : List Happening) → LawfulRun p h now → IsOrderly (world_at p h now)
 orderly mirror p h now run =
     record { settled = settled_later p h now run.is_run; numbered = λ m a at. (mirror p h now run m a at).numbered }
 
+-- The sector stays, whatever the moment.
+sector_later : (n : ℕ) (w v : World) (path : List ℕ) (offset : ℕ) → SameSector (at_moment n w) v path offset → SameSector w v path offset
+sector_later n w v path offset s = record { layout = s.layout; history = s.history; writers = s.writers }
+
+quiet_ends : (p : Program) (h : Header) (now : List Happening) → LawfulRun p h now → (v : World) (path : List ℕ) (offset : ℕ) → (world_at p h now).moment ≤ v.moment
+    → StaysStill (at_moment v.moment (world_at p h now)) v → SomeEnd (id_state (world_at p h now) path offset) (id_state v path offset) (names_in (world_at p h now))
+quiet_ends p h now run v path offset le still =
+    let w : World = world_at p h now in
+    let u : World = at_moment v.moment w in
+    record {
+      later = le;
+      same = same_landings w v path offset (sector_later v.moment w v path offset (still_sector u v path offset still));
+      each = λ j. subst (λ x. (x ≡ session_at w path offset j) ⊎ (x ≡ after_end (session_at w path offset j))) (sym (still_session u v path offset still j))
+          (time_does p h now run v.moment le path offset j);
+      named = λ j. subst (λ x. (x ≡ session_at w path offset j) ⊎ Contains (names_in w) j) (sym (still_session u v path offset still j))
+          (time_names v.moment w path offset j);
+    }
+
 pub quiet_changes_go_on_given : MachinesMirror → QuietChangesGoOn
 quiet_changes_go_on_given mirror p h now x path offset run place quiet reached bounded =
     let last = last_event p h now x run in
     let w : World = world_at p h now in
-    let g : Goes (time_of x.0) 1 w (between w x.0) = event_goes w x.0 [] in
-    one_step (terms_of h.timing) (id_state w path offset) (state_between p h now x.0 path offset)
-    (Passes (still_passes w (between w x.0) path offset (no_earlier w.moment (between w x.0).moment (time_of x.0) g.moment)
-    (quiet_still w x.0 quiet last.may (orderly mirror p h now last.before)))) bounded
+    let v : World = between w x.0 in
+    let g : Goes (time_of x.0) 1 w v = event_goes w x.0 [] in
+    some_end (terms_of h.timing) (names_in w) (id_state w path offset) (state_between p h now x.0 path offset)
+    (quiet_ends p h now last.before v path offset (no_earlier w.moment v.moment (time_of x.0) g.moment)
+    (quiet_still w x.0 quiet last.may (orderly mirror p h now last.before)))
+    (go_on.bounded (terms_of h.timing) (id_state w path offset) reached) bounded
 
 -- ---- what a machine does by itself
 
@@ -169,13 +195,12 @@ leaves_by m f w (Some a) = record { layout = refl; header = refl; landings = ref
 pub own_still : (m : ℕ) (fx : Effects) (v : World) → fx.calls ≡ [] → StaysStill v (take_step m None fx v)
 own_still m fx v none =
     let r : LeavesRest v (take_step m None fx v) = leaves_by m (λ a. after_effects (stamp_now v a) fx a) v (machine_at v m) in
-    record { layout = r.layout; header = r.header; landings = r.landings; machines = r.machines; each = own_each m fx v none }
+    record { layout = r.layout; header = r.header; landings = r.landings; machines = r.machines; moment = r.moment; each = own_each m fx v none }
 
 own_passes : (m : ℕ) (fx : Effects) (v : World) (path : List ℕ) (offset : ℕ) → fx.calls ≡ []
     → Pass (id_state v path offset) (id_state (take_step m None fx v) path offset)
 own_passes m fx v path offset none =
-    let r : LeavesRest v (take_step m None fx v) = leaves_by m (λ a. after_effects (stamp_now v a) fx a) v (machine_at v m) in
-    still_passes v (take_step m None fx v) path offset (equal_is_least v.moment (take_step m None fx v).moment r.moment) (own_still m fx v none)
+    still_passes v (take_step m None fx v) path offset (own_still m fx v none)
 
 pub own_steps_go_on : OwnStepsGoOn
 own_steps_go_on p h now x path offset run place own reached bounded =

@@ -4,7 +4,7 @@ use Rattle.sl_run_law.proofs.Course.MachinesMirror.{machines_mirror}
 use Rattle.sl_run_law.proofs.Front.RunsFromFronts.{last_event}
 use Rattle.sl_id_safety.proofs.State.TraceBridge.{known}
 use Rattle.sl_id_safety.proofs.State.CallFrames.{ChangesCall, caller, caller_found, others_same}
-use Rattle.sl_id_safety.proofs.State.FindingFrames.{find_passes, found_moves, found_on, moved}
+use Rattle.sl_id_safety.proofs.State.FindingFrames.{find_passes, found_moves, found_on, found_then, moved}
 use Rattle.sl_id_safety.proofs.State.LandingFrames.{same_landings}
 use Rattle.sl_id_safety.proofs.State.SessionFacts.{deciding_reads_have_watched, grounds, join_reads_are_own, verify_reads_have_claimed}
 use Rattle.sl_id_safety.proofs.State.SampleFrames.{read_is_own}
@@ -124,7 +124,7 @@ none_later : (w u : World) (m n : ℕ) (turn : Course → Course) (k : ChangesCa
 none_later w u m n turn k i same none =
     let a : Machine = k.machine in
     let b : Machine = change_call n turn a in
-    found_on u i b (ap (machine_at u) same ∙ k.later) ∙ found_moves i a b refl
+    found_then w u i b k.moment (ap (machine_at u) same ∙ k.later) ∙ found_moves w.moment i a b refl
     ∙ ap (option_map (moved b)) (sym (found_on w i a (ap (machine_at w) same ∙ k.at)) ∙ none)
 
 -- Nothing that matters was sampled.

@@ -10,7 +10,7 @@ use Rattle.sl_id_safety.specs.Steps.EventParts.{between}
 use Rattle.sl_run_law.proofs.Landing.CallsOfStep.{same_daemon}
 use Rattle.sl_words.proofs.Lists.{contains_first, contains_more}
 use Rattle.sl_words.proofs.Options.{then_value}
-use Rattle.sl_run.specs.EventChanges.{after_step, close_answered, daemon_number, new_course, take_step, with_entry}
+use Rattle.sl_run.specs.EventChanges.{after_step, close_answered, daemon_number, new_course, next_step, take_step, with_entry}
 use Rattle.sl_run.specs.Inputs.{if_running, input_at, input_of, machine_of}
 use Rattle.sl_run.specs.Refusals.{may_happen}
 use Rattle.sl_run.specs.Runs.{Happening}
@@ -33,7 +33,7 @@ use Rattle.sl_words.specs.Words.{choose}
 use Rattle.std.proofs.Common.{ap, refl, subst, sym, ◌∙◌}
 use Rattle.std.proofs.lemmas.List.{append_assoc}
 use Rattle.std.specs.Option.{option_map_or}
-use Rattle.std.specs.Prelude.{Bool, Contains, List, None, Option, Some, cond, false, find, fold, is_none, is_some, option_and_then, option_map, true, [], ℕ, ◌++◌, ◌==◌, ◌∷◌, ◌≡◌}
+use Rattle.std.specs.Prelude.{Bool, Contains, List, None, Option, Some, cond, false, find, fold, is_none, is_some, option_and_then, option_map, slice_set, true, [], ℕ, ◌++◌, ◌-◌, ◌==◌, ◌∷◌, ◌≡◌}
 
 -- ---- the daemon that takes it
 
@@ -147,6 +147,7 @@ pub record IsEntry (p : Program) (h : Header) (now : List Happening) (x : Happen
   pub runs : machine.daemon ≡ Some daemon
   pub later : machine_at (after_event p h now x) (machine_of x.0) ≡ Some (after_step (stamp_now (between (world_at p h now) x.0) machine) input effects machine)
   pub elsewhere : (k : ℕ) → (k ≡ machine_of x.0 → ⊥) → machine_at (after_event p h now x) k ≡ machine_at (between (world_at p h now) x.0) k
+  pub moment : (after_event p h now x).moment ≡ (between (world_at p h now) x.0).moment
 
 step_at : (m : ℕ) (i : Input) (fx : Effects) (u : World) (a : Machine) → machine_at u m ≡ Some a
     → machine_at (take_step m (Some i) fx u) m ≡ Some (after_step (stamp_now u a) i fx a)
@@ -154,6 +155,11 @@ step_at m i fx u a at = changed_here u m (λ b. after_step (stamp_now u b) i fx 
 
 step_elsewhere : (m k : ℕ) (i : Input) (fx : Effects) (u : World) → (k ≡ m → ⊥) → machine_at (take_step m (Some i) fx u) k ≡ machine_at u k
 step_elsewhere m k i fx u apart = changed_elsewhere u m k (λ b. after_step (stamp_now u b) i fx b) apart
+
+step_moment : (m : ℕ) (f : Machine → Machine) (u : World) (o : Option Machine)
+    → (next_step (elim o as (λ x. World) [ None ↦ u | Some a ↦ record u { machines = slice_set u.machines (m - 1) (f a) } ])).moment ≡ u.moment
+step_moment m f u None = refl
+step_moment m f u (Some a) = refl
 
 -- Each event that gives an input has its entry.
 pub entry_is : (p : Program) (h : Header) (now : List Happening) (x : Happening) → LawfulRun p h (now ++ x ∷ []) → (j : Input)
@@ -179,6 +185,7 @@ entry_is p h now x run j gives =
       runs = b.2.daemon ∙ r.runs;
       later = ap (λ v. machine_at v (machine_of x.0)) after ∙ step_at (machine_of x.0) j last.effects u b.0 b.1;
       elsewhere = λ k apart. ap (λ v. machine_at v k) after ∙ step_elsewhere (machine_of x.0) k j last.effects u apart;
+      moment = ap (λ v. v.moment) after ∙ step_moment (machine_of x.0) (λ b. after_step (stamp_now u b) j last.effects b) u (machine_at u (machine_of x.0));
     }
 
 -- ---- daemons after it
@@ -212,31 +219,31 @@ takes : (n : ℕ) (d : Daemon) (ds : List Daemon) → (d.number == n) ≡ true �
 takes n d ds h = ap (λ b. cond b (Some d) (find (λ x. x.number == n) ds)) h
 
 -- A session of another daemon is found as before.
-pub other_found : (now : Stamp) (j : Input) (fx : Effects) (a : Machine) (d : Daemon) (i : SessionId) → a.daemon ≡ Some d → (d.number == i.daemon) ≡ false
-    → session_on i (after_step now j fx a) ≡ option_map (moved (after_step now j fx a)) (session_on i a)
-other_found now j fx a d i runs other =
+pub other_found : (n : ℕ) (now : Stamp) (j : Input) (fx : Effects) (a : Machine) (d : Daemon) (i : SessionId) → a.daemon ≡ Some d → (d.number == i.daemon) ≡ false
+    → session_on n i (after_step now j fx a) ≡ option_map (moved (after_step now j fx a)) (session_on n i a)
+other_found n now j fx a d i runs other =
     let b : Machine = after_step now j fx a in
-    ap (λ ds. session_with i b (find (λ x. x.number == i.daemon) ds)) (after_daemons now j fx a d runs)
-    ∙ ap (session_with i b) (skips i.daemon (entered now j fx a d) a.ended (d.number == i.daemon) refl other ∙ sym (skips i.daemon d a.ended (d.number == i.daemon) refl other)
+    ap (λ ds. session_with n i b (find (λ x. x.number == i.daemon) ds)) (after_daemons now j fx a d runs)
+    ∙ ap (session_with n i b) (skips i.daemon (entered now j fx a d) a.ended (d.number == i.daemon) refl other ∙ sym (skips i.daemon d a.ended (d.number == i.daemon) refl other)
     ∙ ap (λ ds. find (λ x. x.number == i.daemon) ds) (sym (daemons_are a d runs)))
-    ∙ moves_by i a b (daemon_numbered a i.daemon)
+    ∙ moves_by n i a b (daemon_numbered a i.daemon)
 
 -- A session of the daemon is found with the daemon's entry.
-pub own_found : (now : Stamp) (j : Input) (fx : Effects) (a : Machine) (d : Daemon) (i : SessionId) (f : Found) → a.daemon ≡ Some d
-    → (d.number == i.daemon) ≡ true → session_on i a ≡ Some f → (f.daemon ≡ d) × (session_on i (after_step now j fx a)
-    ≡ Some (record { machine = after_step now j fx a; daemon = entered now j fx a d; session = f.session }))
-own_found now j fx a d i f runs same at =
+pub own_found : (n : ℕ) (now : Stamp) (j : Input) (fx : Effects) (a : Machine) (d : Daemon) (i : SessionId) (f : Found) → a.daemon ≡ Some d
+    → (d.number == i.daemon) ≡ true → session_on n i a ≡ Some f → (f.daemon ≡ d) × (session_on n i (after_step now j fx a)
+    ≡ Some (record { machine = after_step now j fx a; daemon = entered now j fx a d; session = f.session; now = n }))
+own_found n now j fx a d i f runs same at =
     let b : Machine = after_step now j fx a in
     let e : Daemon = entered now j fx a d in
-    let found : IsFound i a f = is_found i a f at in
+    let found : IsFound n i a f = is_found n i a f at in
     let before : daemon_numbered a i.daemon ≡ Some d = ap (λ ds. find (λ x. x.number == i.daemon) ds) (daemons_are a d runs) ∙ takes i.daemon d a.ended same in
     let is : f.daemon ≡ d = one_value f.daemon d (daemon_numbered a i.daemon) found.daemon before in
     let session : session_numbered e.setting e.trace i.number ≡ Some f.session =
     session_more d.setting (entry_of j fx a) d.trace i.number f.session (subst (λ y. session_numbered y.setting y.trace i.number ≡ Some f.session) is found.session) in (
       is,
-      ap (λ ds. session_with i b (find (λ x. x.number == i.daemon) ds)) (after_daemons now j fx a d runs)
-          ∙ ap (session_with i b) (takes i.daemon e a.ended same)
-          ∙ ap (λ o. option_map (λ s. let y : Found = record { machine = b; daemon = e; session = s } in y) o) session,
+      ap (λ ds. session_with n i b (find (λ x. x.number == i.daemon) ds)) (after_daemons now j fx a d runs)
+          ∙ ap (session_with n i b) (takes i.daemon e a.ended same)
+          ∙ ap (λ o. option_map (λ s. let y : Found = record { machine = b; daemon = e; session = s; now = n } in y) o) session,
     )
 
 -- ---- calls after it

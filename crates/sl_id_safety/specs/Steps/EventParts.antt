@@ -69,7 +69,7 @@ IsEndingEvent w e = ⊥
 abbrev pub EndingsGoOn : Type 0
 EndingsGoOn = FirstChangesGoOn IsEndingEvent
 
--- What changes nothing of an id, but maybe the moment.
+-- What changes nothing of an id, but maybe the moment, and with it which sessions are over.
 abbrev pub IsQuietEvent : World → Event → Type 0
 IsQuietEvent w (Pass d growths) = Unit {0}
 IsQuietEvent w (WakeUp m) = Unit {0}

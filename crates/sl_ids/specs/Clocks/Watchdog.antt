@@ -20,7 +20,7 @@ pub record IsConnected (t : TimingNumbers) (renewed kept : Point) (now : ℕ) : 
   pub fires : now ≤ kept.moment + t.fire
 
 -- Why a session may still act, which is to submit a write or have one land: its connection stands; or its machine was reset while
--- it stood, not longer than `land` ago, and a write submitted before is in flight.
+-- it stood, not longer than `land` ago, and what was submitted before may land.
 pub data MayAct (t : TimingNumbers) (renewed : Point) (now : ℕ) : Type 0 where
   Connected : (kept : Point) → IsConnected t renewed kept now → MayAct t renewed now
   Lately_reset : (kept : Point) (reset : ℕ) → IsConnected t renewed kept reset → now ≤ reset + t.land → MayAct t renewed now

@@ -247,6 +247,7 @@ machine_of_line p g h m o =
       used = is_some (option_map (daemon_of_line p g h m) o);
       calls = [];
       holdings = [];
+      lingering = [];
       resets = [];
       locks = fresh_locks h;
     }

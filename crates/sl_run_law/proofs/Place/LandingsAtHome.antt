@@ -57,28 +57,28 @@ told p h xs b run x there =
     record { machine = k.machine; call = k.call; named = k.named; wrote = k.wrote; trace = t; session = s.0; its = s.1; mine = s.2 }
 
 abbrev found_of : {w : World} {x : Landing} → IsTold w x → Found
-found_of {w} {x} t = record { machine = t.wrote.machine; daemon = t.trace.daemon; session = t.session }
+found_of {w} {x} t = record { machine = t.wrote.machine; daemon = t.trace.daemon; session = t.session; now = w.moment }
 
 abbrev id_of : {w : World} {x : Landing} → IsTold w x → SessionId
 id_of {w} {x} t = record { machine = t.machine; daemon = t.wrote.course.daemon; number = t.session.number }
 
-in_daemon : (d : Daemon) (a : Machine) (n : ℕ) (s : Session) → session_numbered d.setting d.trace n ≡ Some s
-    → option_map (λ (x : Session). let f : Found = record { machine = a; daemon = d; session = x } in f) (session_numbered d.setting d.trace n)
-    ≡ Some (record { machine = a; daemon = d; session = s })
-in_daemon d a n s is = ap (option_map (λ (x : Session). let f : Found = record { machine = a; daemon = d; session = x } in f)) is
+in_daemon : (w : World) (d : Daemon) (a : Machine) (n : ℕ) (s : Session) → session_numbered d.setting d.trace n ≡ Some s
+    → option_map (λ (x : Session). let f : Found = record { machine = a; daemon = d; session = x; now = w.moment } in f) (session_numbered d.setting d.trace n)
+    ≡ Some (record { machine = a; daemon = d; session = s; now = w.moment })
+in_daemon w d a n s is = ap (option_map (λ (x : Session). let f : Found = record { machine = a; daemon = d; session = x; now = w.moment } in f)) is
 
-in_machine : (a : Machine) (number n : ℕ) (d : Daemon) (s : Session) → daemon_numbered a number ≡ Some d → session_numbered d.setting d.trace n ≡ Some s
-    → option_and_then (λ (e : Daemon). option_map (λ (x : Session). let f : Found = record { machine = a; daemon = e; session = x } in f) (session_numbered e.setting e.trace n))
-    (daemon_numbered a number) ≡ Some (record { machine = a; daemon = d; session = s })
-in_machine a number n d s at is =
-    ap (option_and_then (λ (e : Daemon). option_map (λ (x : Session). let f : Found = record { machine = a; daemon = e; session = x } in f) (session_numbered e.setting e.trace n))) at
-    ∙ in_daemon d a n s is
+in_machine : (w : World) (a : Machine) (number n : ℕ) (d : Daemon) (s : Session) → daemon_numbered a number ≡ Some d → session_numbered d.setting d.trace n ≡ Some s
+    → option_and_then (λ (e : Daemon). option_map (λ (x : Session). let f : Found = record { machine = a; daemon = e; session = x; now = w.moment } in f) (session_numbered e.setting e.trace n))
+    (daemon_numbered a number) ≡ Some (record { machine = a; daemon = d; session = s; now = w.moment })
+in_machine w a number n d s at is =
+    ap (option_and_then (λ (e : Daemon). option_map (λ (x : Session). let f : Found = record { machine = a; daemon = e; session = x; now = w.moment } in f) (session_numbered e.setting e.trace n))) at
+    ∙ in_daemon w d a n s is
 
 in_world : (w : World) (i : SessionId) (a : Machine) (d : Daemon) (s : Session) → machine_at w i.machine ≡ Some a → daemon_numbered a i.daemon ≡ Some d
-    → session_numbered d.setting d.trace i.number ≡ Some s → session_of_world w i ≡ Some (record { machine = a; daemon = d; session = s })
+    → session_numbered d.setting d.trace i.number ≡ Some s → session_of_world w i ≡ Some (record { machine = a; daemon = d; session = s; now = w.moment })
 in_world w i a d s here at is =
-    ap (option_and_then (λ (b : Machine). option_and_then (λ (e : Daemon). option_map (λ (x : Session). let f : Found = record { machine = b; daemon = e; session = x } in f)
-    (session_numbered e.setting e.trace i.number)) (daemon_numbered b i.daemon))) here ∙ in_machine a i.daemon i.number d s at is
+    ap (option_and_then (λ (b : Machine). option_and_then (λ (e : Daemon). option_map (λ (x : Session). let f : Found = record { machine = b; daemon = e; session = x; now = w.moment } in f)
+    (session_numbered e.setting e.trace i.number)) (daemon_numbered b i.daemon))) here ∙ in_machine w a i.daemon i.number d s at is
 
 course_of : {w : World} {x : Landing} (t : IsTold w x) → IsTrue (is_course_of (id_of t) t.wrote.course)
 course_of {w} {x} t =

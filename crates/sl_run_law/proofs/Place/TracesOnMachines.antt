@@ -258,22 +258,22 @@ pub record IsInside (w : World) (i : SessionId) (f : Found) : Type 0 where
   pub has : Contains (daemons_on f.machine) f.daemon
   pub its : session_numbered f.daemon.setting f.daemon.trace i.number ≡ Some f.session
 
-abbrev found_as : Machine → Daemon → Session → Found
-found_as a d s = record { machine = a; daemon = d; session = s }
+abbrev found_as : World → Machine → Daemon → Session → Found
+found_as w a d s = record { machine = a; daemon = d; session = s; now = w.moment }
 
 inside_daemon : (w : World) (i : SessionId) (f : Found) (a : Machine) (d : Daemon) (o : Option Session) → machine_at w i.machine ≡ Some a → Contains (daemons_on a) d
-    → session_numbered d.setting d.trace i.number ≡ o → option_map (λ (s : Session). found_as a d s) o ≡ Some f → IsInside w i f
+    → session_numbered d.setting d.trace i.number ≡ o → option_map (λ (s : Session). found_as w a d s) o ≡ Some f → IsInside w i f
 inside_daemon w i f a d None at has is h = absurd (none_some f h)
-inside_daemon w i f a d (Some s) at has is h = subst (IsInside w i) (some_value (found_as a d s) f h) (record { at = at; has = has; its = is })
+inside_daemon w i f a d (Some s) at has is h = subst (IsInside w i) (some_value (found_as w a d s) f h) (record { at = at; has = has; its = is })
 
 inside_machine : (w : World) (i : SessionId) (f : Found) (a : Machine) (o : Option Daemon) → machine_at w i.machine ≡ Some a → daemon_numbered a i.daemon ≡ o
-    → option_and_then (λ (d : Daemon). option_map (λ (s : Session). found_as a d s) (session_numbered d.setting d.trace i.number)) o ≡ Some f → IsInside w i f
+    → option_and_then (λ (d : Daemon). option_map (λ (s : Session). found_as w a d s) (session_numbered d.setting d.trace i.number)) o ≡ Some f → IsInside w i f
 inside_machine w i f a None at is h = absurd (none_some f h)
 inside_machine w i f a (Some d) at is h =
     inside_daemon w i f a d (session_numbered d.setting d.trace i.number) at (find_inside (λ (x : Daemon). x.number == i.daemon) (daemons_on a) d is).0 refl h
 
 inside_world : (w : World) (i : SessionId) (f : Found) (o : Option Machine) → machine_at w i.machine ≡ o
-    → option_and_then (λ (a : Machine). option_and_then (λ (d : Daemon). option_map (λ (s : Session). found_as a d s) (session_numbered d.setting d.trace i.number))
+    → option_and_then (λ (a : Machine). option_and_then (λ (d : Daemon). option_map (λ (s : Session). found_as w a d s) (session_numbered d.setting d.trace i.number))
     (daemon_numbered a i.daemon)) o ≡ Some f → IsInside w i f
 inside_world w i f None is h = absurd (none_some f h)
 inside_world w i f (Some a) is h = inside_machine w i f a (daemon_numbered a i.daemon) is refl h

@@ -9,7 +9,7 @@ use Rattle.sl_run.specs.Premises.{is_late_landing, pass_tests}
 use Rattle.sl_run.specs.Inputs.{if_running, input_at, input_of, machine_of}
 use Rattle.sl_run.specs.Runs.{Happening}
 use Rattle.sl_run.specs.Safety.{LawfulRun, world_at}
-use Rattle.sl_run.specs.Worlds.{Course, Daemon, Dropped, Landed, Machine, Program, Stamp, Torn, World, machine_at, may_land, resets_after, stamp_now, world_with}
+use Rattle.sl_run.specs.Worlds.{Course, Daemon, Dropped, Landed, Machine, Program, Stamp, Torn, World, daemons_on, machine_at, may_land, resets_after, stamp_now, world_with}
 use Rattle.sl_run.specs.declared.event.Event.TheVariants.{AnswerCall, Crash, Do, DropWrite, ExitOf, GiveAsk, GiveCommand, GiveLvm, Land, Pass, Reset, Restart, Sample, SpawnedOf, StartDaemon, Tear, Test, WakeUp}
 use Rattle.sl_run.specs.declared.event.Event.{Event}
 use Rattle.sl_run.specs.declared.header.Header.{Header}
@@ -35,7 +35,7 @@ use Rattle.std.proofs.Common.{ap, arith, refl, subst, sym, ◌∙◌}
 use Rattle.std.proofs.lemmas.Bool.{ltb-false}
 use Rattle.std.specs.List.{list_any}
 use Rattle.std.specs.Option.{option_map_or}
-use Rattle.std.specs.Prelude.{Bool, List, None, Option, Some, [], false, is_some, nat_lt, option_and_then, slice_set, true, ℕ, ◌&&◌, ◌++◌, ◌+◌, ◌-◌, ◌∷◌, ◌≡◌}
+use Rattle.std.specs.Prelude.{Bool, Contains, List, None, Option, Some, [], false, is_some, nat_lt, option_and_then, slice_set, true, ℕ, ◌&&◌, ◌++◌, ◌+◌, ◌-◌, ◌<◌, ◌∷◌, ◌≡◌}
 
 -- ---- guards
 
@@ -124,6 +124,7 @@ record Before (t : TimingNumbers) (w : World) (e : Event) : Type 0 where
   timing : w.header.timing ≡ t
   watched : (m : ℕ) (a : Machine) → machine_at w m ≡ Some a → IsWatched t w.moment w.step a
   knows : (m : ℕ) (a : Machine) → machine_at w m ≡ Some a → IsKnown t a
+  begun : (m : ℕ) (a : Machine) → machine_at w m ≡ Some a → (d : Daemon) → Contains (daemons_on a) d → d.begun.step < w.step
 
 abbrev FirstKeeps : TimingNumbers → World → Event → ℕ → Machine → Machine → Type 0
 FirstKeeps t w e m a b =
@@ -178,7 +179,7 @@ asked t w e q =
       crash = λ m is a h. silent t w e m a _ (ap time_of is) (ap (λ x. input_at w x a) is)
           (λ at. steps_keep t w.moment w.step _ (crash_keeps t w.moment w.step a (q.watched m a at)));
       reset = λ m is a h. silent t w e m a _ (ap time_of is) (ap (λ x. input_at w x a) is)
-          (λ at. reset_keeps t w.moment w.step w a (q.knows m a at) refl refl (q.watched m a at));
+          (λ at. reset_keeps t w.moment w.step w a (q.knows m a at) refl refl (q.begun m a at) (q.watched m a at));
       restart = λ m is a h. silent t w e m a _ (ap time_of is) (ap (λ x. input_at w x a) is)
           (λ at. steps_keep t w.moment w.step _ (restart_keeps t w.moment w.step w a (restarts w m a (subst (λ x. may_happen w x ≡ true) is q.may) at) refl (q.watched m a at)));
     }
@@ -259,7 +260,13 @@ next_watched on p h timing now x run so =
     let fx : Effects = last.effects in
     let header = (run_goes (world_with p h) now).header in
     let before : Before h.timing w e =
-    record { may = last.may; timing = ap (λ (y : Header). y.timing) header; watched = so; knows = known on p h now last.before } in
+    record {
+      may = last.may;
+      timing = ap (λ (y : Header). y.timing) header;
+      watched = so;
+      knows = known on p h now last.before;
+      begun = λ m a at d there. (on.of_world p h now last.before m a d at there).begun;
+    } in
     subst (AllWatched h.timing) (sym last.after) (λ m c at.
     let a = was_there w (x ∷ []) m c (ap (λ z. machine_at z m) (sym (run_after (world_with p h) now (x ∷ [])) ∙ last.after) ∙ at) in
     event_keeps h.timing w e fx before timing (λ none. ap (λ (y : Effects). y.calls) (last.own none) ∙ own_none w e (machine_at w (machine_of e)))

@@ -10,7 +10,6 @@ use Rattle.sl_run_law.proofs.Watchdog.Freshness.{IsFresh, test_finds}
 use Rattle.sl_run_law.proofs.Watchdog.ConnectionHeld.{held}
 use Rattle.sl_run_law.proofs.Watchdog.KnownMachines.{IsKnown}
 use Rattle.sl_run_law.proofs.Watchdog.Machines.{GoesOn, IsHeld, IsWatched, WasLost, calls_keep, either_daemon, first_by, first_there, goes_mapped, goes_same, lost_by}
-use Rattle.sl_run_law.proofs.Watchdog.ConnectionStands.{covered_open}
 use Rattle.sl_run_law.proofs.Watchdog.Stamps.{GivenNow}
 use Rattle.sl_words.proofs.CaseLaws.{false_is_true, none_some, some_value, true_is_false}
 use Rattle.std.proofs.Common.{ap, arith, inl, inr, refl, subst, sym, ◌∙◌}
@@ -125,18 +124,17 @@ crash_keeps t moment step a w =
 -- ---- a reset
 
 lost_more : (t : TimingNumbers) (r : Stamp) (rs : List Stamp) (cs : List Course) (d : Daemon) → WasLost t rs cs d → WasLost t (r ∷ rs) cs d
-lost_more t r rs cs d l = record { reset = l.reset; there = contains_more r rs l.reset l.there; after = l.after; stood = l.stood }
+lost_more t r rs cs d l = record { reset = l.reset; there = contains_more r rs l.reset l.there; begun = l.begun; after = l.after; stood = l.stood }
 
-lost_now : (t : TimingNumbers) (moment step : ℕ) (w : World) (a : Machine) (d : Daemon) → IsKnown t a → w.moment ≡ moment → w.step ≡ step → IsWatched t moment step a
+lost_now : (t : TimingNumbers) (moment step : ℕ) (w : World) (a : Machine) (d : Daemon) → IsKnown t a → w.moment ≡ moment → w.step ≡ step → d.begun.step < step → IsWatched t moment step a
     → since_restart a ≡ Some d → WasLost t (stamp_now w a ∷ a.resets) a.calls d
-lost_now t moment step w a d k at this h since =
-    let there = first_there (a.up && a.used) (daemons_on a) d since in
+lost_now t moment step w a d k at this begun h since =
     record {
       reset = stamp_now w a;
       there = contains_first (stamp_now w a) a.resets;
+      begun = omega (arith, begun, this);
       after = λ c inside its. let early = h.made c inside in omega (arith, early, this);
-      stood = λ s its waits.
-          (a.kept, subst (λ n. IsHeld t d s a.kept n) (sym at) (held t moment step a d s k h since its (covered_open d.setting d.trace s (k.lawful d there) its waits)));
+      stood = λ s its covered. (a.kept, subst (λ n. IsHeld t d s a.kept n) (sym at) (held t moment step a d s k h since its covered));
     }
 
 later_resets : (w : World) (a : Machine) (step : ℕ) (r : Stamp) → Contains (resets_after (after_reset w a) step) r → (stamp_now w a ≡ r) ⊎ Contains (resets_after a step) r
@@ -147,9 +145,10 @@ later_resets w a step r there =
       | inr more ↦ inr (kept (λ (x : Stamp). nat_lt step x.step) a.resets r b.1 more)
     ]
 
-pub reset_keeps : (t : TimingNumbers) (moment step : ℕ) (w : World) (a : Machine) → IsKnown t a → w.moment ≡ moment → w.step ≡ step → IsWatched t moment step a
+pub reset_keeps : (t : TimingNumbers) (moment step : ℕ) (w : World) (a : Machine) → IsKnown t a → w.moment ≡ moment → w.step ≡ step
+    → ((d : Daemon) → Contains (daemons_on a) d → d.begun.step < step) → IsWatched t moment step a
     → IsWatched t moment (step + 1) (after_reset w a)
-reset_keeps t moment step w a k at this h =
+reset_keeps t moment step w a k at this begun h =
     record {
       past = h.past;
       fires = λ up. absurd (false_is_true up);
@@ -168,7 +167,7 @@ reset_keeps t moment step w a k at this h =
       fresh = λ d s since. absurd (none_some d since);
       lost = λ d there.
           elim (either_daemon (a.up && a.used) (daemons_on a) d there) as (λ z. WasLost t (stamp_now w a ∷ a.resets) a.calls d) [
-            | inl since ↦ lost_now t moment step w a d k at this h since
+            | inl since ↦ lost_now t moment step w a d k at this (begun d there) h since
             | inr old ↦ lost_more t (stamp_now w a) a.resets a.calls d (h.lost d old)
           ];
     }

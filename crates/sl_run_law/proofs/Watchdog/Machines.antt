@@ -5,7 +5,7 @@ use Rattle.sl_run_law.specs.Moment.MomentsFollowSteps.{point_of}
 use Rattle.sl_words.proofs.Lists.{contains_cases, contains_first, contains_more, contains_none}
 use Rattle.sl_run.specs.Worlds.{Course, Daemon, Machine, Stamp, daemons_on, may_land, resets_after}
 use Rattle.sl_run_law.specs.Sessions.SessionLaws.{IsSession}
-use Rattle.sl_trace.specs.Sessions.{has_open_write}
+use Rattle.sl_run.specs.LawfulConnections.{is_covered}
 use Rattle.sl_trace.specs.declared.session.Session.{Session}
 use Rattle.sl_time.specs.Times.{TimingNumbers, reading_of}
 use Rattle.sl_run_law.proofs.Watchdog.Freshness.{IsFresh}
@@ -49,12 +49,13 @@ pub record IsHeld (t : TimingNumbers) (d : Daemon) (s : Session) (kept : Stamp) 
   pub from : acting_stamp d s ≡ Some stamp
   pub connected : IsConnected t (point_of stamp) (point_of kept) moment
 
--- The daemon's machine was reset after all its calls, while connections stood for all writes that it left open.
+-- The daemon's machine was reset after it began and after all its calls, while the connections of its sessions that need them stood.
 pub record WasLost (t : TimingNumbers) (resets : List Stamp) (calls : List Course) (d : Daemon) : Type 0 where
   pub reset : Stamp
   pub there : Contains resets reset
+  pub begun : d.begun.step < reset.step
   pub after : (c : Course) → Contains calls c → c.daemon ≡ d.number → c.made.step < reset.step
-  pub stood : (s : Session) → IsSession d.setting d.trace s → has_open_write d.trace s ≡ true → (kept : Stamp) × IsHeld t d s kept reset.moment
+  pub stood : (s : Session) → IsSession d.setting d.trace s → is_covered d.trace s ≡ true → (kept : Stamp) × IsHeld t d s kept reset.moment
 
 -- What is kept of a machine, at this moment and before this step.
 pub record IsWatched (t : TimingNumbers) (moment step : ℕ) (a : Machine) : Type 0 where
@@ -117,6 +118,7 @@ lost_still t resets calls cs d each l =
     record {
       reset = l.reset;
       there = l.there;
+      begun = l.begun;
       after = λ c there its.
           let g = each c there in
           subst (λ (s : Stamp). s.step < l.reset.step) (sym g.made) (l.after g.before g.inside (sym g.daemon ∙ its));

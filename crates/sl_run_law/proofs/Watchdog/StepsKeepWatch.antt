@@ -3,7 +3,7 @@ use Rattle.sl_run_law.specs.Course.Mirrors.{AreNumbered, since_restart}
 use Rattle.sl_run.specs.Lawful.{Orderly}
 use Rattle.sl_words.proofs.Lists.{contains_cases, contains_first, contains_none, kept_inside}
 use Rattle.sl_run.specs.EventChanges.{after_effects, after_step, daemon_number, new_course, with_entry}
-use Rattle.sl_run.specs.Locks.{Locks}
+use Rattle.sl_run.specs.Locks.{Locks, left_locks}
 use Rattle.sl_run.specs.Worlds.{Course, Daemon, Machine, Stamp, daemons_on, may_land, reading_now, resets_after}
 use Rattle.sl_run_law.proofs.CoursesGoOn.{told}
 use Rattle.sl_time.specs.Times.{IsTiming, TimingNumbers, fail, reading_of}
@@ -121,6 +121,7 @@ entered t moment step b d e now xs cs gs s each w =
             reset = l.reset;
             there = l.there;
             after = λ c inside its. after_by b d x now c (s.apart x old) its (each c inside) l.reset l.after;
+            begun = l.begun;
             stood = l.stood;
           };
     }
@@ -187,9 +188,9 @@ step_keeps t moment step b d (Spawned p ok) fx now s w = stepped t moment step b
 step_keeps t moment step b d Wake fx now s w = stepped t moment step b d Wake fx now b.calls (after_step now Wake fx b).locks s (λ c there. goes_same b.calls c there) w
 
 -- What the machine does itself submits nothing.
-others_keep : (t : TimingNumbers) (moment step : ℕ) (b : Machine) (xs : List Connection) (gs : List Grant) → IsWatched t moment step b
-    → IsWatched t moment step (record b { connections = xs; holdings = gs })
-others_keep t moment step b xs gs w =
+others_keep : (t : TimingNumbers) (moment step : ℕ) (b : Machine) (xs : List Connection) (gs : List Grant) (ks : Locks) → IsWatched t moment step b
+    → IsWatched t moment step (record b { connections = xs; holdings = gs; locks = ks })
+others_keep t moment step b xs gs ks w =
     record {
       past = w.past;
       fires = w.fires;
@@ -206,12 +207,14 @@ pub own_keeps : (t : TimingNumbers) (moment step : ℕ) (b : Machine) (fx : Effe
 own_keeps t moment step b fx now none w =
     let xs : List Connection = fold after_move b.connections fx.moves in
     let gs : List Grant = held_after fx b.holdings in
+    let ks : Locks = left_locks fx b.locks in
     steps_keep t moment step (after_effects now fx b)
     (subst (λ calls. IsWatched t moment step (record b {
       connections = xs;
       calls = fold (λ (xs : List Course) (x : Call). new_course now (daemon_number b) x ∷ xs) b.calls calls;
       holdings = gs;
-    })) (sym none) (others_keep t moment step b xs gs w))
+      locks = ks;
+    })) (sym none) (others_keep t moment step b xs gs ks w))
 
 -- ---- what a step leaves
 

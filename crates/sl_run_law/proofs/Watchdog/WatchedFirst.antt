@@ -79,6 +79,7 @@ begins_by : (p : Program) (g : Layout) (h : Header) (m : ℕ) (o : Option Sessio
   used = is_some (option_map (daemon_of p g h m) o);
   calls = [];
   holdings = [];
+  lingering = [];
   resets = [];
   locks = fresh_locks h;
 })

@@ -8,7 +8,8 @@ use Rattle.sl_run.specs.Lawful.{Orderly}
 use Rattle.sl_run_law.specs.Moment.MomentsFollowSteps.{StampsDrift, point_of}
 use Rattle.sl_words.proofs.Lists.{any_found, contains_cases, contains_first, contains_more, contains_none, find_inside, got_inside, kept}
 use Rattle.sl_words.proofs.Options.{mapped_value, none_is, some_of, then_value}
-use Rattle.sl_run.specs.Safety.{Found, IsSession as IsSessionOf, SessionId, WasResetLately, is_course_of, world_at}
+use Rattle.sl_run.specs.LawfulConnections.{is_covered}
+use Rattle.sl_run.specs.Safety.{Found, IsSession as IsSessionOf, SessionId, WasResetLately, is_course_of, was_reset, world_at}
 use Rattle.sl_run.specs.Worlds.{Course, Daemon, Machine, Stamp, World, daemon_numbered, daemons_on, is_of_running, is_open, is_write_course, machine_at, may_land, resets_after, world_with}
 use Rattle.sl_run.specs.declared.header.Header.{Header}
 use Rattle.sl_run_law.proofs.WorldsGoOn.{run_goes}
@@ -22,7 +23,7 @@ use Rattle.sl_time.specs.Times.{TimingNumbers}
 use Rattle.sl_trace.specs.WatchdogConnections.{connection_named}
 use Rattle.sl_trace.specs.Traces.{Answered, Setting, Submitted, Trace, is_write, submitted}
 use Rattle.sl_trace.specs.declared.effects.Call.{Call}
-use Rattle.sl_run_law.proofs.Watchdog.FoundCalls.{call_inside, numbers_apart, open_write}
+use Rattle.sl_run_law.proofs.Watchdog.FoundCalls.{call_inside, none_of, numbers_apart, open_write}
 use Rattle.sl_run_law.proofs.Watchdog.ConnectionHeld.{held}
 use Rattle.sl_run_law.proofs.Watchdog.KnownMachines.{IsKnown, RestsOn, known}
 use Rattle.sl_run_law.proofs.Watchdog.Machines.{IsWatched, WasLost, either_daemon, lost_daemons}
@@ -30,13 +31,13 @@ use Rattle.sl_run_law.proofs.Watchdog.TraceNumbers.{number_is}
 use Rattle.sl_run_law.proofs.Watchdog.ConnectionStands.{covered_open}
 use Rattle.sl_run_law.proofs.Watchdog.StepsKeepWatch.{by_false, lost_running, number_below}
 use Rattle.sl_run_law.proofs.Watchdog.AllWatched.{all_watched}
-use Rattle.sl_run_law.specs.Watchdog.WatchdogLaws.{ActsStill, CoveredAreConnected, WritersMayAct, WritesInFlightAreCovered}
+use Rattle.sl_run_law.specs.Watchdog.WatchdogLaws.{ActsStill, CoveredAreConnected, CoveredMayAct, WritersMayAct, WritesInFlightAreCovered}
 use Rattle.sl_words.proofs.CaseLaws.{no_value}
 use Rattle.sl_words.proofs.WordLaws.{and_true, some_is_true}
 use Rattle.sl_words.specs.Words.{is_empty}
 use Rattle.std.proofs.Common.{ap, arith, inl, inr, refl, subst, sym, ◌∙◌}
-use Rattle.std.proofs.lemmas.Bool.{and_from, eq-eqb, eqb-true, lt-ltb}
-use Rattle.std.specs.Prelude.{Bool, Contains, IsSome, IsTrue, List, None, Option, Some, [], cond, false, find, is_none, is_some, nat_lt, option_and_then, option_map, true, ℕ, ◌&&◌, ◌++◌, ◌+◌, ◌==◌, ◌||◌, ◌∷◌, ◌≡◌, ◌≤◌, ◌⊎◌}
+use Rattle.std.proofs.lemmas.Bool.{and_from, eq-eqb, eqb-true, lt-ltb, ltb-false}
+use Rattle.std.specs.Prelude.{Bool, Contains, IsSome, IsTrue, List, None, Option, Some, [], cond, false, find, is_none, is_some, nat_lt, option_and_then, option_map, true, ℕ, ◌&&◌, ◌++◌, ◌+◌, ◌<◌, ◌==◌, ◌||◌, ◌∷◌, ◌≡◌, ◌≤◌, ◌⊎◌}
 
 -- ---- a session of a world
 
@@ -45,20 +46,21 @@ record IsFound (w : World) (i : SessionId) (f : Found) : Type 0 where
   at : machine_at w i.machine ≡ Some f.machine
   daemon : Contains (daemons_on f.machine) f.daemon × (f.daemon.number ≡ i.daemon)
   session : session_numbered f.daemon.setting f.daemon.trace i.number ≡ Some f.session
+  now : f.now ≡ w.moment
 
 found_in : (w : World) (i : SessionId) (a : Machine) (d : Daemon) (s : Session) (f : Found) → machine_at w i.machine ≡ Some a → daemon_numbered a i.daemon ≡ Some d
-    → session_numbered d.setting d.trace i.number ≡ Some s → record { machine = a; daemon = d; session = s } ≡ f → IsFound w i f
+    → session_numbered d.setting d.trace i.number ≡ Some s → record { machine = a; daemon = d; session = s; now = w.moment } ≡ f → IsFound w i f
 found_in w i a d s f at numbered session is =
     let there = find_inside (λ (x : Daemon). x.number == i.daemon) (daemons_on a) d numbered in
-    subst (λ (x : Found). IsFound w i x) is (record { at = at; daemon = (there.0, eqb-true d.number i.daemon there.1); session = session })
+    subst (λ (x : Found). IsFound w i x) is (record { at = at; daemon = (there.0, eqb-true d.number i.daemon there.1); session = session; now = refl })
 
 is_found : (w : World) (i : SessionId) (f : Found) → IsSessionOf w i f → IsFound w i f
 is_found w i f h =
-    let a = then_value (λ (a : Machine). option_and_then (λ (d : Daemon). option_map (λ (s : Session). record { machine = a; daemon = d; session = s })
+    let a = then_value (λ (a : Machine). option_and_then (λ (d : Daemon). option_map (λ (s : Session). record { machine = a; daemon = d; session = s; now = w.moment })
     (session_numbered d.setting d.trace i.number)) (daemon_numbered a i.daemon)) (machine_at w i.machine) f h in
-    let d = then_value (λ (d : Daemon). option_map (λ (s : Session). record { machine = a.0; daemon = d; session = s }) (session_numbered d.setting d.trace i.number))
+    let d = then_value (λ (d : Daemon). option_map (λ (s : Session). record { machine = a.0; daemon = d; session = s; now = w.moment }) (session_numbered d.setting d.trace i.number))
     (daemon_numbered a.0 i.daemon) f a.2 in
-    let s = mapped_value (λ (s : Session). record { machine = a.0; daemon = d.0; session = s }) (session_numbered d.0.setting d.0.trace i.number) f d.2 in
+    let s = mapped_value (λ (s : Session). record { machine = a.0; daemon = d.0; session = s; now = w.moment }) (session_numbered d.0.setting d.0.trace i.number) f d.2 in
     found_in w i a.0 d.0 s.0 f a.1 d.1 s.1 s.2
 
 -- It is a session of its trace.
@@ -77,6 +79,40 @@ stands on p h xs run i f is since covered =
 
 pub covered_are_connected_given : MachinesMirror → EntriesAreStamped → DaemonsAreOfWorld → StampsDrift → CoveredAreConnected
 covered_are_connected_given mirror stamped of_world drift = stands (record { mirror = mirror; stamped = stamped; of_world = of_world; drift = drift })
+
+-- Where no reset since the daemon began is more than `land` ago, none of them is.
+lately_reset : (t : TimingNumbers) (f : Found) → f.daemon.setting.timing ≡ t → was_reset f ≡ false → (r : Stamp) → Contains f.machine.resets r → f.daemon.begun.step < r.step
+    → f.now ≤ r.moment + t.land
+lately_reset t f timing soon r there after =
+    subst (λ (x : TimingNumbers). f.now ≤ r.moment + x.land) timing
+    (ltb-false (r.moment + f.daemon.setting.timing.land) f.now
+    (none_of (λ (x : Stamp). nat_lt (x.moment + f.daemon.setting.timing.land) f.now) (resets_after f.machine f.daemon.begun.step) r soon
+    (kept (λ (x : Stamp). nat_lt f.daemon.begun.step x.step) f.machine.resets r (lt-ltb f.daemon.begun.step r.step after) there)))
+
+covered_by : (h : Header) (w : World) (i : SessionId) (f : Found) → IsFound w i f → IsKnown h.timing f.machine → IsWatched h.timing w.moment w.step f.machine → was_reset f ≡ false
+    → is_covered f.daemon.trace f.session ≡ true → (since_restart f.machine ≡ Some f.daemon) ⊎ Contains (lost_daemons f.machine) f.daemon → ActsStill h w f
+covered_by h w i f g k q soon covered (inl since) =
+    let r = held h.timing w.moment w.step f.machine f.daemon f.session k q since (itself f.daemon.setting f.daemon.trace i.number f.session g.session) covered in
+    record { stamp = r.stamp; from = r.from; acts = Connected (point_of f.machine.kept) r.connected }
+covered_by h w i f g k q soon covered (inr lost) =
+    let l = q.lost f.daemon lost in
+    let r = l.stood f.session (itself f.daemon.setting f.daemon.trace i.number f.session g.session) covered in
+    record {
+      stamp = r.1.stamp;
+      from = r.1.from;
+      acts = Lately_reset (point_of r.0) l.reset.moment r.1.connected (subst (λ n. n ≤ l.reset.moment + h.timing.land) g.now
+          (lately_reset h.timing f (k.timing f.daemon g.daemon.0) soon l.reset l.there l.begun));
+    }
+
+covered_acts : RestsOn → CoveredMayAct
+covered_acts on p h xs run i f is soon covered =
+    let w : World = world_at p h xs in
+    let g = is_found w i f is in
+    covered_by h w i f g (known on p h xs run i.machine f.machine g.at) (all_watched on p h xs run i.machine f.machine g.at) soon covered
+    (either_daemon (f.machine.up && f.machine.used) (daemons_on f.machine) f.daemon g.daemon.0)
+
+pub covered_may_act_given : MachinesMirror → EntriesAreStamped → DaemonsAreOfWorld → StampsDrift → CoveredMayAct
+covered_may_act_given mirror stamped of_world drift = covered_acts (record { mirror = mirror; stamped = stamped; of_world = of_world; drift = drift })
 
 -- ---- calls of a machine and of its daemon's trace
 
@@ -155,7 +191,7 @@ acts_by h w f c k q its inside mine open_is there waits (inl since) =
     record { stamp = r.stamp; from = r.from; acts = Connected (point_of f.machine.kept) r.connected }
 acts_by h w f c k q its inside mine open_is there waits (inr lost) =
     let l = q.lost f.daemon lost in
-    let r = l.stood f.session its waits in
+    let r = l.stood f.session its (covered_open f.daemon.setting f.daemon.trace f.session (k.lawful f.daemon there) its waits) in
     record {
       stamp = r.1.stamp;
       from = r.1.from;
@@ -213,13 +249,13 @@ daemon_found (x ∷ ds) d h there =
 -- The session of a call of a machine is one of the world.
 is_session : (w : World) (m n : ℕ) (a : Machine) (d : Daemon) (s : Session) → machine_at w m ≡ Some a → AreNumbered (daemons_on a) → Contains (daemons_on a) d
     → session_numbered d.setting d.trace n ≡ Some s
-    → IsSessionOf w (record { machine = m; daemon = d.number; number = n }) (record { machine = a; daemon = d; session = s })
+    → IsSessionOf w (record { machine = m; daemon = d.number; number = n }) (record { machine = a; daemon = d; session = s; now = w.moment })
 is_session w m n a d s at numbers there its =
-    ap (λ o. option_and_then (λ (a : Machine). option_and_then (λ (x : Daemon). option_map (λ (y : Session). record { machine = a; daemon = x; session = y })
+    ap (λ o. option_and_then (λ (a : Machine). option_and_then (λ (x : Daemon). option_map (λ (y : Session). record { machine = a; daemon = x; session = y; now = w.moment })
     (session_numbered x.setting x.trace n)) (daemon_numbered a d.number)) o) at
-    ∙ ap (λ o. option_and_then (λ (x : Daemon). option_map (λ (y : Session). record { machine = a; daemon = x; session = y }) (session_numbered x.setting x.trace n)) o)
+    ∙ ap (λ o. option_and_then (λ (x : Daemon). option_map (λ (y : Session). record { machine = a; daemon = x; session = y; now = w.moment }) (session_numbered x.setting x.trace n)) o)
     (daemon_found (daemons_on a) d numbers there)
-    ∙ ap (λ o. option_map (λ (y : Session). record { machine = a; daemon = d; session = y }) o) its
+    ∙ ap (λ o. option_map (λ (y : Session). record { machine = a; daemon = d; session = y; now = w.moment }) o) its
 
 not_empty : (rs : List Stamp) (r : Stamp) → Contains rs r → is_empty rs ≡ false
 not_empty [] r there = absurd (contains_none r there)
@@ -234,7 +270,7 @@ by_connection : (t : TimingNumbers) (w : World) (m : ℕ) (a : Machine) (c : Cou
 by_connection t w m a c d s at k there its session waits since =
     let covered = writes_are_covered d.setting d.trace s (k.lawful d there) (itself d.setting d.trace c.call.session s session) waits in (
       record { machine = m; daemon = d.number; number = c.call.session },
-      record { machine = a; daemon = d; session = s },
+      record { machine = a; daemon = d; session = s; now = w.moment },
       is_session w m c.call.session a d s at k.mirrors.numbered there session,
       refl,
       and_from (c.daemon == d.number) (c.call.session == c.call.session) (eq-eqb c.daemon d.number its) (eq-eqb c.call.session c.call.session refl),
