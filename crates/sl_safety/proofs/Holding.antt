@@ -5,5 +5,8 @@ pub mod Places
 pub mod ExclusivesUnfreed
 pub mod SharedHoldingsBegin
 pub mod OneDaemonAgrees
+pub mod LingeringIsLeft
 pub mod Holders
 pub mod HoldersHoldOnce
+pub mod InputsOfProcesses
+pub mod HoldingsGoOn

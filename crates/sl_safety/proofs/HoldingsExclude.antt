@@ -1,15 +1,15 @@
--- After each lawful run no two holdings conflict.
+-- After each lawful run no two uses conflict, neither of what is held nor of what lingers.
 --
 -- Of two that conflict one is exclusive, and both are of one resource. There the argument over ballots gives them one holder, and
 -- names of joined sessions are apart: so both are of one session, thus of one machine, and a machine doesn't conflict with itself.
 use Rattle.sl_run_law.proofs.Front.RunsFromFronts.{fronts_are_lawful}
-use Rattle.sl_safety.proofs.Holding.Holders.{holdings_are_held, one_machine_agrees}
+use Rattle.sl_safety.proofs.Holding.Holders.{one_machine_agrees, uses_are_held}
 use Rattle.sl_safety.specs.Holding.Holders.{HeldBy, RestsOn, orphaned}
 use Rattle.sl_ballot_law.proofs.Grantings.GrantsMeet.{none_shares_beside, one_is_kept}
 use Rattle.sl_run_law.proofs.Place.FoundInLists.{place_is}
 use Rattle.sl_words.proofs.Lists.{any_found}
 use Rattle.sl_safety.specs.Resources.HistoryLaws.{history_of_line}
-use Rattle.sl_run.specs.Conflicts.{Holding, IsExclusive, conflicts, has_conflict, world_holdings}
+use Rattle.sl_run.specs.Conflicts.{Holding, IsExclusive, conflicts, has_conflict, is_one_user, world_uses}
 use Rattle.sl_run.specs.Runs.{Happening}
 use Rattle.sl_run.specs.Safety.{LawfulRun, Safety, SessionId, world_at}
 use Rattle.sl_run.specs.Worlds.{Program}
@@ -24,7 +24,7 @@ use Rattle.sl_words.proofs.CaseLaws.{false_is_true, true_or_false}
 use Rattle.sl_words.proofs.WordLaws.{and_true}
 use Rattle.std.proofs.Common.{ap, inl, inr, refl, subst, sym, ◌∙◌}
 use Rattle.std.specs.List.{list_any}
-use Rattle.std.specs.Prelude.{Bool, Contains, List, false, not, true, ◌&&◌, ◌==◌, ◌≡◌, ◌⊎◌}
+use Rattle.std.specs.Prelude.{Bool, Contains, List, false, not, true, ◌&&◌, ◌≡◌, ◌⊎◌}
 
 -- ---- of one resource
 
@@ -71,7 +71,7 @@ one_exclusive false c is = inl refl
 one_exclusive true false is = inr refl
 one_exclusive true true is = absurd (false_is_true is)
 
--- What a holding rests on has its machine, its place and its mode.
+-- What a use rests on has its machine, its place and its mode.
 record IsLike (x a : Holding) : Type 0 where
   machine : x.machine ≡ a.machine
   path : x.held.path ≡ a.held.path
@@ -99,7 +99,7 @@ one_machine : HistoriesKeepInstances → (p : Program) (h : Header) (xs : List H
     → RestsOn (world_at p h xs) y → conflicts x y ≡ true → x.machine ≡ y.machine
 one_machine instances_given p h xs run x y k l is =
     let parts = and_true (same_place x.held.path x.held.offset y.held.path y.held.offset && not (is_shared x.held.mode && is_shared y.held.mode))
-    (not (x.machine == y.machine && x.held.process == y.held.process)) is in
+    (not (is_one_user x y)) is in
     let first = and_true (same_place x.held.path x.held.offset y.held.path y.held.offset) (not (is_shared x.held.mode && is_shared y.held.mode)) parts.0 in
     let place = place_is x.held.path x.held.offset y.held.path y.held.offset first.0 in
     let a : Holding = k.before in
@@ -117,16 +117,16 @@ one_machine instances_given p h xs run x y k l is =
 
 -- So there is none.
 never_conflict : HistoriesKeepInstances → (p : Program) (h : Header) (xs : List Happening) → LawfulRun p h xs → (x y : Holding)
-    → Contains (world_holdings (world_at p h xs)) x → Contains (world_holdings (world_at p h xs)) y → conflicts x y ≡ true → ⊥
+    → Contains (world_uses (world_at p h xs)) x → Contains (world_uses (world_at p h xs)) y → conflicts x y ≡ true → ⊥
 never_conflict instances_given p h xs run x y there also is =
-    let same = one_machine instances_given p h xs run x y (holdings_are_held p h xs run x there) (holdings_are_held p h xs run y also) is in
+    let same = one_machine instances_given p h xs run x y (uses_are_held p h xs run x there) (uses_are_held p h xs run y also) is in
     false_is_true (sym (one_machine_agrees p h xs run x y there also same) ∙ is)
 
 exclusive_after : HistoriesKeepInstances → (p : Program) (h : Header) (xs : List Happening) → LawfulRun p h xs → IsExclusive (world_at p h xs)
 exclusive_after instances_given p h xs run =
-    elim (true_or_false (has_conflict (world_holdings (world_at p h xs)))) [
+    elim (true_or_false (has_conflict (world_uses (world_at p h xs)))) [
       | inl some ↦
-          let hs : List Holding = world_holdings (world_at p h xs) in
+          let hs : List Holding = world_uses (world_at p h xs) in
           let x = any_found (λ a. list_any (conflicts a) hs) hs some in
           let y = any_found (conflicts x.0) hs x.2 in
           absurd (never_conflict instances_given p h xs run x.0 y.0 x.1 y.1 y.2)

@@ -1,9 +1,9 @@
 -- Of two machines on which a logical volume is active both have it shared: the holdings of its lock are of one place, and don't conflict.
-use Rattle.sl_run_law.proofs.Front.JoinedLists.{in_flat}
+use Rattle.sl_run_law.proofs.Front.JoinedLists.{contains_left, in_flat}
 use Rattle.sl_safety.proofs.Holding.Places.{is_place, place_is}
 use Rattle.sl_run.specs.LockNames.{group_path}
 use Rattle.sl_words.proofs.Lists.{any_of, contains_first, contains_map, contains_more}
-use Rattle.sl_run.specs.Conflicts.{Holding, IsExclusive, conflicts, world_holdings}
+use Rattle.sl_run.specs.Conflicts.{Holding, IsExclusive, conflicts, holding, is_one_user, world_holdings, world_lingering, world_uses}
 use Rattle.sl_run.specs.Volumes.{VolumesAreExclusive}
 use Rattle.sl_run.specs.Safety.{Safety, world_at}
 use Rattle.sl_run.specs.Worlds.{Machine, World, machine_at}
@@ -18,7 +18,7 @@ use Rattle.std.proofs.Common.{ap, arith, inl, inr, refl, subst, sym, ◌∙◌}
 use Rattle.std.proofs.lemmas.Bool.Decides.{nat_tests}
 use Rattle.std.proofs.lemmas.Bool.{ne_eqb}
 use Rattle.std.specs.List.{enumerate_from, list_any}
-use Rattle.std.specs.Prelude.{Bool, Contains, List, None, Some, false, if◌then◌else◌, map, not, slice_get, suc, true, zero, [], ℕ, ◌&&◌, ◌*◌, ◌+◌, ◌-◌, ◌==◌, ◌∷◌, ◌≡◌}
+use Rattle.std.specs.Prelude.{Bool, Contains, List, None, Some, false, if◌then◌else◌, map, not, slice_get, suc, true, zero, [], ℕ, ◌&&◌, ◌*◌, ◌+◌, ◌-◌, ◌==◌, ◌||◌, ◌∷◌, ◌≡◌}
 
 -- ---- a holding of a machine is one of the world
 
@@ -40,20 +40,18 @@ numbered_there k (b ∷ ms) (suc n) a at =
     let same : (k + 1) + n ≡ k + suc n = omega arith in
     subst (λ x. Contains ((k, b) ∷ enumerate_from (k + 1) ms) (x, a)) same (contains_more (k, b) (enumerate_from (k + 1) ms) ((k + 1) + n, a) (numbered_there (k + 1) ms n a at))
 
-abbrev holding : ℕ → Grant → Holding
-holding m g = record { machine = m; held = g }
-
-in_world : (w : World) (m : ℕ) (a : Machine) (g : Grant) → machine_at w m ≡ Some a → Contains a.holdings g → Contains (world_holdings w) (holding m g)
+in_world : (w : World) (m : ℕ) (a : Machine) (g : Grant) → machine_at w m ≡ Some a → Contains a.holdings g → Contains (world_uses w) (holding m g)
 in_world w m a g at has =
     let n = place_by m w.machines a (m == 0) refl at in
-    in_flat (λ (p : ℕ × Machine). map (holding p.0) p.1.holdings) (enumerate_from 1 w.machines) (m, a) (holding m g)
-    (subst (λ k. Contains (enumerate_from 1 w.machines) (k, a)) (sym n.1) (numbered_there 1 w.machines n.0 a n.2)) (contains_map (holding m) a.holdings g has)
+    contains_left (world_holdings w) (world_lingering w) (holding m g)
+    (in_flat (λ (p : ℕ × Machine). map (holding p.0) p.1.holdings) (enumerate_from 1 w.machines) (m, a) (holding m g)
+    (subst (λ k. Contains (enumerate_from 1 w.machines) (k, a)) (sym n.1) (numbered_there 1 w.machines n.0 a n.2)) (contains_map (holding m) a.holdings g has))
 
 -- ---- of two, neither conflicts with the other
 
-no_conflict : (w : World) → IsExclusive w → (x y : Holding) → Contains (world_holdings w) x → Contains (world_holdings w) y → conflicts x y ≡ false
+no_conflict : (w : World) → IsExclusive w → (x y : Holding) → Contains (world_uses w) x → Contains (world_uses w) y → conflicts x y ≡ false
 no_conflict w safe x y there also =
-    let hs : List Holding = world_holdings w in
+    let hs : List Holding = world_uses w in
     elim (true_or_false (conflicts x y)) [
       | inl is ↦ absurd (true_is_false (sym (any_of (λ a. list_any (conflicts a) hs) hs x (any_of (conflicts x) hs y is also) there) ∙ safe))
       | inr none ↦ none
@@ -74,9 +72,9 @@ volumes_in w safe m k a b group number mode other at there apart (g, has, mine, 
     let one = place_is g.path g.offset (group_path group) (number * w.layout.area) place in
     let two = place_is h.path h.offset (group_path group) (number * w.layout.area) same in
     let here : same_place g.path g.offset h.path h.offset ≡ true = is_place g.path g.offset h.path h.offset (one.0 ∙ sym two.0) (one.1 ∙ sym two.1) in
-    let differ : (m == k && g.process == h.process) ≡ false = ap (λ x. x && g.process == h.process) (ne_eqb m k apart) in
+    let differ : is_one_user (holding m g) (holding k h) ≡ false = ap (λ x. x && (g.process == h.process || false || false)) (ne_eqb m k apart) in
     let both : (is_shared g.mode && is_shared h.mode) ≡ true =
-    both_by (same_place g.path g.offset h.path h.offset) (is_shared g.mode && is_shared h.mode) (m == k && g.process == h.process) here differ
+    both_by (same_place g.path g.offset h.path h.offset) (is_shared g.mode && is_shared h.mode) (is_one_user (holding m g) (holding k h)) here differ
     (no_conflict w safe (holding m g) (holding k h) (in_world w m a g at has) (in_world w k b h there also)) in
     let shared = and_true (is_shared g.mode) (is_shared h.mode) both in
     (sym is ∙ is_shared_mode g.mode shared.0, sym too ∙ is_shared_mode h.mode shared.1)

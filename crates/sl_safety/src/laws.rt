@@ -42,7 +42,8 @@ pub fn histories_keep_instances()
     ensures { HistoriesKeepInstances }
 {}
 
-/// No two holdings conflict, after every event of every lawful run.
+/// No two uses conflict, after every event of every lawful run: neither two holdings, nor one and what lingers of another machine's since a
+/// reset, for as long as a write that was in flight then may land.
 pub fn lawful_runs_are_safe()
     ensures { Safety }
 {}

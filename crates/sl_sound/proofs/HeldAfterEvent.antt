@@ -1,17 +1,16 @@
--- What stands in the world after an event: the holdings of other machines, and those of the event's after its step.
-use Rattle.sl_safety.proofs.Resources.Calls.{numbered_at, numbered_in}
-use Rattle.sl_words.proofs.Lists.{any_found, any_of, contains_map, in_map}
-use Rattle.sl_run.specs.Conflicts.{Holding, conflicts, has_conflict, world_holdings}
+-- What is used in the world after an event: what other machines held, what lingers of it, and what the event's machine holds after its step.
+use Rattle.sl_safety.proofs.Resources.Calls.{numbered_at}
+use Rattle.sl_words.proofs.Lists.{any_found, any_of, contains_map}
+use Rattle.sl_run.specs.Conflicts.{Holding, conflicts, has_conflict, holding, lingering_holding, world_holdings, world_lingering, world_uses}
 use Rattle.sl_run.specs.EventChanges.{after_effects, after_step, happens, take_step}
 use Rattle.sl_run.specs.Inputs.{machine_of}
 use Rattle.sl_run.specs.Refusals.{may_happen}
-use Rattle.sl_run.specs.Worlds.{Machine, Stamp, World, machine_at, stamp_now}
+use Rattle.sl_run.specs.Worlds.{Lingering, Machine, Stamp, World, lingering_now, machine_at, stamp_now}
 use Rattle.sl_run.specs.declared.event.Event.TheVariants.{Reset}
 use Rattle.sl_run.specs.declared.event.Event.{Event}
 use Rattle.sl_run_law.proofs.Course.OneMachineChanges.{changed_here}
 use Rattle.sl_run_law.proofs.Course.MachineTurns.{Alone, Began, Called, Came_up, Clocked, Crashed, Elsewhere, Stays, Stepped, Tested, Took, Turned, Went_down, becomes}
-use Rattle.sl_run_law.proofs.Front.RunsFromFronts.{number_place}
-use Rattle.sl_run_law.proofs.Front.JoinedLists.{contains_flat, in_flat}
+use Rattle.sl_run_law.proofs.Front.JoinedLists.{contains_left, contains_right, in_flat}
 use Rattle.sl_run_law.proofs.MachineWalk.{index, number_within}
 use Rattle.sl_trace.specs.Traces.{held_after}
 use Rattle.sl_trace.specs.declared.effects.Effects.{Effects}
@@ -19,29 +18,32 @@ use Rattle.sl_trace.specs.declared.effects.Grant.{Grant}
 use Rattle.sl_trace.specs.declared.input.Input.TheVariants.{Answer as Told, Exit, Line, Number, Spawned, Wake}
 use Rattle.sl_trace.specs.declared.input.Input.{Input}
 use Rattle.sl_words.proofs.CaseLaws.{is_false, true_is_false}
-use Rattle.std.proofs.Common.{ap, arith, inl, inr, refl, subst, sym, ◌∙◌}
+use Rattle.std.proofs.Common.{ap, inl, inr, refl, subst, sym, ◌∙◌}
 use Rattle.std.specs.List.{enumerate_from, list_any}
-use Rattle.std.specs.Prelude.{Contains, List, None, Option, Some, false, map, suc, true, [], ℕ, ◌+◌, ◌-◌, ◌∷◌, ◌≡◌, ◌⊎◌}
-
--- A grant as a holding of machine m.
-abbrev pub held_on : ℕ → Grant → Holding
-held_on m g = record { machine = m; held = g }
+use Rattle.std.specs.Prelude.{Contains, List, None, Option, Some, false, map, true, [], ℕ, ◌-◌, ◌∷◌, ◌≡◌, ◌⊎◌}
 
 -- ---- a machine before the step
 
--- The holdings stay, but at a reset.
+-- What it holds and what lingers stay, but at a reset.
+pub record Keeps (a b : Machine) : Type 0 where
+  pub holdings : b.holdings ≡ a.holdings
+  pub lingering : b.lingering ≡ a.lingering
+
 abbrev pub KeepsHoldings : Event → ℕ → Machine → Machine → Type 0
-KeepsHoldings e m a b = (b.holdings ≡ a.holdings) ⊎ (e ≡ Reset m)
+KeepsHoldings e m a b = Keeps a b ⊎ (e ≡ Reset m)
+
+keeps_as : (a b c : Machine) → b ≡ c → Keeps a c → Keeps a b
+keeps_as a b c is k = subst (Keeps a) (sym is) k
 
 pub turned_holdings : (w : World) (e : Event) (m : ℕ) (a b : Machine) → Turned w e m a b → KeepsHoldings e m a b
-turned_holdings w e m a b (Stays is) = inl (ap (λ (x : Machine). x.holdings) is)
-turned_holdings w e m a b (Clocked n is) = inl (ap (λ (x : Machine). x.holdings) is)
-turned_holdings w e m a b (Called n f g flight keeps is) = inl (ap (λ (x : Machine). x.holdings) is)
-turned_holdings w e m a b (Tested s is) = inl (ap (λ (x : Machine). x.holdings) is)
-turned_holdings w e m a b (Began name event up used fresh is) = inl (ap (λ (x : Machine). x.holdings) is)
-turned_holdings w e m a b (Crashed event is) = inl (ap (λ (x : Machine). x.holdings) is)
+turned_holdings w e m a b (Stays is) = inl (keeps_as a b _ is (record { holdings = refl; lingering = refl }))
+turned_holdings w e m a b (Clocked n is) = inl (keeps_as a b _ is (record { holdings = refl; lingering = refl }))
+turned_holdings w e m a b (Called n f g flight keeps is) = inl (keeps_as a b _ is (record { holdings = refl; lingering = refl }))
+turned_holdings w e m a b (Tested s is) = inl (keeps_as a b _ is (record { holdings = refl; lingering = refl }))
+turned_holdings w e m a b (Began name event up used fresh is) = inl (keeps_as a b _ is (record { holdings = refl; lingering = refl }))
+turned_holdings w e m a b (Crashed event is) = inl (keeps_as a b _ is (record { holdings = refl; lingering = refl }))
 turned_holdings w e m a b (Went_down event up is) = inr event
-turned_holdings w e m a b (Came_up event down is) = inl (ap (λ (x : Machine). x.holdings) is)
+turned_holdings w e m a b (Came_up event down is) = inl (keeps_as a b _ is (record { holdings = refl; lingering = refl }))
 
 -- ---- the machine of the event, after its step
 
@@ -52,6 +54,14 @@ step_holdings now (Told n answer) fx b = refl
 step_holdings now Wake fx b = refl
 step_holdings now (Exit p) fx b = refl
 step_holdings now (Spawned p ok) fx b = refl
+
+step_lingering : (now : Stamp) (i : Input) (fx : Effects) (b : Machine) → (after_step now i fx b).lingering ≡ b.lingering
+step_lingering now (Line text) fx b = refl
+step_lingering now (Number line) fx b = refl
+step_lingering now (Told n answer) fx b = refl
+step_lingering now Wake fx b = refl
+step_lingering now (Exit p) fx b = refl
+step_lingering now (Spawned p ok) fx b = refl
 
 -- It is there after the step, with these holdings.
 abbrev pub IsHeldAfter : World → ℕ → List Grant → Type 0
@@ -64,51 +74,45 @@ taken m (Some i) fx v b at =
 
 -- ---- another machine
 
-stepped_elsewhere : (w : World) (e : Event) (fx : Effects) (n : ℕ) (b c : Machine) → (n ≡ machine_of e → ⊥) → Stepped w e fx n b c → c.holdings ≡ b.holdings
-stepped_elsewhere w e fx n b c other (Elsewhere is) = ap (λ (x : Machine). x.holdings) is
+stepped_elsewhere : (w : World) (e : Event) (fx : Effects) (n : ℕ) (b c : Machine) → (n ≡ machine_of e → ⊥) → Stepped w e fx n b c → c ≡ b
+stepped_elsewhere w e fx n b c other (Elsewhere is) = is
 stepped_elsewhere w e fx n b c other (Alone none here is) = absurd (other here)
 stepped_elsewhere w e fx n b c other (Took i has here is) = absurd (other here)
 
-kept_elsewhere : (e : Event) (n : ℕ) (a b : Machine) → (n ≡ machine_of e → ⊥) → KeepsHoldings e n a b → b.holdings ≡ a.holdings
+kept_elsewhere : (e : Event) (n : ℕ) (a b : Machine) → (n ≡ machine_of e → ⊥) → KeepsHoldings e n a b → Keeps a b
 kept_elsewhere e n a b other (inl same) = same
 kept_elsewhere e n a b other (inr is) = absurd (other (ap machine_of (sym is)))
 
+-- It is there after the event, with the same holdings, and the same lingers.
 pub elsewhere : (w : World) (e : Event) (fx : Effects) → may_happen w e ≡ true → (n : ℕ) (a : Machine) → machine_at w n ≡ Some a → (n ≡ machine_of e → ⊥)
-    → IsHeldAfter (happens w e (fx ∷ [])) n a.holdings
+    → (c : Machine) × (machine_at (happens w e (fx ∷ [])) n ≡ Some c) × Keeps a c
 elsewhere w e fx may n a at other =
     let q = becomes w e fx may n a at in
     let b : Machine = q.2.middle in
-    (q.0, q.1, stepped_elsewhere w e fx n b q.0 other q.2.stepped ∙ kept_elsewhere e n a b other (turned_holdings w e n a b q.2.turned))
+    (q.0, q.1, keeps_as a q.0 b (stepped_elsewhere w e fx n b q.0 other q.2.stepped) (kept_elsewhere e n a b other (turned_holdings w e n a b q.2.turned)))
 
--- ---- all holdings
+-- ---- all uses
+
+numbered_machine : (v : World) (m : ℕ) (c : Machine) → machine_at v m ≡ Some c → Contains (enumerate_from 1 v.machines) (m, c)
+numbered_machine v m c at =
+    subst (λ n. Contains (enumerate_from 1 v.machines) (n, c)) (number_within v m c at).1 (numbered_at 1 v.machines (m - 1) c (index v m c at).1)
 
 -- A grant that a machine holds is one of the world's.
-pub in_world : (v : World) (m : ℕ) (c : Machine) (g : Grant) → machine_at v m ≡ Some c → Contains c.holdings g → Contains (world_holdings v) (held_on m g)
+pub in_world : (v : World) (m : ℕ) (c : Machine) (g : Grant) → machine_at v m ≡ Some c → Contains c.holdings g → Contains (world_uses v) (holding m g)
 in_world v m c g at has =
-    let there = numbered_at 1 v.machines (m - 1) c (index v m c at).1 in
-    let here : Contains (enumerate_from 1 v.machines) (m, c) = subst (λ n. Contains (enumerate_from 1 v.machines) (n, c)) (number_within v m c at).1 there in
-    in_flat (λ (p : ℕ × Machine). map (held_on p.0) p.1.holdings) (enumerate_from 1 v.machines) (m, c) (held_on m g) here (contains_map (held_on m) c.holdings g has)
+    contains_left (world_holdings v) (world_lingering v) (holding m g)
+    (in_flat (λ (p : ℕ × Machine). map (holding p.0) p.1.holdings) (enumerate_from 1 v.machines) (m, c) (holding m g) (numbered_machine v m c at)
+    (contains_map (holding m) c.holdings g has))
 
--- Who holds it.
-pub record HeldBy (w : World) (h : Holding) : Type 0 where
-  pub machine : Machine
-  pub at : machine_at w h.machine ≡ Some machine
-  pub has : Contains machine.holdings h.held
+-- .. and so is what lingers there.
+pub lingers_in_world : (v : World) (m : ℕ) (c : Machine) (l : Lingering) → machine_at v m ≡ Some c → Contains (lingering_now v c) l
+    → Contains (world_uses v) (lingering_holding m l)
+lingers_in_world v m c l at has =
+    contains_right (world_holdings v) (world_lingering v) (lingering_holding m l)
+    (in_flat (λ (p : ℕ × Machine). map (lingering_holding p.0) (lingering_now v p.1)) (enumerate_from 1 v.machines) (m, c) (lingering_holding m l) (numbered_machine v m c at)
+    (contains_map (lingering_holding m) (lingering_now v c) l has))
 
-pub of_world : (w : World) (h : Holding) → Contains (world_holdings w) h → HeldBy w h
-of_world w h there =
-    let x = contains_flat (λ (p : ℕ × Machine). map (held_on p.0) p.1.holdings) (enumerate_from 1 w.machines) h there in
-    let g = in_map (held_on x.0.0) x.0.1.holdings h x.2 in
-    let n = numbered_in 1 w.machines x.0 x.1 in
-    let same : suc n.0 ≡ 1 + n.0 = omega arith in
-    let number : suc n.0 ≡ h.machine = same ∙ sym n.1 ∙ ap (λ (y : Holding). y.machine) g.2 in
-    record {
-      machine = x.0.1;
-      at = subst (λ m. machine_at w m ≡ Some x.0.1) number (number_place w n.0 x.0.1 n.2);
-      has = subst (Contains x.0.1.holdings) (ap (λ (y : Holding). y.held) g.2) g.1;
-    }
-
--- ---- conflicts among some of the holdings
+-- ---- conflicts among some of the uses
 
 abbrev pub AreAmong : List Holding → List Holding → Type 0
 AreAmong few all = (h : Holding) → Contains few h → Contains all h

@@ -63,7 +63,7 @@ by_step n (s ∷ ss) (y ∷ later) past e t fall even at =
 -- ---- evidence
 
 abbrev pub found_of_standing : {w : World} {x : Sent} → Standing w x → Found
-found_of_standing {w} {x} s = record { machine = s.machine; daemon = s.daemon; session = s.session }
+found_of_standing {w} {x} s = record { machine = s.machine; daemon = s.daemon; session = s.session; now = w.moment }
 
 -- The session of a call is found.
 pub sender_found : (w : World) (x : Sent) (s : Standing w x) → session_of_world w (sender_of x) ≡ Some (found_of_standing s)

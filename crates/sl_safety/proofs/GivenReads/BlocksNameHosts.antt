@@ -81,7 +81,7 @@ hosts_named st es law some s known low newer (x ∷ ms) is c has mine b wrote =
 -- The holder of a call's session has the session's id.
 pub own_host : (w : World) (x : Sent) (s : Standing w x) → (holder_of w (sender_of x)).id ≡ s.session.id
 own_host w x s =
-    let f : Found = record { machine = s.machine; daemon = s.daemon; session = s.session } in
+    let f : Found = record { machine = s.machine; daemon = s.daemon; session = s.session; now = w.moment } in
     ap (λ o. o.id)
     (holder_is w (sender_of x) f
     (in_world w (sender_of x) s.machine s.daemon s.session s.at s.numbered

@@ -38,7 +38,7 @@ use Rattle.std.specs.Prelude.{Bool, Contains, List, Some, [], cond, false, filte
 -- ---- no two of one process and one place
 
 -- Whether a holding is of the process and the place of another.
-abbrev is_like : Grant → Grant → Bool
+abbrev pub is_like : Grant → Grant → Bool
 is_like g h = h.process == g.process && same_place h.path h.offset g.path g.offset
 
 like_itself : (g : Grant) → is_like g g ≡ true
@@ -51,7 +51,7 @@ like_turned g h is =
     and_from (g.process == h.process) (same_place g.path g.offset h.path h.offset) (eq-eqb g.process h.process (sym (eqb-true h.process g.process both.0)))
     (is_place g.path g.offset h.path h.offset (sym place.0) (sym place.1))
 
-abbrev Once : List Grant → Type 0
+abbrev pub Once : List Grant → Type 0
 Once [] = Unit {0}
 Once (g ∷ gs) = ((h : Grant) → Contains gs h → is_like g h ≡ true → ⊥) × Once gs
 
@@ -149,7 +149,7 @@ granted_once : (st : Setting) (e : Entry) (past : Trace) → Orderly st (e ∷ p
 granted_once st e past law y given =
     let owner = some_of (session_numbered st (e ∷ past) y.session) (law.granting.0.owned y given) in (law.granting.0.each y owner.0 given owner.1).single
 
-trace_once : (st : Setting) (es : Trace) → Orderly st es → Once (holdings es)
+pub trace_once : (st : Setting) (es : Trace) → Orderly st es → Once (holdings es)
 trace_once st [] law = tt
 trace_once st (e ∷ past) law =
     let old : List Grant = filter (stays e.effects) (holdings past) in

@@ -120,22 +120,22 @@ owned p h xs run x sent =
     record { there = k; trace = t; session = s.0; its = s.1; mine = s.2 }
 
 abbrev pub found_of : {w : World} {x : Sent} → IsOwned w x → Found
-found_of {w} {x} o = record { machine = o.there.machine; daemon = o.trace.daemon; session = o.session }
+found_of {w} {x} o = record { machine = o.there.machine; daemon = o.trace.daemon; session = o.session; now = w.moment }
 
-abbrev pub found_as : Machine → Daemon → Session → Found
-found_as a d s = record { machine = a; daemon = d; session = s }
+abbrev pub found_as : ℕ → Machine → Daemon → Session → Found
+found_as now a d s = record { machine = a; daemon = d; session = s; now = now }
 
-abbrev pub found_in_daemon : Machine → ℕ → Daemon → Option Found
-found_in_daemon a n d = option_map (λ (s : Session). found_as a d s) (session_numbered d.setting d.trace n)
+abbrev pub found_in_daemon : ℕ → Machine → ℕ → Daemon → Option Found
+found_in_daemon now a n d = option_map (λ (s : Session). found_as now a d s) (session_numbered d.setting d.trace n)
 
-abbrev pub found_on : ℕ → ℕ → Machine → Option Found
-found_on k n a = option_and_then (λ (d : Daemon). option_map (λ (s : Session). found_as a d s) (session_numbered d.setting d.trace n)) (daemon_numbered a k)
+abbrev pub found_on : ℕ → ℕ → ℕ → Machine → Option Found
+found_on now k n a = option_and_then (λ (d : Daemon). option_map (λ (s : Session). found_as now a d s) (session_numbered d.setting d.trace n)) (daemon_numbered a k)
 
 pub in_world : (w : World) (i : SessionId) (a : Machine) (d : Daemon) (s : Session) → machine_at w i.machine ≡ Some a → daemon_numbered a i.daemon ≡ Some d
-    → session_numbered d.setting d.trace i.number ≡ Some s → session_of_world w i ≡ Some (found_as a d s)
+    → session_numbered d.setting d.trace i.number ≡ Some s → session_of_world w i ≡ Some (found_as w.moment a d s)
 in_world w i a d s here at is =
-    ap (λ (o : Option Machine). option_and_then (found_on i.daemon i.number) o) here ∙ ap (λ (o : Option Daemon). option_and_then (found_in_daemon a i.number) o) at
-    ∙ ap (option_map (λ (y : Session). found_as a d y)) is
+    ap (λ (o : Option Machine). option_and_then (found_on w.moment i.daemon i.number) o) here
+    ∙ ap (λ (o : Option Daemon). option_and_then (found_in_daemon w.moment a i.number) o) at ∙ ap (option_map (λ (y : Session). found_as w.moment a d y)) is
 
 -- Its session is the one that sent it.
 pub owner_found : (w : World) (x : Sent) (o : IsOwned w x) → session_of_world w (sender_of x) ≡ Some (found_of o)

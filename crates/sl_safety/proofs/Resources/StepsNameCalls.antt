@@ -394,24 +394,25 @@ worker_joined p h xs r x k =
 
 -- ---- holders name sessions
 
-daemon_by : (i : SessionId) (f : Found) (a : Machine) (d : Daemon) (o : Option Session) → (d.number == i.daemon) ≡ true → option_map (λ (s : Session). found_as a d s) o ≡ Some f
-    → f.daemon.number ≡ i.daemon
-daemon_by i f a d None same is = absurd (none_some f is)
-daemon_by i f a d (Some s) same is = ap (λ (x : Found). x.daemon.number) (sym (some_value (found_as a d s) f is)) ∙ eqb-true d.number i.daemon same
+daemon_by : (now : ℕ) (i : SessionId) (f : Found) (a : Machine) (d : Daemon) (o : Option Session) → (d.number == i.daemon) ≡ true
+    → option_map (λ (s : Session). found_as now a d s) o ≡ Some f → f.daemon.number ≡ i.daemon
+daemon_by now i f a d None same is = absurd (none_some f is)
+daemon_by now i f a d (Some s) same is = ap (λ (x : Found). x.daemon.number) (sym (some_value (found_as now a d s) f is)) ∙ eqb-true d.number i.daemon same
 
-daemon_of : (i : SessionId) (f : Found) (a : Machine) (o : Option Daemon) → daemon_numbered a i.daemon ≡ o → option_and_then (found_in_daemon a i.number) o ≡ Some f → f.daemon.number ≡ i.daemon
-daemon_of i f a None at is = absurd (none_some f is)
-daemon_of i f a (Some d) at is =
-    daemon_by i f a d (session_numbered d.setting d.trace i.number) (find_inside (λ (x : Daemon). x.number == i.daemon) (daemons_on a) d at).1 is
+daemon_of : (now : ℕ) (i : SessionId) (f : Found) (a : Machine) (o : Option Daemon) → daemon_numbered a i.daemon ≡ o
+    → option_and_then (found_in_daemon now a i.number) o ≡ Some f → f.daemon.number ≡ i.daemon
+daemon_of now i f a None at is = absurd (none_some f is)
+daemon_of now i f a (Some d) at is =
+    daemon_by now i f a d (session_numbered d.setting d.trace i.number) (find_inside (λ (x : Daemon). x.number == i.daemon) (daemons_on a) d at).1 is
 
-daemon_in : (i : SessionId) (f : Found) (o : Option Machine) → option_and_then (found_on i.daemon i.number) o ≡ Some f → f.daemon.number ≡ i.daemon
-daemon_in i f None is = absurd (none_some f is)
-daemon_in i f (Some a) is = daemon_of i f a (daemon_numbered a i.daemon) refl is
+daemon_in : (now : ℕ) (i : SessionId) (f : Found) (o : Option Machine) → option_and_then (found_on now i.daemon i.number) o ≡ Some f → f.daemon.number ≡ i.daemon
+daemon_in now i f None is = absurd (none_some f is)
+daemon_in now i f (Some a) is = daemon_of now i f a (daemon_numbered a i.daemon) refl is
 
 -- The daemon of a session that is found has the number that was meant, and the session too.
 pub numbers_meant : (w : World) (i : SessionId) (f : Found) → session_of_world w i ≡ Some f → (f.daemon.number ≡ i.daemon) × (f.session.number ≡ i.number)
 numbers_meant w i f is =
-    (daemon_in i f (machine_at w i.machine) is, session_number f.daemon.setting f.daemon.trace i.number f.session (session_inside w i f is).its)
+    (daemon_in w.moment i f (machine_at w i.machine) is, session_number f.daemon.setting f.daemon.trace i.number f.session (session_inside w i f is).its)
 
 abbrev pub named : ℕ → ℕ → ℕ → SessionId
 named m d n = record { machine = m; daemon = d; number = n }

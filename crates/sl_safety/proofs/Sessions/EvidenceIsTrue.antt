@@ -142,7 +142,7 @@ entry_evident p h xs run i g its j n t newer past whole counts q s long at le =
     let same : d.trace ≡ past = same_ends b.0.came.newer newer d.trace past (sym b.0.came.trace ∙ whole) (b.1 ∙ sym long) in
     let begun : IsSessionOf (setting_in g) past g.session =
     counting_begun (setting_in g) newer past g.session j n (subst (λ es. Orderly (setting_in g) es) whole kn.lawful) (subst (λ es. IsSessionOf (setting_in g) es g.session) whole kn.its) counts in
-    let found : Found = found_with b.0.machine d g.session in
+    let found : Found = found_with (world_at p h f.now) b.0.machine d g.session in
     record {
       now = f.now;
       found = found;
@@ -227,7 +227,7 @@ alive_at p h xs run k later also q s joined at f x its over =
     let begun : IsSessionOf (setting_in later) d.trace later.session =
     begun_end (setting_in later) b.0.came.newer d.trace later.session (suc q) (subst (λ es. Orderly (setting_in later) es) b.0.came.trace kn.lawful)
     (subst (λ es. IsSessionOf (setting_in later) es later.session) b.0.came.trace kn.its) there in
-    let y : Found = found_with b.0.machine d later.session in
+    let y : Found = found_with (world_at p h f.now) b.0.machine d later.session in
     let stands : IsSession (world_at p h f.now) k y = stood_with p h f.now f.rest f.run k later (subst (λ ys. IsSession (world_at p h ys) k later) f.whole also) b.0 begun in
     let same : x ≡ y = one_value x y (session_of_world (world_at p h f.now) k) its stands in
     let long = same_length d.stamps d.trace (entries_are_stamped p h f.now here k.machine b.0.machine d b.0.at b.0.came.has) in

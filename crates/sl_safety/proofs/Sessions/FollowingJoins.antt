@@ -87,9 +87,9 @@ stood_joined : (p : Program) (h : Header) (now : List Happening) (k : SessionId)
     → StoodBefore p h now k g past e → NotJoined p h now k → ⊥
 stood_joined p h now k g past e j joined b never = by b.place where
   by : ((b.daemon.trace ≡ past) × (trace_of g ≡ e ∷ past)) ⊎ ((l : Trace) × (b.daemon.trace ≡ l ++ e ∷ past)) → ⊥
-  by (inl same) = never (found_with b.machine b.daemon g.session) b.its (some_joined b.daemon.trace g.session j (ap (λ es. joined_after es g.session) same.0 ∙ joined))
+  by (inl same) = never (found_with (world_at p h now) b.machine b.daemon g.session) b.its (some_joined b.daemon.trace g.session j (ap (λ es. joined_after es g.session) same.0 ∙ joined))
   by (inr more) =
-      never (found_with b.machine b.daemon g.session) b.its
+      never (found_with (world_at p h now) b.machine b.daemon g.session) b.its
       (some_joined b.daemon.trace g.session j
       (ap (λ es. joined_after es g.session) more.1 ∙ marks_stay.joined more.0 (e ∷ past) g.session j (marks_stay.joined (e ∷ []) past g.session j joined)))
 
@@ -125,10 +125,10 @@ joins_now p h now x run k g its j joined never =
     by a o t (Entered e past s ss trace stamps step) = newest e past s ss trace stamps step t (joined_after past g.session) refl
     by a o t (Blank trace given) = absurd (no_session g.daemon.setting g.daemon.trace k.number g.session trace given t.session)
     by a o t (Unchanged has) =
-        absurd (never (found_with a g.daemon g.session)
+        absurd (never (found_with (world_at p h now) a g.daemon g.session)
         (found_on (world_at p h now) k a o.at
-        ∙ ap (session_with k a) (numbered_found (daemons_on a) g.daemon k.daemon (machines_mirror p h now o.before k.machine a o.at).numbered has t.daemon)
-        ∙ ap (λ q. option_map (found_with a g.daemon) q) t.session)
+        ∙ ap (session_with (world_at p h now).moment k a) (numbered_found (daemons_on a) g.daemon k.daemon (machines_mirror p h now o.before k.machine a o.at).numbered has t.daemon)
+        ∙ ap (λ q. option_map (found_with (world_at p h now) a g.daemon) q) t.session)
         (some_joined g.daemon.trace g.session j joined))
 
 -- ---- the front

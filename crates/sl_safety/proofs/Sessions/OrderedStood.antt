@@ -87,12 +87,12 @@ behind p h now rest run i g its =
       | inr b ↦ inr b
     ]
 
-abbrev pub found_with : Machine → Daemon → Session → Found
-found_with a d s = record { machine = a; daemon = d; session = s }
+abbrev pub found_with : World → Machine → Daemon → Session → Found
+found_with w a d s = record { machine = a; daemon = d; session = s; now = w.moment }
 
 -- Where its daemon had begun it, it is a session of the front.
 pub stood_with : (p : Program) (h : Header) (now rest : List Happening) → LawfulRun p h (now ++ rest) → (i : SessionId) (g : Found) → IsSession (world_at p h (now ++ rest)) i g
-    → (b : Behind (world_at p h now) i g) → IsSessionOf (setting_in g) b.came.daemon.trace g.session → IsSession (world_at p h now) i (found_with b.machine b.came.daemon g.session)
+    → (b : Behind (world_at p h now) i g) → IsSessionOf (setting_in g) b.came.daemon.trace g.session → IsSession (world_at p h now) i (found_with (world_at p h now) b.machine b.came.daemon g.session)
 stood_with p h now rest run i g its b begun =
     let w : World = world_at p h now in
     let kn = known grounds p h (now ++ rest) run i g its in
@@ -101,7 +101,7 @@ stood_with p h now rest run i g its b begun =
     (b.came.number ∙ kn.there.daemon) in
     let session : session_numbered d.setting d.trace i.number ≡ Some g.session =
     ap (λ st. session_numbered st d.trace i.number) b.came.setting ∙ ap (λ n. session_numbered (setting_in g) d.trace n) (sym kn.there.number) ∙ begun in
-    found_on w i b.machine b.at ∙ ap (session_with i b.machine) there ∙ ap (λ q. option_map (found_with b.machine d) q) session
+    found_on w i b.machine b.at ∙ ap (session_with w.moment i b.machine) there ∙ ap (λ q. option_map (found_with w b.machine d) q) session
 
 -- A daemon that was given no session has none without a job.
 pub none_given : (st : Setting) (es : Trace) (s : Session) → Orderly st es → IsSessionOf st es s → st.given ≡ [] → joined_after es s ≡ Some 0 → ⊥
@@ -133,7 +133,7 @@ joined_stood p h now rest run i g its n is past =
         let at = joined_end b.came.newer d.trace g.session k (subst (λ t. joined_after t g.session ≡ Some k) b.came.trace joined) le in
         let begun = begun_end (setting_in g) b.came.newer d.trace g.session k (subst (λ t. Orderly (setting_in g) t) b.came.trace kn.lawful)
         (subst (λ t. IsSessionOf (setting_in g) t g.session) b.came.trace kn.its) at in
-        (found_with b.machine d g.session, stood_with p h now rest run i g its b begun, some_joins (joined_after d.trace g.session) k at)
+        (found_with (world_at p h now) b.machine d g.session, stood_with p h now rest run i g its b begun, some_joins (joined_after d.trace g.session) k at)
 
     entered : IsKnown (world_at p h (now ++ rest)) i g → (k : ℕ) → joined_after (trace_of g) g.session ≡ Some k → (q : ℕ) (s : Stamp) → k ≡ suc q → stamp_in g.daemon.stamps q ≡ Some s
         → s.step ≡ n → (b : Behind (world_at p h now) i g) → length b.came.daemon.stamps ≡ length b.came.daemon.trace

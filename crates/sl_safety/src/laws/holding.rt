@@ -1,8 +1,8 @@
 //! What a lawful trace and a lawful run promise of holdings.
 
 ghost use Rattle.sl_safety.specs.Holding.HoldingOrigins.{ExclusivesAreUnfreed, HoldersStand, HoldingsAreGranted, OneDaemonAgrees, SharedHoldingsBegin, SharedRunsBegin};
-ghost use Rattle.sl_safety.specs.Holding.Holders.{HoldingsAreHeld, OneMachineAgrees};
-ghost use Rattle.sl_run.specs.HeldOverTime.{HoldersHoldOnce};
+ghost use Rattle.sl_safety.specs.Holding.Holders.{LingeringIsLeft, OneMachineAgrees, UsesAreHeld};
+ghost use Rattle.sl_run.specs.HeldOverTime.{HoldersHoldOnce, HoldingsGoOn};
 
 /// Each holding was granted by an entry, from which on it stood.
 pub fn holdings_are_granted()
@@ -29,12 +29,17 @@ pub fn one_daemon_agrees()
     ensures { OneDaemonAgrees }
 {}
 
-/// A holding of the world is one of a joined session of its machine, which is not over.
-pub fn holdings_are_held()
-    ensures { HoldingsAreHeld }
+/// What lingers on a machine was held at a reset by a daemon that it had then, and each reset since that daemon began came with it or later.
+pub fn lingering_is_left()
+    ensures { LingeringIsLeft }
 {}
 
-/// Holdings of one machine don't conflict.
+/// A use of the world, a holding or what lingers of one, is of a joined session of its machine, which is not over.
+pub fn uses_are_held()
+    ensures { UsesAreHeld }
+{}
+
+/// Uses of one machine don't conflict.
 pub fn one_machine_agrees()
     ensures { OneMachineAgrees }
 {}
@@ -47,4 +52,10 @@ pub fn shared_holdings_begin()
 /// No process of a machine holds a place twice.
 pub fn holders_hold_once()
     ensures { HoldersHoldOnce }
+{}
+
+/// Each holding, or one that follows it, goes on until it is let go: of a persistent one somebody on the machine holds the resource at every
+/// moment until a release, a take-over or a reset.
+pub fn holdings_go_on()
+    ensures { HoldingsGoOn }
 {}

@@ -8,7 +8,7 @@ use Rattle.sl_run.specs.Inputs.{asking, if_running, input_at, input_of, machine_
 use Rattle.sl_run.specs.Refusals.{event_tests, may_happen, needs_daemon}
 use Rattle.sl_run.specs.Locks.{fresh_locks, locks_after}
 use Rattle.sl_run.specs.Worlds.{Daemon, Machine, Stamp, World, first_that, machine_at, stamp_now}
-use Rattle.sl_run.specs.declared.event.Event.TheVariants.{GiveAsk, StartDaemon}
+use Rattle.sl_run.specs.declared.event.Event.TheVariants.{GiveAsk, Reset, StartDaemon}
 use Rattle.sl_run.specs.declared.event.Event.{Event}
 use Rattle.sl_run.specs.declared.event.Refusal.TheVariants.{MissingLvm, MissingMachine, Syntax}
 use Rattle.sl_run.specs.declared.event.Refusal.{Refusal}
@@ -86,16 +86,17 @@ rests b few none = (record { retries = few; taken = λ h. absurd (due_and_none b
 same_locks : (a b : Machine) → b.locks ≡ a.locks → IsAtRest a → IsAtRest b
 same_locks a b same r = rests b (subst (λ k. k.lvm.retries ≤ 8) (sym same) r.0.retries) (ap (λ k. k.due) same ∙ r.1)
 
+fresh_rests : (w : World) (b : Machine) → w.header.retries ≤ 8 → b.locks ≡ fresh_locks w.header → IsAtRest b
+fresh_rests w b few same = rests b (subst (λ k. k.lvm.retries ≤ 8) (sym same) few) (ap (λ k. k.due) same)
+
 turned_rests : (w : World) (e : Event) (m : ℕ) (a b : Machine) → w.header.retries ≤ 8 → Turned w e m a b → IsAtRest a → IsAtRest b
 turned_rests w e m a b few (Stays is) r = same_locks a b (ap (λ (x : Machine). x.locks) is) r
 turned_rests w e m a b few (Clocked n is) r = same_locks a b (ap (λ (x : Machine). x.locks) is) r
 turned_rests w e m a b few (Called n f g flight keeps is) r = same_locks a b (ap (λ (x : Machine). x.locks) is) r
 turned_rests w e m a b few (Tested s is) r = same_locks a b (ap (λ (x : Machine). x.locks) is) r
-turned_rests w e m a b few (Began name event up used fresh is) r =
-    let same : b.locks ≡ fresh_locks w.header = ap (λ (x : Machine). x.locks) is in
-    rests b (subst (λ k. k.lvm.retries ≤ 8) (sym same) few) (ap (λ k. k.due) same)
+turned_rests w e m a b few (Began name event up used fresh is) r = fresh_rests w b few (ap (λ (x : Machine). x.locks) is)
 turned_rests w e m a b few (Crashed event is) r = same_locks a b (ap (λ (x : Machine). x.locks) is) r
-turned_rests w e m a b few (Went_down event up is) r = same_locks a b (ap (λ (x : Machine). x.locks) is) r
+turned_rests w e m a b few (Went_down event up is) r = fresh_rests w b few (ap (λ (x : Machine). x.locks) is)
 turned_rests w e m a b few (Came_up event down is) r = same_locks a b (ap (λ (x : Machine). x.locks) is) r
 
 -- ---- a step
@@ -145,7 +146,7 @@ here_by : (w : World) (e : Event) (fx : Effects) (a b c : Machine) (o : Option I
 here_by w e fx a b c None may at between later is r =
     let v : World = next_step (first_change e w) in
     let same : after_effects (stamp_now v b) fx b ≡ c = one_value _ c _ (changed_here v (machine_of e) (λ x. after_effects (stamp_now v x) fx x) b between) later in
-    let x = same_locks b c (ap (λ (y : Machine). y.locks) (sym same)) r in
+    let x : IsAtRest c = subst IsAtRest same (rests (after_effects (stamp_now v b) fx b) r.0.retries r.1) in
     (x.0, left_none c x.1)
   where
     left_none : (c : Machine) → c.locks.due ≡ None → asks_left c.locks ≤ 10
@@ -279,7 +280,10 @@ other_stays w m fx k a b (Began name event up used fresh is) = absurd (not_start
     not_start : (m k : ℕ) (name : List ℕ) → GiveAsk m ≡ StartDaemon k name → ⊥
     not_start m k name h = absurd cc
 other_stays w m fx k a b (Crashed event is) = ap (λ (x : Machine). x.locks) is
-other_stays w m fx k a b (Went_down event up is) = ap (λ (x : Machine). x.locks) is
+other_stays w m fx k a b (Went_down event up is) = absurd (not_reset m k event)
+  where
+    not_reset : (m k : ℕ) → GiveAsk m ≡ Reset k → ⊥
+    not_reset m k h = absurd cc
 other_stays w m fx k a b (Came_up event down is) = ap (λ (x : Machine). x.locks) is
 
 others_then : (w : World) (m n : ℕ) (fx : Effects) (k : ℕ) (c : Machine) → AsksOn w m n → may_happen w (GiveAsk m) ≡ true → machine_at (happens w (GiveAsk m) (fx ∷ [])) k ≡ Some c

@@ -1,12 +1,12 @@
 -- What a turn of the locks leaves of a line: each ask leaves fewer, and how often an acquire is asked again stays.
 use Rattle.sl_run.specs.LockNames.{Lock, lockspace_of, resource_of}
-use Rattle.sl_run.specs.Lvm.{Acquiring, Course, HeldLock, Lvm, Moving, Reading, Releasing, Writing, after_reading, after_writing, asks, asks_lock, asks_release, begins, begins_line, first_held, goes_on_with, has_volume, is_given_up, is_held, is_lost, lock_process, lvm_turn, passes_on, tells, with_lock, without_lock}
+use Rattle.sl_run.specs.Lvm.{Acquiring, Course, HeldLock, Lvm, Moving, Reading, Releasing, Writing, after_reading, after_writing, asks, asks_lock, asks_release, begins, begins_line, first_held, goes_on_with, has_volume, is_held, is_lost, lock_process, lvm_turn, passes_on, tells, with_lock}
 use Rattle.sl_run.specs.LvmLines.{Deactivates, Gives, Gives_writing, Informs, LvmLine, Starts, Stops, Takes, Takes_comparing, lvm_line_in}
 use Rattle.sl_run.specs.declared.turn.LvmIn.TheVariants.{Ended, Line as TextLine, Reply as HostReply}
 use Rattle.sl_run.specs.declared.turn.LvmOut.TheVariants.{Ask, Quiet, Reply as LineReply}
 use Rattle.sl_run.specs.declared.turn.LvmOut.{LvmOut}
 use Rattle.sl_words.proofs.Numbers.{zero_least}
-use Rattle.sl_run.specs.Locks.{Locks, Told, after_turn, is_lock_exit, locks_after, numbered_locks, replied_locks}
+use Rattle.sl_run.specs.Locks.{Locks, Told, after_turn, ended_locks, is_lock_exit, left_locks, locks_after, numbered_locks, replied_locks, turned_locks}
 use Rattle.sl_sound.specs.Reports.EventsAskFew.{asks_left, left_of}
 use Rattle.sl_trace.specs.declared.command.Command.TheVariants.{GetLvb, RemLockspace, SetLvb}
 use Rattle.sl_trace.specs.EffectTexts.{is_ok_reply}
@@ -19,7 +19,7 @@ use Rattle.sl_trace.specs.declared.reply.Reply.TheVariants.{Ahead, BadCommand as
 use Rattle.sl_trace.specs.declared.reply.Reply.{Reply}
 use Rattle.std.proofs.Common.{arith, refl, subst, sym, tests}
 use Rattle.std.specs.Option.{option_map_or}
-use Rattle.std.specs.Prelude.{Bool, Err, List, None, Ok, Option, Result, Some, false, find, if◌then◌else◌, nat_lt, option_and_then, suc, true, unwrap_or, [], ℕ, ◌&&◌, ◌+◌, ◌-◌, ◌<◌, ◌==◌, ◌∷◌, ◌≡◌, ◌≤◌}
+use Rattle.std.specs.Prelude.{Bool, Err, List, None, Ok, Option, Result, Some, false, find, if◌then◌else◌, nat_lt, option_and_then, suc, true, [], ℕ, ◌&&◌, ◌+◌, ◌-◌, ◌<◌, ◌==◌, ◌∷◌, ◌≡◌, ◌≤◌}
 
 -- How many asks a turn leaves.
 abbrev pub turn_left : Lvm × LvmOut → ℕ
@@ -186,10 +186,6 @@ wrote_value m l (WrongDelta lockspace id) = record { left = one_left; same = ref
 wrote_value m l (NoProcess process) = record { left = one_left; same = refl }
 wrote_value m l (Joined generation) = record { left = one_left; same = refl }
 
-gave_up : (m : Lvm) (l : Lock) (refused : Option Reply) (r : Reply) (t : Bool) → Leaves m.retries 0 (passes_on (if is_ok_reply r then unwrap_or refused r else r) (if t then without_lock l m else m))
-gave_up m l refused r true = record { left = zero_least 0; same = refl }
-gave_up m l refused r false = record { left = zero_least 0; same = refl }
-
 went_on : (m : Lvm) (r : Reply) (c : Course) → (n : ℕ) × (left_of m.retries c ≡ n + 1) × Leaves m.retries n (goes_on_with m r c)
 unfolding goes_on_with
 went_on m r Moving = (0, refl, record { left = zero_least 0; same = refl })
@@ -203,7 +199,7 @@ went_on m r (Acquiring l mode again compares) =
     less h = grind (arith, tests, h)
 went_on m r (Reading l) = (0, refl, read_value m l r)
 went_on m r (Writing l) = (1, refl, wrote_value m l r)
-went_on m r (Releasing l refused) = (0, refl, gave_up m l refused r (is_given_up r))
+went_on m r (Releasing l refused) = (0, refl, record { left = zero_least 0; same = refl })
 
 -- A reply to the last ask of a line that came so far leaves fewer.
 replied_by : (m : Lvm) (r : Reply) (o : Option Course) (n : ℕ) → option_map_or (left_of m.retries) o 1 ≤ n + 1
@@ -264,25 +260,31 @@ ended_by i retries n p true h = record { left = h.left; same = h.same }
 given_line : (number : ℕ) (text : List ℕ) (k : Locks) → k.due ≡ None → numbered_locks number (Line text) k ≡ k
 given_line number text k none = rw none refl
 
+-- What a step makes of the locks when those have left that it ends.
+abbrev step_of : ℕ → Input → Effects → Locks → Locks × Told
+step_of number i fx k = ended_locks i (turned_locks i fx (numbered_locks number i k))
+
+step_left : (number : ℕ) (i : Input) (fx : Effects) (k : Locks) → k.due ≡ None → LocksLeave k.lvm.retries (k.lvm.retries + 2) (step_of number i fx k).0
+step_left number (Number text) fx k none = after_by (record k { line = Some number }) (k.lvm.retries + 2) (lvm_turn k.lvm (TextLine text)) none (line_left k text)
+step_left number (Line text) fx k none =
+    subst (λ (x : Locks). LocksLeave k.lvm.retries (k.lvm.retries + 2) (replied_locks fx x).0) (sym (given_line number text k none)) (replied fx k (k.lvm.retries + 2) none (most_by k.lvm k.lvm.course))
+step_left number (Heard n answer) fx k none = replied fx k (k.lvm.retries + 2) none (most_by k.lvm k.lvm.course)
+step_left number Wake fx k none = replied fx k (k.lvm.retries + 2) none (most_by k.lvm k.lvm.course)
+step_left number (Exit p) fx k none =
+    ended_by (Exit p) k.lvm.retries (k.lvm.retries + 2) (replied_locks fx k) (is_lock_exit (Exit p)) (replied fx k (k.lvm.retries + 2) none (most_by k.lvm k.lvm.course))
+step_left number (Spawned p ok) fx k none = replied fx k (k.lvm.retries + 2) none (most_by k.lvm k.lvm.course)
+
 -- Whatever comes where no ask is due, leaves few.
 pub few_left : (number : ℕ) (i : Input) (fx : Effects) (k : Locks) → k.due ≡ None → LocksLeave k.lvm.retries (k.lvm.retries + 2) (locks_after number i fx k).0
 unfolding locks_after
-few_left number (Number text) fx k none = after_by (record k { line = Some number }) (k.lvm.retries + 2) (lvm_turn k.lvm (TextLine text)) none (line_left k text)
-few_left number (Line text) fx k none =
-    subst (λ (x : Locks). LocksLeave k.lvm.retries (k.lvm.retries + 2) (replied_locks fx x).0) (sym (given_line number text k none)) (replied fx k (k.lvm.retries + 2) none (most_by k.lvm k.lvm.course))
-few_left number (Heard n answer) fx k none = replied fx k (k.lvm.retries + 2) none (most_by k.lvm k.lvm.course)
-few_left number Wake fx k none = replied fx k (k.lvm.retries + 2) none (most_by k.lvm k.lvm.course)
-few_left number (Exit p) fx k none =
-    ended_by (Exit p) k.lvm.retries (k.lvm.retries + 2) (replied_locks fx k) (is_lock_exit (Exit p)) (replied fx k (k.lvm.retries + 2) none (most_by k.lvm k.lvm.course))
-few_left number (Spawned p ok) fx k none = replied fx k (k.lvm.retries + 2) none (most_by k.lvm k.lvm.course)
+few_left number i fx k none = let x = step_left number i fx (left_locks fx k) none in record { left = x.left; same = x.same }
 
 given_ask : (number : ℕ) (text given : List ℕ) (k : Locks) → k.due ≡ Some text → numbered_locks number (Line given) k ≡ record k { asked = Some number; due = None }
 given_ask number text given k is = rw is refl
 
 -- An ask that is given leaves fewer.
 ask_left : (number : ℕ) (text given : List ℕ) (fx : Effects) (k : Locks) (n : ℕ) → k.due ≡ Some text → option_map_or (left_of k.lvm.retries) k.lvm.course 1 ≤ n + 1
-    → LocksLeave k.lvm.retries n (locks_after number (Line given) fx k).0
-unfolding locks_after
+    → LocksLeave k.lvm.retries n (step_of number (Line given) fx k).0
 ask_left number text given fx k n is h =
     subst (λ (x : Locks). LocksLeave k.lvm.retries n (replied_locks fx x).0) (sym (given_ask number text given k is))
     (replied fx (record k { asked = Some number; due = None }) n refl h)
@@ -292,6 +294,8 @@ due_left k text n is h = subst (λ (o : Option (List ℕ)). elim o as (λ x. ℕ
 
 pub fewer_left : (number : ℕ) (text given : List ℕ) (fx : Effects) (k : Locks) (n : ℕ) → k.due ≡ Some text → asks_left k ≤ suc n
     → LocksLeave k.lvm.retries n (locks_after number (Line given) fx k).0
+unfolding locks_after
 fewer_left number text given fx k n is h =
     let left : option_map_or (left_of k.lvm.retries) k.lvm.course 1 ≤ suc n = due_left k text (suc n) is h in
-    ask_left number text given fx k n is (omega (arith, left))
+    let x = ask_left number text given fx (left_locks fx k) n is (omega (arith, left)) in
+    record { left = x.left; same = x.same }
