@@ -9,7 +9,7 @@ use Rattle.sl_trace.specs.Leases.{holdings_on}
 use Rattle.sl_report.specs.Languages.{whole_language}
 use Rattle.sl_report.specs.DueRuns.{allowed, due_run}
 use Rattle.sl_report.specs.Schedules.{EventLine, Header_read, Header_refused, event_lines_of, numbered_lines, read_header, replay_lines}
-use Rattle.sl_run.specs.Conflicts.{has_conflict, world_holdings}
+use Rattle.sl_run.specs.Conflicts.{has_conflict, world_uses}
 use Rattle.sl_run.specs.EventChanges.{happens}
 use Rattle.sl_run.specs.Runs.{Happening, world_after}
 use Rattle.sl_run.specs.Safety.{Found, SessionId, ballots_of, block_there, found_generation, is_course_of, is_over, landed_in_own, same_lockspace, session_of_world, setting_in, trace_of}
@@ -120,7 +120,7 @@ abbrev pub world_test : World → Bool
 world_test w =
     list_all (λ p. list_all (flight_test w p) p.1.calls) (enumerate_from 1 w.machines) && one_for_id_test w && list_all (own_sector_test w) (ids w)
     && evidence_test w && list_all (agreement_test w) (header_spots w.header)
-    && list_all (λ at. pairs_test w at && list_all (mode_stands_test w at) (ids w)) (header_spots w.header) && not (has_conflict (world_holdings w))
+    && list_all (λ at. pairs_test w at && list_all (mode_stands_test w at) (ids w)) (header_spots w.header) && not (has_conflict (world_uses w))
 
 -- After each event.
 abbrev pub fronts_test : World → List Happening → Bool

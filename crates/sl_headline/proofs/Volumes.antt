@@ -7,10 +7,11 @@ pub mod JoinJobs
 pub mod AskedJobs
 pub mod AcquireCauses
 pub mod EntriesAtFronts
-pub mod LocksAreTaken
+pub mod LocksAreHeld
 pub mod DueCallsFit
 pub mod LocksAreResources
 pub mod WholeProgramReads
 pub mod VersionsWereTold
 pub mod OneVersion
+pub mod ToldVolumes
 pub mod SameValue

@@ -16,8 +16,9 @@ use Rattle.sl_headline.specs.Volumes.FittingRuns.{ReadsAsks}
 use Rattle.std.specs.Prelude.{Bool, List, ℕ}
 
 -- A run as it is promised: it is served; each acquire in it that nothing stands in the way of is granted; and lvmlockd's locks keep to what is
--- said of them: a line asks at most once and as often again as the header has it, a lock that it says it took is held, and where it tells that a
--- group's value is the one that is known, no other machine's write of it was answered ok since it was told.
+-- said of them: a line asks at most once and as often again as the header has it; at each moment each lock that lines tell is held, so that no
+-- volume is told active on two machines unless both share it; and where a line tells that a group's value is the one that is known, no other
+-- machine's write of it was answered ok since it was told.
 pub record PromisedRun (p : Program) (h : Header) (xs : List Happening) : Type 0 where
   pub served : ServedRun p h xs
   pub quiet : QuietIsGranted (world_with p h) xs

@@ -1,7 +1,7 @@
 pub mod FewAsks
 pub mod LockAsks
 pub mod FittingRuns
-pub mod LocksTakenInRuns
+pub mod LocksHeldInRuns
 pub mod DueCallsFit
 pub mod LockNames
 pub mod WholeProgramReads

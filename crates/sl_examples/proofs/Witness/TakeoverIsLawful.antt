@@ -23,7 +23,7 @@ use Rattle.sl_report.specs.EventLines.{event_forms}
 use Rattle.sl_report.specs.HeaderLines.{header_forms, header_of}
 use Rattle.sl_report.specs.HeaderRefusals.{header_tests}
 use Rattle.sl_report.specs.Schedules.{HeaderReading, Header_read, Header_refused, NumberedLine, event_lines_of, numbered_lines, read_header}
-use Rattle.sl_run.specs.Conflicts.{world_holdings}
+use Rattle.sl_run.specs.Conflicts.{holding, lingering_holding, no_holdings, world_holdings, world_lingering}
 use Rattle.sl_run.specs.Refusals.{event_tests}
 use Rattle.sl_run.specs.Premises.{pass_tests}
 use Rattle.sl_run.specs.EventChanges.{first_change, happens}
@@ -47,7 +47,7 @@ use Rattle.sl_examples.proofs.Witness.ProofSearch.{found}
 use Rattle.sl_examples.proofs.Witness.TraceSearch.{seek_each_daemon}
 use Rattle.sl_examples.specs.Witness.Witness.{HoldsAlone, IsOfTheSchedule, PassesOver, TakeoverIsLawful, owning_events, taking_events, witness_events, witness_header, witness_run, witness_world}
 use Rattle.std.specs.Fmt.{digits}
-use Rattle.std.specs.Prelude.{IsSome, List, Ok, codes, false, map, refl, [], ℕ, ◌∷◌, ◌≡◌}
+use Rattle.std.specs.Prelude.{IsSome, List, Ok, codes, false, map, refl, [], ℕ, ◌++◌, ◌∷◌, ◌≡◌}
 
 -- ---- the schedule
 
@@ -87,12 +87,15 @@ record IsShown : Type 0 where
   tells : map (λ l. l.1) (event_lines_of cheap_language witness_header (rest_of reading)) ≡ map (λ e. Ok e) witness_events
   run_found : IsSome (seek_run witness_world witness_events)
   laws_found : IsSome (seek_each_daemon (world_at cheap_program witness_header witness_run))
-  owner_holds : world_holdings world_then ≡ record { machine = 2; held = grant 9 1 } ∷ []
-  taker_holds : world_holdings (world_at cheap_program witness_header witness_run) ≡ record { machine = 1; held = grant 7 2 } ∷ []
+  owner_holds : world_holdings world_then ≡ holding 2 (grant 9 1) ∷ []
+  owner_lingers : world_lingering (world_at cheap_program witness_header (before ++ (Reset 2, effects_of world_then (Reset 2)) ∷ []))
+      ≡ lingering_holding 2 (record { held = grant 9 1; reset = 0 }) ∷ []
+  none_lingers : world_lingering (world_at cheap_program witness_header witness_run) ≡ no_holdings
+  taker_holds : world_holdings (world_at cheap_program witness_header witness_run) ≡ holding 1 (grant 7 2) ∷ []
 
 shown : IsShown
 unfolding after_answer after_answer_of after_bytes after_end after_free after_input after_join_answer after_lease_answer after_renewal after_request_read after_see_request after_survey after_value_read area_next before_input begin_next begin_recoveries begin_recovery begins block_rules carry_decision carry_delta carry_lease checked_part count_event decided decoded delta_rules digits due due_step event_forms event_tests field_bytes fields_of finish finish_session first_change forms goes_on_with header_forms header_of header_tests initial_record instance_of join_on_wake kill_holders kills known leader_rules lease_next leave_holdings locks_after lvm_forms lvm_turn machine_of_header magic next_after_deciding next_after_first next_after_verify next_after_watch next_in_joining next_on_wake next_renewal on_exit on_line on_spawned on_wake own_rules padded_text pass_tests phase1_block phase2_block refuse renew_on_wake reply_words request_refusal request_rules see_requests settle settle_begin settle_next settle_on_wake settlings signal_and_refuse spelling stop_of take_input time_out time_outs told_effects u32_at u32_bytes u64_at u64_bytes value_rules within_turn
-shown = record { reads = refl; tells = refl; run_found = refl; laws_found = refl; owner_holds = refl; taker_holds = refl }
+shown = record { reads = refl; tells = refl; run_found = refl; laws_found = refl; owner_holds = refl; owner_lingers = refl; none_lingers = refl; taker_holds = refl }
 
 is_of_the_schedule : IsOfTheSchedule
 is_of_the_schedule = record { rest = rest_of reading; reads = shown.reads; tells = shown.tells }
@@ -116,11 +119,12 @@ is_lawful =
 
 -- ---- the resource passes over
 
-holds_alone : (w : World) (machine process lver : ℕ) → world_holdings w ≡ record { machine = machine; held = grant process lver } ∷ [] → HoldsAlone w machine lver
+holds_alone : (w : World) (machine process lver : ℕ) → world_holdings w ≡ holding machine (grant process lver) ∷ [] → HoldsAlone w machine lver
 holds_alone w machine process lver only =
     record { held = grant process lver; only = only; resource = (refl, refl); exclusive = refl; instance = refl }
 
 passes_over : PassesOver witness_header witness_run
+unfolding holds_alone
 passes_over =
     record {
       before = before;
@@ -128,6 +132,8 @@ passes_over =
       after = due_run (happens world_then (Reset 2) (effects_of world_then (Reset 2))) taking_events;
       resets = due_run-append witness_world owning_events (Reset 2 ∷ taking_events);
       first = holds_alone world_then 2 9 1 shown.owner_holds;
+      lingers = shown.owner_lingers;
+      passed = shown.none_lingers;
       last = holds_alone (world_at cheap_program witness_header witness_run) 1 7 2 shown.taker_holds;
     }
 

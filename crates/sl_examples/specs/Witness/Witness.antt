@@ -6,7 +6,7 @@ use Rattle.sl_examples.specs.WorkedSchedules.{owner_reset_then_taken_over}
 use Rattle.sl_run.specs.Lawful.{Lawful}
 use Rattle.sl_report.specs.DueRuns.{due_run}
 use Rattle.sl_report.specs.Schedules.{Header_read, NumberedLine, event_lines_of, numbered_lines, read_header}
-use Rattle.sl_run.specs.Conflicts.{world_holdings}
+use Rattle.sl_run.specs.Conflicts.{holding, lingering_holding, no_holdings, world_holdings, world_lingering}
 use Rattle.sl_run.specs.Runs.{EachDaemon, Happening}
 use Rattle.sl_run.specs.Safety.{LawfulRun, world_at}
 use Rattle.sl_run.specs.Worlds.{World, world_with}
@@ -71,18 +71,21 @@ pub record IsOfTheSchedule : Type 0 where
 -- The only holding of the world: the resource, exclusive, on this machine, under this instance.
 pub record HoldsAlone (w : World) (machine lver : ℕ) : Type 0 where
   pub held : Grant
-  pub only : world_holdings w ≡ record { machine = machine; held = held } ∷ []
+  pub only : world_holdings w ≡ holding machine held ∷ []
   pub resource : (held.path ≡ codes "/d") × (held.offset ≡ 1048576)
   pub exclusive : held.mode ≡ Exclusive
   pub instance : held.lver ≡ lver
 
--- The resource passes from machine 2, which is reset, to machine 1.
+-- The resource passes from machine 2, which is reset, to machine 1. Behind the reset the holding lingers, since a write of its process that was
+-- in flight may land still; where machine 1 holds the resource, nothing lingers any more.
 pub record PassesOver (h : Header) (xs : List Happening) : Type 0 where
   pub before : List Happening
   pub effects : List Effects
   pub after : List Happening
   pub resets : xs ≡ before ++ (Reset 2, effects) ∷ after
   pub first : HoldsAlone (world_at cheap_program h before) 2 1
+  pub lingers : world_lingering (world_at cheap_program h (before ++ (Reset 2, effects) ∷ [])) ≡ lingering_holding 2 (record { held = first.held; reset = 0 }) ∷ []
+  pub passed : world_lingering (world_at cheap_program h xs) ≡ no_holdings
   pub last : HoldsAlone (world_at cheap_program h xs) 1 2
 
 -- There is a lawful run in which a resource passes from one machine to another.

@@ -7,7 +7,7 @@ use Rattle.sl_words.proofs.Options.{mapped_value, then_value}
 use Rattle.sl_run.specs.EventChanges.{after_step, first_change, next_step, number_of_step, with_entry}
 use Rattle.sl_run.specs.Refusals.{event_tests, may_happen, sectors_left}
 use Rattle.sl_run.specs.Inputs.{if_running, input_at, input_of, machine_of, ok_input, rest_sampled}
-use Rattle.sl_run.specs.Locks.{Locks, Told, after_turn, locks_after, numbered_locks}
+use Rattle.sl_run.specs.Locks.{Locks, Told, after_turn, left_locks, locks_after, numbered_locks}
 use Rattle.sl_run.specs.Runs.{Happening}
 use Rattle.sl_run.specs.Safety.{LawfulRun, world_at}
 use Rattle.sl_run.specs.Worlds.{Course as MadeCall, Daemon, Machine, Program, Stamp, World, machine_at, machine_of_header, stamp_now}
@@ -30,8 +30,8 @@ use Rattle.sl_trace.specs.declared.input.Input.{Input}
 use Rattle.sl_trace.specs.declared.reply.Reply.{Reply}
 use Rattle.sl_headline.proofs.Volumes.JobNumbers.{line_numbered, numbered_stays}
 use Rattle.sl_headline.proofs.Volumes.MachineLocks.{MachineHolds, machines_hold, step_locks}
-use Rattle.sl_headline.proofs.Volumes.LocksHold.{Line_given, LocksHold, LocksStep, None_given, Reply_given, emptied, locks_step}
-use Rattle.sl_headline.proofs.Volumes.LockTurns.{Asks_again, Gave_up, HostTurn, Kept_on, LineTurn, Line_compares, Line_gives, Line_moves, Line_takes, Line_told, Line_writes, Moved, Read_none, Read_torn, Read_value, Took_lock, Took_to_read, Wrote_none, Wrote_value}
+use Rattle.sl_headline.proofs.Volumes.LocksHold.{Line_given, LocksHold, LocksStep, None_given, Reply_given, emptied, left_hold, locks_step}
+use Rattle.sl_headline.proofs.Volumes.LockTurns.{Asks_again, HostTurn, LineTurn, Line_compares, Line_gives, Line_moves, Line_takes, Line_told, Line_writes, Moved, Read_none, Read_torn, Read_value, Released, Took_lock, Took_to_read, Wrote_none, Wrote_value}
 use Rattle.sl_headline.specs.Volumes.LockAsks.{IsAskOf}
 use Rattle.sl_words.proofs.CaseLaws.{none_some, some_value, true_is_false}
 use Rattle.sl_words.proofs.WordLaws.{choose_some}
@@ -71,8 +71,7 @@ host_asks_none k m r c t (Read_torn l was is) = subst (λ (y : Lvm × LvmOut). N
 host_asks_none k m r c t (Read_none l was other is) = subst (λ (y : Lvm × LvmOut). NoneAsked (after_turn k y).0) (sym is) (λ d n at asked. none_some n asked)
 host_asks_none k m r c t (Wrote_value l lver seq was told is) = subst (λ (y : Lvm × LvmOut). NoneAsked (after_turn k y).0) (sym is) (λ d n at asked. none_some n asked)
 host_asks_none k m r c t (Wrote_none l was is) = subst (λ (y : Lvm × LvmOut). NoneAsked (after_turn k y).0) (sym is) (λ d n at asked. none_some n asked)
-host_asks_none k m r c t (Gave_up l refused s was is) = subst (λ (y : Lvm × LvmOut). NoneAsked (after_turn k y).0) (sym is) (λ d n at asked. none_some n asked)
-host_asks_none k m r c t (Kept_on l refused s was is) = subst (λ (y : Lvm × LvmOut). NoneAsked (after_turn k y).0) (sym is) (λ d n at asked. none_some n asked)
+host_asks_none k m r c t (Released l refused s was is) = subst (λ (y : Lvm × LvmOut). NoneAsked (after_turn k y).0) (sym is) (λ d n at asked. none_some n asked)
 
 -- ---- a step
 
@@ -130,7 +129,8 @@ step_asked area retries st es now i fx k holds gives h =
     let s = locks_step (next_job st es) i fx k in
     subst (AskedHolds area st (e ∷ es)) (sym s.same)
     (if_ends area st (e ∷ es) s.turn.0 s.ends
-    (turn_asked area st (e ∷ es) i fx (numbered_locks (next_job st es) i k) s.turn s.step (numbered_asked area retries st es now i fx k holds gives h)))
+    (turn_asked area st (e ∷ es) i fx (numbered_locks (next_job st es) i (left_locks fx k)) s.turn s.step
+    (numbered_asked area retries st es now i fx (left_locks fx k) (left_hold area retries fx k holds) gives h)))
 
 -- ---- which lines events bring
 
@@ -217,6 +217,21 @@ turned_asks h w e m a b (Crashed event is) k = λ d runs. absurd (no_daemon b.da
 turned_asks h w e m a b (Went_down event up is) k = λ d runs. absurd (no_daemon b.daemon d (ap (λ (x : Machine). x.daemon) is) runs)
 turned_asks h w e m a b (Came_up event down is) k = same_asks h a b (ap seen is) k
 
+-- A start and a reset are no input.
+start_is_none : (m : ℕ) (name : List ℕ) (w : World) (o : Option Machine) (i : Input) → option_and_then (input_at w (StartDaemon m name)) o ≡ Some i → ⊥
+start_is_none m name w None i h = none_some i h
+start_is_none m name w (Some y) i h = none_some i h
+
+starts_none : (w : World) (e : Event) (m : ℕ) (name : List ℕ) (i : Input) → e ≡ StartDaemon m name → input_of w e ≡ Some i → ⊥
+starts_none w e m name i is h = start_is_none m name w (machine_at w m) i (subst (λ y. input_of w y ≡ Some i) is h)
+
+reset_is_none : (m : ℕ) (w : World) (o : Option Machine) (i : Input) → option_and_then (input_at w (Reset m)) o ≡ Some i → ⊥
+reset_is_none m w None i h = none_some i h
+reset_is_none m w (Some y) i h = none_some i h
+
+resets_none : (w : World) (e : Event) (m : ℕ) (i : Input) → e ≡ Reset m → input_of w e ≡ Some i → ⊥
+resets_none w e m i is h = reset_is_none m w (machine_at w m) i (subst (λ y. input_of w y ≡ Some i) is h)
+
 -- Where there is an input, the machine has the locks that it had.
 pub locks_stay : (w : World) (e : Event) (m : ℕ) (a b : Machine) (i : Input) → input_of w e ≡ Some i → Turned w e m a b → b.locks ≡ a.locks
 locks_stay w e m a b i has (Stays is) = ap (λ (x : Machine). x.locks) is
@@ -224,15 +239,8 @@ locks_stay w e m a b i has (Clocked n is) = ap (λ (x : Machine). x.locks) is
 locks_stay w e m a b i has (Called n f g h k is) = ap (λ (x : Machine). x.locks) is
 locks_stay w e m a b i has (Tested s is) = ap (λ (x : Machine). x.locks) is
 locks_stay w e m a b i has (Began name event up used fresh is) = absurd (starts_none w e m name i event has)
-  where
-    no_input : (m : ℕ) (name : List ℕ) (w : World) (o : Option Machine) (i : Input) → option_and_then (input_at w (StartDaemon m name)) o ≡ Some i → ⊥
-    no_input m name w None i h = none_some i h
-    no_input m name w (Some y) i h = none_some i h
-
-    starts_none : (w : World) (e : Event) (m : ℕ) (name : List ℕ) (i : Input) → e ≡ StartDaemon m name → input_of w e ≡ Some i → ⊥
-    starts_none w e m name i is h = no_input m name w (machine_at w m) i (subst (λ y. input_of w y ≡ Some i) is h)
 locks_stay w e m a b i has (Crashed event is) = ap (λ (x : Machine). x.locks) is
-locks_stay w e m a b i has (Went_down event up is) = ap (λ (x : Machine). x.locks) is
+locks_stay w e m a b i has (Went_down event up is) = absurd (resets_none w e m i event has)
 locks_stay w e m a b i has (Came_up event down is) = ap (λ (x : Machine). x.locks) is
 
 pub gives_ask : (w : World) (e : Event) (m : ℕ) (a b : Machine) (i : Input) → may_happen w e ≡ true → machine_at w m ≡ Some a → m ≡ machine_of e → input_of w e ≡ Some i
@@ -263,7 +271,7 @@ middle_holds p h now x m a c g i has =
 stepped_asks : (p : Program) (h : Header) (now : List Happening) (x : Happening) (m : ℕ) (a c : Machine) (g : Goes_on p h now x m a c)
     → Stepped (world_at p h now) x.0 g.effects m g.becomes.middle c → MachineAsks h g.becomes.middle → MachineAsks h c
 stepped_asks p h now x m a c g (Elsewhere is) k = subst (MachineAsks h) (sym is) k
-stepped_asks p h now x m a c g (Alone none here is) k = same_asks h g.becomes.middle c (ap seen is) k
+stepped_asks p h now x m a c g (Alone none here is) k = subst (MachineAsks h) (sym is) k
 stepped_asks p h now x m a c g (Took i has here is) k =
     let w : World = world_at p h now in
     let b : Machine = g.becomes.middle in

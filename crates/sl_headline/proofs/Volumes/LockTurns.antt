@@ -1,6 +1,6 @@
 -- What a turn of the locks comes to: every turn is one of these.
 use Rattle.sl_run.specs.LockNames.{Lock, lockspace_of, resource_of}
-use Rattle.sl_run.specs.Lvm.{Acquiring, Course, HeldLock, Lvm, Moving, Reading, Releasing, Writing, after_reading, after_writing, asks, asks_lock, asks_release, begins, begins_line, comparison, first_held, goes_on_with, has_volume, held_lock_word, is_given_up, is_held, is_lost, is_seen, lock_process, lvm_turn, passes_on, tells, with_lock, with_seen, without_lock, without_seen}
+use Rattle.sl_run.specs.Lvm.{Acquiring, Course, HeldLock, Lvm, Moving, Reading, Releasing, Writing, after_reading, after_writing, asks, asks_lock, asks_release, begins, begins_line, comparison, first_held, goes_on_with, has_volume, held_lock_word, is_held, is_lost, is_seen, lock_process, lvm_turn, passes_on, tells, with_lock, with_seen, without_seen}
 use Rattle.sl_run.specs.LvmLines.{Deactivates, Gives, Gives_writing, Informs, LvmLine, Starts, Stops, Takes, Takes_comparing, lvm_line_in}
 use Rattle.sl_run.specs.declared.turn.LvmIn.TheVariants.{Line as TextLine, Reply as HostReply}
 use Rattle.sl_run.specs.declared.turn.LvmOut.TheVariants.{Quiet}
@@ -88,8 +88,7 @@ pub data HostTurn (m : Lvm) (r : Reply) (c : Course) (t : Lvm × LvmOut) : Type 
   Read_none : (l : Lock) → c ≡ Reading l → is_value r ≡ false → t ≡ passes_on r (without_seen l.group m) → HostTurn m r c t
   Wrote_value : (l : Lock) (lver seq : ℕ) → c ≡ Writing l → r ≡ ValueSet lver seq → t ≡ asks_release l None (with_seen l.group lver seq m) → HostTurn m r c t
   Wrote_none : (l : Lock) → c ≡ Writing l → t ≡ asks_release l (Some r) (without_seen l.group m) → HostTurn m r c t
-  Gave_up : (l : Lock) (refused : Option Reply) (s : Reply) → c ≡ Releasing l refused → t ≡ passes_on s (without_lock l m) → HostTurn m r c t
-  Kept_on : (l : Lock) (refused : Option Reply) (s : Reply) → c ≡ Releasing l refused → t ≡ passes_on s m → HostTurn m r c t
+  Released : (l : Lock) (refused : Option Reply) (s : Reply) → c ≡ Releasing l refused → t ≡ passes_on s m → HostTurn m r c t
 
 is_less : (a b : ℕ) → nat_lt a b ≡ true → a < b
 is_less a b h = grind (arith, tests, h)
@@ -185,18 +184,13 @@ wrote m l (WrongDelta lockspace id) = Wrote_none l refl refl
 wrote m l (NoProcess process) = Wrote_none l refl refl
 wrote m l (Joined generation) = Wrote_none l refl refl
 
-released : (m : Lvm) (l : Lock) (refused : Option Reply) (r : Reply) (t : Bool)
-    → HostTurn m r (Releasing l refused) (passes_on (if is_ok_reply r then unwrap_or refused r else r) (if t then without_lock l m else m))
-released m l refused r true = Gave_up l refused (if is_ok_reply r then unwrap_or refused r else r) refl refl
-released m l refused r false = Kept_on l refused (if is_ok_reply r then unwrap_or refused r else r) refl refl
-
 pub host_turn : (m : Lvm) (r : Reply) (c : Course) → HostTurn m r c (goes_on_with m r c)
 unfolding goes_on_with
 host_turn m r Moving = Moved refl
 host_turn m r (Acquiring l mode again compares) = acquired m l mode again compares r (is_ok_reply r) refl
 host_turn m r (Reading l) = read m l r
 host_turn m r (Writing l) = wrote m l r
-host_turn m r (Releasing l refused) = released m l refused r (is_given_up r)
+host_turn m r (Releasing l refused) = Released l refused (if is_ok_reply r then unwrap_or refused r else r) refl refl
 
 host_by : (m : Lvm) (r : Reply) (c : Course) (o : Option Course) → m.course ≡ o → o ≡ Some c
     → HostTurn m r c (elim o as (λ x. Lvm × LvmOut) [ None ↦ (m, Quiet) | Some y ↦ goes_on_with m r y ])

@@ -1,10 +1,10 @@
 -- What holds of the locks of a machine at each moment: how far a line has come is fair, and what is asked is its ask.
 use Rattle.sl_run.specs.LockNames.{Lock, resource_of}
-use Rattle.sl_run.specs.Lvm.{Acquiring, Course, Lvm, Moving, Reading, Releasing, Writing, asks, comparison, is_seen, lock_process, lvm_turn, tells, with_lock, with_seen, without_lock, without_seen}
+use Rattle.sl_run.specs.Lvm.{Acquiring, Course, Lvm, Moving, Reading, Releasing, Writing, asks, comparison, is_seen, lock_process, lvm_turn, tells, with_lock, with_seen, without_seen}
 use Rattle.sl_run.specs.LvmLines.{Gives_writing, LvmLine, Takes, Takes_comparing, lvm_line_in}
 use Rattle.sl_run.specs.declared.turn.LvmIn.TheVariants.{Ended, Line as TextLine, Reply as HostReply}
 use Rattle.sl_run.specs.declared.turn.LvmOut.{LvmOut}
-use Rattle.sl_run.specs.Locks.{Locks, Told, after_turn, is_lock_exit, locks_after, numbered_locks, replied_locks, turned_locks}
+use Rattle.sl_run.specs.Locks.{Locks, Told, after_turn, is_lock_exit, left_locks, locks_after, numbered_locks, replied_locks, turned_locks}
 use Rattle.sl_text.specs.Forms.{spaced}
 use Rattle.sl_trace.specs.CommandForms.{command_words}
 use Rattle.sl_trace.specs.EffectTexts.{reply_text}
@@ -18,7 +18,7 @@ use Rattle.sl_trace.specs.declared.input.Input.TheVariants.{Answer as Heard, Exi
 use Rattle.sl_trace.specs.declared.input.Input.{Input}
 use Rattle.sl_trace.specs.declared.reply.Reply.{Reply}
 use Rattle.sl_headline.proofs.Volumes.GroupLines.{compares_group, writes_group}
-use Rattle.sl_headline.proofs.Volumes.LockTurns.{Asks_again, Gave_up, HostTurn, Kept_on, LineTurn, Line_compares, Line_gives, Line_moves, Line_takes, Line_told, Line_writes, Moved, Read_none, Read_torn, Read_value, Took_lock, Took_to_read, Wrote_none, Wrote_value, line_turn, quiet_turn, reply_turn}
+use Rattle.sl_headline.proofs.Volumes.LockTurns.{Asks_again, HostTurn, LineTurn, Line_compares, Line_gives, Line_moves, Line_takes, Line_told, Line_writes, Moved, Read_none, Read_torn, Read_value, Released, Took_lock, Took_to_read, Wrote_none, Wrote_value, line_turn, quiet_turn, reply_turn}
 use Rattle.sl_headline.specs.Volumes.LockAsks.{IsAskOf, IsFairCourse}
 use Rattle.sl_words.proofs.Numbers.{zero_least}
 use Rattle.sl_words.proofs.CaseLaws.{false_is_true, none_some, some_value}
@@ -67,10 +67,10 @@ turned_is (Spawned p ok) fx k = replied (Spawned p ok) fx k
 abbrev pub emptied : Locks → Locks
 emptied k = record k { lvm = record k.lvm { held = []; seen = [] } }
 
--- The locks after a step: those of its turn, emptied where lvmlockd ends.
+-- The locks after a step: those of its turn, which come when those have left that it ends; emptied where lvmlockd ends.
 pub record LocksAfter (number : ℕ) (i : Input) (fx : Effects) (k : Locks) : Type 0 where
   pub turn : Locks × Told
-  pub step : LocksStep i fx (numbered_locks number i k) turn
+  pub step : LocksStep i fx (numbered_locks number i (left_locks fx k)) turn
   pub ends : Bool
   pub is_end : is_lock_exit i ≡ ends
   pub same : (locks_after number i fx k).0 ≡ (if ends then emptied turn.0 else turn.0)
@@ -85,7 +85,7 @@ ended_by p false = refl
 pub locks_step : (number : ℕ) (i : Input) (fx : Effects) (k : Locks) → LocksAfter number i fx k
 unfolding locks_after
 locks_step number i fx k =
-    let n : Locks = numbered_locks number i k in
+    let n : Locks = numbered_locks number i (left_locks fx k) in
     record {
       turn = turned_locks i fx n;
       step = turned_is i fx n;
@@ -229,9 +229,7 @@ host_holds area retries k r c t h at (Wrote_none l was is) =
     subst (λ (y : Lvm × LvmOut). LocksHold area retries (after_turn k y).0) (sym is)
     (asks_hold area retries k (without_seen l.group k.lvm) (Release (resource_of k.lvm.area l) lock_process) (Releasing l (Some r)) h.area_is h.retries_are (h.runs c at) tt
     (λ d ask. no_ask (spaced (command_words (Release (resource_of k.lvm.area l) lock_process))) d ask))
-host_holds area retries k r c t h at (Gave_up l refused s was is) =
-    subst (λ (y : Lvm × LvmOut). LocksHold area retries (after_turn k y).0) (sym is) (tells_hold area retries k (without_lock l k.lvm) (reply_text s) h.area_is h.retries_are)
-host_holds area retries k r c t h at (Kept_on l refused s was is) =
+host_holds area retries k r c t h at (Released l refused s was is) =
     subst (λ (y : Lvm × LvmOut). LocksHold area retries (after_turn k y).0) (sym is) (tells_hold area retries k k.lvm (reply_text s) h.area_is h.retries_are)
 
 -- ---- a whole step
@@ -281,8 +279,13 @@ if_ends : (area retries : ℕ) (k : Locks) (t : Bool) → LocksHold area retries
 if_ends area retries k true h = record { area_is = h.area_is; retries_are = h.retries_are; fair = h.fair; runs = h.runs; asks = h.asks; given = h.given }
 if_ends area retries k false h = h
 
+-- The locks that have not left hold as all do.
+pub left_hold : (area retries : ℕ) (fx : Effects) (k : Locks) → LocksHold area retries k → LocksHold area retries (left_locks fx k)
+left_hold area retries fx k h = record { area_is = h.area_is; retries_are = h.retries_are; fair = h.fair; runs = h.runs; asks = h.asks; given = h.given }
+
 pub step_holds : (area retries number : ℕ) (i : Input) (fx : Effects) (k : Locks) → LocksHold area retries k → LocksHold area retries (locks_after number i fx k).0
 step_holds area retries number i fx k h =
     let s = locks_step number i fx k in
     subst (LocksHold area retries) (sym s.same)
-    (if_ends area retries s.turn.0 s.ends (turn_holds area retries number i fx k s.turn (numbered_hold area retries number i k h) s.step))
+    (if_ends area retries s.turn.0 s.ends
+    (turn_holds area retries number i fx (left_locks fx k) s.turn (numbered_hold area retries number i (left_locks fx k) (left_hold area retries fx k h)) s.step))

@@ -13,7 +13,7 @@ use Rattle.sl_run_law.proofs.WorldsGoOn.{run_goes}
 use Rattle.sl_trace.specs.declared.effects.Effects.{Effects}
 use Rattle.sl_trace.specs.declared.input.Input.TheVariants.{Answer as Heard, Exit, Line, Number, Spawned, Wake}
 use Rattle.sl_trace.specs.declared.input.Input.{Input}
-use Rattle.sl_headline.proofs.Volumes.LocksHold.{LocksHold, step_holds}
+use Rattle.sl_headline.proofs.Volumes.LocksHold.{LocksHold, left_hold, step_holds}
 use Rattle.sl_headline.specs.Volumes.FewAsks.{AsksAreFewInRuns}
 use Rattle.sl_words.proofs.CaseLaws.{none_some}
 use Rattle.std.proofs.Common.{ap, refl, subst, sym, ◌∙◌}
@@ -54,7 +54,7 @@ locks_turn w e m a b (Called n f g flight keeps is) = Same_locks (ap (λ (x : Ma
 locks_turn w e m a b (Tested s is) = Same_locks (ap (λ (x : Machine). x.locks) is)
 locks_turn w e m a b (Began name event up used fresh is) = New_locks (ap (λ (x : Machine). x.locks) is)
 locks_turn w e m a b (Crashed event is) = Same_locks (ap (λ (x : Machine). x.locks) is)
-locks_turn w e m a b (Went_down event up is) = Same_locks (ap (λ (x : Machine). x.locks) is)
+locks_turn w e m a b (Went_down event up is) = New_locks (ap (λ (x : Machine). x.locks) is)
 locks_turn w e m a b (Came_up event down is) = Same_locks (ap (λ (x : Machine). x.locks) is)
 
 pub step_locks : (now : Stamp) (i : Input) (fx : Effects) (b : Machine) → (after_step now i fx b).locks ≡ (locks_after (number_of_step b) i fx b.locks).0
@@ -65,13 +65,14 @@ step_locks now Wake fx b = refl
 step_locks now (Exit p) fx b = refl
 step_locks now (Spawned p ok) fx b = refl
 
-turned_holds : (h : Header) (a b : Machine) → LocksTurn h a b → MachineHolds h a → MachineHolds h b
+pub turned_holds : (h : Header) (a b : Machine) → LocksTurn h a b → MachineHolds h a → MachineHolds h b
 turned_holds h a b (Same_locks is) k = subst (LocksHold h.geometry.area h.retries) (sym is) k
 turned_holds h a b (New_locks is) k = subst (LocksHold h.geometry.area h.retries) (sym is) (fresh_hold h)
 
 stepped_holds : (h : Header) (w : World) (e : Event) (fx : Effects) (m : ℕ) (b c : Machine) → Stepped w e fx m b c → MachineHolds h b → MachineHolds h c
 stepped_holds h w e fx m b c (Elsewhere is) k = subst (MachineHolds h) (sym is) k
-stepped_holds h w e fx m b c (Alone none here is) k = subst (LocksHold h.geometry.area h.retries) (sym (ap (λ (x : Machine). x.locks) is)) k
+stepped_holds h w e fx m b c (Alone none here is) k =
+    subst (LocksHold h.geometry.area h.retries) (sym (ap (λ (x : Machine). x.locks) is)) (left_hold h.geometry.area h.retries fx b.locks k)
 stepped_holds h w e fx m b c (Took i has here is) k =
     let now : Stamp = stamp_now (next_step (first_change e w)) b in
     subst (LocksHold h.geometry.area h.retries) (sym (ap (λ (x : Machine). x.locks) is ∙ step_locks now i fx b))

@@ -4,7 +4,7 @@ use Rattle.sl_run.specs.Lvm.{Course, Lvm, SeenValue}
 use Rattle.sl_run.specs.declared.turn.LvmOut.{LvmOut}
 use Rattle.sl_words.proofs.Lists.{contains_cases, contains_none, kept_inside}
 use Rattle.sl_run.specs.EventChanges.{first_change, next_step, number_of_step}
-use Rattle.sl_run.specs.Locks.{Locks, Told, locks_after, numbered_locks}
+use Rattle.sl_run.specs.Locks.{Locks, Told, left_locks, locks_after, numbered_locks}
 use Rattle.sl_run.specs.Runs.{Happening}
 use Rattle.sl_run.specs.Safety.{world_at}
 use Rattle.sl_run.specs.Worlds.{Machine, Program, machine_of_header, stamp_now}
@@ -17,7 +17,7 @@ use Rattle.sl_trace.specs.declared.reply.Reply.{Reply}
 use Rattle.sl_headline.proofs.Volumes.MachineLocks.{LocksTurn, New_locks, Same_locks, locks_turn, step_locks}
 use Rattle.sl_headline.proofs.Volumes.VersionsWereTold.{line_seen, turn_lvm}
 use Rattle.sl_headline.proofs.Volumes.LocksHold.{Line_given, LocksStep, None_given, Reply_given, emptied, locks_step, numbered_lvm}
-use Rattle.sl_headline.proofs.Volumes.LockTurns.{Asks_again, Gave_up, HostTurn, Kept_on, Moved, Read_none, Read_torn, Read_value, Took_lock, Took_to_read, Wrote_none, Wrote_value}
+use Rattle.sl_headline.proofs.Volumes.LockTurns.{Asks_again, HostTurn, Moved, Read_none, Read_torn, Read_value, Released, Took_lock, Took_to_read, Wrote_none, Wrote_value}
 use Rattle.sl_headline.specs.Volumes.OneVersion.{VersionsAreKnownOnce}
 use Rattle.sl_words.proofs.CaseLaws.{false_is_true}
 use Rattle.std.proofs.Common.{ap, inl, inr, subst, sym, ◌∙◌}
@@ -65,8 +65,7 @@ host_one m r c t (Read_none l was other is) one = subst (λ (y : Lvm × LvmOut).
 host_one m r c t (Wrote_value l lver seq was told is) one =
     subst (λ (y : Lvm × LvmOut). One y.0.seen) (sym is) (more (record { group = l.group; lver = lver; seq = seq }) m.seen one)
 host_one m r c t (Wrote_none l was is) one = subst (λ (y : Lvm × LvmOut). One y.0.seen) (sym is) (fewer l.group m.seen one)
-host_one m r c t (Gave_up lock refused s was is) one = subst (λ (y : Lvm × LvmOut). One y.0.seen) (sym is) one
-host_one m r c t (Kept_on lock refused s was is) one = subst (λ (y : Lvm × LvmOut). One y.0.seen) (sym is) one
+host_one m r c t (Released lock refused s was is) one = subst (λ (y : Lvm × LvmOut). One y.0.seen) (sym is) one
 
 turn_one : (i : Input) (fx : Effects) (k : Locks) (q : Locks × Told) → LocksStep i fx k q → One k.lvm.seen → One q.0.lvm.seen
 turn_one i fx k q (Line_given text t is turn same) one =
@@ -86,7 +85,7 @@ step_one : (number : ℕ) (i : Input) (fx : Effects) (k : Locks) → One k.lvm.s
 step_one number i fx k one =
     let s = locks_step number i fx k in
     subst (λ (y : Locks). One y.lvm.seen) (sym s.same)
-    (if_ends s.turn.0 s.ends (turn_one i fx (numbered_locks number i k) s.turn s.step (subst (λ (m : Lvm). One m.seen) (sym (numbered_lvm number i k)) one)))
+    (if_ends s.turn.0 s.ends (turn_one i fx (numbered_locks number i (left_locks fx k)) s.turn s.step (subst (λ (m : Lvm). One m.seen) (sym (numbered_lvm number i (left_locks fx k))) one)))
 
 -- ---- machines
 

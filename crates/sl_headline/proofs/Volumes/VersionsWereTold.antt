@@ -7,7 +7,7 @@ use Rattle.sl_run.specs.declared.turn.LvmOut.{LvmOut}
 use Rattle.sl_words.proofs.Lists.{contains_cases, contains_first, contains_none, find_inside, kept_inside, next_before}
 use Rattle.sl_run.specs.EventChanges.{after_step, first_change, next_step, number_of_step, with_entry}
 use Rattle.sl_run.specs.Inputs.{input_of, machine_of}
-use Rattle.sl_run.specs.Locks.{Locks, Told, after_turn, locks_after, numbered_locks}
+use Rattle.sl_run.specs.Locks.{Locks, Told, after_turn, left_locks, locks_after, numbered_locks}
 use Rattle.sl_run.specs.Runs.{Happening}
 use Rattle.sl_run.specs.Safety.{world_at}
 use Rattle.sl_run.specs.Worlds.{Daemon, Machine, Program, Stamp, World, daemons_on, machine_at, machine_of_header, stamp_now}
@@ -30,8 +30,8 @@ use Rattle.sl_trace.specs.declared.reply.Reply.{Reply}
 use Rattle.sl_headline.proofs.Volumes.AskedJobs.{AskedHolds, gives_ask, locks_stay, machines_ask, middle_holds, number_is, numbered_asked}
 use Rattle.sl_headline.proofs.Volumes.EntriesAtFronts.{answered_front, daemon_reads}
 use Rattle.sl_headline.proofs.Volumes.MachineLocks.{LocksTurn, MachineHolds, New_locks, Same_locks, locks_turn, step_locks}
-use Rattle.sl_headline.proofs.Volumes.LocksHold.{Line_given, LocksHold, LocksStep, None_given, Reply_given, emptied, locks_step, numbered_hold, numbered_lvm}
-use Rattle.sl_headline.proofs.Volumes.LockTurns.{Asks_again, Gave_up, HostTurn, Kept_on, LineTurn, Line_compares, Line_gives, Line_moves, Line_takes, Line_told, Line_writes, Moved, Read_none, Read_torn, Read_value, Took_lock, Took_to_read, Wrote_none, Wrote_value}
+use Rattle.sl_headline.proofs.Volumes.LocksHold.{Line_given, LocksHold, LocksStep, None_given, Reply_given, emptied, left_hold, locks_step, numbered_hold, numbered_lvm}
+use Rattle.sl_headline.proofs.Volumes.LockTurns.{Asks_again, HostTurn, LineTurn, Line_compares, Line_gives, Line_moves, Line_takes, Line_told, Line_writes, Moved, Read_none, Read_torn, Read_value, Released, Took_lock, Took_to_read, Wrote_none, Wrote_value}
 use Rattle.sl_headline.specs.Volumes.LockAsks.{IsFairCourse, asked_command}
 use Rattle.sl_headline.specs.Volumes.FittingRuns.{AnsweredRun, IsJobOf, ReadsAsks}
 use Rattle.sl_headline.specs.Volumes.VersionsWereTold.{TellsVersion, VersionsWereTold, WasTold}
@@ -83,8 +83,7 @@ new_by m r c t v (Read_torn l was is) has = inl (others m l.group v (subst (λ (
 new_by m r c t v (Read_none l was other is) has = inl (others m l.group v (subst (λ (y : Lvm × LvmOut). Contains y.0.seen v) is has))
 new_by m r c t v (Wrote_value l lver seq was told is) has = wrote_now m r c l lver seq v was told (subst (λ (y : Lvm × LvmOut). Contains y.0.seen v) is has)
 new_by m r c t v (Wrote_none l was is) has = inl (others m l.group v (subst (λ (y : Lvm × LvmOut). Contains y.0.seen v) is has))
-new_by m r c t v (Gave_up lock refused s was is) has = inl (subst (λ (y : Lvm × LvmOut). Contains y.0.seen v) is has)
-new_by m r c t v (Kept_on lock refused s was is) has = inl (subst (λ (y : Lvm × LvmOut). Contains y.0.seen v) is has)
+new_by m r c t v (Released lock refused s was is) has = inl (subst (λ (y : Lvm × LvmOut). Contains y.0.seen v) is has)
 
 pub line_seen : (m : Lvm) (x : Result LvmLine ℕ) (t : Lvm × LvmOut) → LineTurn m x t → t.0.seen ≡ m.seen
 line_seen m x t (Line_told text is) = ap (λ (y : Lvm × LvmOut). y.0.seen) is
@@ -126,12 +125,12 @@ if_ends k true v has = absurd (contains_none v has)
 if_ends k false v has = has
 
 after_learns : (number : ℕ) (i : Input) (fx : Effects) (k : Locks) (v : SeenValue) → Contains (locks_after number i fx k).0.lvm.seen v
-    → Contains k.lvm.seen v ⊎ LearnsIn fx (numbered_locks number i k) v
+    → Contains k.lvm.seen v ⊎ LearnsIn fx (numbered_locks number i (left_locks fx k)) v
 after_learns number i fx k v has =
     let s = locks_step number i fx k in
-    elim (step_learns i fx (numbered_locks number i k) s.turn v s.step (if_ends s.turn.0 s.ends v (subst (λ (y : Locks). Contains y.lvm.seen v) s.same has)))
-    as (λ z. Contains k.lvm.seen v ⊎ LearnsIn fx (numbered_locks number i k) v) [
-      | inl old ↦ inl (subst (λ (m : Lvm). Contains m.seen v) (numbered_lvm number i k) old)
+    elim (step_learns i fx (numbered_locks number i (left_locks fx k)) s.turn v s.step (if_ends s.turn.0 s.ends v (subst (λ (y : Locks). Contains y.lvm.seen v) s.same has)))
+    as (λ z. Contains k.lvm.seen v ⊎ LearnsIn fx (numbered_locks number i (left_locks fx k)) v) [
+      | inl old ↦ inl (subst (λ (m : Lvm). Contains m.seen v) (numbered_lvm number i (left_locks fx k)) old)
       | inr new ↦ inr new
     ]
 
@@ -214,7 +213,8 @@ took p h now x m a c r g i has here is before v there =
     let number : number_of_step b ≡ next_job d.0.setting d.0.trace = number_is b d.0 d.1 in
     let locks : c.locks ≡ (locks_after (next_job d.0.setting d.0.trace) i fx b.locks).0 =
     ap (λ (y : Machine). y.locks) is ∙ step_locks stamp i fx b ∙ ap (λ n. (locks_after n i fx b.locks).0) number in
-    let k : Locks = numbered_locks (next_job d.0.setting d.0.trace) i b.locks in
+    let left : Locks = left_locks fx b.locks in
+    let k : Locks = numbered_locks (next_job d.0.setting d.0.trace) i left in
     elim (after_learns (next_job d.0.setting d.0.trace) i fx b.locks v (subst (λ (y : Locks). Contains y.lvm.seen v) locks there))
     as (λ z. WasTold p h (now ++ x ∷ []) m v) [
       | inl old ↦ later p h now x m v (before m a v g.at (subst (λ (y : Locks). Contains y.lvm.seen v) stays old))
@@ -231,8 +231,8 @@ took p h now x m a c r g i has here is before v there =
           there = (g.later, runs, refl);
           given = (find_inside (λ (y : JobReply). y.job == t.number) fx.replies t.reply t.found).0;
           tells = tells p h r.reads d.0.setting (e ∷ d.0.trace) (daemon_reads p h (now ++ x ∷ []) r.run m c after g.later on) fx k
-              (numbered_hold area h.retries (next_job d.0.setting d.0.trace) i b.locks holds)
-              (numbered_asked area h.retries d.0.setting d.0.trace e.reading i fx b.locks holds (gives_ask w x.0 m a b i g.may g.at here has g.becomes.turned) asks) v t;
+              (numbered_hold area h.retries (next_job d.0.setting d.0.trace) i left (left_hold area h.retries fx b.locks holds))
+              (numbered_asked area h.retries d.0.setting d.0.trace e.reading i fx left (left_hold area h.retries fx b.locks holds) (gives_ask w x.0 m a b i g.may g.at here has g.becomes.turned) asks) v t;
         };
       }
     ]

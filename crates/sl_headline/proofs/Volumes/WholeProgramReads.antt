@@ -13,9 +13,9 @@ use Rattle.sl_trace.specs.declared.command.Command.TheVariants.{Acquire, GetLvb,
 use Rattle.sl_trace.specs.declared.command.Command.{Command}
 use Rattle.sl_headline.proofs.Volumes.DueCallsFit.{due_runs_are_answered}
 use Rattle.sl_headline.proofs.Volumes.LocksAreResources.{locks_are_resources}
-use Rattle.sl_headline.proofs.Volumes.LocksAreTaken.{locks_are_taken}
+use Rattle.sl_headline.proofs.Volumes.LocksAreHeld.{locks_are_held}
 use Rattle.sl_headline.specs.Volumes.LockAsks.{IsFairCourse, asked_command}
-use Rattle.sl_headline.specs.Volumes.WholeProgramReads.{LocksAreTakenWhenDue, WholeProgramReads}
+use Rattle.sl_headline.specs.Volumes.WholeProgramReads.{LocksAreHeldWhenDue, WholeProgramReads}
 use Rattle.sl_words.proofs.CaseLaws.{none_some, some_value}
 use Rattle.std.proofs.Common.{arith, refl, subst}
 use Rattle.std.specs.Prelude.{Some, false, [], ℕ, ◌<◌, ◌^◌, ◌∷◌, ◌≡◌, ◌≤◌}
@@ -44,6 +44,6 @@ pub whole_program_reads : WholeProgramReads
 whole_program_reads h header course c fair is =
     command_of_text (layout_of h.geometry) (hosts_are_few h header) c (is_command h header course c fair is)
 
-pub locks_are_taken_when_due : LocksAreTakenWhenDue
-locks_are_taken_when_due h xs run due set before x rest whole =
-    locks_are_taken whole_program h xs (due_runs_are_answered whole_program h xs run (whole_program_reads h run.header) due set) before x rest whole
+pub locks_are_held_when_due : LocksAreHeldWhenDue
+locks_are_held_when_due h xs run due set =
+    locks_are_held whole_program h xs (due_runs_are_answered whole_program h xs run (whole_program_reads h run.header) due set)

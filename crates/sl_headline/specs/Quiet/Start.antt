@@ -1,4 +1,3 @@
-pub mod UnprovedStarts
 pub mod CourseStarts
 pub mod QuietIsGranted
 pub mod MadeRunsQuiet

@@ -13,8 +13,8 @@ use Rattle.std.specs.Prelude.{List}
 abbrev pub SameIsUnchangedInRuns : Type 0
 SameIsUnchangedInRuns = (p : Program) (h : Header) (xs : List Happening) → AnsweredRun p h xs → SameIsUnchanged p h xs
 
--- So in each such run lvmlockd's locks keep to all that is said of them: no volume is active on two machines unless both share it, a line
--- asks few times, what is told to be taken is held, and what is told to be the same is unchanged.
+-- So in each such run lvmlockd's locks keep to all that is said of them: no volume is active, or told to be, on two machines unless both share
+-- it, a line asks few times, what is told is held, and what is told to be the same is unchanged.
 abbrev pub VolumesAreSafeInRuns : Type 0
 VolumesAreSafeInRuns = (p : Program) (h : Header) (xs : List Happening) → AnsweredRun p h xs → VolumesAreSafe p h xs
 

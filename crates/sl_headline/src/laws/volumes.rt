@@ -4,19 +4,25 @@ ghost use Rattle.sl_headline.specs.Volumes.DueCallsFit.{DueCallsFit, DueRunsAreA
 ghost use Rattle.sl_headline.specs.Volumes.FewAsks.{AsksAreFewInRuns};
 ghost use Rattle.sl_headline.specs.Volumes.LockNames.{LocksAreResources};
 ghost use Rattle.sl_headline.specs.Volumes.OneVersion.{VersionsAreKnownOnce};
-ghost use Rattle.sl_headline.specs.Volumes.WholeProgramReads.{LocksAreTakenWhenDue, WholeProgramReads};
+ghost use Rattle.sl_headline.specs.Volumes.WholeProgramReads.{LocksAreHeldWhenDue, WholeProgramReads};
 ghost use Rattle.sl_headline.specs.Volumes.SameInRuns.{SameIsUnchangedInRuns, VolumesAreSafeInRuns, VolumesAreSafeWhenDue};
 ghost use Rattle.sl_headline.specs.Volumes.VersionsWereTold.{VersionsWereTold};
-ghost use Rattle.sl_headline.specs.Volumes.LocksTakenInRuns.{LocksAreTakenInRuns};
+ghost use Rattle.sl_headline.specs.Volumes.LocksHeldInRuns.{LocksAreHeldInRuns, ToldVolumesExcludeInRuns};
 
 /// An acquire is asked again for one line at most so often as the header has it.
 pub fn asks_are_few()
     ensures { AsksAreFewInRuns }
 {}
 
-/// A lock that a line's ok reply says is taken is held by the daemon from then on, where replies have their causes.
-pub fn locks_are_taken()
-    ensures { LocksAreTakenInRuns }
+/// At each moment each lock of a machine's table, which is what lines tell, is a holding of the machine in the lock's mode, where replies have
+/// their causes: it comes with the grant, and leaves with the end of the holding, whatever ends that.
+pub fn locks_are_held()
+    ensures { LocksAreHeldInRuns }
+{}
+
+/// So no logical volume is told active on two machines at any moment, unless both share it.
+pub fn told_volumes_exclude()
+    ensures { ToldVolumesExcludeInRuns }
 {}
 
 /// A daemon that does what is due calls for a value where its job's command names one, and on that one.
@@ -39,9 +45,9 @@ pub fn whole_program_reads()
     ensures { WholeProgramReads }
 {}
 
-/// So a lock that a line takes is held from then on wherever its daemons do what is due.
-pub fn locks_are_taken_when_due()
-    ensures { LocksAreTakenWhenDue }
+/// So what lines tell is held wherever its daemons do what is due.
+pub fn locks_are_held_when_due()
+    ensures { LocksAreHeldWhenDue }
 {}
 
 /// Each version of a group's value that the locks know was told them, by the host's reply to a read or a write of it that they asked.

@@ -1,7 +1,7 @@
 -- The event that brings a line: the daemon takes it at the reading that its machine had, nothing lands, and what stood anywhere stands.
 use Rattle.sl_area.specs.AreaSizes.{Layout}
 use Rattle.sl_run.specs.EventChanges.{after_step, first_change, happens, next_step, take_step, with_entry}
-use Rattle.sl_run.specs.Inputs.{input_at, input_of, machine_of, ok_input, done_input, rest_sampled}
+use Rattle.sl_run.specs.Inputs.{input_at, input_of, machine_of, done_input, rest_sampled}
 use Rattle.sl_run.specs.Runs.{Happening, IsRun}
 use Rattle.sl_run.specs.Safety.{LawfulRun, world_at}
 use Rattle.sl_run.specs.Worlds.{Course, Daemon, Landing, Machine, Program, Stamp, World, content, flight_of, initial_bytes, machine_at, reading_now, stamp_now, world_with}
@@ -19,7 +19,7 @@ use Rattle.sl_trace.specs.Traces.{same_place}
 use Rattle.sl_trace.specs.declared.effects.Effects.{Effects}
 use Rattle.sl_trace.specs.declared.effects.Op.TheVariants.{ReadSectors, WriteRecord}
 use Rattle.sl_trace.specs.declared.effects.Op.{Op}
-use Rattle.sl_trace.specs.declared.input.Answer.TheVariants.{Failed, Read, Written}
+use Rattle.sl_trace.specs.declared.input.Answer.TheVariants.{Read, Written}
 use Rattle.sl_trace.specs.declared.input.Input.TheVariants.{Answer as Told, Line}
 use Rattle.sl_trace.specs.declared.input.Input.{Input}
 use Rattle.sl_run.specs.Refusals.{sectors_left}

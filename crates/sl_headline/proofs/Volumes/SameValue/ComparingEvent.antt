@@ -10,7 +10,7 @@ use Rattle.sl_words.proofs.Options.{mapped_value, then_value}
 use Rattle.sl_run.specs.EventChanges.{after_step, first_change, happens, next_step, take_step, with_entry}
 use Rattle.sl_run.specs.Refusals.{event_tests, may_happen, sectors_left}
 use Rattle.sl_run.specs.Inputs.{if_running, input_at, input_of, machine_of, ok_input, rest_sampled}
-use Rattle.sl_run.specs.Locks.{Locks, Told, after_turn, is_lock_exit, locks_after, numbered_locks, replied_locks, turned_locks}
+use Rattle.sl_run.specs.Locks.{Locks, Told, after_turn, is_lock_exit, left_locks, locks_after, numbered_locks, replied_locks, turned_locks}
 use Rattle.sl_run.specs.LvmPromises.{TellsSame}
 use Rattle.sl_run.specs.Runs.{Happening}
 use Rattle.sl_run.specs.Safety.{world_at}
@@ -43,7 +43,7 @@ use Rattle.sl_headline.proofs.Volumes.SameValue.ToldVersions.{TellsRead}
 use Rattle.sl_headline.proofs.Volumes.SameValue.Texts.{ReadSame, told_same}
 use Rattle.sl_headline.proofs.Volumes.SameValue.Values.{value_told}
 use Rattle.sl_headline.proofs.Volumes.VersionsWereTold.{asked_job}
-use Rattle.sl_headline.proofs.Volumes.LocksHold.{LocksHold, ended_by, numbered_hold, numbered_lvm}
+use Rattle.sl_headline.proofs.Volumes.LocksHold.{LocksHold, ended_by, left_hold, numbered_hold, numbered_lvm}
 use Rattle.sl_headline.specs.Volumes.FittingRuns.{AnsweredRun, IsJobOf}
 use Rattle.sl_words.proofs.CaseLaws.{none_some, one_value, some_value, true_is_false}
 use Rattle.sl_words.proofs.WordLaws.{choose_some}
@@ -97,11 +97,11 @@ turned_told (Exit p) fx k line text none h = replied_told fx k line text h
 turned_told (Spawned p ok) fx k line text none h = replied_told fx k line text h
 
 locks_told : (number : ℕ) (i : Input) (fx : Effects) (k : Locks) (line : ℕ) (text : List ℕ) → ((t : List ℕ) → i ≡ Number t → ⊥) → (locks_after number i fx k).1 ≡ Some (line, text)
-    → ToldBy fx (numbered_locks number i k) text
+    → ToldBy fx (numbered_locks number i (left_locks fx k)) text
 unfolding locks_after
 locks_told number i fx k line text none h =
-    turned_told i fx (numbered_locks number i k) line text none
-    (sym (ap (λ (p : Locks × Told). p.1) (ended_by (turned_locks i fx (numbered_locks number i k)) (is_lock_exit i))) ∙ h)
+    let n : Locks = numbered_locks number i (left_locks fx k) in
+    turned_told i fx n line text none (sym (ap (λ (p : Locks × Told). p.1) (ended_by (turned_locks i fx n) (is_lock_exit i))) ∙ h)
 
 -- After the reply to the read of a value.
 reading_by : (m : Lvm) (r : Reply) (l : Lock) (o : Option Course) → o ≡ Some (Reading l)
@@ -208,7 +208,8 @@ compares p h now x r m group s =
     let asks : AskedHolds area st d.0.trace a.locks = machines_ask p h now last.before m a at d.0 runs_before in
     let gives : GivesAsk i a.locks = subst (GivesAsk i) stays (gives_ask w x.0 m a b i last.may at here has turned) in
     let number : ℕ = next_job st d.0.trace in
-    let k : Locks = numbered_locks number i a.locks in
+    let left : Locks = left_locks fx a.locks in
+    let k : Locks = numbered_locks number i left in
     let lock : Lock = group_lock group in
     let idle : (t : List ℕ) → i ≡ Number t → ⊥ =
     λ t is. true_is_false
@@ -216,10 +217,10 @@ compares p h now x r m group s =
     ∙ line_idle x.0 w a t last.may (subst (λ n. machine_at w n ≡ Some a) here at) (input_there w x.0 m a i at here has ∙ ap (λ y. Some y) is)) in
     let told : ToldBy fx k (comparison true) =
     locks_told number i fx a.locks s.line (comparison true) idle (ap (λ n. (locks_after n i fx a.locks).1) (sym (number_is a d.0 runs_before)) ∙ s.told) in
-    let reads : k.lvm.course ≡ Some (Reading lock) = ap (λ (y : Lvm). y.course) (numbered_lvm number i a.locks) ∙ s.reads in
+    let reads : k.lvm.course ≡ Some (Reading lock) = ap (λ (y : Lvm). y.course) (numbered_lvm number i left) ∙ s.reads in
     let job : IsJobOf st es told.number (GetLvb (resource_of area lock) lock_process) =
-    asked_job p h r.reads st es (daemon_reads p h (now ++ x ∷ []) r.run m c after later on) k (numbered_hold area h.retries number i a.locks holds)
-    (numbered_asked area h.retries st d.0.trace e.reading i fx a.locks holds gives asks) (Reading lock) told.number (GetLvb (resource_of area lock) lock_process) reads told.asked refl in
+    asked_job p h r.reads st es (daemon_reads p h (now ++ x ∷ []) r.run m c after later on) k (numbered_hold area h.retries number i left (left_hold area h.retries fx a.locks holds))
+    (numbered_asked area h.retries st d.0.trace e.reading i fx left (left_hold area h.retries fx a.locks holds) gives asks) (Reading lock) told.number (GetLvb (resource_of area lock) lock_process) reads told.asked refl in
     let found = find_inside (λ (y : JobReply). y.job == told.number) fx.replies told.reply told.found in
     let named : told.reply.job ≡ told.number = eqb-true told.reply.job told.number found.1 in
     let well = (on_machine IsCaused (world_at p h (now ++ x ∷ [])) m c after r.caused later on).0 in
@@ -238,7 +239,7 @@ compares p h now x r m group s =
       seq = read.seq;
       machine = a;
       at = at;
-      seen = ap (λ (y : Lvm). is_seen y group read.lver read.seq) (sym (numbered_lvm number i a.locks)) ∙ read.seen;
+      seen = ap (λ (y : Lvm). is_seen y group read.lver read.seq) (sym (numbered_lvm number i left)) ∙ read.seen;
       told = record {
         machine = c;
         at = later;

@@ -38,7 +38,8 @@ use Rattle.sl_headline.proofs.Volumes.SameValue.ComparingEvent.{compares}
 use Rattle.sl_headline.proofs.Volumes.SameValue.ToldVersions.{is_read, is_written, value_spot}
 use Rattle.sl_headline.proofs.Volumes.SameValue.WritesSinceTold.{AnsweredLate, read_bars, write_bars}
 use Rattle.sl_headline.proofs.Volumes.VersionsWereTold.{versions_were_told}
-use Rattle.sl_headline.proofs.Volumes.LocksAreTaken.{locks_are_taken}
+use Rattle.sl_headline.proofs.Volumes.LocksAreHeld.{locks_are_held}
+use Rattle.sl_headline.proofs.Volumes.ToldVolumes.{told_volumes_exclude}
 use Rattle.sl_headline.specs.Volumes.FittingRuns.{AnsweredRun, IsJobOf}
 use Rattle.sl_headline.specs.Volumes.SameInRuns.{SameIsUnchangedInRuns, VolumesAreSafeInRuns, VolumesAreSafeWhenDue}
 use Rattle.sl_headline.specs.Volumes.VersionsWereTold.{IsTold, WasTold}
@@ -278,7 +279,8 @@ volumes_are_safe p h xs r =
       exclusive = volumes_exclude p h xs r.run xs [] (sym (append-nil xs));
       few = asks_are_few p h xs r.run;
       same = same_is_unchanged p h xs r;
-      taken = locks_are_taken p h xs r;
+      held = locks_are_held p h xs r;
+      told = told_volumes_exclude p h xs r;
     }
 
 pub volumes_are_safe_when_due : VolumesAreSafeWhenDue
