@@ -1,14 +1,11 @@
 -- New calls, numbered on.
-use Rattle.sl_world_state.specs.Steps.{new_flight}
-use Rattle.sl_machine.specs.Flights.{late_cut}
 use Rattle.sl_words.proofs.Lists.{tail_is}
 use Rattle.sl_words.proofs.Numbers.{one_further, plus_zero}
-use Rattle.sl_run.specs.declared.header.Header.{Header}
 use Rattle.sl_trace.specs.declared.effects.Call.{Call}
 use Rattle.sl_words.proofs.CaseLaws.{some_value}
 use Rattle.std.proofs.Common.{ap, arith, get_or, refl, ◌∙◌}
 use Rattle.std.specs.List.{range_with_len}
-use Rattle.std.specs.Prelude.{Bool, List, None, Option, false, filter, length, map, slice_get, suc, true, zero, [], ℕ, ◌+◌, ◌<◌, ◌∷◌, ◌≡◌}
+use Rattle.std.specs.Prelude.{List, filter, length, map, slice_get, suc, true, zero, [], ℕ, ◌+◌, ◌<◌, ◌∷◌, ◌≡◌}
 
 pub all_kept : {A : Type 0} (xs : List A) → filter (λ x. true) xs ≡ xs
 all_kept [] = refl

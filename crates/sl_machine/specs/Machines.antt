@@ -34,6 +34,7 @@ machine_state locks a =
       starting = a.starting.items;
       flights = a.flights.items.items;
       held = a.held.items;
+      lingering = a.lingering.items;
       locks = locks a.locks;
     }
 

@@ -129,6 +129,7 @@ fn first_machine<L: LockTable>(
         starting: Vec::new(alloc),
         flights: Flights::new(alloc, 1),
         held: Vec::new(alloc),
+        lingering: Vec::new(alloc),
         locks: L::fresh(alloc, header),
     })
 }

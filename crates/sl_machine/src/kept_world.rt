@@ -11,7 +11,7 @@ ghost use Rattle.indexmap.specs.IndexSet.{spare};
 ghost use Rattle.std.specs.List.{list_any};
 ghost use Rattle.sl_run.specs.Headers.{IsHeader};
 ghost use Rattle.std.specs.Option.{option_copied};
-ghost use Rattle.std.specs.Prelude.{IfSome, OnOk, Some, bytes_eq, false, option_map, reverse, ◌<◌, ◌≡◌};
+ghost use Rattle.std.specs.Prelude.{IfSome, OnErr, OnOk, Some, bytes_eq, false, option_map, reverse, ◌<◌, ◌≡◌};
 
 use crate::flight::Outcome;
 use crate::heard_inputs::Heard;
@@ -88,14 +88,18 @@ impl<L: LockTable> Kept<L> {
         }
     }
 
-    /// A machine goes down.
-    pub fn reset(&mut self, machine: u32)
-        ensures { kept_state L.locks self.new ≡ change_machine_in machine (reset_machine (kept_state L.locks self.old).moment) (kept_state L.locks self.old) }
+    /// A machine goes down. An `Err` is want of memory, and changes nothing that is seen.
+    pub fn reset(&mut self, machine: u32) -> Result<(), AllocError>
+        ensures ok { OnOk result (kept_state L.locks self.new
+            ≡ change_machine_in machine (reset_machine (kept_state L.locks self.old).header (kept_state L.locks self.old).moment) (kept_state L.locks self.old)) }
+        ensures err { OnErr result (kept_state L.locks self.new ≡ kept_state L.locks self.old) }
     {
+        let alloc = *self.machines.allocator();
         let moment = self.moment;
         if let Some(index) = place_of(self.machines.len(), machine) {
-            self.machines[index].reset(moment);
+            self.machines[index].reset(alloc, self.disks.header(), moment)?;
         }
+        Ok(())
     }
 
     /// A machine comes up.

@@ -10,7 +10,8 @@
 //!              +--> an input of its daemon: what it is given (`hear`, `images`), room (`reserve`), the daemon's step, then `step`
 //! ```
 //!
-//! `Kept` keeps of the world's past only what its next event asks for: of a machine its clock, last keepalive, connections, holdings, children
+//! `Kept` keeps of the world's past only what its next event asks for: of a machine its clock, last keepalive, connections, holdings, what lingers
+//! of those that a reset ended, children
 //! whose start has no answer, lvmlockd's locks, and the calls in flight; of the disks what stands there; the names that were given. Its value is the
 //! record of `sl_world_state`, so each clause here is an equation between two such records, and no world occurs in any. Room is taken before the
 //! daemon steps, since a step that was made can't be taken back: what comes behind it can't fail. Calls are found by number, disks by place,
@@ -34,6 +35,7 @@ mod machine_refusals;
 mod names;
 mod reads;
 mod report_questions;
+mod reset_holdings;
 mod room;
 mod time_passes;
 mod time_refusals;
@@ -49,4 +51,5 @@ pub use kept_world::Kept;
 pub use locks::{LockTable, lock_input_of};
 pub use machine::Machine;
 pub use machine_effects::no_effects;
+pub use reset_holdings::Lingering;
 pub use watchdog_connections::Connection;

@@ -4,7 +4,7 @@ ghost use Rattle.sl_locks.specs.Replies.{told_as};
 ghost use Rattle.sl_locks.specs.Steps.{lock_input};
 ghost use Rattle.sl_locks.specs.Tables.{has_room, locks_of};
 ghost use Rattle.sl_machine.specs.HeardInputs.{heard_by_locks};
-ghost use Rattle.sl_run.specs.Locks.{Locks, fresh_locks, locks_after, told_effects};
+ghost use Rattle.sl_run.specs.Locks.{Locks, fresh_locks, left_locks, locks_after, told_effects};
 ghost use Rattle.std.specs.Prelude.{Bool, IfOk, OnOk, is_some, true, ◌≡◌};
 
 use sl_locks::{LockInput, LvmLocks, StepTold};
@@ -53,6 +53,10 @@ pub trait LockTable: Drop {
         ensures stays { locks self.new ≡ (locks_after number (lock_input input) effects (locks self.old)).0 }
         ensures line { told_as result.line ≡ (locks_after number (lock_input input) effects (locks self.old)).1 }
         ensures effects { result.effects ≡ told_effects number (lock_input input) effects (locks self.old) };
+
+    /// The locks whose holdings the machine itself has ended, without its daemon, leave the table. They take no memory.
+    fn leave(&mut self, effects: &Effects)
+        ensures { locks self.new ≡ left_locks effects.now (locks self.old) };
 }
 
 impl LockTable for LvmLocks {
@@ -86,6 +90,10 @@ impl LockTable for LvmLocks {
 
     fn turn(&mut self, number: u64, input: LockInput, effects: Effects) -> StepTold {
         LvmLocks::turn(self, number, input, effects)
+    }
+
+    fn leave(&mut self, effects: &Effects) {
+        LvmLocks::leave(self, effects);
     }
 }
 

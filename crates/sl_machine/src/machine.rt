@@ -23,6 +23,7 @@ use crate::flights::Flights;
 use crate::heard_inputs::Heard;
 use crate::locks::LockTable;
 use crate::machine_holdings::take_effects;
+use crate::reset_holdings::{Lingering, lingering_after};
 use crate::watchdog_connections::{Connection, make_moves, test_holds};
 use sl_locks::{LockInput, StepTold};
 use sl_run::Header;
@@ -51,6 +52,8 @@ pub struct Machine<L: LockTable> {
     pub starting: Vec<u32>,
     pub flights: Flights,
     pub held: Vec<Grant>,
+    /// What it held when it was reset: of the last reset first, and of those before what lingered then.
+    pub lingering: Vec<Lingering>,
     pub locks: L,
 }
 
@@ -117,17 +120,23 @@ impl<L: LockTable> Machine<L> {
         self.flights.disown();
     }
 
-    /// The machine goes down.
+    /// The machine goes down: what it holds lingers. An `Err` is want of memory, and changes nothing that is seen.
     #[tactic(auto, unfolding(crate::specs::Machines::machine_state))]
-    pub fn reset(&mut self, moment: u64)
-        ensures { machine_state L.locks self.new ≡ reset_machine moment (machine_state L.locks self.old) }
+    pub fn reset(&mut self, alloc: Global, header: &Header, moment: u64) -> Result<(), AllocError>
+        ensures ok { OnOk result (machine_state L.locks self.new ≡ reset_machine header.now moment (machine_state L.locks self.old)) }
+        ensures err { OnErr result (machine_state L.locks self.new ≡ machine_state L.locks self.old) }
     {
+        let land = header.timing.land();
+        let lingering = lingering_after(alloc, &self.held, &self.lingering, land, moment)?;
         self.up = false;
         self.connections.clear();
         self.runs = false;
         self.starting.clear();
         self.held.clear();
+        self.lingering = lingering;
+        self.locks = L::fresh(alloc, header);
         self.flights.cut(moment);
+        Ok(())
     }
 
     /// The machine comes up; the last keepalive rests on now.
@@ -226,5 +235,6 @@ impl<L: LockTable> Machine<L> {
     {
         make_moves(&mut self.connections, effects.moves.as_slice());
         take_effects(&mut self.held, effects);
+        self.locks.leave(effects);
     }
 }

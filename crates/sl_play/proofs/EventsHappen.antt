@@ -25,10 +25,10 @@ use Rattle.sl_trace.specs.declared.command.Command.{Command}
 use Rattle.sl_trace.specs.declared.effects.Effects.{Effects}
 use Rattle.sl_trace.specs.declared.input.Input.{Input}
 use Rattle.sl_trace.specs.declared.effects.Grant.{Grant}
-use Rattle.sl_world.proofs.CalmLeft.{all_held_is, calm_after, calm_before}
+use Rattle.sl_world.proofs.CalmLeft.{all_used_is, calm_after, calm_before}
 use Rattle.sl_world.proofs.LeftGrants.{conflicts_are_left}
 use Rattle.sl_world.specs.AllowedEvents.{StandsForSome}
-use Rattle.sl_world.specs.ConflictCounts.{IsCalm, conflicts_left, held_before, holdings_with}
+use Rattle.sl_world.specs.ConflictCounts.{IsCalm, conflicts_left, uses_before, uses_with}
 use Rattle.sl_world.specs.GivenSteps.{IsSame}
 use Rattle.sl_world.specs.ToldEvents.{ComesTold}
 use Rattle.sl_world.specs.declared.apply.ApplyError.TheVariants.{OutOfMemory, Refused}
@@ -36,7 +36,7 @@ use Rattle.sl_world.specs.declared.apply.ApplyError.{ApplyError}
 use Rattle.sl_world.specs.declared.world.World.{World as KeptWorld}
 use Rattle.sl_world_law.proofs.TellingIsKept.{telling_is_kept}
 use Rattle.sl_world_law.specs.WorldsStand.{Comes}
-use Rattle.sl_world_law.specs.ToldEvents.{conflicts_in, holdings_in, tested_in, tested_lines, told_in, told_of}
+use Rattle.sl_world_law.specs.ToldEvents.{conflicts_in, uses_in, tested_in, tested_lines, told_in, told_of}
 use Rattle.std.proofs.Common.{Bool, List, false, not, ◌==◌, None, Option, Some, [], ap, arith, inl, inr, length, refl, subst, sym, true, ℕ, ◌++◌, ◌+◌, ◌∙◌, ◌∷◌, ◌≡◌}
 use Rattle.std.proofs.lemmas.List.{append-nil}
 use Rattle.std.specs.List.{flat_map}
@@ -192,33 +192,33 @@ pub passes_so : {D L : Type 0} (locks : L → Locks) (commands : Header → List
 passes_so locks commands stands p x e m ask told comes machine asks passes =
     passes_counts commands stands p (record { kept = kept_state locks x.kept; hosts = x.hosts; counts = p.counts }) e m ask told comes machine asks passes
 
--- ---- whether holdings conflict
+-- ---- whether uses conflict
 
 -- Where it is known that none do before the event, none do of those that stand before its grants.
 pub calm_told : {D L : Type 0} (locks : L → Locks) (commands : Header → List (Form Command)) (stands : D → Setting → Trace → Type 0) (y x : KeptWorld D L) (e : Event) (m : ℕ) (told : StepTold)
-    (n : ℕ) (calm : Bool) → IsCalm calm y.kept.machines.items → StandsForSome commands stands (kept_state locks y.kept) y.hosts
+    (n : ℕ) (calm : Bool) → IsCalm calm y.kept → StandsForSome commands stands (kept_state locks y.kept) y.hosts
     → ComesTold commands stands (kept_state locks y.kept) y.hosts e (kept_state locks x.kept) x.hosts told → m ≡ machine_of e → n ≡ length told.effects.grants → calm ≡ true
-    → has_conflict (held_before (kept_state locks x.kept) m n) ≡ false
+    → has_conflict (uses_before (kept_state locks x.kept) m n) ≡ false
 calm_told locks commands stands y x e m told n calm known s comes machine many is =
     let c = comes.comes s.world s.stands_for in
     let grants : told.effects.grants ≡ comes.effects.grants
     = ap (λ (t : ToldStep). t.effects.grants) comes.told_is ∙ (told_parts (input_in (kept_state locks y.kept) e) comes.effects (machine_in (kept_state locks y.kept) (machine_of e))).1 in
-    ap (λ j. has_conflict (held_before (kept_state locks x.kept) m j)) many
-    ∙ ap (λ (gs : List Grant). has_conflict (held_before (kept_state locks x.kept) m (length gs))) grants
-    ∙ ap (λ j. has_conflict (held_before (kept_state locks x.kept) j (length comes.effects.grants))) machine
+    ap (λ j. has_conflict (uses_before (kept_state locks x.kept) m j)) many
+    ∙ ap (λ (gs : List Grant). has_conflict (uses_before (kept_state locks x.kept) m (length gs))) grants
+    ∙ ap (λ j. has_conflict (uses_before (kept_state locks x.kept) j (length comes.effects.grants))) machine
     ∙ calm_before commands (kept_state locks y.kept) s.world s.stands_for.tells s.stands_for.sane e c.may comes.effects c.steps (kept_state locks x.kept) c.stays.tells
-    (sym (ap has_conflict (all_held_is locks y.kept)) ∙ known is)
+    (sym (ap has_conflict (all_used_is locks y.kept)) ∙ known is)
 
 -- What is known behind them is so of all.
-pub calm_then : {D L : Type 0} (locks : L → Locks) (x : KeptWorld D L) (m n : ℕ) (calm left : Bool) → (calm ≡ true → has_conflict (held_before (kept_state locks x.kept) m n) ≡ false)
-    → left ≡ (if n == 0 then calm else not (has_conflict (holdings_with (kept_state locks x.kept) m))) → IsCalm left x.kept.machines.items
-calm_then locks x m n calm left before is = λ known. ap has_conflict (all_held_is locks x.kept) ∙ calm_after (kept_state locks x.kept) m n calm left before is known
+pub calm_then : {D L : Type 0} (locks : L → Locks) (x : KeptWorld D L) (m n : ℕ) (calm left : Bool) → (calm ≡ true → has_conflict (uses_before (kept_state locks x.kept) m n) ≡ false)
+    → left ≡ (if n == 0 then calm else not (has_conflict (uses_with (kept_state locks x.kept) m))) → IsCalm left x.kept
+calm_then locks x m n calm left before is = λ known. ap has_conflict (all_used_is locks x.kept) ∙ calm_after (kept_state locks x.kept) m n calm left before is known
 
 -- Where nothing that is seen has changed.
-pub calm_still : {D L : Type 0} (locks : L → Locks) (y x : KeptWorld D L) (calm : Bool) → kept_state locks x.kept ≡ kept_state locks y.kept → IsCalm calm y.kept.machines.items
-    → IsCalm calm x.kept.machines.items
+pub calm_still : {D L : Type 0} (locks : L → Locks) (y x : KeptWorld D L) (calm : Bool) → kept_state locks x.kept ≡ kept_state locks y.kept → IsCalm calm y.kept
+    → IsCalm calm x.kept
 calm_still locks y x calm same known = λ is.
-    ap has_conflict (all_held_is locks x.kept) ∙ ap (λ k. has_conflict (holdings_in k)) same ∙ sym (ap has_conflict (all_held_is locks y.kept)) ∙ known is
+    ap has_conflict (all_used_is locks x.kept) ∙ ap (λ k. has_conflict (uses_in k)) same ∙ sym (ap has_conflict (all_used_is locks y.kept)) ∙ known is
 
 -- ---- an event that isn't applied
 

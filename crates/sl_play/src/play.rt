@@ -22,9 +22,9 @@ use std::alloc::{AllocError, Global};
 pub struct Play<D: Daemon, L: LockTable> {
     pub(crate) world: World<D, L>,
     pub(crate) counts: Counts,
-    /// Whether it is known that no two holdings conflict.
+    /// Whether it is known that no two uses conflict.
     calm: bool,
-    ghost known: { IsCalm calm world.kept.machines.items },
+    ghost known: { IsCalm calm world.kept },
 }
 
 impl<D: Daemon, L: LockTable> Play<D, L> {

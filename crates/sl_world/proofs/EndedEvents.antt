@@ -99,12 +99,12 @@ pub reset_there : (commands : Header → List (Form Command)) (k : KeptState) (m
 unfolding tests_in
 reset_there commands k m none = let s = machine_there k m (λ x. (not x.up, MissingUp) ∷ []) (unrefused commands k (Reset m) none) in (s.0, s.1)
 
-pub first_reset : (k : KeptState) (m : ℕ) → first_kept (Reset m) k ≡ change_machine_in m (reset_machine k.moment) k
+pub first_reset : (k : KeptState) (m : ℕ) → first_kept (Reset m) k ≡ change_machine_in m (reset_machine k.header k.moment) k
 unfolding first_kept
 first_reset k m = refl
 
 pub reset_comes : {D : Type 0} (commands : Header → List (Form Command)) (stands : D → Setting → Trace → Type 0) (k : KeptState) (hosts running : List (Option D)) (m : ℕ)
-    (after : KeptState) (fx : Effects) → IsAllowed commands stands k hosts (Reset m) → fx ≡ own_in k (Reset m) → after ≡ change_machine_in m (reset_machine k.moment) k
+    (after : KeptState) (fx : Effects) → IsAllowed commands stands k hosts (Reset m) → fx ≡ own_in k (Reset m) → after ≡ change_machine_in m (reset_machine k.header k.moment) k
     → running ≡ slice_set hosts (m - 1) None → AllCome commands stands k hosts (Reset m) after running fx
 reset_comes commands stands k hosts running m after fx a own is ended w t =
     subst (λ y. Comes commands stands w (Reset m) fx after y) (sym ended)

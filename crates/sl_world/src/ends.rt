@@ -85,7 +85,7 @@ impl<D: Daemon, L: LockTable> World<D, L> {
         ensures err { OnErr result (IsSame (kept_state L.locks self.old.kept) self.old.hosts (kept_state L.locks self.new.kept) self.new.hosts) }
     {
         let effects = self.kept.reset_effects(machine)?;
-        self.kept.reset(machine);
+        self.kept.reset(machine)?;
         self.hosts.end(machine as usize - 1);
         Ok(told_alone(effects))
     }

@@ -1,8 +1,7 @@
--- When holdings conflict: one more is one test more, and where they stand is no matter.
+-- When uses conflict: one more is one test more, and where they stand is no matter.
 use Rattle.sl_words.proofs.Numbers.{number_itself, number_turned}
-use Rattle.sl_run.specs.Conflicts.{Holding, conflicts, has_conflict}
+use Rattle.sl_run.specs.Conflicts.{Holding, conflicts, has_conflict, holding, is_one_user}
 use Rattle.sl_trace.specs.Traces.{is_shared, same_place}
-use Rattle.sl_trace.specs.declared.effects.Grant.{Grant}
 use Rattle.sl_world_law.specs.ToldEvents.{ConflictsAreCounted, ConflictsOfParts, OneMoreConflict, clashes_after}
 use Rattle.std.proofs.Common.{append_assoc, ap, ap₂, refl, sym, ◌∙◌}
 use Rattle.std.proofs.lemmas.List.Folds.{list_any-append}
@@ -31,16 +30,26 @@ bytes_same : (xs ys : List ℕ) → bytes_eq xs ys ≡ bytes_eq ys xs
 bytes_same xs ys =
     same_truth (bytes_eq xs ys) (bytes_eq ys xs) (λ h. (bytes_eq-Decides ys xs).1 (sym ((bytes_eq-Decides xs ys).0 h))) (λ h. (bytes_eq-Decides xs ys).1 (sym ((bytes_eq-Decides ys xs).0 h)))
 
--- ---- two holdings
+-- ---- two uses
+
+last_turned : (p a b : Bool) → (p || a || b) ≡ (p || b || a)
+last_turned true a b = refl
+last_turned false true true = refl
+last_turned false true false = refl
+last_turned false false true = refl
+last_turned false false false = refl
+
+user_turned : (a b : Holding) → is_one_user a b ≡ is_one_user b a
+user_turned a b =
+    ap₂ (λ n p. n && (p || a.lingers || b.lingers)) (number_same a.machine b.machine) (number_same a.held.process b.held.process)
+    ∙ ap (λ p. b.machine == a.machine && p) (last_turned (b.held.process == a.held.process) a.lingers b.lingers)
 
 -- The first conflicts with the second where the second does with the first.
 conflicts_turned : (a b : Holding) → conflicts a b ≡ conflicts b a
 conflicts_turned a b =
     ap₂ (λ p q. p && not (is_shared a.held.mode && is_shared b.held.mode) && not q)
-    (ap₂ (λ n m. n && m) (number_same a.held.offset b.held.offset) (bytes_same a.held.path b.held.path))
-    (ap₂ (λ n m. n && m) (number_same a.machine b.machine) (number_same a.held.process b.held.process))
-    ∙ ap (λ s. same_place b.held.path b.held.offset a.held.path a.held.offset && not s && not (b.machine == a.machine && b.held.process == a.held.process))
-    (and_turned (is_shared a.held.mode) (is_shared b.held.mode))
+    (ap₂ (λ n m. n && m) (number_same a.held.offset b.held.offset) (bytes_same a.held.path b.held.path)) (user_turned a b)
+    ∙ ap (λ s. same_place b.held.path b.held.offset a.held.path a.held.offset && not s && not (is_one_user b a)) (and_turned (is_shared a.held.mode) (is_shared b.held.mode))
 
 none_false : (a : Bool) → (a && false) ≡ false
 none_false true = refl
@@ -49,7 +58,7 @@ none_false false = refl
 -- None conflicts with itself.
 not_itself : (h : Holding) → conflicts h h ≡ false
 not_itself h =
-    ap₂ (λ n m. same_place h.held.path h.held.offset h.held.path h.held.offset && not (is_shared h.held.mode && is_shared h.held.mode) && not (n && m))
+    ap₂ (λ n p. same_place h.held.path h.held.offset h.held.path h.held.offset && not (is_shared h.held.mode && is_shared h.held.mode) && not (n && (p || h.lingers || h.lingers)))
     (number_itself h.machine) (number_itself h.held.process)
     ∙ none_false (same_place h.held.path h.held.offset h.held.path h.held.offset && not (is_shared h.held.mode && is_shared h.held.mode))
 
@@ -93,18 +102,15 @@ one_more_conflict hs h =
 pub conflicts_are_counted : ConflictsAreCounted
 conflicts_are_counted others m held [] = refl
 conflicts_are_counted others m held (g ∷ gs) =
-    ap (λ n. (if has_conflict (others ++ map on (held ++ g ∷ [])) then 1 else 0) + n) (conflicts_are_counted others m (held ++ g ∷ []) gs)
+    ap (λ n. (if has_conflict (others ++ map (holding m) (held ++ g ∷ [])) then 1 else 0) + n) (conflicts_are_counted others m (held ++ g ∷ []) gs)
     ∙ ap (λ hs. (if has_conflict hs then 1 else 0) + clashes_after (has_conflict hs) hs m gs) longer
-    ∙ ap (λ b. (if b then 1 else 0) + clashes_after b (before ++ on g ∷ []) m gs) (one_more_conflict before (on g))
+    ∙ ap (λ b. (if b then 1 else 0) + clashes_after b (before ++ holding m g ∷ []) m gs) (one_more_conflict before (holding m g))
   where
-    on : Grant → Holding
-    on k = record { machine = m; held = k }
-
     before : List Holding
-    before = others ++ map on held
+    before = others ++ map (holding m) held
 
-    longer : others ++ map on (held ++ g ∷ []) ≡ before ++ on g ∷ []
-    longer = ap (λ ks. others ++ ks) (map-append on held (g ∷ [])) ∙ sym (append_assoc others (map on held) (on g ∷ []))
+    longer : others ++ map (holding m) (held ++ g ∷ []) ≡ before ++ holding m g ∷ []
+    longer = ap (λ ks. others ++ ks) (map-append (holding m) held (g ∷ [])) ∙ sym (append_assoc others (map (holding m) held) (holding m g ∷ []))
 
 any_swapped : {A : Type 0} (p : A → Bool) (xs ys zs : List A) → list_any p (xs ++ ys ++ zs) ≡ list_any p (xs ++ zs ++ ys)
 any_swapped p xs ys zs =

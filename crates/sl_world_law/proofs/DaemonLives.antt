@@ -134,13 +134,13 @@ cut_then w a c is before =
         let r = in_map (λ (r : Stamp). r.moment) (resets_after a c.made.step) x there in
         subst (λ z. z ≤ w.moment) r.2 ((is.resets r.0 (kept_inside (λ (r : Stamp). nat_lt c.made.step r.step) a.resets r.0 r.1).0).1)
 
-reset_shows : (w : World) (moment : ℕ) (a : Machine) → IsSaneMachine w a → w.moment ≡ moment → shown w.header (after_reset w a) ≡ reset_machine moment (shown w.header a)
+reset_shows : (w : World) (moment : ℕ) (a : Machine) → IsSaneMachine w a → w.moment ≡ moment → (h : Header) → w.header ≡ h → shown w.header (after_reset w a) ≡ reset_machine h moment (shown w.header a)
 unfolding shown
-reset_shows w moment a is now =
-    ap (λ fs. record (reset_machine w.moment (shown w.header a)) { flights = fs })
+reset_shows w moment a is now h same =
+    ap (λ fs. record (reset_machine w.header w.moment (shown w.header a)) { flights = fs })
     (left w.header a (after_reset w a) (cut_flight w.moment) a.calls refl
     (λ c there m. ap (λ z. record (flight_of_course w.header a c) { own = false; cut = z }) (cut_then w a c is (is.made c there))))
-    ∙ ap (λ z. reset_machine z (shown w.header a)) now
+    ∙ ap₂ (λ g z. reset_machine g z (shown w.header a)) same now
 
 -- ---- a daemon begins
 
@@ -170,6 +170,7 @@ started_shows w m name a is none = λ j.
       starting = [];
       flights = flights_are j;
       held = a.holdings;
+      lingering = a.lingering;
       locks = fresh_locks w.header;
     }
   where
@@ -222,6 +223,6 @@ lives_are_kept =
     record {
       starts = starts;
       crashes = λ k w t m. tells_change k w t m after_crash crashed_machine (λ a at. crashed_shows w.header a) (λ a name at. refl);
-      resets = λ commands k w t is m. tells_change k w t m (after_reset w) (reset_machine k.moment)
-          (λ a at. reset_shows w k.moment a (is.sane (m - 1) a (machine_place w m a at)) t.moment) (λ a name at. refl);
+      resets = λ commands k w t is m. tells_change k w t m (after_reset w) (reset_machine k.header k.moment)
+          (λ a at. reset_shows w k.moment a (is.sane (m - 1) a (machine_place w m a at)) t.moment k.header t.header) (λ a name at. refl);
     }

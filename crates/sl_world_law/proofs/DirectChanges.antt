@@ -11,6 +11,8 @@ use Rattle.sl_words.proofs.Lists.{contains_first, contains_more, find_inside, in
 use Rattle.sl_words.proofs.Options.{mapped_value, then_value}
 use Rattle.sl_run.specs.EventChanges.{ends_of}
 use Rattle.sl_run.specs.Inputs.{machine_of}
+use Rattle.sl_run.specs.Locks.{Locks, left_locks}
+use Rattle.sl_run.specs.Lvm.{HeldLock, ends_lock}
 use Rattle.sl_run.specs.Worlds.{Machine, World, flights, is_open, machine_at}
 use Rattle.sl_run.specs.declared.event.Event.TheVariants.{Reset}
 use Rattle.sl_run.specs.declared.header.Header.{Header}
@@ -71,8 +73,15 @@ all_kept : (gs : List Grant) → filter (λ g. not (is_ended_by [] g)) gs ++ [] 
 all_kept [] = refl
 all_kept (g ∷ gs) = ap (λ hs. g ∷ hs) (all_kept gs)
 
+all_locked : (area : ℕ) (hs : List HeldLock) → filter (λ (h : HeldLock). not (ends_lock area [] h.lock)) hs ≡ hs
+all_locked area [] = refl
+all_locked area (h ∷ hs) = ap (λ ks. h ∷ ks) (all_locked area hs)
+
+nothing_left : (k : Locks) → left_locks no_effects k ≡ k
+nothing_left k = ap (λ hs. record k { lvm = record k.lvm { held = hs } }) (all_locked k.lvm.area k.lvm.held)
+
 nothing_owned : (s : MachineState) → owned_machine no_effects s ≡ s
-nothing_owned s = ap (λ gs. record s { held = gs }) (all_kept s.held)
+nothing_owned s = ap₂ (λ gs ks. record s { held = gs; locks = ks }) (all_kept s.held) (nothing_left s.locks)
 
 nothing_taken : (k : KeptState) (m : ℕ) → taken_kept m None no_effects k ≡ k
 nothing_taken k m = go (machine_in k m) refl
@@ -94,7 +103,7 @@ no_input : (o : Option MachineState) → option_and_then no_one o ≡ None
 no_input None = refl
 no_input (Some s) = refl
 
-reset_first : (k : KeptState) (m : ℕ) → first_kept (Reset m) k ≡ change_machine_in m (reset_machine k.moment) k
+reset_first : (k : KeptState) (m : ℕ) → first_kept (Reset m) k ≡ change_machine_in m (reset_machine k.header k.moment) k
 unfolding first_kept
 reset_first k m = refl
 
@@ -110,8 +119,8 @@ resets_are_quiet k m = go (machine_in k m) refl
     go (Some s) at =
         ap₂ (λ o fx. taken_kept m o fx (first_kept (Reset m) k)) (no_input (machine_in k m)) (ap own_by at)
         ∙ ap (taken_kept m None (ends_of s.held)) (reset_first k m)
-        ∙ changed_twice k m (reset_machine k.moment) (owned_machine (ends_of s.held)) s at
-        ∙ sym (reset_first k m ∙ changed_is k m (reset_machine k.moment) s at)
+        ∙ changed_twice k m (reset_machine k.header k.moment) (owned_machine (ends_of s.held)) s at
+        ∙ sym (reset_first k m ∙ changed_is k m (reset_machine k.header k.moment) s at)
 
 -- ---- a call that is done
 

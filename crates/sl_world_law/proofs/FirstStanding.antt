@@ -68,6 +68,7 @@ shows_first commands h m = λ j.
       starting = starting_born commands h m (session_of h m) j;
       flights = [];
       held = [];
+      lingering = [];
       locks = fresh_locks h;
     }
 

@@ -282,7 +282,9 @@ own_sane v a now fx none is =
     })
   where
     with_calls : List Course → Machine
-    with_calls cs = record a { connections = (after_effects now fx a).connections; calls = cs; holdings = (after_effects now fx a).holdings }
+    with_calls cs =
+        let b : Machine = after_effects now fx a in
+        record a { connections = b.connections; calls = cs; holdings = b.holdings; locks = b.locks }
 
 -- ---- the daemons of a machine
 

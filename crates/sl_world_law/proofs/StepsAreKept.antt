@@ -7,7 +7,7 @@ use Rattle.sl_world_law.proofs.ShownCalls.{answered_at, closes, made, same_shows
 use Rattle.sl_world_law.proofs.NextNumbers.{calls_next, jobs_next, starting_next}
 use Rattle.sl_world_law.specs.Steps.{OwnIsKept, StepsAreKept}
 use Rattle.sl_run.specs.EventChanges.{after_effects, after_step, daemon_number, new_course, number_of_step, with_entry}
-use Rattle.sl_run.specs.Locks.{locks_after}
+use Rattle.sl_run.specs.Locks.{left_locks, locks_after}
 use Rattle.sl_run.specs.Worlds.{Course, Daemon, Machine, Stamp, first_numbers, machine_at, next_numbers, reading_now, stamp_now}
 use Rattle.sl_run.specs.declared.header.Header.{Header}
 use Rattle.sl_trace.specs.WatchdogConnections.{after_move}
@@ -100,6 +100,7 @@ shows_with h now i fx a d cs runs none closed = λ j.
       starting = starting_then now i fx a d runs j;
       flights = flights_then h now i fx a d cs runs none closed j;
       held = held_after fx a.holdings;
+      lingering = a.lingering;
       locks = (locks_after (number_is a d runs j) i fx a.locks).0;
     }
 
@@ -140,6 +141,7 @@ shows_own h now fx a no_calls =
       connections = fold after_move a.connections fx.moves;
       calls = fold (λ cs c. new_course now (daemon_number a) c ∷ cs) a.calls xs;
       holdings = held_after fx a.holdings;
+      locks = left_locks fx a.locks;
     })) no_calls
 
 -- ---- the world

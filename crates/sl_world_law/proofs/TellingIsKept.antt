@@ -7,12 +7,12 @@ use Rattle.sl_world_law.proofs.GivenInputs.{inputs_are_kept}
 use Rattle.sl_world_law.proofs.Lookups.{machine_shown}
 use Rattle.sl_world_law.proofs.WholeEvents.{runs_then}
 use Rattle.sl_report.specs.Reports.{conflicts_of, step_told, test_lines, test_words}
-use Rattle.sl_run.specs.Conflicts.{Holding}
+use Rattle.sl_run.specs.Conflicts.{Holding, holding, lingering_holding}
 use Rattle.sl_run.specs.Refusals.{event_tests, may_happen}
 use Rattle.sl_run.specs.Inputs.{input_of, machine_of}
 use Rattle.sl_run.specs.EventChanges.{number_of_step}
 use Rattle.sl_run.specs.Locks.{locks_after, told_effects}
-use Rattle.sl_run.specs.Worlds.{Daemon, Machine, World, machine_at, next_numbers}
+use Rattle.sl_run.specs.Worlds.{Daemon, Lingering, Machine, World, lingers, machine_at, next_numbers}
 use Rattle.sl_run.specs.declared.event.Event.TheVariants.{Test}
 use Rattle.sl_run.specs.declared.event.Event.{Event}
 use Rattle.sl_run.specs.declared.event.Refusal.TheVariants.{MissingUp}
@@ -23,10 +23,9 @@ use Rattle.sl_trace.specs.WatchdogConnections.{test_holds}
 use Rattle.sl_trace.specs.EffectTexts.{machine_line}
 use Rattle.sl_trace.specs.declared.command.Command.{Command}
 use Rattle.sl_trace.specs.declared.effects.Effects.{Effects}
-use Rattle.sl_trace.specs.declared.effects.Grant.{Grant}
 use Rattle.sl_trace.specs.declared.input.Input.{Input}
 use Rattle.sl_words.proofs.CaseLaws.{one_value}
-use Rattle.sl_world_law.specs.ToldEvents.{AsksAreKept, HoldingsAreKept, TellingIsKept, tested_in, tested_lines, told_in, told_of}
+use Rattle.sl_world_law.specs.ToldEvents.{AsksAreKept, TellingIsKept, UsesAreKept, holdings_from, lingering_from, tested_in, tested_lines, told_in, told_of}
 use Rattle.std.proofs.Common.{ap, ap₂, refl, sym, ◌∙◌}
 use Rattle.std.specs.List.{enumerate_from}
 use Rattle.std.specs.Option.{option_map_or}
@@ -81,27 +80,31 @@ tests_told k w t (Test m) may =
     (machine_shown k w t m ∙ ap (option_map (shown w.header)) a.1) ∙ shown_test w.header a.0))
 tests_told k w t e may = refl
 
--- ---- holdings
+-- ---- uses
 
 shown_held : (h : Header) (a : Machine) → (shown h a).held ≡ a.holdings
 unfolding shown
 shown_held h a = refl
 
-abbrev holding : ℕ → Grant → Holding
-holding m g = record { machine = m; held = g }
+shown_lingering : (h : Header) (a : Machine) → (shown h a).lingering ≡ a.lingering
+unfolding shown
+shown_lingering h a = refl
 
-abbrev held_from : List (ℕ × Machine) → List Holding
-held_from ps = flat_map (λ p. map (holding p.0) p.1.holdings) ps
+all_held : (h : Header) (i : ℕ) (xs : List Machine) → flat_map (λ p. map (holding p.0) p.1.holdings) (enumerate_from i xs) ≡ holdings_from i (map (shown h) xs)
+all_held h i [] = refl
+all_held h i (x ∷ xs) = ap₂ (λ gs hs. map (holding i) gs ++ hs) (sym (shown_held h x)) (all_held h (i + 1) xs)
 
-abbrev kept_from : List (ℕ × MachineState) → List Holding
-kept_from ps = flat_map (λ p. map (holding p.0) p.1.held) ps
+all_lingers : (h : Header) (land moment i : ℕ) (xs : List Machine)
+    → flat_map (λ p. map (lingering_holding p.0) (filter (lingers land moment) p.1.lingering)) (enumerate_from i xs) ≡ lingering_from land moment i (map (shown h) xs)
+all_lingers h land moment i [] = refl
+all_lingers h land moment i (x ∷ xs) =
+    ap₂ (λ (ls : List Lingering) hs. map (lingering_holding i) (filter (lingers land moment) ls) ++ hs) (sym (shown_lingering h x)) (all_lingers h land moment (i + 1) xs)
 
-holdings_from : (h : Header) (i : ℕ) (xs : List Machine) → held_from (enumerate_from i xs) ≡ kept_from (enumerate_from i (map (shown h) xs))
-holdings_from h i [] = refl
-holdings_from h i (x ∷ xs) = ap₂ (λ gs hs. map (holding i) gs ++ hs) (sym (shown_held h x)) (holdings_from h (i + 1) xs)
-
-pub holdings_are_kept : HoldingsAreKept
-holdings_are_kept k w t = holdings_from w.header 1 w.machines ∙ ap (λ ss. kept_from (enumerate_from 1 ss)) t.machines
+pub uses_are_kept : UsesAreKept
+uses_are_kept k w t =
+    ap₂ (λ hs ls. hs ++ ls) (all_held w.header 1 w.machines ∙ ap (holdings_from 1) t.machines)
+    (all_lingers w.header w.header.timing.land w.moment 1 w.machines
+    ∙ ap₂ (λ (h : Header) ss. lingering_from h.timing.land w.moment 1 ss) t.header t.machines ∙ ap (λ n. lingering_from k.header.timing.land n 1 k.machines) t.moment)
 
 held_here : (h : Header) (o : Option Machine) → option_map_or (λ (a : Machine). a.holdings) o [] ≡ option_map_or (λ (s : MachineState). s.held) (option_map (shown h) o) []
 held_here h None = refl
@@ -112,7 +115,7 @@ telling_is_kept commands k w t is e may fx =
     record {
       step = ap (λ x. x ∷ []) (steps_told commands k w t is e may fx);
       tests = tests_told k w t e may;
-      conflicts = ap₂ (λ hs gs. conflicts_of (filter (λ (h : Holding). not (h.machine == machine_of e)) hs) (machine_of e) gs (fx ∷ [])) (holdings_are_kept k w t)
+      conflicts = ap₂ (λ hs gs. conflicts_of (filter (λ (h : Holding). not (h.machine == machine_of e)) hs) (machine_of e) gs (fx ∷ [])) (uses_are_kept k w t)
           (held_here w.header (machine_at w (machine_of e)) ∙ ap (λ o. option_map_or (λ (s : MachineState). s.held) o []) (sym (machine_shown k w t (machine_of e))));
     }
 

@@ -2,11 +2,11 @@
 use Rattle.sl_world_state.specs.Inputs.{input_in}
 use Rattle.sl_world_state.specs.KeptWorld.{KeptState, MachineState, machine_in}
 use Rattle.sl_world_state.specs.ShownWorlds.{Tells}
-use Rattle.sl_run.specs.Conflicts.{Holding, conflicts, has_conflict, world_holdings}
+use Rattle.sl_run.specs.Conflicts.{Holding, conflicts, has_conflict, holding, lingering_holding, world_uses}
 use Rattle.sl_run.specs.Inputs.{asking, machine_of}
 use Rattle.sl_run.specs.Refusals.{may_happen}
 use Rattle.sl_run.specs.Locks.{locks_after, told_effects}
-use Rattle.sl_run.specs.Worlds.{World, machine_at}
+use Rattle.sl_run.specs.Worlds.{World, lingers, machine_at}
 use Rattle.sl_run.specs.declared.event.Event.TheVariants.{Test}
 use Rattle.sl_run.specs.declared.event.Event.{Event}
 use Rattle.sl_world_state.specs.SaneWorlds.{IsSane}
@@ -51,13 +51,21 @@ tested_lines e holds = elim e [ Test m ↦ machine_line m (test_words holds) ∷
 
 -- ---- conflicts
 
--- All holdings.
-abbrev pub holdings_in : KeptState → List Holding
-holdings_in k = flat_map (λ p. map (λ g. record { machine = p.0; held = g }) p.1.held) (enumerate_from 1 k.machines)
+-- All holdings of machines, the first of them with this number.
+abbrev pub holdings_from : ℕ → List MachineState → List Holding
+holdings_from i ss = flat_map (λ p. map (holding p.0) p.1.held) (enumerate_from i ss)
+
+-- All that lingers there at a moment.
+abbrev pub lingering_from : ℕ → ℕ → ℕ → List MachineState → List Holding
+lingering_from land moment i ss = flat_map (λ p. map (lingering_holding p.0) (filter (lingers land moment) p.1.lingering)) (enumerate_from i ss)
+
+-- All by whose processes a resource may be written.
+abbrev pub uses_in : KeptState → List Holding
+uses_in k = holdings_from 1 k.machines ++ lingering_from k.header.timing.land k.moment 1 k.machines
 
 -- Those of the other machines.
 abbrev pub others_in : KeptState → ℕ → List Holding
-others_in k m = filter (λ h. not (h.machine == m)) (holdings_in k)
+others_in k m = filter (λ h. not (h.machine == m)) (uses_in k)
 
 -- What a machine holds.
 abbrev pub held_in : KeptState → ℕ → List Grant
@@ -67,11 +75,11 @@ held_in k m = option_map_or (λ s. s.held) (machine_in k m) []
 abbrev pub conflicts_in : KeptState → Event → Effects → ℕ
 conflicts_in k e fx = conflicts_of (others_in k (machine_of e)) (machine_of e) (held_in k (machine_of e)) (fx ∷ [])
 
--- The same, where it is known whether there is a conflict among the holdings before them.
+-- The same, where it is known whether there is a conflict among the uses before them.
 abbrev pub clashes_after : Bool → List Holding → ℕ → List Grant → ℕ
 clashes_after clash hs m [] = 0
 clashes_after clash hs m (g ∷ gs) =
-    let h : Holding = record { machine = m; held = g } in
+    let h : Holding = holding m g in
     let now : Bool = clash || list_any (conflicts h) hs in
     (if now then 1 else 0) + clashes_after now (hs ++ h ∷ []) m gs
 
@@ -94,13 +102,13 @@ TellingIsKept =
     (commands : Header → List (Form Command)) (k : KeptState) (w : World) → Tells k w → IsSane commands w → (e : Event) → may_happen w e ≡ true → (fx : Effects)
     → IsTold w e fx (told_in k e fx) (tested_in k e) (conflicts_in k e fx)
 
-abbrev pub HoldingsAreKept : Type 0
-HoldingsAreKept = (k : KeptState) (w : World) → Tells k w → world_holdings w ≡ holdings_in k
+abbrev pub UsesAreKept : Type 0
+UsesAreKept = (k : KeptState) (w : World) → Tells k w → world_uses w ≡ uses_in k
 
 abbrev pub AsksAreKept : Type 0
 AsksAreKept = (k : KeptState) (w : World) → Tells k w → asking w ≡ asking_in k
 
--- A grant more is one test more: no holding conflicts with itself, and of two the first conflicts with the second where the second does with the first.
+-- A use more is one test more: none conflicts with itself, and of two the first conflicts with the second where the second does with the first.
 abbrev pub OneMoreConflict : Type 0
 OneMoreConflict = (hs : List Holding) (h : Holding) → has_conflict (hs ++ h ∷ []) ≡ (has_conflict hs || list_any (conflicts h) hs)
 
@@ -109,8 +117,8 @@ abbrev pub ConflictsAreCounted : Type 0
 ConflictsAreCounted =
     (others : List Holding) (m : ℕ) (held gs : List Grant)
     → conflicts_after others m held gs
-    ≡ clashes_after (has_conflict (others ++ map (λ g. record { machine = m; held = g }) held)) (others ++ map (λ g. record { machine = m; held = g }) held) m gs
+    ≡ clashes_after (has_conflict (others ++ map (holding m) held)) (others ++ map (holding m) held) m gs
 
--- Where holdings stand is no matter.
+-- Where uses stand is no matter.
 abbrev pub ConflictsOfParts : Type 0
 ConflictsOfParts = (xs ys zs : List Holding) → has_conflict (xs ++ ys ++ zs) ≡ has_conflict (xs ++ zs ++ ys)

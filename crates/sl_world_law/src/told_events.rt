@@ -1,15 +1,15 @@
 //! What is told of an event, by what is kept before it.
 
-ghost use Rattle.sl_world_law.specs.ToldEvents.{AsksAreKept, ConflictsAreCounted, ConflictsOfParts, HoldingsAreKept, OneMoreConflict, TellingIsKept};
+ghost use Rattle.sl_world_law.specs.ToldEvents.{AsksAreKept, ConflictsAreCounted, ConflictsOfParts, OneMoreConflict, TellingIsKept, UsesAreKept};
 
 /// Steps, tests and conflicts.
 pub fn telling_is_kept()
     ensures { TellingIsKept }
 {}
 
-/// All holdings.
-pub fn holdings_are_kept()
-    ensures { HoldingsAreKept }
+/// All that is held, and what lingers.
+pub fn uses_are_kept()
+    ensures { UsesAreKept }
 {}
 
 /// Which machine has an ask that is due.
@@ -17,7 +17,7 @@ pub fn asks_are_kept()
     ensures { AsksAreKept }
 {}
 
-/// A grant more is one test more.
+/// A use more is one test more.
 pub fn one_more_conflict()
     ensures { OneMoreConflict }
 {}
@@ -27,7 +27,7 @@ pub fn conflicts_are_counted()
     ensures { ConflictsAreCounted }
 {}
 
-/// Where holdings stand is no matter.
+/// Where uses stand is no matter.
 pub fn conflicts_of_parts()
     ensures { ConflictsOfParts }
 {}

@@ -6,7 +6,7 @@ use Rattle.std.proofs.Common.{arith, false, map, sym, true, ◌∙◌}
 
 pub loop-at-preserved-then-clash : goal.loop-at-preserved-then-clash
 loop-at-preserved-then-clash g c =
-    let others = others_from 1 c.args.owner (map (machine_state g.L.LockTable.locks) c.args.machines.now) in (
+    let others = others_from c.args.lately.land c.args.lately.moment c.args.owner (map (machine_state g.L.LockTable.locks) c.args.machines.now) in (
       omega (arith, c.loop-at-test.true),
       omega (arith, c.loop-at.invariant.1),
       c.has_one_more-clash.ensures,
@@ -15,6 +15,6 @@ loop-at-preserved-then-clash g c =
 
 pub loop-at-preserved : goal.loop-at-preserved
 loop-at-preserved g c =
-    let others = others_from 1 c.args.owner (map (machine_state g.L.LockTable.locks) c.args.machines.now) in
+    let others = others_from c.args.lately.land c.args.lately.moment c.args.owner (map (machine_state g.L.LockTable.locks) c.args.machines.now) in
     let next = counted_more others c.args.owner c.loop-at.at c.loop-at.count _ c.args.held.now c.loop-at-test.true false (sym c.if-clash.false ∙ c.has_one_more-clash.ensures) c.loop-at.invariant.3 in
     (omega (arith, c.loop-at-test.true), omega (arith, c.loop-at.invariant.1), c.has_one_more-clash.ensures, omega (arith, next))
