@@ -3,8 +3,10 @@
 //! - `held M C until N D`: call C of machine M is held until call D of machine N has left;
 //! - `make F L`: disks F to L can't be made;
 //! - `start F L`: starts F to L of machine 1's children fail;
+//! - `slow F T`: the start of machine 1's children behind F others takes T milliseconds;
 //! - `delta F L`, `resource F L`: calls F to L of machine 1's worker of that part fail;
-//! - `endless`: no child exits by itself, or by a term;
+//! - `endless`: no child of machine 1 exits by itself, or by a term;
+//! - `counted`: how many children of machines 1 and 2 ran at once at most, is told;
 //! - `numbers`: of a reply only the machine and the number of the job are printed.
 
 use sl_outside::Turn;
@@ -19,9 +21,12 @@ pub struct Case<'a> {
     pub held: Option<(Turn, Turn)>,
     pub makes: Option<Ends>,
     pub starts: Option<Ends>,
+    /// Behind how many others a start takes its time, and how long.
+    pub slow: Option<Ends>,
     pub delta: Option<Ends>,
     pub resource: Option<Ends>,
     pub endless: bool,
+    pub counted: bool,
     pub numbers: bool,
     /// The script's name.
     pub name: &'a str,
@@ -70,17 +75,21 @@ pub fn read_case(line: &str) -> Case<'_> {
     let (until, line) = option(line, "until");
     let (makes, line) = option(line, "make");
     let (starts, line) = option(line, "start");
+    let (slow, line) = option(line, "slow");
     let (delta, line) = option(line, "delta");
     let (resource, line) = option(line, "resource");
     let (endless, line) = flag(line, "endless");
+    let (counted, line) = flag(line, "counted");
     let (numbers, name) = flag(line, "numbers");
     Case {
         held: turns(held, until),
         makes,
         starts,
+        slow,
         delta,
         resource,
         endless,
+        counted,
         numbers,
         name,
     }

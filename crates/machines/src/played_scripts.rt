@@ -5,13 +5,15 @@ ghost use Rattle.std.specs.Prelude.{◌≡◌};
 use crate::outside::{Case, Ends};
 use sl_io::{MemSink, MemSource};
 use sl_live_play::{LiveHost, Lived, play_live};
-use sl_outside::{AreaPlan, MemPlan, PlannedSpawner, SharedDevices, SharedPlan, TurnGate};
+use sl_outside::{
+    AreaPlan, Census, MemPlan, PlannedSpawner, SharedDevices, SharedPlan, SlowStart, TurnGate,
+};
 use sl_play::laws::headers::whole_language_may_play;
 use std::alloc::{AllocError, Global};
 use std::rt::Files;
 use std::sync::Wait;
 use std::thread::Threads;
-use std::time::Clock;
+use std::time::{Clock, Duration};
 use std::{fs, io};
 
 /// The most bytes that are put out.
@@ -31,38 +33,40 @@ fn span(alloc: Global, ends: Option<Ends>) -> Result<Vec<u64>, AllocError> {
     Ok(numbers)
 }
 
-/// The looks at which children exit by themselves: the first, or none.
-fn lives(alloc: Global, endless: bool) -> Result<Vec<u64>, AllocError> {
-    if endless {
-        return Ok(Vec::new(alloc));
-    }
-    Ok(vec![in alloc; 1]?)
-}
+/// How long the children of the third machine live, in looks of 16 milliseconds: longer than a session goes on without a renewal, and its
+/// device, and than another host waits before it counts that session as over.
+const LONG: u64 = 300;
 
-/// The spawner of a machine, of which these starts fail. Its children exit at the first look, or never.
+/// The spawner of a machine, whose children exit by themselves at this look, or never, and then are deaf to a term; and of which these starts
+/// fail.
 fn spawner(
     alloc: Global,
     machine: u32,
     failing: Option<Ends>,
-    endless: bool,
+    life: Option<u64>,
 ) -> Result<PlannedSpawner, AllocError> {
-    let lives = lives(alloc, endless)?;
+    let mut lives = Vec::new(alloc);
+    if let Some(life) = life {
+        lives.push(life)?;
+    }
     let failing = span(alloc, failing)?;
     let plan = MemPlan {
         children: CHILDREN,
         acts: 0,
         lives,
-        deaf: endless,
+        deaf: life.is_none(),
         failing,
     };
     PlannedSpawner::new(alloc, machine, plan)
 }
 
-/// The spawners of both machines. Starts fail on the first alone.
+/// The spawners of all machines. Starts fail on the first alone.
 fn spawners(alloc: Global, case: &Case<'_>) -> Result<Vec<PlannedSpawner>, AllocError> {
-    let first = spawner(alloc, 1, case.starts, case.endless)?;
-    let second = spawner(alloc, 2, None, case.endless)?;
-    Ok(vec![in alloc; first, second]?)
+    let life = if case.endless { None } else { Some(1) };
+    let first = spawner(alloc, 1, case.starts, life)?;
+    let second = spawner(alloc, 2, None, Some(1))?;
+    let third = spawner(alloc, 3, None, Some(LONG))?;
+    Ok(vec![in alloc; first, second, third]?)
 }
 
 /// What the areas of the first machine's worker of this number are to do, of which these calls fail.
@@ -82,7 +86,17 @@ fn areas(alloc: Global, case: &Case<'_>) -> Result<Vec<AreaPlan>, AllocError> {
     Ok(vec![in alloc; delta, resource]?)
 }
 
-/// What devices in memory are to do in a case, with no gate.
+/// The start of the first machine's children that takes its time, if one does.
+fn slow_start(case: &Case<'_>) -> Option<SlowStart> {
+    let (behind, time) = case.slow?;
+    Some(SlowStart {
+        machine: 1,
+        behind,
+        time: Duration::from_millis(u64::from(time)),
+    })
+}
+
+/// What devices in memory are to do in a case, with no gate and no census.
 fn plan<R>(alloc: Global, case: &Case<'_>) -> Result<SharedPlan<R>, AllocError> {
     let areas = areas(alloc, case)?;
     let spawners = spawners(alloc, case)?;
@@ -90,6 +104,8 @@ fn plan<R>(alloc: Global, case: &Case<'_>) -> Result<SharedPlan<R>, AllocError> 
     Ok(SharedPlan {
         areas,
         spawners,
+        slow: slow_start(case),
+        census: None,
         makes,
         gate: None,
     })
@@ -160,31 +176,62 @@ fn script_of<R: Files + AllocGlobal>(rt: &R, name: &str) -> io::Result<Vec<u8>> 
     fs::read(rt, path.as_str())
 }
 
-/// What comes of a script, where this gate holds the calls of the case.
-fn told_at<R: Clock + Wait + Threads + Copy + Drop + Send + Sync>(
+/// The gate of a case whose calls are held.
+fn gate_of<R: Clock + Wait + Copy>(
     rt: R,
     alloc: Global,
-    script: Vec<u8>,
     case: &Case<'_>,
-    gate: Option<TurnGate<R>>,
-) -> Result<String, AllocError> {
-    let mut plan = plan(alloc, case)?;
-    plan.gate = gate;
-    let (lived, output) = play(rt, alloc, script, plan)?;
-    text_of(alloc, lived, &output, if case.numbers { 3 } else { 4 })
+) -> Result<Option<TurnGate<R>>, AllocError> {
+    let Some((held, until)) = case.held else {
+        return Ok(None);
+    };
+    Ok(Some(TurnGate::new(rt, alloc, held, until)?))
 }
 
-/// What comes of a script whose calls are held at a gate, and what was seen there.
-fn told_held<R: Clock + Wait + Threads + Copy + Drop + Send + Sync>(
+/// A share of the gate, if there is one.
+fn share_gate<R: Clock + Wait + Copy>(
+    gate: &Option<TurnGate<R>>,
+) -> Result<Option<TurnGate<R>>, AllocError> {
+    match gate {
+        Some(gate) => Ok(Some(gate.share()?)),
+        None => Ok(None),
+    }
+}
+
+/// Adds what was seen at the gate of a case whose calls are held, and of one that is counted how many children ran at once at most.
+fn push_seen<R: Clock + Wait + Copy>(
+    alloc: Global,
+    case: &Case<'_>,
+    gate: &Option<TurnGate<R>>,
+    census: &Census<R>,
+    text: &mut String,
+) -> Result<(), AllocError> {
+    if let Some(gate) = gate {
+        let seen = format!(in alloc; "; held {}, gave up {}", gate.was_held(), gate.gave_up())?;
+        text.push_str(seen.as_str())?;
+    }
+    if case.counted {
+        let most = format!(in alloc; "; at once {}", census.most())?;
+        text.push_str(most.as_str())?;
+    }
+    Ok(())
+}
+
+/// What comes of a case with this script.
+fn told_of<R: Clock + Wait + Threads + Copy + Drop + Send + Sync>(
     rt: R,
     alloc: Global,
     script: Vec<u8>,
     case: &Case<'_>,
-    gate: &TurnGate<R>,
 ) -> Result<String, AllocError> {
-    let mut text = told_at(rt, alloc, script, case, Some(gate.share()?))?;
-    let seen = format!(in alloc; "; held {}, gave up {}", gate.was_held(), gate.gave_up())?;
-    text.push_str(seen.as_str())?;
+    let gate = gate_of(rt, alloc, case)?;
+    let census = Census::new(rt, alloc)?;
+    let mut plan = plan(alloc, case)?;
+    plan.gate = share_gate(&gate)?;
+    plan.census = Some(census.share()?);
+    let (lived, output) = play(rt, alloc, script, plan)?;
+    let mut text = text_of(alloc, lived, &output, if case.numbers { 3 } else { 4 })?;
+    push_seen(alloc, case, &gate, &census, &mut text)?;
     Ok(text)
 }
 
@@ -193,13 +240,6 @@ pub fn told<R: Files + Clock + Wait + Threads + AllocGlobal + Copy + Drop + Send
     rt: R,
     case: &Case<'_>,
 ) -> io::Result<String> {
-    let alloc = rt.alloc();
     let script = script_of(&rt, case.name)?;
-    match case.held {
-        Some((held, until)) => {
-            let gate = TurnGate::new(rt, alloc, held, until)?;
-            Ok(told_held(rt, alloc, script, case, &gate)?)
-        }
-        None => Ok(told_at(rt, alloc, script, case, None)?),
-    }
+    Ok(told_of(rt, rt.alloc(), script, case)?)
 }

@@ -1,4 +1,3 @@
 pub mod TurnLaws
-pub mod TurnStages
 pub mod RecordLaws
 pub mod ServedLaws

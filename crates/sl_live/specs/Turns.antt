@@ -1,7 +1,7 @@
--- What a thread does in a turn: the inputs that it gives, and what their steps ask of the machine's children.
+-- What a thread does in a turn: the input that it gives, and what its step asks of the machine's children.
 use Rattle.sl_cell.specs.declared.seat.Made.TheVariants.{Applied, Tested, Took, Unasked}
 use Rattle.sl_cell.specs.declared.seat.Made.{Made}
-use Rattle.sl_live.specs.declared.children.Outcome.{Outcome}
+use Rattle.sl_live.specs.declared.children.Awaited.{Awaited}
 use Rattle.sl_outside.specs.Acts.{Grows, IsTold}
 use Rattle.sl_outside.specs.declared.act.Act.TheVariants.{Signalled, Started}
 use Rattle.sl_outside.specs.declared.act.Act.{Act}
@@ -14,40 +14,19 @@ use Rattle.sl_trace.specs.declared.input.Input.TheVariants.{Answer as Told, Exit
 use Rattle.sl_trace.specs.declared.input.Input.{Input}
 use Rattle.sl_trace.specs.declared.effects.Call.{Call}
 use Rattle.sl_io.specs.FaultCauses.{Rose}
-use Rattle.std.specs.List.{flat_map, position, remove}
-use Rattle.std.specs.Prelude.{All, Bool, Err, List, None, Ok, Option, Some, Result, false, if◌then◌else◌, length, map, nat_le, true, [], ℕ, ◌&&◌, ◌++◌, ◌+◌, ◌==◌, ◌∷◌, ◌≡◌, ◌≤◌, ◌⊎◌}
+use Rattle.std.specs.List.{flat_map, list_any, position, remove}
+use Rattle.std.specs.Prelude.{All, Bool, Err, List, None, Ok, Option, Result, Some, false, if◌then◌else◌, is_some, length, map, nat_le, true, [], ℕ, ◌&&◌, ◌++◌, ◌+◌, ◌==◌, ◌||◌, ◌∷◌, ◌≡◌, ◌≤◌, ◌⊎◌}
 
 -- ---- the machine's children
 
--- A spawner, with the numbers of the children that it started and that were not told as exited.
+-- A spawner; the numbers of the children whose start was ordered, and that neither failed to start nor were told as exited; and the starts that
+-- came to nothing yet, the first ordered first.
 pub record ChildrenState (P : Type 0) : Type 0 where
   pub spawner : P
   pub numbers : List ℕ
+  pub awaited : List Awaited
 
 -- ---- what a step asks of them
-
--- A start that was tried, and whether it went well.
-pub record Begun : Type 0 where
-  pub start : Start
-  pub ok : Bool
-
-abbrev pub start_of : Begun → Start
-start_of b = b.start
-
--- What the spawner was asked for it.
-abbrev pub act_of : Begun → Act
-act_of b = Started b.start.process b.start.program b.ok
-
--- What is kept of it until it is told.
-abbrev pub outcome_of : Begun → Outcome
-outcome_of b = record { process = b.start.process; ok = b.ok }
-
--- What the daemon is told of it.
-abbrev pub told_by : Outcome → Input
-told_by o = Spawned o.process o.ok
-
-abbrev pub told_of : Begun → Input
-told_of b = told_by (outcome_of b)
 
 -- A signal that is sent.
 abbrev pub sent_by : Sent → Act
@@ -57,58 +36,42 @@ sent_by s = Signalled s.process s.signal
 abbrev pub kill_of : ℕ → Act
 kill_of process = Signalled process Kill
 
--- All that a step's effects ask of a spawner was done, each once: its signals, and then its starts.
-pub record CarriesOut (fx : Effects) (begun : List Begun) (acts : List Act) : Type 0 where
-  pub starts : map start_of begun ≡ fx.starts
-  pub acts_are : acts ≡ map sent_by fx.signals ++ map act_of begun
-
--- The numbers of the starts that went well.
-abbrev pub started_in : Act → List ℕ
-started_in (Started process path true) = process ∷ []
-started_in (Started process path false) = []
-started_in (Signalled process signal) = []
-
-abbrev pub started_by : List Act → List ℕ
-started_by acts = flat_map started_in acts
-
--- Whether every start went well.
-abbrev pub is_fine : Act → Bool
-is_fine (Started process path ok) = ok
-is_fine (Signalled process signal) = true
-
-abbrev pub are_fine : List Act → Bool
-are_fine [] = true
-are_fine (a ∷ acts) = is_fine a && are_fine acts
-
--- A spawner did these acts: where it tells what it does, it told just these; its faults rose where a start failed; and those run that ran
--- before and that were started.
+-- A spawner was asked for these signals: where it tells what it does, it told just these.
 pub record Does {P : Type 0} (told : P → Option (List Act)) (faults : P → ℕ) (running : P → List ℕ) (before after : P)
     (acts : List Act) : Type 0 where
   pub grows : Grows (told before) (told after) acts
   pub later : faults before ≤ faults after
-  pub failed : are_fine acts ≡ false → Rose (faults before) (faults after)
-  pub runs : running after ≡ running before ++ started_by acts
+  pub runs : running after ≡ running before
 
 -- Nothing was asked of it.
 pub record IsQuiet {P : Type 0} (told : P → Option (List Act)) (faults : P → ℕ) (before after : P) : Type 0 where
   pub same : told after ≡ told before
   pub later : faults before ≤ faults after
 
--- .. of a machine's children, whose numbers are kept.
-pub record DoesActs {P : Type 0} (told : P → Option (List Act)) (faults : P → ℕ) (running : P → List ℕ)
-    (before after : ChildrenState P) (acts : List Act) : Type 0 where
-  pub does : Does told faults running before.spawner after.spawner acts
-  pub numbers : after.numbers ≡ before.numbers ++ started_by acts
+-- An ordered start, to whose process no signal was sent yet.
+abbrev pub ordered : Start → Awaited
+ordered s = record { start = s; signalled = false }
 
--- These programs were tried, in order: the numbers of those that started are kept, and what each came to waits to be told.
-pub record Begins {P : Type 0} (told : P → Option (List Act)) (faults : P → ℕ) (running : P → List ℕ) (before after : P)
-    (ns ns' : List ℕ) (ws ws' : List Outcome)
-    (starts : List Start) : Type 0 where
-  pub begun : List Begun
-  pub starts_are : map start_of begun ≡ starts
-  pub does : Does told faults running before after (map act_of begun)
-  pub numbers : ns' ≡ ns ++ started_by (map act_of begun)
-  pub waits : ws' ≡ ws ++ map outcome_of begun
+abbrev pub number_of : Start → ℕ
+number_of s = s.process
+
+-- A signal is sent to the process of an awaited start.
+abbrev pub names : List Sent → ℕ → Bool
+names ss process = list_any (λ (s : Sent). s.process == process) ss
+
+abbrev pub marked : List Sent → Awaited → Awaited
+marked ss w = record { start = w.start; signalled = w.signalled || names ss w.start.process }
+
+abbrev pub doomed : Awaited → Awaited
+doomed w = record { start = w.start; signalled = true }
+
+-- All that a step's effects ask of the children is done or ordered, each once: its signals are sent, and its starts are awaited behind those
+-- before them.
+pub record Carries {P : Type 0} (told : P → Option (List Act)) (faults : P → ℕ) (running : P → List ℕ) (fx : Effects)
+    (before after : ChildrenState P) : Type 0 where
+  pub does : Does told faults running before.spawner after.spawner (map sent_by fx.signals)
+  pub numbers : after.numbers ≡ before.numbers ++ map number_of fx.starts
+  pub awaited : after.awaited ≡ map (marked fx.signals) before.awaited ++ map ordered fx.starts
 
 -- ---- a turn
 
@@ -120,139 +83,113 @@ IsGiven now i (Took number c) = ⊥
 IsGiven now i (Tested at answer front) = ⊥
 
 -- What its step asks for was done; nothing where there was no step.
-abbrev pub IsCarriedOut : Made → List Begun → List Act → Type 0
-IsCarriedOut (Applied number e) begun acts = CarriesOut e.effects begun acts
-IsCarriedOut (Unasked front asked) begun acts = (begun ≡ []) × (acts ≡ [])
-IsCarriedOut (Took number c) begun acts = ⊥
-IsCarriedOut (Tested at answer front) begun acts = ⊥
+abbrev pub IsCarriedOut : {P : Type 0} → (P → Option (List Act)) → (P → ℕ) → (P → List ℕ) → Made → ChildrenState P → ChildrenState P → Type 0
+IsCarriedOut told faults running (Applied number e) before after = Carries told faults running e.effects before after
+IsCarriedOut told faults running (Unasked front asked) before after = after ≡ before
+IsCarriedOut told faults running (Took number c) before after = ⊥
+IsCarriedOut told faults running (Tested at answer front) before after = ⊥
 
--- The first of the inputs that are due is given, at the clock's reading. What its starts came to is due behind the others.
-pub record Gives (from : ℕ) (due : List Input) (m : Made) (acts : List Act) (now : ℕ) (next : List Input) : Type 0 where
-  pub input : Input
-  pub rest : List Input
-  pub begun : List Begun
-  pub first : due ≡ input ∷ rest
-  pub later : from ≤ now
-  pub given : IsGiven now input m
-  pub carried : IsCarriedOut m begun acts
-  pub next_is : next ≡ rest ++ map told_of begun
-
--- Inputs that are due are given, one after another, each at a reading of a clock that gave `from` before and gave `to` last; these are
--- the calls, and the acts of their steps; those are still due.
-abbrev pub Follows : ℕ → List Input → List Made → List Act → ℕ → List Input → Type 0
-Follows from due [] acts to left = (acts ≡ []) × (to ≡ from) × (left ≡ due)
-Follows from due (m ∷ ms) acts to left =
-    (own : List Act) × (others : List Act) × (now : ℕ) × (next : List Input)
-    × Gives from due m own now next × (acts ≡ own ++ others) × Follows now next ms others to left
-
--- A turn: the input was given, and each start that followed was told once, and nothing else.
-pub record TurnsOn (from to : ℕ) (i : Input) (calls : List Made) (acts : List Act) : Type 0 where
-  pub follows : Follows from (i ∷ []) calls acts to []
-
--- A turn that was left for want of memory: of the last step nothing was done.
-pub record LeavesOff (from to : ℕ) (i : Input) (calls : List Made) (acts : List Act) : Type 0 where
-  pub done : List Made
-  pub last : List Made
-  pub left : List Input
-  pub now : ℕ
-  pub follows : Follows from (i ∷ []) done acts now left
-  pub calls_are : calls ≡ done ++ last
-  pub few : length last ≤ 1
-  pub later : now ≤ to
-
--- A turn that goes on: what was given and done so far, and what waits to be told.
-pub record IsGoingOn {P : Type 0} (told : P → Option (List Act)) (faults : P → ℕ) (running : P → List ℕ) (from to : ℕ)
-    (i : Input) (before after : ChildrenState P)
-    (had has : List Made) (waiting : List Outcome) : Type 0 where
-  pub calls : List Made
-  pub acts : List Act
-  pub whole : has ≡ had ++ calls
-  pub follows : Follows from (i ∷ []) calls acts to (map told_by waiting)
-  pub does : DoesActs told faults running before after acts
-
--- A turn of this kind was made on children, and stands in a seat.
-pub record MakesTurn {P : Type 0} (told : P → Option (List Act)) (faults : P → ℕ) (running : P → List ℕ)
-    (IsTurn : List Made → List Act → Type 0)
+-- The input was given at this reading, and what its step asks was done.
+pub record MakesTurn {P : Type 0} (told : P → Option (List Act)) (faults : P → ℕ) (running : P → List ℕ) (now : ℕ) (i : Input)
     (before after : ChildrenState P) (had has : List Made) : Type 0 where
-  pub calls : List Made
-  pub acts : List Act
-  pub whole : has ≡ had ++ calls
-  pub turn : IsTurn calls acts
-  pub does : DoesActs told faults running before after acts
-
--- One input was given, and what its step asks was done; what its starts came to waits behind the others.
-pub record GivesOne {P : Type 0} (told : P → Option (List Act)) (faults : P → ℕ) (running : P → List ℕ) (now : ℕ) (i : Input)
-    (before after : ChildrenState P)
-    (had has : List Made) (ws ws' : List Outcome) : Type 0 where
   pub made : Made
-  pub begun : List Begun
-  pub acts : List Act
   pub whole : has ≡ had ++ made ∷ []
   pub given : IsGiven now i made
-  pub carried : IsCarriedOut made begun acts
-  pub does : DoesActs told faults running before after acts
-  pub waits : ws' ≡ ws ++ map outcome_of begun
+  pub carried : IsCarriedOut told faults running made before after
 
 -- Nothing was done, though a step may have been made.
-pub record GivesUp {C : Type 0} (before after : C) (had has : List Made) (ws ws' : List Outcome) : Type 0 where
+pub record GivesUp {C : Type 0} (before after : C) (had has : List Made) : Type 0 where
   pub last : List Made
   pub whole : has ≡ had ++ last
   pub few : length last ≤ 1
   pub same : after ≡ before
-  pub waits : ws' ≡ ws
 
--- All that a step asks of the children was done, and what its starts came to waits.
-pub record Carries {P : Type 0} (told : P → Option (List Act)) (faults : P → ℕ) (running : P → List ℕ) (fx : Effects)
-    (before after : ChildrenState P) (ws ws' : List Outcome) : Type 0 where
-  pub begun : List Begun
-  pub acts : List Act
-  pub carried : CarriesOut fx begun acts
-  pub does : DoesActs told faults running before after acts
-  pub waits : ws' ≡ ws ++ map outcome_of begun
+-- ---- starts
 
--- ---- turns that begin otherwise
+-- A start that was awaited was made, and came to a child or to none: to none only where the faults rose. Nothing was started for a process to
+-- which a signal was sent before.
+pub record Starts {S C : Type 0} (told : S → Option (List Act)) (faults : S → ℕ) (w : Awaited) (before after : S) (child : Option C) : Type 0 where
+  pub grows : Grows (told before) (told after) (if w.signalled then [] else Started w.start.process w.start.program (is_some child) ∷ [])
+  pub later : faults before ≤ faults after
+  pub none : child ≡ None → (w.signalled ≡ true) ⊎ Rose (faults before) (faults after)
+  pub some : w.signalled ≡ true → child ≡ None
+
+-- Whether a signal was sent to an awaited process.
+abbrev pub is_doomed : ℕ → List Awaited → Bool
+is_doomed process ws = list_any (λ (w : Awaited). (w.start.process == process) && w.signalled) ws
+
+-- Without the first start of this process.
+abbrev pub told_off : ℕ → List Awaited → List Awaited
+told_off process ws = elim (position (λ (w : Awaited). w.start.process == process) ws) [ None ↦ ws | Some place ↦ remove ws place ]
 
 -- These without the first of this number.
 abbrev pub without : ℕ → List ℕ → List ℕ
 without n ns = elim (position (λ k. k == n) ns) [ None ↦ ns | Some place ↦ remove ns place ]
 
+-- What a start came to was taken in, and whether it runs: one that was signalled meanwhile is killed then and there.
+pub record TakesIn {P C : Type 0} (told : P → Option (List Act)) (faults : P → ℕ) (running : P → List ℕ) (process : ℕ) (child : Option C)
+    (before after : ChildrenState P) (ok : Bool) : Type 0 where
+  pub grows : Grows (told before.spawner) (told after.spawner)
+      (if ok && is_doomed process before.awaited then kill_of process ∷ [] else [])
+  pub later : faults before.spawner ≤ faults after.spawner
+  pub runs : running after.spawner ≡ running before.spawner ++ (if ok then process ∷ [] else [])
+  pub numbers : after.numbers ≡ (if ok then before.numbers else without process before.numbers)
+  pub awaited : after.awaited ≡ told_off process before.awaited
+  pub none : child ≡ None → ok ≡ false
+  pub failed : ok ≡ false → (child ≡ None) ⊎ Rose (faults before.spawner) (faults after.spawner)
+
+-- What a start came to was taken in, and told in a turn.
+pub record TellsStart {P C : Type 0} (told : P → Option (List Act)) (faults : P → ℕ) (running : P → List ℕ) (process : ℕ) (child : Option C)
+    (IsTurn : Input → ChildrenState P → ChildrenState P → List Made → List Made → Type 0) (before after : ChildrenState P) (had has : List Made) : Type 0 where
+  pub ok : Bool
+  pub taken : ChildrenState P
+  pub takes : TakesIn told faults running process child before taken ok
+  pub turn : IsTurn (Spawned process ok) taken after had has
+
+-- ---- exits
+
 -- A child has exited, as the spawner was found to tell, and its exit is given in a turn of this kind.
 pub record TellsExit {P : Type 0} (told : P → Option (List Act)) (faults : P → ℕ) (running : P → List ℕ)
-    (IsTurn : Input → List Made → List Act → Type 0)
+    (IsTurn : Input → ChildrenState P → ChildrenState P → List Made → List Made → Type 0)
     (before after : ChildrenState P) (had has : List Made) : Type 0 where
   pub process : ℕ
   pub polled : ChildrenState P
   pub gave : IsTold (Some process) (running before.spawner) (running polled.spawner)
   pub gone : polled.numbers ≡ without process before.numbers
+  pub awaited : polled.awaited ≡ before.awaited
   pub quiet : IsQuiet told faults before.spawner polled.spawner
-  pub turn : MakesTurn told faults running (IsTurn (Exit process)) polled after had has
+  pub turn : IsTurn (Exit process) polled after had has
 
 -- No exit was found, and nothing was given.
 pub record IsIdleTurn {P : Type 0} (told : P → Option (List Act)) (faults : P → ℕ) (running : P → List ℕ)
     (before after : ChildrenState P) (had has : List Made) : Type 0 where
   pub gave : IsTold None (running before.spawner) (running after.spawner)
   pub numbers : after.numbers ≡ before.numbers
+  pub awaited : after.awaited ≡ before.awaited
   pub quiet : IsQuiet told faults before.spawner after.spawner
   pub calls : has ≡ had
 
 -- What a look for an exited child did, by whether it found one; for want of memory it left off.
-abbrev pub Looks : {P E : Type 0} → (P → Option (List Act)) → (P → ℕ) → (P → List ℕ) → ℕ → ℕ → ChildrenState P
+abbrev pub Looks : {P E : Type 0} → (P → Option (List Act)) → (P → ℕ) → (P → List ℕ) → ℕ → ChildrenState P
     → ChildrenState P → List Made → List Made → Result Bool E → Type 0
-Looks told faults running from to before after had has (Ok true) = TellsExit told faults running (TurnsOn from to) before after had has
-Looks told faults running from to before after had has (Ok false) = IsIdleTurn told faults running before after had has
-Looks told faults running from to before after had has (Err e) = TellsExit told faults running (LeavesOff from to) before after had has
+Looks told faults running now before after had has (Ok true) = TellsExit told faults running (MakesTurn told faults running now) before after had has
+Looks told faults running now before after had has (Ok false) = IsIdleTurn told faults running before after had has
+Looks told faults running now before after had has (Err e) = TellsExit told faults running (λ i. GivesUp) before after had has
+
+-- ---- tests
 
 -- A device fires at this reading.
 abbrev pub is_lapsed : ℕ → ℕ → ℕ → Bool
 is_lapsed last fire now = nat_le (last + fire) now
 
--- A test at this reading: the device was kept from firing exactly where it held, and each child that runs was killed exactly where the
--- device had fired.
+-- A test at this reading: the device was kept from firing exactly where it held, and each child was killed, and each awaited start marked,
+-- exactly where the device had fired.
 pub record Guards {P : Type 0} (told : P → Option (List Act)) (faults : P → ℕ) (running : P → List ℕ) (now last last' fire : ℕ)
     (before after : ChildrenState P) (answer : Bool) : Type 0 where
   pub kept : last' ≡ (if answer then now else last)
   pub kills : Does told faults running before.spawner after.spawner (if is_lapsed last' fire now then map kill_of before.numbers else [])
   pub numbers : after.numbers ≡ before.numbers
+  pub awaited : after.awaited ≡ (if is_lapsed last' fire now then map doomed before.awaited else before.awaited)
 
 -- ---- a thread's seat: its turns, one after another
 
@@ -262,20 +199,23 @@ pub record AreTurns (IsTurn : List Made → Type 0) (calls : List Made) : Type 0
   pub whole : calls ≡ flat_map (λ t. t) turns
   pub each : All IsTurn turns
 
--- A turn that gives an input of this kind, and tells what its starts came to.
+-- A turn that gives an input of this kind, at a reading.
 pub record IsTurnOf (IsInput : Input → Type 0) (calls : List Made) : Type 0 where
   pub input : Input
   pub is : IsInput input
-  pub from : ℕ
-  pub to : ℕ
-  pub acts : List Act
-  pub turns : TurnsOn from to input calls acts
+  pub now : ℕ
+  pub made : Made
+  pub one : calls ≡ made ∷ []
+  pub given : IsGiven now input made
 
 abbrev pub IsWake : Input → Type 0
 IsWake i = i ≡ Wake
 
 abbrev pub IsExit : Input → Type 0
 IsExit i = (process : ℕ) × (i ≡ Exit process)
+
+abbrev pub IsSpawned : Input → Type 0
+IsSpawned i = (process : ℕ) × (ok : Bool) × (i ≡ Spawned process ok)
 
 -- A line for the host, or one for lvmlockd, which takes a number.
 abbrev pub IsLine : Input → Type 0
@@ -284,12 +224,15 @@ IsLine i = (text : List ℕ) × ((i ≡ Line text) ⊎ (i ≡ Number text))
 abbrev pub IsTellOf : Call → Input → Type 0
 IsTellOf c i = (a : Answer) × (i ≡ Told c.number a)
 
--- The ticker wakes, the child thread tells exits, the line thread gives lines: and nothing else.
+-- The ticker wakes, the child thread tells exits, the starter tells what starts came to, the line thread gives lines: and nothing else.
 abbrev pub IsTicker : List Made → Type 0
 IsTicker calls = AreTurns (IsTurnOf IsWake) calls
 
 abbrev pub IsChildThread : List Made → Type 0
 IsChildThread calls = AreTurns (IsTurnOf IsExit) calls
+
+abbrev pub IsStarterThread : List Made → Type 0
+IsStarterThread calls = AreTurns (IsTurnOf IsSpawned) calls
 
 abbrev pub IsLineThread : List Made → Type 0
 IsLineThread calls = AreTurns (IsTurnOf IsLine) calls

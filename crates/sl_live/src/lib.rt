@@ -7,5 +7,5 @@ pub mod laws;
 mod records;
 mod steps;
 
-pub use children::Children;
+pub use children::{Awaited, Children};
 pub use disks::Disk;

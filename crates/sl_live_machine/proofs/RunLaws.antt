@@ -4,20 +4,21 @@ use Rattle.sl_cell.specs.DifferenceCases.{IsCaseOfSome, Stops}
 use Rattle.sl_cell.specs.Seats.{SeatState}
 use Rattle.sl_cell.specs.declared.audit.CloseError.TheVariants.{Differ as Differs, NoMemory}
 use Rattle.sl_cell.specs.declared.audit.CloseError.{CloseError}
-use Rattle.sl_live.specs.Turns.{IsChildThread, IsDeviceThread, IsLineThread, IsTicker, IsWorker}
+use Rattle.sl_live.specs.Turns.{IsChildThread, IsDeviceThread, IsLineThread, IsStarterThread, IsTicker, IsWorker}
 use Rattle.sl_live_machine.specs.ThreadSeats.{AreSeats, IsCaseOfRun, IsRun}
 use Rattle.sl_trace.specs.Traces.{IsTrace, Setting}
 use Rattle.sl_trace.specs.declared.effects.Entry.{Entry}
 use Rattle.std.proofs.Common.{refl}
 use Rattle.std.specs.Prelude.{Err, IfErr, IfOk, List, Ok, Result, reverse, [], ◌∷◌}
 
-pub are_seats : (ticks delta resource exits tests lines : SeatState) → IsTicker ticks.calls → IsWorker delta.calls → IsWorker resource.calls → IsChildThread exits.calls → IsDeviceThread tests.calls
-    → IsLineThread lines.calls → AreSeats (ticks ∷ delta ∷ resource ∷ exits ∷ tests ∷ lines ∷ [])
-are_seats ticks delta resource exits tests lines t d r c v l = record {
+pub are_seats : (ticks delta resource exits starts tests lines : SeatState) → IsTicker ticks.calls → IsWorker delta.calls → IsWorker resource.calls → IsChildThread exits.calls
+    → IsStarterThread starts.calls → IsDeviceThread tests.calls → IsLineThread lines.calls → AreSeats (ticks ∷ delta ∷ resource ∷ exits ∷ starts ∷ tests ∷ lines ∷ [])
+are_seats ticks delta resource exits starts tests lines t d r c p v l = record {
   ticker = ticks;
   delta = delta;
   resource = resource;
   children = exits;
+  starter = starts;
   device = tests;
   lines = lines;
   all = refl;
@@ -25,6 +26,7 @@ are_seats ticks delta resource exits tests lines t d r c v l = record {
   delta_works = d;
   resource_works = r;
   tells_exits = c;
+  tells_starts = p;
   tests = v;
   gives_lines = l;
 }

@@ -4,8 +4,7 @@ use Rattle.sl_cell.specs.DifferenceCases.{IsCaseOfSome}
 use Rattle.sl_cell.specs.Seats.{SeatState}
 use Rattle.sl_cell.specs.declared.audit.Differ.{Differ}
 use Rattle.sl_cell.specs.declared.seat.Made.{Made}
-use Rattle.sl_live.specs.Turns.{IsChildThread, IsDeviceThread, IsLineThread, IsTicker, IsWorker, TurnsOn}
-use Rattle.sl_outside.specs.declared.act.Act.{Act}
+use Rattle.sl_live.specs.Turns.{IsChildThread, IsDeviceThread, IsGiven, IsLineThread, IsStarterThread, IsTicker, IsWorker}
 use Rattle.sl_trace.specs.Traces.{IsTrace, Setting}
 use Rattle.sl_trace.specs.declared.effects.Entry.{Entry}
 use Rattle.sl_trace.specs.declared.input.Input.{Input}
@@ -13,12 +12,10 @@ use Rattle.std.specs.Prelude.{List, reverse, [], ℕ, ◌++◌, ◌∷◌, ◌�
 
 -- A turn that gave this input stands in a seat, behind what it had.
 pub record GaveTurn (i : Input) (had has : List Made) : Type 0 where
-  pub calls : List Made
-  pub acts : List Act
-  pub from : ℕ
-  pub to : ℕ
-  pub whole : has ≡ had ++ calls
-  pub turn : TurnsOn from to i calls acts
+  pub now : ℕ
+  pub made : Made
+  pub whole : has ≡ had ++ made ∷ []
+  pub given : IsGiven now i made
 
 -- The seats of a machine's threads, each with what its thread alone does.
 pub record AreSeats (seats : List SeatState) : Type 0 where
@@ -26,13 +23,15 @@ pub record AreSeats (seats : List SeatState) : Type 0 where
   pub delta : SeatState
   pub resource : SeatState
   pub children : SeatState
+  pub starter : SeatState
   pub device : SeatState
   pub lines : SeatState
-  pub all : seats ≡ ticker ∷ delta ∷ resource ∷ children ∷ device ∷ lines ∷ []
+  pub all : seats ≡ ticker ∷ delta ∷ resource ∷ children ∷ starter ∷ device ∷ lines ∷ []
   pub wakes : IsTicker ticker.calls
   pub delta_works : IsWorker delta.calls
   pub resource_works : IsWorker resource.calls
   pub tells_exits : IsChildThread children.calls
+  pub tells_starts : IsStarterThread starter.calls
   pub tests : IsDeviceThread device.calls
   pub gives_lines : IsLineThread lines.calls
 

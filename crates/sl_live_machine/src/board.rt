@@ -32,6 +32,7 @@ pub(crate) struct News {
     pub delta: bool,
     pub resource: bool,
     pub children: bool,
+    pub starter: bool,
     pub lines: bool,
     pub script: bool,
     pub ticker: bool,
@@ -44,6 +45,7 @@ impl News {
             delta: false,
             resource: false,
             children: false,
+            starter: false,
             lines: false,
             script: false,
             ticker: false,
@@ -70,6 +72,9 @@ pub(crate) struct Board {
     /// Calls that were made, and that were answered.
     made: u64,
     answered: u64,
+    /// Starts that were ordered, and that came to something.
+    ordered: u64,
+    started: u64,
     /// The children that run.
     running: Vec<u32>,
     /// The children whose exit was noted before their start.
@@ -90,6 +95,8 @@ impl Board {
             turns: 0,
             made: 0,
             answered: 0,
+            ordered: 0,
+            started: 0,
             running: Vec::new(alloc),
             ended: Vec::new(alloc),
             stage: Stage::Runs,
@@ -198,12 +205,13 @@ impl Board {
         Ok(news)
     }
 
-    /// Whether no turn is under way and none is left but to wake the daemon: no line, no call, no child.
+    /// Whether no turn is under way and none is left but to wake the daemon: no line, no call, no start, no child.
     fn is_quiet(&self) -> bool {
         self.closed
             && self.lines.is_empty()
             && self.turns == 0
             && self.made == self.answered
+            && self.ordered == self.started
             && self.running.is_empty()
     }
 
@@ -213,6 +221,7 @@ impl Board {
             Made::Applied { number: _, entry } => {
                 self.note_input(news, &entry.input)?;
                 self.note_calls(news, entry);
+                self.note_starts(news, entry);
                 self.note_replies(news, entry.effects.replies.as_slice())
             }
             Made::Unasked { front: _, input } => self.note_input(news, input),
@@ -229,6 +238,7 @@ impl Board {
                 Ok(())
             }
             Input::Spawned { process, ok } => {
+                self.started = self.started.wrapping_add(1);
                 if *ok {
                     self.note_start(news, *process)?;
                 }
@@ -273,6 +283,14 @@ impl Board {
                 Part::Delta => news.delta = true,
                 Part::Resource => news.resource = true,
             }
+        }
+    }
+
+    /// Notes the starts that were ordered.
+    fn note_starts(&mut self, news: &mut News, entry: &Entry) {
+        for _start in entry.effects.starts.as_slice() {
+            self.ordered = self.ordered.wrapping_add(1);
+            news.starter = true;
         }
     }
 

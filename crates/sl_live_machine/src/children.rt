@@ -49,7 +49,7 @@ fn look<D: Teller, J: Station, R: Wait, C: Clock, P: Spawner>(
     ensures { OnOk result (IsChildThread seat.old.calls → IsChildThread seat.new.calls) }
 {
     let mut children = room.children.lock(rt);
-    let exited = child_step(rt, room.alloc, &room.cell, seat, clock, &mut *children)?;
+    let exited = child_step(rt, &room.cell, seat, clock, &mut *children)?;
     Ok(finding(exited, children.is_idle()))
 }
 

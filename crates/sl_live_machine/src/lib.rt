@@ -12,6 +12,7 @@ mod lines;
 mod machine;
 mod room;
 mod script_waits;
+mod starter;
 mod thread_roll;
 mod threads;
 mod ticker;

@@ -10,7 +10,7 @@ use crate::board::Next;
 use crate::room::Room;
 use crate::script_waits::Post;
 use crate::turn::give;
-use sl_cell::{Seat, Station, Teller};
+use sl_cell::{Made, Seat, Station, Teller};
 use sl_live_lines::GivenLine;
 use sl_locks::{LockInput, LvmLocks};
 use sl_outside::Spawner;
@@ -53,6 +53,16 @@ fn turn(
     Ok(())
 }
 
+/// Locks leave the table whose holdings these calls of the cell have ended. A holding of lvmlockd's process ends by its own asks alone: it is no
+/// child that could exit.
+fn leave(locks: &mut LvmLocks, calls: &[Made]) {
+    for made in calls {
+        if let Made::Applied { number: _, entry } = made {
+            locks.leave(&entry.effects);
+        }
+    }
+}
+
 /// Gives a line, in a turn that has begun. An `Err` is want of memory.
 #[tactic(auto, using(crate::proofs::SeatLaws::lines_on))]
 fn give_line<D: Teller, J: Station, R: Wait, C: Clock, P: Spawner>(
@@ -86,7 +96,10 @@ fn ask<D: Teller, J: Station, R: Wait, C: Clock, P: Spawner>(
     let Some(number) = post.begin_ask(rt) else {
         return Ok(false);
     };
+    let from = seat.calls().len();
     give_line(rt, room, post, seat, clock, Input::Line(text))?;
+    let (_, own) = seat.calls().split_at(from.min(seat.calls().len()));
+    leave(locks, own);
     turn(
         room.alloc,
         locks,

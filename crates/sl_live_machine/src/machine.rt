@@ -86,7 +86,7 @@ fn close<D: Teller, J: Station, P: Spawner>(
     }
 }
 
-/// Runs a machine until its script's end: six threads over one cell, which are all joined before the cell is closed.
+/// Runs a machine until its script's end: seven threads over one cell, which are all joined before the cell is closed.
 ///
 /// An `Ok` has the history of the daemon of this setting, which stood for it; its entries are exactly what the machine's threads applied. Else a
 /// case in which their seats differ from a history that the daemon could have, or want of memory: there, and where threads can't be made, all

@@ -1,7 +1,7 @@
 //! What the threads of a machine work on together.
 //!
 //! The order of locks is: lvmlockd's locks, which the line thread holds for all its life, then children, then the cell, then the post. But for
-//! the first, none is held while a sector call is made.
+//! the first, none is held while a sector call or a start is made, or anything else that may take any time.
 
 use sl_area::Geometry;
 use sl_cell::{HostCell, Station, Teller};

@@ -18,6 +18,7 @@ pub struct Post {
     delta: Bell,
     resource: Bell,
     pub(crate) children: Bell,
+    pub(crate) starter: Bell,
     pub(crate) device: Bell,
     pub(crate) lines: Bell,
     script: Bell,
@@ -32,6 +33,7 @@ impl Post {
             delta: Bell::new(),
             resource: Bell::new(),
             children: Bell::new(),
+            starter: Bell::new(),
             device: Bell::new(),
             lines: Bell::new(),
             script: Bell::new(),
@@ -178,6 +180,9 @@ impl Post {
         if news.children {
             self.children.ring(rt);
         }
+        if news.starter {
+            self.starter.ring(rt);
+        }
         if news.lines {
             self.lines.ring(rt);
         }
@@ -195,6 +200,7 @@ impl Post {
         self.delta.ring(rt);
         self.resource.ring(rt);
         self.children.ring(rt);
+        self.starter.ring(rt);
         self.device.ring(rt);
         self.lines.ring(rt);
         self.script.ring(rt);

@@ -2,7 +2,7 @@
 //!
 //! None begins before all threads of the run are there. One that ends for want of memory ends all of them, on every machine.
 
-ghost use Rattle.sl_live.specs.Turns.{IsChildThread, IsDeviceThread, IsLineThread, IsTicker, IsWorker};
+ghost use Rattle.sl_live.specs.Turns.{IsChildThread, IsDeviceThread, IsLineThread, IsStarterThread, IsTicker, IsWorker};
 ghost use Rattle.sl_live_machine.specs.ThreadSeats.{AreSeats};
 ghost use Rattle.std.specs.Prelude.{IfOk, Ok, ◌≡◌};
 ghost use denote.Param.Send.{IsSend, IsSync};
@@ -12,6 +12,7 @@ use crate::device::keep_alive;
 use crate::lines::give_lines;
 use crate::room::Room;
 use crate::script_waits::{Post, fail_all};
+use crate::starter::start_programs;
 use crate::thread_roll::Roll;
 use crate::ticker::tick;
 use crate::worker::work;
@@ -32,6 +33,7 @@ pub struct Clocks<C: Clock> {
     pub delta: C,
     pub resource: C,
     pub exits: C,
+    pub starts: C,
     pub tests: C,
     pub lines: C,
 }
@@ -113,6 +115,19 @@ fn child_thread<D: Teller, J: Station, R: Wait + time::Clock, C: Clock, P: Spawn
         room.children.lock(rt).kill();
     }
     seat
+}
+
+/// The thread that starts programs.
+fn starter_thread<D: Teller, J: Station, R: Wait + time::Clock, C: Clock, P: Spawner>(
+    rt: &R,
+    room: &Room<D, J, P>,
+    stand: &Stand<'_>,
+    clock: C,
+) -> Result<Seat, AllocError>
+    ensures { IfOk result (λ s. IsStarterThread s.calls) }
+{
+    stand.enter(rt)?;
+    stand.ended(rt, start_programs(rt, room, stand.post, clock))
 }
 
 /// The device thread.
@@ -238,7 +253,28 @@ fn givers<
     )
 }
 
-/// The threads that look after the children.
+/// What a thread that is no worker ends with.
+type Ending = Result<Seat, AllocError>;
+
+/// The threads that start children and look after them.
+fn keepers<
+    D: Teller + Send,
+    J: Station + Send + Sync,
+    R: Threads + Wait + time::Clock + Sync,
+    C: Clock + Send,
+    P: Spawner + Send,
+>(rt: &R, room: &Room<D, J, P>, stand: &Stand<'_>, exits: C, starts: C) -> (Ending, Ending)
+    ensures exits { IfOk result.0 (λ s. IsChildThread s.calls) }
+    ensures starts { IfOk result.1 (λ s. IsStarterThread s.calls) }
+{
+    join(
+        rt,
+        || child_thread(rt, room, stand, exits),
+        || starter_thread(rt, room, stand, starts),
+    )
+}
+
+/// The threads that have to do with the children.
 fn watchers<
     D: Teller + Send,
     J: Station + Send + Sync,
@@ -251,21 +287,31 @@ fn watchers<
     room: &Room<D, J, P>,
     stand: &Stand<'_>,
     exits: C,
+    starts: C,
     tests: C,
     device: V,
-) -> (Result<Seat, AllocError>, Result<Seat, AllocError>)
+) -> (Ending, Ending, Ending)
     ensures exits { IfOk result.0 (λ s. IsChildThread s.calls) }
-    ensures tests { IfOk result.1 (λ s. IsDeviceThread s.calls) }
+    ensures starts { IfOk result.1 (λ s. IsStarterThread s.calls) }
+    ensures tests { IfOk result.2 (λ s. IsDeviceThread s.calls) }
 {
-    join(
+    let ((exits, starts), tests) = join(
         rt,
-        || child_thread(rt, room, stand, exits),
+        || keepers(rt, room, stand, exits, starts),
         || device_thread(rt, room, stand, tests, device),
-    )
+    );
+    (exits, starts, tests)
 }
 
-/// What a thread that is no worker ends with.
-type Ending = Result<Seat, AllocError>;
+/// What all threads but the workers end with.
+#[derive(Drop)]
+struct OtherEndings {
+    ticks: Ending,
+    lines: Ending,
+    exits: Ending,
+    starts: Ending,
+    tests: Ending,
+}
 
 /// All threads but the workers.
 fn others<
@@ -282,31 +328,36 @@ fn others<
     ticks: C,
     lines: C,
     exits: C,
+    starts: C,
     tests: C,
     device: V,
-) -> (Ending, Ending, Ending, Ending)
-    ensures ticks { IfOk result.0 (λ s. IsTicker s.calls) }
-    ensures lines { IfOk result.1 (λ s. IsLineThread s.calls) }
-    ensures exits { IfOk result.2 (λ s. IsChildThread s.calls) }
-    ensures tests { IfOk result.3 (λ s. IsDeviceThread s.calls) }
+) -> OtherEndings
+    ensures ticks { IfOk result.ticks (λ s. IsTicker s.calls) }
+    ensures lines { IfOk result.lines (λ s. IsLineThread s.calls) }
+    ensures exits { IfOk result.exits (λ s. IsChildThread s.calls) }
+    ensures starts { IfOk result.starts (λ s. IsStarterThread s.calls) }
+    ensures tests { IfOk result.tests (λ s. IsDeviceThread s.calls) }
 {
-    let ((ticks, lines), (exits, tests)) = join(
+    let ((ticks, lines), (exits, starts, tests)) = join(
         rt,
         || givers(rt, room, stand, ticks, lines),
-        || watchers(rt, room, stand, exits, tests, device),
+        ||
+            requires teller { IsSend D.row }
+            requires station { IsSend J.row }
+            requires station_shared { IsSync J.row }
+            requires runtime { IsSync R.row }
+            requires clock { IsSend C.row }
+            requires spawner { IsSend P.row }
+            requires device { IsSend V.row }
+        { watchers(rt, room, stand, exits, starts, tests, device) },
     );
-    (ticks, lines, exits, tests)
-}
-
-/// The seats of a machine's threads.
-#[derive(Drop)]
-struct Ended {
-    ticks: Result<Seat, AllocError>,
-    delta: Result<Seat, AllocError>,
-    resource: Result<Seat, AllocError>,
-    exits: Result<Seat, AllocError>,
-    tests: Result<Seat, AllocError>,
-    lines: Result<Seat, AllocError>,
+    OtherEndings {
+        ticks,
+        lines,
+        exits,
+        starts,
+        tests,
+    }
 }
 
 /// The seats of three threads, if none ended for want of memory.
@@ -320,26 +371,32 @@ fn three(first: Ending, second: Ending, third: Ending) -> Result<(Seat, Seat, Se
 
 /// The seats of all threads, if none ended for want of memory, and there is memory for the list.
 #[tactic(auto, using(crate::proofs::RunLaws::are_seats))]
-fn gather(alloc: Global, ended: Ended) -> Result<Vec<Seat>, AllocError>
-    requires ticks { IfOk ended.ticks (λ s. IsTicker s.calls) }
-    requires delta { IfOk ended.delta (λ s. IsWorker s.calls) }
-    requires resource { IfOk ended.resource (λ s. IsWorker s.calls) }
-    requires exits { IfOk ended.exits (λ s. IsChildThread s.calls) }
-    requires tests { IfOk ended.tests (λ s. IsDeviceThread s.calls) }
-    requires lines { IfOk ended.lines (λ s. IsLineThread s.calls) }
+fn gather(
+    alloc: Global,
+    delta: Ending,
+    resource: Ending,
+    others: OtherEndings,
+) -> Result<Vec<Seat>, AllocError>
+    requires delta { IfOk delta (λ s. IsWorker s.calls) }
+    requires resource { IfOk resource (λ s. IsWorker s.calls) }
+    requires ticks { IfOk others.ticks (λ s. IsTicker s.calls) }
+    requires lines { IfOk others.lines (λ s. IsLineThread s.calls) }
+    requires exits { IfOk others.exits (λ s. IsChildThread s.calls) }
+    requires starts { IfOk others.starts (λ s. IsStarterThread s.calls) }
+    requires tests { IfOk others.tests (λ s. IsDeviceThread s.calls) }
     ensures { IfOk result (λ v. AreSeats v.items) }
 {
-    let Ended {
+    let OtherEndings {
         ticks,
-        delta,
-        resource,
-        exits,
-        tests,
         lines,
-    } = ended;
+        exits,
+        starts,
+        tests,
+    } = others;
     let (ticks, delta, resource) = three(ticks, delta, resource)?;
-    let (exits, tests, lines) = three(exits, tests, lines)?;
-    Ok(vec![in alloc; ticks, delta, resource, exits, tests, lines]?)
+    let (exits, starts, tests) = three(exits, starts, tests)?;
+    let lines = lines?;
+    Ok(vec![in alloc; ticks, delta, resource, exits, starts, tests, lines]?)
 }
 
 /// What the threads of a machine have left: their seats, and the workers' disks.
@@ -355,14 +412,15 @@ fn gather_threads<A: Area>(
     alloc: Global,
     delta: Worked<A>,
     resource: Worked<A>,
-    rest: (Ending, Ending, Ending, Ending),
+    others: OtherEndings,
 ) -> Threaded<A>
     requires delta { IfOk delta.seat (λ s. IsWorker s.calls) }
     requires resource { IfOk resource.seat (λ s. IsWorker s.calls) }
-    requires ticks { IfOk rest.0 (λ s. IsTicker s.calls) }
-    requires lines { IfOk rest.1 (λ s. IsLineThread s.calls) }
-    requires exits { IfOk rest.2 (λ s. IsChildThread s.calls) }
-    requires tests { IfOk rest.3 (λ s. IsDeviceThread s.calls) }
+    requires ticks { IfOk others.ticks (λ s. IsTicker s.calls) }
+    requires lines { IfOk others.lines (λ s. IsLineThread s.calls) }
+    requires exits { IfOk others.exits (λ s. IsChildThread s.calls) }
+    requires starts { IfOk others.starts (λ s. IsStarterThread s.calls) }
+    requires tests { IfOk others.tests (λ s. IsDeviceThread s.calls) }
     ensures { IfOk result.seats (λ v. AreSeats v.items) }
 {
     let Worked {
@@ -373,17 +431,8 @@ fn gather_threads<A: Area>(
         seat: resource,
         disks: resource_disks,
     } = resource;
-    let (ticks, lines, exits, tests) = rest;
-    let ended = Ended {
-        ticks,
-        delta,
-        resource,
-        exits,
-        tests,
-        lines,
-    };
     Threaded {
-        seats: gather(alloc, ended),
+        seats: gather(alloc, delta, resource, others),
         delta: delta_disks,
         resource: resource_disks,
     }
@@ -416,6 +465,7 @@ pub(crate) fn run_threads<
         delta: delta_clock,
         resource: resource_clock,
         exits,
+        starts,
         tests,
         lines,
     } = clocks;
@@ -441,7 +491,15 @@ pub(crate) fn run_threads<
             requires area { IsSend A.row }
             requires gate { IsSync G.row }
         { workers(rt, room, stand, gate, delta, resource) },
-        || others(rt, room, stand, ticks, lines, exits, tests, device),
+        ||
+            requires teller { IsSend D.row }
+            requires station { IsSend J.row }
+            requires station_shared { IsSync J.row }
+            requires runtime { IsSync R.row }
+            requires clock { IsSend C.row }
+            requires spawner { IsSend P.row }
+            requires device { IsSend V.row }
+        { others(rt, room, stand, ticks, lines, exits, starts, tests, device) },
     );
     gather_threads(room.alloc, delta, resource, rest)
 }

@@ -24,13 +24,5 @@ pub(crate) fn give<D: Teller, J: Station, R: Wait, C: Clock, P: Spawner>(
     ensures { OnOk result (GaveTurn input seat.old.calls seat.new.calls) }
 {
     let mut children = room.children.lock(rt);
-    give_step(
-        rt,
-        room.alloc,
-        &room.cell,
-        seat,
-        clock,
-        &mut *children,
-        input,
-    )
+    give_step(rt, &room.cell, seat, clock, &mut *children, input)
 }

@@ -1,6 +1,6 @@
 -- Areas that are handed out, one of each disk, and taken back: what they counted, they count for the devices.
 use Rattle.sl_direct.specs.FreshAreas.{Write}
-use Rattle.sl_live.proofs.TurnLaws.{rose_after, rose_before}
+use Rattle.sl_live_run.proofs.ReadyLaws.{rose_after, rose_before}
 use Rattle.sl_live.specs.declared.disks.Disk.{Disk}
 use Rattle.sl_live_run.specs.Areas.{AreLent, IsLent, faults_in}
 use Rattle.sl_outside.specs.Disks.{CountsBack}

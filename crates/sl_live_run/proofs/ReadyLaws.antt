@@ -1,6 +1,5 @@
 -- Machines that are ready, one after another; and why one is not.
 use Rattle.sl_world_state.specs.declared.daemon.Site.{Site}
-use Rattle.sl_live.proofs.TurnLaws.{rose_after, rose_before}
 use Rattle.sl_live_run.proofs.HeaderLaws.{header_with, ticks_with}
 use Rattle.sl_live_run.specs.Causes.{Explains}
 use Rattle.sl_live_run.specs.Clocks.{AreTicks, as_first, readings_from, with_readings}
@@ -9,6 +8,7 @@ use Rattle.sl_live_run.specs.declared.ground.NoGround.TheVariants.{AreaFault, No
 use Rattle.sl_live_run.specs.declared.ground.NoGround.{NoGround}
 use Rattle.sl_live_run.specs.declared.ground.Prepared.{Prepared}
 use Rattle.sl_outside.specs.Disks.{CountsBack}
+use Rattle.sl_io.specs.FaultCauses.{Rose}
 use Rattle.sl_words.proofs.Places.{Came, PlacedBehind, Stood, placed_behind}
 use Rattle.sl_run.specs.Headers.{IsHeader}
 use Rattle.sl_run.specs.Worlds.{clock_reading}
@@ -21,6 +21,12 @@ use Rattle.std.proofs.Common.{ap, arith, refl, subst, sym, ◌∙◌}
 use Rattle.std.specs.Prelude.{Err, IfErr, IfOk, IsErrAnd, List, None, Ok, Option, Result, Some, length, slice_get, [], ℕ, ◌++◌, ◌+◌, ◌<◌, ◌∷◌, ◌≡◌, ◌≤◌}
 
 -- ---- why not
+
+pub rose_before : (a b c : ℕ) → Rose a b → b ≤ c → Rose a c
+rose_before a b c rose later = omega arith
+
+pub rose_after : (a b c : ℕ) → a ≤ b → Rose b c → Rose a c
+rose_after a b c later rose = omega arith
 
 pub explains_between : (why : NoGround) (a b c d : ℕ) → a ≤ b → Explains b c why → c ≤ d → Explains a d why
 explains_between AreaFault a b c d before rose later = rose_before a c d (rose_after a b c before rose) later

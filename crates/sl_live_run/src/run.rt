@@ -33,7 +33,7 @@ use std::thread::{Threads, for_each_mut, join_mut};
 use std::time;
 
 /// The threads of a machine.
-const MACHINE_THREADS: u64 = 6;
+const MACHINE_THREADS: u64 = 7;
 
 /// The disks of a machine's workers, to be given back.
 #[derive(Drop)]

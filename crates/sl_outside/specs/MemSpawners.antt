@@ -1,11 +1,10 @@
 -- A spawner in memory: its children exit and its faults come as planned.
 use Rattle.sl_io.specs.FaultCounts.{one_more}
-use Rattle.sl_io.specs.Planned.{Planned, after_call, fails_next, next_call, with_fault}
-use Rattle.sl_outside.specs.declared.act.Act.TheVariants.{Signalled, Started}
+use Rattle.sl_io.specs.Planned.{Planned, after_call, fails_next, with_fault}
+use Rattle.sl_outside.specs.declared.act.Act.TheVariants.{Signalled}
 use Rattle.sl_outside.specs.declared.act.Act.{Act}
 use Rattle.sl_outside.specs.declared.mem_children.MemChild.{MemChild}
 use Rattle.sl_words.specs.RoomyLists.{Roomy}
-use Rattle.sl_text.specs.Names.{is_path}
 use Rattle.sl_trace.specs.declared.effects.Signal.TheVariants.{Kill, Term}
 use Rattle.sl_trace.specs.declared.effects.Signal.{Signal}
 use Rattle.std.specs.List.{position, remove}
@@ -73,26 +72,22 @@ pub record SpawnerState : Type 0 where
 abbrev pub life_of : List ℕ → ℕ → ℕ
 life_of lives start = unwrap_or (slice_get lives (min start (length lives) - 1)) (2 ^ 64 - 1)
 
--- Whether the next start fails: it was to fail, or finds no room.
-abbrev pub spawn_fails : SpawnerState → Bool
-spawn_fails s = fails_next s.starts || s.children.room == 0
-
--- The child that the next start makes.
-abbrev pub child_of : ℕ → SpawnerState → MemChild
-child_of process s = record { process = process; ends = min (s.polls + life_of s.lives (next_call s.starts)) (2 ^ 64 - 1) }
+-- Whether the next start fails: it was to fail.
+abbrev pub start_fails : SpawnerState → Bool
+start_fails s = fails_next s.starts
 
 -- The spawner after a start, with nothing noted.
-abbrev pub after_start : ℕ → SpawnerState → SpawnerState
-after_start process s = if fails_next s.starts then record s { starts = after_call s.starts }
-    else if s.children.room == 0 then record s { starts = with_fault (after_call s.starts) }
-    else record s { starts = after_call s.starts; children = record { items = s.children.items ++ child_of process s ∷ []; room = s.children.room - 1 } }
+abbrev pub after_start : SpawnerState → SpawnerState
+after_start s = record s { starts = after_call s.starts }
 
--- The acts after a start. A path that no start has is not noted.
-abbrev pub noted_start : ℕ → List ℕ → SpawnerState → Option (Roomy Act)
-noted_start process path s = if is_path path then noted (Started process path (not (spawn_fails s))) s.acts else None
+-- A child that lives for so many polls more.
+abbrev pub child_of : ℕ → ℕ → SpawnerState → MemChild
+child_of process life s = record { process = process; ends = min (s.polls + life) (2 ^ 64 - 1) }
 
-abbrev pub after_spawn : ℕ → List ℕ → SpawnerState → SpawnerState
-after_spawn process path s = record (after_start process s) { acts = noted_start process path s }
+-- The spawner after a child was taken in, or turned away.
+abbrev pub after_add : ℕ → ℕ → SpawnerState → SpawnerState
+after_add process life s = if s.children.room == 0 then record s { starts = with_fault s.starts }
+    else record s { children = record { items = s.children.items ++ child_of process life s ∷ []; room = s.children.room - 1 } }
 
 -- Whether the signal ends a child.
 abbrev pub ends_child : Bool → Signal → Bool
@@ -109,7 +104,7 @@ exited s = process_at (first_ended (one_more s.polls) s.children) s.children
 abbrev pub after_poll : SpawnerState → SpawnerState
 after_poll s = record s { polls = one_more s.polls; children = without (first_ended (one_more s.polls) s.children) s.children }
 
--- No child was started, and no fault counted.
+-- No child was taken in, and no fault counted.
 pub record IsFresh (s : SpawnerState) : Type 0 where
   pub faults : s.starts.faults ≡ 0
   pub idle : numbers s.children ≡ []

@@ -1,27 +1,28 @@
-//! A spawner of child programs of the system.
+//! The child programs of the system that a machine has.
 //!
-//! A want of memory, a program that can't be started and a signal that can't be sent are counted faults. What becomes of a child no clause
-//! says: that it runs, ends and is signalled is tested.
+//! A want of memory, a program that can't be started and a signal that can't be sent are counted faults. What becomes of a child no clause says: that it runs, ends and is
+//! signalled, and that it ends with this program, is tested.
 ghost use Rattle.std.specs.Prelude.{IfSome, length, [], ◌<◌, ◌≡◌};
 
 use crate::running_child::{Running, start};
 use crate::spawner::Spawner;
+use crate::started_child::StartedChild;
 use sl_io::{Failed, FaultCount};
 use sl_trace::Signal;
 use std::alloc::Global;
 use std::marker::Model;
-use std::process::Processes;
+use std::process::{Processes, SystemProcess};
 
 /// Child programs of the system.
 #[derive(Drop)]
-pub struct ChildSpawner<R: Processes> {
+pub struct ChildSpawner<R> {
     rt: R,
     alloc: Global,
-    children: Vec<Running<R::Started>>,
+    children: Vec<Running>,
     faults: FaultCount,
 }
 
-impl<R: Processes> Model for ChildSpawner<R> {
+impl<R> Model for ChildSpawner<R> {
     ghost use Rattle.sl_outside.specs.Acts.{Children};
 
     ghost Value = { Children };
@@ -29,7 +30,7 @@ impl<R: Processes> Model for ChildSpawner<R> {
     ghost view = { λ s. record { running = s.children.items; faults = s.faults } };
 }
 
-impl<R: Processes> ChildSpawner<R> {
+impl<R> ChildSpawner<R> {
     /// No child yet, and no fault.
     pub fn new(rt: R, alloc: Global) -> ChildSpawner<R>
         ensures { result ≡ record { running = []; faults = 0 } }
@@ -71,7 +72,7 @@ impl<R: Processes> ChildSpawner<R> {
         requires { at < length self.old.running }
         ensures { self.new ≡ self.old }
     {
-        self.children[at].send(&self.rt, self.alloc, signal).is_ok()
+        self.children[at].send(signal).is_ok()
     }
 
     /// Where the first child stands that has exited.
@@ -88,22 +89,33 @@ impl<R: Processes> ChildSpawner<R> {
     }
 }
 
-impl<R: Processes + Drop> Spawner for ChildSpawner<R> {
+impl<R: Processes<Started = SystemProcess> + Copy + Drop> Spawner for ChildSpawner<R> {
     ghost faults = { λ s. s.faults };
 
     ghost running = { λ s. s.running };
 
-    fn spawn(&mut self, process: u32, path: &str) -> Result<(), Failed> {
-        if self.children.reserve(1).is_err() {
-            return Err(self.faults.raise());
-        }
+    fn starter(&mut self) -> ChildSpawner<R> {
+        ChildSpawner::new(self.rt, self.alloc)
+    }
+
+    fn start(&mut self, _process: u32, path: &str) -> Result<StartedChild, Failed> {
         match start(&self.rt, self.alloc, path) {
-            Ok(child) => {
-                self.children.push_reserved(Running::new(process, child));
-                Ok(())
-            }
+            Ok(program) => Ok(StartedChild::Program(program)),
             Err(_) => Err(self.faults.raise()),
         }
+    }
+
+    fn add(&mut self, process: u32, child: StartedChild) -> Result<(), Failed> {
+        let StartedChild::Program(program) = child else {
+            return Err(self.faults.raise());
+        };
+        let mut program = program;
+        if self.children.reserve(1).is_err() {
+            let _killed = program.kill();
+            return Err(self.faults.raise());
+        }
+        self.children.push_reserved(Running::new(process, program));
+        Ok(())
     }
 
     fn signal(&mut self, process: u32, signal: Signal) {

@@ -17,7 +17,7 @@ use sl_io::{Failed, FaultCount};
 use std::alloc::Global;
 use std::fs::{File, Files, OpenFile, create_dir};
 use std::io;
-use std::process::{OpenProcess, Processes};
+use std::process::{Processes, SystemProcess};
 use std::time::{Clock, Instant};
 
 /// The system that the program runs on.
@@ -94,13 +94,8 @@ impl<R: Files + Drop> Devices for FileDevices<R> {
     }
 }
 
-impl<R: Files + Processes + Clock + Copy + Drop + Send> LiveDevices for FileDevices<R>
-where
-    R::Started: Send,
-    <R::Started as OpenProcess>::Stdin: Send,
-    <R::Started as OpenProcess>::Stdout: Send,
-    <R::Started as OpenProcess>::Stderr: Send,
-{
+impl<R: Files + Processes<Started = SystemProcess> + Clock + Copy + Drop + Send> LiveDevices
+    for FileDevices<R> {
     type Clock = RealClock<R>;
 
     type Spawner = ChildSpawner<R>;

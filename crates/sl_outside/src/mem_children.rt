@@ -67,6 +67,11 @@ impl MemChildren {
         self.room
     }
 
+    /// How many have not exited by the poll of this number.
+    pub(crate) fn alive(&self, poll: u64) -> usize {
+        self.items.iter().filter(|child| child.ends > poll).count()
+    }
+
     /// One more child, for which there is room.
     pub(crate) fn put(&mut self, child: MemChild)
         requires { 0 < self.old.room }

@@ -1,33 +1,36 @@
 //! A spawner in memory, whose children exit and whose faults come as planned.
 //!
-//! Its memory is taken when it is made, so that no call takes any. A start for which there is no room is a fault like any other. It tells
+//! Its memory is taken when it is made, so that no call takes any. A child for which there is no room is turned away, as a fault. It tells
 //! what it was asked to do, for as long as there is room to note it.
 ghost use Rattle.sl_outside.specs.Acts.{Grows, IsTold};
 ghost use Rattle.sl_outside.specs.MemPlans.{begun_by};
-ghost use Rattle.sl_outside.specs.MemSpawners.{after_poll, after_signal, after_spawn, after_start, exited, life_of, no_room, noted, numbers, spawn_fails, told};
+ghost use Rattle.sl_outside.specs.MemSpawners.{after_add, after_poll, after_signal, after_start, exited, life_of, no_room, noted, numbers, start_fails, told};
 ghost use Rattle.sl_outside.specs.declared.act.Act.TheVariants.{Signalled, Started};
+ghost use Rattle.sl_outside.specs.declared.started_child.StartedChild.TheVariants.{InMemory};
 ghost use Rattle.sl_io.specs.FaultCauses.{HasCause};
-ghost use Rattle.std.specs.Prelude.{IfOk, IsErr, IsTrue, None, OnErr, OnOk, Some, is_ok, option_map, [], ◌+◌, ◌++◌, ◌<◌, ◌^◌, ◌∷◌, ◌≡◌, ◌≤◌, ◌↔◌};
+ghost use Rattle.std.specs.Prelude.{IfOk, IsErr, IsTrue, None, OnErr, OnOk, is_ok, option_map, [], ◌++◌, ◌∷◌, ◌≡◌, ◌≤◌, ◌↔◌};
 
 use crate::act::Act;
 use crate::mem_children::{MemChild, MemChildren};
 use crate::spawner::Spawner;
+use crate::started_child::{MemLife, StartedChild};
 use sl_io::{Failed, PlannedFaults};
 use sl_text::FilePath;
 use sl_trace::Signal;
 use sl_words::Room;
 use std::alloc::{AllocError, Global};
 use std::marker::Model;
+use std::mem::replace;
 
-/// What a spawner in memory is to do.
+/// What a spawner in memory and its starter are to do.
 #[derive(Drop)]
 pub struct MemPlan {
     /// How many children may run at once.
     pub children: u32,
-    /// How many acts are noted.
+    /// How many acts are noted: so many by the starter, and as many by the spawner.
     pub acts: u32,
-    /// At which poll after its start a child exits by itself, by the number of the start; the last goes for all later starts, and with none
-    /// no child exits by itself. A 0 stands for 1.
+    /// At which poll after it was taken in a child exits by itself, by the number of the start; the last goes for all later starts, and with
+    /// none no child exits by itself. A 0 stands for 1.
     pub lives: Vec<u64>,
     /// Whether a term does nothing.
     pub deaf: bool,
@@ -35,9 +38,19 @@ pub struct MemPlan {
     pub failing: Vec<u64>,
 }
 
+/// What a starter is to do, until it is handed out.
+#[derive(Drop)]
+struct ToStart {
+    lives: Vec<u64>,
+    failing: Vec<u64>,
+    acts: Option<Room<Act>>,
+}
+
 /// Runs children in memory.
 #[derive(Drop)]
 pub struct MemSpawner {
+    alloc: Global,
+    to_start: ToStart,
     lives: Vec<u64>,
     deaf: bool,
     starts: PlannedFaults,
@@ -75,6 +88,17 @@ fn note(acts: Option<Room<Act>>, act: Act) -> Option<Room<Act>>
     Some(list)
 }
 
+impl ToStart {
+    /// Nothing is left to be started as planned.
+    fn none(alloc: Global) -> ToStart {
+        ToStart {
+            lives: Vec::new(alloc),
+            failing: Vec::new(alloc),
+            acts: None,
+        }
+    }
+}
+
 impl MemSpawner {
     /// A spawner by this plan, with no child. The only error is want of memory.
     pub fn new(alloc: Global, plan: MemPlan) -> Result<MemSpawner, AllocError>
@@ -87,21 +111,31 @@ impl MemSpawner {
             deaf,
             failing,
         } = plan;
-        Ok(MemSpawner {
+        let room = acts as usize;
+        let to_start = ToStart {
             lives,
+            failing,
+            acts: Some(Room::new(alloc, room)?),
+        };
+        Ok(MemSpawner {
+            alloc,
+            to_start,
+            lives: Vec::new(alloc),
             deaf,
-            starts: PlannedFaults::new(failing),
+            starts: PlannedFaults::none(alloc),
             polls: 0,
             children: MemChildren::new(alloc, children)?,
-            acts: Some(Room::new(alloc, acts as usize)?),
+            acts: Some(Room::new(alloc, room)?),
         })
     }
 
-    /// A spawner with no room, which tells nothing: each start is a fault.
+    /// A spawner with no room, which tells nothing: each child is turned away.
     pub(crate) fn idle(alloc: Global) -> MemSpawner
         ensures { result ≡ no_room }
     {
         MemSpawner {
+            alloc,
+            to_start: ToStart::none(alloc),
             lives: Vec::new(alloc),
             deaf: false,
             starts: PlannedFaults::none(alloc),
@@ -128,20 +162,22 @@ impl MemSpawner {
         }
     }
 
-    /// Starts a child, where that was not planned to fail and there is room.
-    fn start(&mut self, process: u32) -> Result<(), Failed>
-        ensures fails { IsErr result ↔ IsTrue (spawn_fails self.old) }
-        ensures exact { self.new ≡ after_start process self.old }
+    /// How many children run that were neither ended nor have come to their end by the last poll.
+    pub(crate) fn alive(&self) -> usize {
+        self.children.alive(self.polls)
+    }
+
+    /// Starts a child, where that was not planned to fail.
+    fn begin(&mut self) -> Result<MemLife, Failed>
+        ensures fails { IsErr result ↔ IsTrue (start_fails self.old) }
+        ensures exact { self.new ≡ after_start self.old }
         ensures cause { HasCause self.old.starts.faults self.new.starts.faults result }
+        ensures life { IfOk result (λ l. l.polls ≡ life_of self.old.lives self.new.starts.made) }
     {
         self.starts.begin()?;
-        if self.children.room() == 0 {
-            return Err(self.starts.raise());
-        }
-        let life = life_of(&self.lives, self.starts.made());
-        let ends = self.polls.saturating_add(life);
-        self.children.put(MemChild { process, ends });
-        Ok(())
+        Ok(MemLife {
+            polls: life_of(&self.lives, self.starts.made()),
+        })
     }
 }
 
@@ -152,15 +188,31 @@ impl Spawner for MemSpawner {
 
     ghost acts = { λ s. told s.acts };
 
-    fn spawn(&mut self, process: u32, path: &str) -> Result<(), Failed>
-        ensures started { OnOk result (numbers self.new.children ≡ numbers self.old.children ++ process ∷ []) }
-        ensures failed { OnErr result (numbers self.new.children ≡ numbers self.old.children) }
+    fn starter(&mut self) -> MemSpawner {
+        let ToStart {
+            lives,
+            failing,
+            acts,
+        } = replace(&mut self.to_start, ToStart::none(self.alloc));
+        MemSpawner {
+            alloc: self.alloc,
+            to_start: ToStart::none(self.alloc),
+            lives,
+            deaf: self.deaf,
+            starts: PlannedFaults::new(failing),
+            polls: 0,
+            children: MemChildren::none(self.alloc),
+            acts,
+        }
+    }
+
+    fn start(&mut self, process: u32, path: &str) -> Result<StartedChild, Failed>
+        ensures running { numbers self.new.children ≡ numbers self.old.children }
         ensures acts { Grows (told self.old.acts) (told self.new.acts) (Started process path.now (is_ok result) ∷ []) }
         ensures cause { HasCause self.old.starts.faults self.new.starts.faults result }
-        ensures fails { IsErr result ↔ IsTrue (spawn_fails self.old) }
-        ensures exact { self.new ≡ after_spawn process path.now self.old }
+        ensures fails { IsErr result ↔ IsTrue (start_fails self.old) }
     {
-        let started = self.start(process);
+        let started = self.begin();
         self.acts = match FilePath::new(path.as_bytes()) {
             Some(path) => {
                 let ok = started.is_ok();
@@ -168,7 +220,28 @@ impl Spawner for MemSpawner {
             }
             None => None,
         };
-        started
+        match started {
+            Ok(life) => Ok(StartedChild::InMemory(life)),
+            Err(failed) => Err(failed),
+        }
+    }
+
+    fn add(&mut self, process: u32, child: StartedChild) -> Result<(), Failed>
+        ensures added { OnOk result (numbers self.new.children ≡ numbers self.old.children ++ process ∷ []) }
+        ensures failed { OnErr result (numbers self.new.children ≡ numbers self.old.children) }
+        ensures acts { told self.new.acts ≡ told self.old.acts }
+        ensures cause { HasCause self.old.starts.faults self.new.starts.faults result }
+        ensures exact { (life : _) → child ≡ InMemory life → self.new ≡ after_add process life.polls self.old }
+    {
+        let StartedChild::InMemory(life) = child else {
+            return Err(self.starts.raise());
+        };
+        if self.children.room() == 0 {
+            return Err(self.starts.raise());
+        }
+        let ends = self.polls.saturating_add(life.polls);
+        self.children.put(MemChild { process, ends });
+        Ok(())
     }
 
     fn signal(&mut self, process: u32, signal: Signal)

@@ -1,6 +1,7 @@
 //! Devices in memory for live machines: disks that all threads share, children and faults that come as planned, the clock of the system.
 //!
 //! Nothing is told of the disks: another thread may write at any time.
+ghost use Rattle.sl_outside.specs.MemSpawners.{IsFresh};
 ghost use Rattle.std.specs.Prelude.{IfSome, length, [], ◌<◌, ◌≡◌};
 
 use crate::device::TimedDevice;
@@ -11,6 +12,7 @@ use crate::paths::disk_path;
 use crate::planned_spawner::PlannedSpawner;
 use crate::real_clock::RealClock;
 use crate::shared_area::SharedArea;
+use crate::shared_spawner::{Census, SharedSpawner};
 use crate::turn_gate::TurnGate;
 use crate::words::MemWords;
 use sl_area::MemArea;
@@ -18,7 +20,10 @@ use sl_io::{Failed, PlannedFaults};
 use std::alloc::{AllocError, Global};
 use std::marker::Model;
 use std::sync::{Arc, Mutex, Wait};
-use std::time::{Clock, Instant};
+use std::time::{Clock, Duration, Instant};
+
+/// The last machine whose children a census counts.
+const CENSUS_MACHINES: u32 = 2;
 
 /// A disk in memory that areas share, and its path.
 #[derive(Drop)]
@@ -35,12 +40,23 @@ pub struct AreaPlan {
     pub failing: Vec<u64>,
 }
 
+/// A start of a machine's children that takes its time: behind how many others it comes, and how long it takes.
+#[derive(Clone, Copy)]
+pub struct SlowStart {
+    pub machine: u32,
+    pub behind: u32,
+    pub time: Duration,
+}
+
 /// What devices in memory are to do. A worker that no plan names has an area that fails at no planned call; a machine that none names has a
 /// spawner with no room.
 #[derive(Drop)]
 pub struct SharedPlan<R> {
     pub areas: Vec<AreaPlan>,
     pub spawners: Vec<PlannedSpawner>,
+    pub slow: Option<SlowStart>,
+    /// What counts the children of machines 1 and 2.
+    pub census: Option<Census<R>>,
     /// The calls of `make` that fail, counted from 1.
     pub makes: Vec<u64>,
     pub gate: Option<TurnGate<R>>,
@@ -55,6 +71,8 @@ pub struct SharedDevices<R> {
     disks: Vec<SharedDisk>,
     areas: Vec<AreaPlan>,
     spawners: Vec<PlannedSpawner>,
+    slow: Option<SlowStart>,
+    census: Option<Census<R>>,
     gate: Option<TurnGate<R>>,
     makes: PlannedFaults,
 }
@@ -109,6 +127,8 @@ impl<R: Wait + Clock + Copy> SharedDevices<R> {
         let SharedPlan {
             areas,
             spawners,
+            slow,
+            census,
             makes,
             gate,
         } = plan;
@@ -119,6 +139,8 @@ impl<R: Wait + Clock + Copy> SharedDevices<R> {
             disks: Vec::new(alloc),
             areas,
             spawners,
+            slow,
+            census,
             gate,
             makes: PlannedFaults::new(makes),
         }
@@ -145,6 +167,33 @@ impl<R: Wait + Clock + Copy> SharedDevices<R> {
         match self.areas.iter().position(of) {
             Some(at) => self.areas.remove(at).failing,
             None => Vec::new(self.alloc),
+        }
+    }
+
+    /// The children of a machine by its plan: none runs yet.
+    fn children(&mut self, machine: u32) -> MemSpawner
+        ensures same { self.new ≡ self.old }
+        ensures fresh { IsFresh result }
+    {
+        match self.spawners.iter().position(|of| of.machine() == machine) {
+            Some(at) => self.spawners.remove(at).into_spawner(),
+            None => MemSpawner::idle(self.alloc),
+        }
+    }
+
+    /// Behind how many others a start of this machine comes that takes its time, and how long it takes.
+    fn slow(&self, machine: u32) -> Option<(u32, Duration)> {
+        match self.slow {
+            Some(slow) if slow.machine == machine => Some((slow.behind, slow.time)),
+            _ => None,
+        }
+    }
+
+    /// A share of the census, if there is one and the machine is of it.
+    fn census(&self, machine: u32) -> Option<Census<R>> {
+        match &self.census {
+            Some(census) if machine <= CENSUS_MACHINES => census.share().ok(),
+            _ => None,
         }
     }
 
@@ -177,7 +226,7 @@ impl<R: Wait + Clock + Copy + Drop> Devices for SharedDevices<R> {
 impl<R: Wait + Clock + Copy + Drop + Send + Sync> LiveDevices for SharedDevices<R> {
     type Clock = RealClock<R>;
 
-    type Spawner = MemSpawner;
+    type Spawner = SharedSpawner<R>;
 
     type Device = TimedDevice;
 
@@ -202,11 +251,9 @@ impl<R: Wait + Clock + Copy + Drop + Send + Sync> LiveDevices for SharedDevices<
         RealClock::new(self.rt, self.start)
     }
 
-    fn spawner(&mut self, machine: u32) -> MemSpawner {
-        match self.spawners.iter().position(|of| of.machine() == machine) {
-            Some(at) => self.spawners.remove(at).into_spawner(),
-            None => MemSpawner::idle(self.alloc),
-        }
+    fn spawner(&mut self, machine: u32) -> SharedSpawner<R> {
+        let children = self.children(machine);
+        SharedSpawner::new(self.rt, children, self.slow(machine), self.census(machine))
     }
 
     fn device(&mut self, _machine: u32, now: u64, fire: u64) -> TimedDevice {

@@ -1,0 +1,113 @@
+//! The thread that starts programs. A start may take any time, as where a program lies on storage that hangs; so it is made with no lock held, and
+//! all else goes on beside it: wakes and renewals, tests, signals and exits. Only other starts wait.
+
+ghost use Rattle.sl_live.specs.Turns.{IsStarterThread};
+ghost use Rattle.std.specs.Prelude.{IfOk, OnOk};
+
+use crate::room::Room;
+use crate::script_waits::Post;
+use sl_cell::{Seat, Station, Teller};
+use sl_live::Awaited;
+use sl_live::laws::{spawned_step, start_step};
+use sl_outside::{Spawner, StartedChild};
+use sl_time::Clock;
+use std::alloc::AllocError;
+use std::sync::Wait;
+
+/// The start that is to be made next, if there is one.
+fn next<D: Teller, J: Station, R: Wait, P: Spawner>(
+    rt: &R,
+    room: &Room<D, J, P>,
+) -> Option<Awaited> {
+    room.children.lock(rt).next()
+}
+
+/// Takes in what a start came to, and tells it. An `Err` is want of memory.
+#[tactic(auto, using(crate::proofs::SeatLaws::ok_starts))]
+fn tell<D: Teller, J: Station, R: Wait, C: Clock, P: Spawner>(
+    rt: &R,
+    room: &Room<D, J, P>,
+    seat: &mut Seat,
+    clock: &mut C,
+    process: u32,
+    child: Option<StartedChild>,
+) -> Result<(), AllocError>
+    ensures { OnOk result (IsStarterThread seat.old.calls → IsStarterThread seat.new.calls) }
+{
+    let mut children = room.children.lock(rt);
+    spawned_step(rt, &room.cell, seat, clock, &mut *children, process, child)
+}
+
+/// Makes the start that is next, if there is one, and tells what it came to: whether there was one. An `Err` is want of memory.
+fn serve<D: Teller, J: Station, R: Wait, C: Clock, P: Spawner>(
+    rt: &R,
+    room: &Room<D, J, P>,
+    seat: &mut Seat,
+    clock: &mut C,
+    starter: &mut P,
+) -> Result<bool, AllocError>
+    ensures { OnOk result (IsStarterThread seat.old.calls → IsStarterThread seat.new.calls) }
+{
+    let Some(awaited) = next(rt, room) else {
+        return Ok(false);
+    };
+    let child = start_step(starter, &awaited);
+    tell(rt, room, seat, clock, awaited.start.process, child)?;
+    Ok(true)
+}
+
+/// A turn that has begun: whether there was a start to make. An `Err` is want of memory.
+fn turn<D: Teller, J: Station, R: Wait, C: Clock, P: Spawner>(
+    rt: &R,
+    room: &Room<D, J, P>,
+    post: &Post,
+    seat: &mut Seat,
+    clock: &mut C,
+    starter: &mut P,
+) -> Result<bool, AllocError>
+    ensures { OnOk result (IsStarterThread seat.old.calls → IsStarterThread seat.new.calls) }
+{
+    let from = seat.calls().len();
+    let served = serve(rt, room, seat, clock, starter)?;
+    post.end_turn(rt, seat.calls(), from)?;
+    Ok(served)
+}
+
+/// Makes starts until the machine ends. An `Err` is want of memory.
+fn start_each<D: Teller, J: Station, R: Wait, C: Clock, P: Spawner>(
+    rt: &R,
+    room: &Room<D, J, P>,
+    post: &Post,
+    seat: &mut Seat,
+    clock: &mut C,
+    starter: &mut P,
+) -> Result<(), AllocError>
+    ensures { OnOk result (IsStarterThread seat.old.calls → IsStarterThread seat.new.calls) }
+{
+    for _ in rt.forever() {
+        let seen = post.starter.moves(rt);
+        if !post.begin_turn(rt) {
+            break;
+        }
+        if !turn(rt, room, post, seat, clock, starter)? {
+            post.starter.wait_past(rt, seen);
+        }
+    }
+    Ok(())
+}
+
+/// The thread's whole course: what it told. An `Err` is want of memory.
+#[tactic(auto, using(crate::proofs::SeatLaws::no_turns))]
+pub(crate) fn start_programs<D: Teller, J: Station, R: Wait, C: Clock, P: Spawner>(
+    rt: &R,
+    room: &Room<D, J, P>,
+    post: &Post,
+    mut clock: C,
+) -> Result<Seat, AllocError>
+    ensures { IfOk result (λ s. IsStarterThread s.calls) }
+{
+    let mut seat = room.cell.seat();
+    let mut starter = room.children.lock(rt).starter();
+    start_each(rt, room, post, &mut seat, &mut clock, &mut starter)?;
+    Ok(seat)
+}
