@@ -68,7 +68,7 @@ owes_run stands commands left after taken now faults later sink_faults sink_late
     owes_ended stands commands left after taken now faults later sink_faults sink_later device_faults device_later h given (items v) end s reads
     (record { begun = begun; histories = subst (λ (b : List LiveLine). AreLiveHistories stands commands begun.header begun.sites b given (items v)) none ok }) puts
 owes_run stands commands left after taken now faults later sink_faults sink_later device_faults device_later h begun before given items (Err (stop.Differ machine d)) end s none reads ok err puts stops =
-    Of _ Differs s (Parts h given machine d (record { begun = begun; differs = subst (λ (b : List LiveLine). IsLiveStop stands commands begun.header begun.sites b given (stop.Differ machine d)) none err })) stops
+    Of _ Differs s (Parts h given end machine d reads (record { begun = begun; differs = subst (λ (b : List LiveLine). IsLiveStop stands commands begun.header begun.sites b given (stop.Differ machine d)) none err })) stops
 owes_run stands commands left after taken now faults later sink_faults sink_later device_faults device_later h begun before given items (Err stop.NoMemory) end s none reads ok err puts stops =
     lacks stands commands left after taken now faults later sink_faults sink_later device_faults device_later s stops.0 stops.1
 
@@ -116,7 +116,8 @@ due_since stands commands left after first faults later device_faults device_lat
 due_since stands commands left after first faults later device_faults device_later text whole le (Breaks h given hs reads lives) =
     Breaks h given hs (script_since left after first faults later h given _ le reads) lives
 due_since stands commands left after first faults later device_faults device_later text whole le (Faults rose) = Faults rose
-due_since stands commands left after first faults later device_faults device_later text whole le (Parts h given machine d case_of) = Parts h given machine d case_of
+due_since stands commands left after first faults later device_faults device_later text whole le (Parts h given end machine d reads case_of) =
+    Parts h given end machine d (script_since left after first faults later h given end le reads) case_of
 
 pub owes_since : {D : Type 0} (stands : D → Setting → Trace → Type 0) (commands : Header → List (Form Command)) (left after taken now : Option (List ℕ))
     (first faults later sink_faults sink_later device_faults device_later : ℕ) (s : Lived) → first ≤ faults
@@ -136,7 +137,7 @@ due_devices stands commands left after faults later first device_faults device_l
 due_devices stands commands left after faults later first device_faults device_later text whole le (Breaks_early breaks rose) = Breaks_early breaks rose
 due_devices stands commands left after faults later first device_faults device_later text whole le (Breaks h given hs reads lives) = Breaks h given hs reads lives
 due_devices stands commands left after faults later first device_faults device_later text whole le (Faults rose) = Faults (rose_since first device_faults device_later le rose)
-due_devices stands commands left after faults later first device_faults device_later text whole le (Parts h given machine d case_of) = Parts h given machine d case_of
+due_devices stands commands left after faults later first device_faults device_later text whole le (Parts h given end machine d reads case_of) = Parts h given end machine d reads case_of
 
 pub owes_devices : {D : Type 0} (stands : D → Setting → Trace → Type 0) (commands : Header → List (Form Command)) (left after taken now : Option (List ℕ))
     (faults later sink_faults sink_later first device_faults device_later : ℕ) (s : Lived) → first ≤ device_faults

@@ -88,8 +88,9 @@ pub data Due {D : Type 0} (stands : D → Setting → Trace → Type 0) (command
   -- a disk can't be made, or a sector of an area can't be written before the threads begin
   Faults : Rose device_faults device_later
       → Due stands commands left after faults later device_faults device_later area_fault_text AreaFault
-  -- records of a machine differ
-  Parts : (h : Header) (given : List LiveLine) (machine : ℕ) (d : LiveDiffer) → Differing stands commands h given machine d
+  -- records of a machine differ, where the script gave these lines, however it ended
+  Parts : (h : Header) (given : List LiveLine) (end : Option ScriptEnd) (machine : ℕ) (d : LiveDiffer)
+      → ReadsScript left after faults later h given end → Differing stands commands h given machine d
       → Due stands commands left after faults later device_faults device_later (differ_text machine d) Differs
 
 -- What was put out of a text, and how the play ended: all of it, a front of it after a fault of the sink, or nothing for want of memory.

@@ -6,6 +6,11 @@ use Rattle.sl_live_play.specs.DifferenceLines.{differ_text}
 use Rattle.sl_live_play.specs.LiveOwed.{All, Breaks, Breaks_early, Differing, Due, Ends, Faults, Lacks, Nothing, Of, Owes as OwesLive, Part, Parts, Puts, Stops, Stops_early}
 use Rattle.sl_live_play.specs.declared.play.Lived.TheVariants as lived
 use Rattle.sl_live_play.specs.declared.play.Lived.{Lived}
+use Rattle.sl_live_run.specs.declared.compare.LiveDiffer.{LiveDiffer}
+use Rattle.sl_reader.specs.ScriptReading.{ReadsScript}
+use Rattle.sl_reader.specs.declared.live_lines.LiveLine.{LiveLine}
+use Rattle.sl_reader.specs.declared.script_reading.ScriptEnd.{ScriptEnd}
+use Rattle.sl_run.specs.declared.header.Header.{Header}
 use Rattle.sl_top.proofs.RunLaws.{nothing_put}
 use Rattle.sl_top.specs.LiveHistories.{LiveHistoriesAreGood}
 use Rattle.sl_top.specs.StatusLaws.{SomeDiffer}
@@ -89,15 +94,26 @@ differed lived.Differs e = refl
 
 -- ---- what is due, by how it ended
 
+-- A case that holds of a machine, where the script that was read gave these lines; of its text this is said.
+pub record Differed (left after : Option (List ℕ)) (faults later : ℕ) (P : List ℕ → Type 0) : Type 0 where
+  pub header : Header
+  pub given : List LiveLine
+  pub ended : Option ScriptEnd
+  pub machine : ℕ
+  pub differ : LiveDiffer
+  pub read : ReadsScript left after faults later header given ended
+  pub holds : Differing Serves whole_commands header given machine differ
+  pub told : P (differ_text machine differ)
+
 -- What each ending tells: of a read fault, of an area fault, and of records that differ, whose text is due.
-pub record Tells (faults later device_faults device_later : ℕ) (text : List ℕ) (whole : Lived) : Type 0 where
+pub record Tells (left after : Option (List ℕ)) (faults later device_faults device_later : ℕ) (text : List ℕ) (whole : Lived) : Type 0 where
   pub read : whole ≡ lived.ReadFault → Rose faults later
   pub area : whole ≡ lived.AreaFault → Rose device_faults device_later
   pub written : whole ≡ lived.WriteFault → ⊥
-  pub differs : whole ≡ lived.Differs → (h : _) × (given : _) × (machine : ℕ) × (d : _) × Differing Serves whole_commands h given machine d × (text ≡ differ_text machine d)
+  pub differs : whole ≡ lived.Differs → Differed left after faults later (λ told. text ≡ told)
 
 due_tells : (left after : Option (List ℕ)) (faults later device_faults device_later : ℕ) (text : List ℕ) (whole : Lived)
-    → Due Serves whole_commands left after faults later device_faults device_later text whole → Tells faults later device_faults device_later text whole
+    → Due Serves whole_commands left after faults later device_faults device_later text whole → Tells left after faults later device_faults device_later text whole
 due_tells left after faults later device_faults device_later text whole (Ends h given hs reads lives) =
     record { read = λ e. absurd cc; area = λ e. absurd cc; written = λ e. absurd cc; differs = λ e. absurd cc }
 due_tells left after faults later device_faults device_later text whole (Stops_early r number why stops) =
@@ -110,38 +126,52 @@ due_tells left after faults later device_faults device_later text whole (Breaks 
     record { read = λ e. (reads.fault refl).0; area = λ e. absurd cc; written = λ e. absurd cc; differs = λ e. absurd cc }
 due_tells left after faults later device_faults device_later text whole (Faults rose) =
     record { read = λ e. absurd cc; area = λ e. rose; written = λ e. absurd cc; differs = λ e. absurd cc }
-due_tells left after faults later device_faults device_later text whole (Parts h given machine d case_of) =
-    record { read = λ e. absurd cc; area = λ e. absurd cc; written = λ e. absurd cc; differs = λ e. (h, given, machine, d, case_of, refl) }
+due_tells left after faults later device_faults device_later text whole (Parts h given end machine d reads case_of) =
+    record {
+      read = λ e. absurd cc;
+      area = λ e. absurd cc;
+      written = λ e. absurd cc;
+      differs = λ e. (record { header = h; given = given; ended = end; machine = machine; differ = d; read = reads; holds = case_of; told = refl });
+    }
 
 -- ---- what was put out
 
 -- What the ending of a play tells.
-pub record Caused (taken now : Option (List ℕ)) (faults later sink_faults sink_later device_faults device_later : ℕ) (s : Lived) : Type 0 where
+pub record Caused (left after taken now : Option (List ℕ)) (faults later sink_faults sink_later device_faults device_later : ℕ) (s : Lived) : Type 0 where
   pub read : s ≡ lived.ReadFault → Rose faults later
   pub written : s ≡ lived.WriteFault → Rose sink_faults sink_later
   pub area : s ≡ lived.AreaFault → Rose device_faults device_later
-  pub differs : s ≡ lived.Differs → (h : _) × (given : _) × (machine : ℕ) × (d : _) × Differing Serves whole_commands h given machine d × Appends taken now (differ_text machine d)
+  pub differs : s ≡ lived.Differs → Differed left after faults later (λ told. Appends taken now told)
 
-put_caused : (taken now : Option (List ℕ)) (faults later sink_faults sink_later device_faults device_later : ℕ) (text : List ℕ) (whole s : Lived)
-    → Tells faults later device_faults device_later text whole → Puts taken now sink_faults sink_later text whole s
-    → Caused taken now faults later sink_faults sink_later device_faults device_later s
-put_caused taken now faults later sink_faults sink_later device_faults device_later text whole s tells (All appends) =
+put_caused : (left after taken now : Option (List ℕ)) (faults later sink_faults sink_later device_faults device_later : ℕ) (text : List ℕ) (whole s : Lived)
+    → Tells left after faults later device_faults device_later text whole → Puts taken now sink_faults sink_later text whole s
+    → Caused left after taken now faults later sink_faults sink_later device_faults device_later s
+put_caused left after taken now faults later sink_faults sink_later device_faults device_later text whole s tells (All appends) =
     record {
       read = tells.read;
       written = λ e. absurd (tells.written e);
       area = tells.area;
-      differs = λ e. (let x = tells.differs e in (x.0, x.1, x.2, x.3, x.4, subst (Appends taken now) x.5 appends));
+      differs = λ e. (let x : Differed left after faults later (λ told. text ≡ told) = tells.differs e in record {
+        header = x.header;
+        given = x.given;
+        ended = x.ended;
+        machine = x.machine;
+        differ = x.differ;
+        read = x.read;
+        holds = x.holds;
+        told = subst (Appends taken now) x.told appends;
+      });
     }
-put_caused taken now faults later sink_faults sink_later device_faults device_later text whole s tells (Part front appends begins rose) =
+put_caused left after taken now faults later sink_faults sink_later device_faults device_later text whole s tells (Part front appends begins rose) =
     record { read = λ e. absurd cc; written = λ e. rose; area = λ e. absurd cc; differs = λ e. absurd cc }
-put_caused taken now faults later sink_faults sink_later device_faults device_later text whole s tells (Nothing appends) =
+put_caused left after taken now faults later sink_faults sink_later device_faults device_later text whole s tells (Nothing appends) =
     record { read = λ e. absurd cc; written = λ e. absurd cc; area = λ e. absurd cc; differs = λ e. absurd cc }
 
 owes_caused : (left after taken now : Option (List ℕ)) (faults later sink_faults sink_later device_faults device_later : ℕ) (s : Lived)
     → OwesLive Serves whole_commands left after taken now faults later sink_faults sink_later device_faults device_later s
-    → Caused taken now faults later sink_faults sink_later device_faults device_later s
+    → Caused left after taken now faults later sink_faults sink_later device_faults device_later s
 owes_caused left after taken now faults later sink_faults sink_later device_faults device_later s (Of text whole t due puts) =
-    put_caused taken now faults later sink_faults sink_later device_faults device_later text whole s
+    put_caused left after taken now faults later sink_faults sink_later device_faults device_later text whole s
     (due_tells left after faults later device_faults device_later text whole due) puts
 owes_caused left after taken now faults later sink_faults sink_later device_faults device_later s (Lacks nothing) =
     record { read = λ e. absurd cc; written = λ e. absurd cc; area = λ e. absurd cc; differs = λ e. absurd cc }
@@ -161,7 +191,16 @@ live_caused x y s run =
       written = λ e. why.written (write_failed run.ended (sym run.status ∙ e));
       area = λ e. why.area (area_failed run.ended (sym run.status ∙ e));
       differs = λ e. (let d = why.differs (differed run.ended (sym run.status ∙ e)) in
-          record { header = d.0; given = d.1; machine = d.2; differ = d.3; holds = d.4; told = d.5 });
+          record {
+            header = d.header;
+            given = d.given;
+            ended = d.ended;
+            read = d.read;
+            machine = d.machine;
+            differ = d.differ;
+            holds = d.holds;
+            told = d.told;
+          });
     }
 
 -- ---- words that ask for live machines

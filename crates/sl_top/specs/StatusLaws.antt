@@ -6,7 +6,9 @@ use Rattle.sl_direct.specs.Laws.{can_upgrade, sector_at}
 use Rattle.sl_direct.specs.Lines.{is_its_leader, leader_in_sector}
 use Rattle.sl_direct.specs.declared.action.Action.TheVariants.{ReadLeader, Upgrade}
 use Rattle.sl_host_step.specs.HostServes.{Serves, whole_commands}
+use Rattle.sl_reader.specs.ScriptReading.{ReadsScript}
 use Rattle.sl_reader.specs.declared.live_lines.LiveLine.{LiveLine}
+use Rattle.sl_reader.specs.declared.script_reading.ScriptEnd.{ScriptEnd}
 use Rattle.sl_live_play.specs.DifferenceLines.{differ_text}
 use Rattle.sl_live_play.specs.LiveOwed.{Differing}
 use Rattle.sl_live_run.specs.declared.compare.LiveDiffer.{LiveDiffer}
@@ -40,10 +42,12 @@ pub record CantBeUpgraded (w : Option Words) (x : Outside) : Type 0 where
   pub asked : w ≡ Some (Direct (Upgrade resource geometry))
   pub other : (content : List ℕ) → x.disks resource.path ≡ Some content → can_upgrade resource geometry content ≡ false
 
--- A case was put out that holds of a machine of a live run.
+-- A case was put out that holds of a machine of a live run, whose header and lines are those of the script that was read.
 pub record SomeDiffer (x y : Outside) : Type 0 where
   pub header : Header
   pub given : List LiveLine
+  pub ended : Option ScriptEnd
+  pub read : ReadsScript x.left y.left x.source_faults y.source_faults header given ended
   pub machine : ℕ
   pub differ : LiveDiffer
   pub holds : Differing Serves whole_commands header given machine differ
