@@ -5,7 +5,7 @@
 use crate::told::Told;
 use crate::{areas, faulty_adapters, gates, outside, planned, streams};
 use sl_outside::LiveDevices;
-use std::process::Processes;
+use std::process::{Processes, SystemProcess};
 use std::rt::Files;
 use std::sync::Wait;
 use std::thread::Threads;
@@ -39,14 +39,13 @@ fn is_of_files<R: Files + AllocGlobal>(rt: &R, told: &mut Told, case: &str) -> b
 }
 
 /// Tells what comes of a case of child programs; whether it is one.
-fn is_of_children<R: Files + Processes + Clock + Wait + Copy + Drop>(
-    rt: &R,
-    told: &mut Told,
-    case: &str,
-) -> bool {
+fn is_of_children<
+    R: Files + Processes<Started = SystemProcess> + Clock + Wait + AllocGlobal + Copy + Drop,
+>(rt: &R, told: &mut Told, case: &str) -> bool {
     match case {
         "a child ends" => outside::a_child_ends(rt, told),
         "children are signalled" => outside::children_are_signalled(rt, told),
+        "children are guarded" => outside::children_are_guarded(rt, told),
         _ => return false,
     }
     true
@@ -68,7 +67,16 @@ fn of_devices<
 
 /// Tells what comes of a case.
 pub fn tell<
-    R: Files + Processes + Clock + Wait + Threads + AllocGlobal + Copy + Drop + Send + Sync,
+    R: Files
+        + Processes<Started = SystemProcess>
+        + Clock
+        + Wait
+        + Threads
+        + AllocGlobal
+        + Copy
+        + Drop
+        + Send
+        + Sync,
     D: LiveDevices,
 >(rt: &R, devices: &mut D, told: &mut Told, case: &str) {
     if is_in_memory(told, case) || is_of_files(rt, told, case) || is_of_children(rt, told, case) {

@@ -73,6 +73,8 @@ fn devices<R: Wait + Clock + Copy + Drop + Send + Sync>(
     let plan = SharedPlan {
         areas,
         spawners: Vec::new(alloc),
+        slow: None,
+        census: None,
         makes: Vec::new(alloc),
         gate: Some(seen.share()?),
     };

@@ -39,7 +39,7 @@ mod word_values;
 use crate::told::Told;
 use sl_outside::{FileDevices, LiveDevices};
 use std::io;
-use std::process::Processes;
+use std::process::{Processes, SystemProcess};
 use std::rt::Files;
 use std::sync::Wait;
 use std::thread::Threads;
@@ -134,7 +134,16 @@ fn ballots_of(told: &mut Told, kind: &str, text: &str) {
 
 /// Tells what a line's kind makes of its text.
 fn tell<
-    R: Files + Processes + Clock + Wait + Threads + AllocGlobal + Copy + Drop + Send + Sync,
+    R: Files
+        + Processes<Started = SystemProcess>
+        + Clock
+        + Wait
+        + Threads
+        + AllocGlobal
+        + Copy
+        + Drop
+        + Send
+        + Sync,
     D: LiveDevices,
 >(rt: &R, devices: &mut D, told: &mut Told, line: &str) {
     match line.split_once(' ') {

@@ -3,6 +3,7 @@
 ghost use Rattle.std.specs.Prelude.{◌≡◌};
 
 use crate::areas::{reads, small, writes};
+use crate::planned::start;
 use crate::told::Told;
 use sl_area::{Area, Place};
 use sl_outside::{ChildSpawner, LiveDevices, Spawner, Words};
@@ -10,7 +11,7 @@ use sl_time::Clock;
 use sl_trace::Signal;
 use std::fs::Permissions;
 use std::os::unix::fs::PermissionsExt;
-use std::process::Processes;
+use std::process::{Processes, SystemProcess};
 use std::rt::Files;
 use std::sync::Wait;
 use std::thread::sleep;
@@ -21,7 +22,7 @@ use std::{fs, time};
 const LOOKS: u32 = 2000;
 
 /// The next child that has exited, if one does in so many looks, else 0.
-fn next_exit<R: Processes + Wait + time::Clock + Drop>(
+fn next_exit<R: Processes<Started = SystemProcess> + Wait + time::Clock + Copy + Drop>(
     rt: &R,
     spawner: &mut ChildSpawner<R>,
 ) -> u32 {
@@ -35,33 +36,38 @@ fn next_exit<R: Processes + Wait + time::Clock + Drop>(
 }
 
 /// Whether a program starts, whether a missing one does, the faults, the child that exits, and whether another does.
-fn tell_ends<R: Processes + Wait + time::Clock + Drop>(
+fn tell_ends<R: Processes<Started = SystemProcess> + Wait + time::Clock + Copy + Drop>(
     rt: &R,
     told: &mut Told,
     spawner: &mut ChildSpawner<R>,
 ) {
-    told.truth(spawner.spawn(1_000_001, "/bin/true").is_ok());
-    told.truth(spawner.spawn(1_000_002, "/no/such/program").is_ok());
-    told.number(spawner.faults());
+    let mut starter = spawner.starter();
+    told.truth(start(&mut starter, spawner, 1_000_001, "/bin/true").is_ok());
+    told.truth(start(&mut starter, spawner, 1_000_002, "/no/such/program").is_ok());
+    told.number(starter.faults());
     told.short(next_exit(rt, spawner));
     told.truth(spawner.poll().is_some());
 }
 
 /// Children of which one ends by itself.
-pub fn a_child_ends<R: Processes + Wait + time::Clock + Copy + Drop>(rt: &R, told: &mut Told) {
+pub fn a_child_ends<R: Processes<Started = SystemProcess> + Wait + time::Clock + Copy + Drop>(
+    rt: &R,
+    told: &mut Told,
+) {
     tell_ends(rt, told, &mut ChildSpawner::new(*rt, told.alloc));
 }
 
 /// Whether two children that sleep start, and whether one has exited by itself.
 fn tell_sleepers<S: Spawner>(told: &mut Told, spawner: &mut S) {
-    told.truth(spawner.spawn(7, "./sleeper").is_ok());
-    told.truth(spawner.spawn(9, "./sleeper").is_ok());
+    let mut starter = spawner.starter();
+    told.truth(start(&mut starter, spawner, 7, "./sleeper").is_ok());
+    told.truth(start(&mut starter, spawner, 9, "./sleeper").is_ok());
     told.truth(spawner.poll().is_some());
 }
 
 /// Whether two children that sleep start, whether one has exited by itself, which exits once it is killed, and which once it is termed; and
 /// the faults, also of a signal to none.
-fn two_sleepers<R: Processes + Wait + time::Clock + Drop>(
+fn two_sleepers<R: Processes<Started = SystemProcess> + Wait + time::Clock + Copy + Drop>(
     rt: &R,
     told: &mut Told,
     spawner: &mut ChildSpawner<R>,
@@ -75,20 +81,80 @@ fn two_sleepers<R: Processes + Wait + time::Clock + Drop>(
     told.number(spawner.faults());
 }
 
-/// Makes the program that sleeps.
+/// Makes the program that tells its number of the system and sleeps.
 fn make_sleeper<R: Files>(rt: &R, told: &mut Told) {
-    told.done(fs::write(rt, "sleeper", b"#!/bin/sh\nexec sleep 30\n".as_slice()));
+    let text = b"#!/bin/sh\necho $$ > number\nexec sleep 30\n";
+    told.done(fs::write(rt, "sleeper", text.as_slice()));
     told.done(fs::set_permissions(rt, "sleeper", Permissions::from_mode(0o755)));
 }
 
 /// Makes the program that sleeps, and takes it away in the end.
-pub fn children_are_signalled<R: Files + Processes + Wait + time::Clock + Copy + Drop>(
-    rt: &R,
-    told: &mut Told,
-) {
+pub fn children_are_signalled<
+    R: Files + Processes<Started = SystemProcess> + Wait + time::Clock + Copy + Drop,
+>(rt: &R, told: &mut Told) {
     make_sleeper(rt, told);
     two_sleepers(rt, told, &mut ChildSpawner::new(*rt, told.alloc));
     told.done(fs::remove_file(rt, "sleeper"));
+    told.done(fs::remove_file(rt, "number"));
+}
+
+/// What a child by this number of the system runs; nothing once it has exited.
+fn words_of<R: Files + AllocGlobal>(rt: &R, number: &str) -> Option<Vec<u8>> {
+    let path = format!(in rt.alloc(); "/proc/{number}/cmdline").ok()?;
+    fs::read(rt, path.as_str()).ok()
+}
+
+/// The number of the system that the program that sleeps has told, if it has by now.
+fn number_told<R: Files + AllocGlobal>(rt: &R) -> Option<String> {
+    let text = fs::read_to_string(rt, "number").ok()?;
+    let number = text.as_str().strip_suffix("\n")?;
+    String::from_str(rt.alloc(), number).ok()
+}
+
+/// Whether the child that tells its number runs by then, in so many looks.
+fn comes_to_run<R: Files + Wait + time::Clock + AllocGlobal>(rt: &R) -> bool {
+    for _ in 0..LOOKS {
+        if number_told(rt).is_some() {
+            return true;
+        }
+        sleep(rt, Duration::from_millis(1));
+    }
+    false
+}
+
+/// Whether the child that told its number has exited, in so many looks.
+fn comes_to_end<R: Files + Wait + time::Clock + AllocGlobal>(rt: &R) -> bool {
+    let Some(number) = number_told(rt) else {
+        return false;
+    };
+    for _ in 0..LOOKS {
+        match words_of(rt, number.as_str()) {
+            Some(words) if !words.is_empty() => sleep(rt, Duration::from_millis(1)),
+            _ => return true,
+        }
+    }
+    false
+}
+
+/// Whether a child that sleeps starts, and runs. What holds it is dropped then, as if this program had ended.
+fn start_and_drop<
+    R: Files + Processes<Started = SystemProcess> + Wait + time::Clock + AllocGlobal + Copy + Drop,
+>(rt: &R, told: &mut Told) {
+    let mut spawner = ChildSpawner::new(*rt, told.alloc);
+    let mut starter = spawner.starter();
+    told.truth(start(&mut starter, &mut spawner, 7, "./sleeper").is_ok());
+    told.truth(comes_to_run(rt));
+}
+
+/// Whether a child that sleeps starts, whether it runs, and whether it has come to its end once nothing holds it.
+pub fn children_are_guarded<
+    R: Files + Processes<Started = SystemProcess> + Wait + time::Clock + AllocGlobal + Copy + Drop,
+>(rt: &R, told: &mut Told) {
+    make_sleeper(rt, told);
+    start_and_drop(rt, told);
+    told.truth(comes_to_end(rt));
+    told.done(fs::remove_file(rt, "sleeper"));
+    told.done(fs::remove_file(rt, "number"));
 }
 
 /// Whether a sector is zeros, whether sevens are written to it, and whether they are read back.

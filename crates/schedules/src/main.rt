@@ -47,6 +47,8 @@ fn disks<R: Wait + Clock + Copy + Drop + Send + Sync>(
     let plan = SharedPlan {
         areas: vec![in alloc; plan]?,
         spawners: Vec::new(alloc),
+        slow: None,
+        census: None,
         makes: Vec::new(alloc),
         gate: None,
     };
