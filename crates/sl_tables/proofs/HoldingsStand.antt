@@ -219,6 +219,10 @@ module _ (s : Sought) (areas : Spot → Option ℕ) (processes : ℕ → Option 
   pub none_begun : AreLed is_held_at areas items → AreLed is_of_process processes items → noted_first s areas processes ≡ None → find (λ p. fits s p.1) items ≡ None
   none_begun a p at = none_by s items (subst (λ o. Begins o) at (begins a p))
 
+-- A search from number 0 is one of all.
+pub from_start : (t : ℕ × Grant → Bool) (items : List (ℕ × Grant)) → AllByRecursion (λ p. t p ≡ true → 0 ≤ p.0) items
+from_start t items = all_map (λ q. Unit {0}) (λ q. t q ≡ true → 0 ≤ q.0) items (λ q none fit. omega arith) (always items)
+
 -- ---- an index
 
 -- With the same things noted of the same elements.

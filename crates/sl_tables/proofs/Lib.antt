@@ -1,8 +1,8 @@
 pub mod SlotsStand
+pub mod Places
 pub mod ScansFind
 pub mod NumbersName
 pub mod OpensStand
-pub mod WritesCount
 pub mod HoldingsStand
 pub mod TotalsGo
 pub mod JobsChange

@@ -1,6 +1,6 @@
 -- Elements that stand at their own numbers.
 use Rattle.sl_tables.proofs.SlotsStand.{apart, replaced}
-use Rattle.sl_tables.specs.Rising.{AreRising}
+use Rattle.sl_tables.specs.Rising.{AreRising, altered}
 use Rattle.sl_words.proofs.CaseLaws.{none_some, some_value}
 use Rattle.std.proofs.Common.{ap, refl, subst, sym, ◌∙◌}
 use Rattle.std.proofs.lemmas.Bool.Decides.{Decides-eqb}
@@ -74,6 +74,25 @@ module _ {X : Type 0} (number : X → ℕ) where
       → values_of (replaced n (f x) items) ≡ changed_by n f (values_of items)
   values_set n f [] x own rising at = absurd (none_some x at)
   values_set n f (q ∷ items) x own rising at = set_by n f q items x (nat_eq n q.0) refl own rising.0 at (λ more. values_set n f items x own.1 rising.1 more)
+
+  -- A change of the element of a number is one of that which has the number.
+  pub values_altered : (n : ℕ) (f : X → X) (items : List (ℕ × X)) → AreOwn items → values_of (altered n f items) ≡ changed_by n f (values_of items)
+  values_altered n f [] own = refl
+  values_altered n f (q ∷ items) own =
+      by (nat_eq n q.0) ∙ ap (λ b. cond b (f q.1) q.1 ∷ values_of (altered n f items)) (nat_eq_equiv.symm n q.0 ∙ ap (λ k. k == n) (sym own.0))
+      ∙ ap (λ xs. cond (number q.1 == n) (f q.1) q.1 ∷ xs) (values_altered n f items own.1)
+    where
+      by : (b : Bool) → (cond b (q.0, f q.1) q).1 ∷ values_of (altered n f items) ≡ cond b (f q.1) q.1 ∷ values_of (altered n f items)
+      by true = refl
+      by false = refl
+
+  pub own_altered : (n : ℕ) (f : X → X) (items : List (ℕ × X)) → ((x : X) → number (f x) ≡ number x) → AreOwn items → AreOwn (altered n f items)
+  own_altered n f [] same own = tt
+  own_altered n f (q ∷ items) same own = (by (nat_eq n q.0), own_altered n f items same own.1)
+    where
+      by : (b : Bool) → number (cond b (q.0, f q.1) q).1 ≡ (cond b (q.0, f q.1) q).0
+      by true = same q.1 ∙ own.0
+      by false = own.0
 
   none_by : (n : ℕ) (f : X → X) (q : ℕ × X) (items : List (ℕ × X)) (b : Bool) → nat_eq n q.0 ≡ b → number q.1 ≡ q.0 → cond b (Some q.1) (lookup (nat_eq n) items) ≡ None
       → (lookup (nat_eq n) items ≡ None → values_of items ≡ changed_by n f (values_of items)) → q.1 ∷ values_of items ≡ cond (number q.1 == n) (f q.1) q.1 ∷ changed_by n f (values_of items)

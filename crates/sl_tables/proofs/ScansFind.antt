@@ -1,19 +1,15 @@
 -- A scan of slots from the front finds what a search of what stands in them finds.
-use Rattle.sl_tables.proofs.SlotsStand.{above_here, number_at}
 use Rattle.sl_words.proofs.Lists.{there_is}
-use Rattle.sl_tables.specs.Rising.{AreRising, found_in, items_of}
-use Rattle.sl_words.specs.Words.{choose}
+use Rattle.sl_tables.specs.Rising.{found_in, items_of}
+use Rattle.sl_words.specs.Words.{choose, some_is}
 use Rattle.sl_words.proofs.CaseLaws.{none_some, some_value}
 use Rattle.std.proofs.Common.{ap, arith, refl, subst, sym, ◌∙◌}
-use Rattle.std.proofs.lemmas.Bool.{le-ltb}
-use Rattle.std.specs.Map.{keys_of}
-use Rattle.std.specs.Prelude.{Bool, List, None, Option, Some, [], cond, false, find, length, nat_eq, nat_lt, option_map, position, slice_get, suc, take, true, zero, ℕ, ◌&&◌, ◌+◌, ◌<◌, ◌∷◌, ◌≡◌, ◌≤◌}
+use Rattle.std.specs.List.{list_any}
+use Rattle.std.specs.Map.{values_of}
+use Rattle.std.specs.Prelude.{Bool, List, None, Option, Some, [], cond, false, find, length, option_map, slice_get, suc, take, true, zero, ℕ, ◌+◌, ◌<◌, ◌∷◌, ◌||◌, ◌≡◌, ◌≤◌}
 
 pub next_is : (i : ℕ) → suc i ≡ i + 1
 next_is i = omega arith
-
-not_below : (n k : ℕ) → k ≤ n → nat_lt n k ≡ false
-not_below n k le = le-ltb n k le
 
 pub take_all : {A : Type 0} (xs : List A) (i : ℕ) → length xs ≤ i → take i xs ≡ xs
 take_all [] zero le = refl
@@ -90,18 +86,8 @@ module _ {T : Type 0} (p : ℕ × T → Bool) where
       → option_map (λ q. q.0) (find p (items_of es)) ≡ Some n
   scan_some es i n hit none = some_by es i n (slice_get es i) refl hit none
 
-module _ {T : Type 0} (q : ℕ × T → Bool) where
-  -- Nothing up to the slot of a number is above it.
-  start_by : (n : ℕ) (es : List (ℕ × Option T)) (i : ℕ) (o : Option T) → AreRising es → slice_get es i ≡ Some (n, o) → find (λ r. nat_lt n r.0 && q r) (items_of (take (suc i) es)) ≡ None
-  start_by n [] i o rising at = absurd (none_some (n, o) at)
-  start_by n (e ∷ es) zero o rising at =
-      subst (λ z. find (λ r. nat_lt n r.0 && q r) (items_of (z ∷ [])) ≡ None) (sym (some_value e (n, o) at)) (on_first (λ r. nat_lt n r.0 && q r) n o (λ x is. ap (λ b. b && q (n, x)) (not_below n n (omega arith))))
-  start_by n ((k, None) ∷ es) (suc i) o rising at = start_by n es i o rising.1 at
-  start_by n ((k, Some y) ∷ es) (suc i) o rising at =
-      past (λ r. nat_lt n r.0 && q r) (k, y) (items_of (take (suc i) es)) None
-      (ap (λ b. b && q (k, y)) (not_below n k (let lt = above_here k n es rising.0 i o at in omega (arith, lt)))) (start_by n es i o rising.1 at)
-
-  pub scan_start : (n : ℕ) (es : List (ℕ × Option T)) (i : ℕ) → AreRising es → position (nat_eq n) (keys_of es) ≡ Some i → find (λ r. nat_lt n r.0 && q r) (items_of (take (i + 1) es)) ≡ None
-  scan_start n es i rising at =
-      let there = number_at n es i at in
-      subst (λ m. find (λ r. nat_lt n r.0 && q r) (items_of (take m es)) ≡ None) (next_is i) (start_by n es i there.0 rising there.1)
+-- Any that stands passes where any slot has one that does.
+pub any_standing : {T : Type 0} (p : T → Bool) (es : List (ℕ × Option T)) → list_any (λ s. some_is p s.1) es ≡ list_any p (values_of (items_of es))
+any_standing p [] = refl
+any_standing p ((k, None) ∷ es) = any_standing p es
+any_standing p ((k, Some x) ∷ es) = ap (λ b. p x || b) (any_standing p es)

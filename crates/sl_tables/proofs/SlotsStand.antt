@@ -1,5 +1,5 @@
 -- What slots show, and what a gap or one more slot makes of that.
-use Rattle.sl_tables.specs.Rising.{AreBelow, AreRising, gaps_in, is_full, items_of, standing}
+use Rattle.sl_tables.specs.Rising.{AreBelow, AreRising, altered, gaps_in, is_full, items_of, standing}
 use Rattle.sl_words.proofs.CaseLaws.{none_some, some_value}
 use Rattle.sl_words.proofs.Lists.{there_is}
 use Rattle.sl_words.proofs.Numbers.{number_itself}
@@ -7,11 +7,12 @@ use Rattle.std.proofs.Common.{ap, arith, inl, inr, refl, subst, sym, true≢fals
 use Rattle.std.proofs.lemmas.Bool.Decides.{eqb_tells}
 use Rattle.std.proofs.lemmas.Bool.{ne_eqb}
 use Rattle.std.specs.List.{AllByRecursion}
-use Rattle.indexmap.proofs.MapLemmas.{Found-position}
+use Rattle.indexmap.proofs.MapLemmas.{Found-position, some_index}
+use Rattle.std.proofs.lemmas.Option.{slice_get_read}
 use Rattle.std.proofs.lemmas.Map.Made.{lookup_key_passes}
 use Rattle.std.specs.Map.{keys_of, lookup, remove_entry, values_of}
-use Rattle.std.specs.Prelude.{Bool, List, None, Option, Some, [], cond, false, filter, if◌then◌else◌, is_some, position, length, map, nat_eq, not, option_and_then, option_map, slice_get, suc, true, zero, ℕ, ◌++◌, ◌+◌, ◌<◌, ◌∷◌, ◌≡◌, ◌≢◌, ◌≤◌, ◌⊎◌}
-use Rattle.indexmap.specs.IndexMap.{insert_entry, set_value_at}
+use Rattle.std.specs.Prelude.{Bool, List, None, Option, Some, [], cond, false, filter, is_some, position, length, nat_eq, not, option_and_then, option_map, slice_get, slice_index_or, slice_set, suc, true, zero, ℕ, ◌++◌, ◌+◌, ◌<◌, ◌∷◌, ◌≡◌, ◌≢◌, ◌≤◌, ◌⊎◌}
+use Rattle.indexmap.specs.IndexMap.{set_value_at}
 
 -- ---- numbers
 
@@ -61,11 +62,6 @@ rising_kept p (e ∷ es) h = by (p e) (rising_kept p es h.1)
     by : (b : Bool) → AreRising (filter p es) → AreRising (cond b (e ∷ filter p es) (filter p es))
     by true rest = (kept (λ q. e.0 < q.0) p es h.0, rest)
     by false rest = rest
-
--- A number above all goes behind them.
-pub pushed : {V : Type 0} (n m : ℕ) (v : V) (es : List (ℕ × V)) → n ≤ m → AreBelow n es → insert_entry nat_eq es m v ≡ es ++ (m, v) ∷ []
-pushed n m v [] le h = refl
-pushed n m v (e ∷ es) le h = ap (λ b. if b then (e.0, v) ∷ es else e ∷ insert_entry nat_eq es m v) (ne_eqb m e.0 (λ is. omega (arith, is, le, h.0))) ∙ ap (λ zs. e ∷ zs) (pushed n m v es le h.1)
 
 module _ {T : Type 0} where
   pub items_kept : (es : List (ℕ × Option T)) → items_of (filter is_full es) ≡ items_of es
@@ -251,6 +247,22 @@ module _ {T : Type 0} where
         no_more = λ is. ap gaps_in (gap_stays es i n there);
       }
 
+  -- A slot that was read, and one that was written.
+  pub stands_at : (es : List (ℕ × Option T)) (i : ℕ) (s : ℕ × Option T) → i < length es → s ≡ slice_index_or es i s → slice_get es i ≡ Some (s.0, s.1)
+  stands_at es i s lt is = slice_get_read es (length es) i s refl lt is
+
+  pub written : (es : List (ℕ × Option T)) (i : ℕ) (s : ℕ × Option T) (v : Option T) → i < length es → s ≡ slice_index_or es i s → slice_set es i (s.0, v) ≡ set_value_at es i v
+  written [] i s v lt is = absurd (omega (arith, lt))
+  written (e ∷ es) zero s v lt is = ap (λ (q : ℕ × Option T). (q.0, v) ∷ es) is
+  written (e ∷ es) (suc i) s v lt is = ap (λ zs. e ∷ zs) (written es i s v (omega (arith, lt)) is)
+
+  -- The place of a number in a list that was lent.
+  pub place_in : (n : ℕ) (lent es : List (ℕ × Option T)) (r : Option ℕ) → r ≡ position (nat_eq n) (keys_of lent) → lent ≡ es → position (nat_eq n) (keys_of es) ≡ r
+  place_in n lent es r is same = sym (is ∙ ap (λ zs. position (nat_eq n) (keys_of zs)) same)
+
+  pub place_within : (n : ℕ) (es : List (ℕ × Option T)) (i : ℕ) → position (nat_eq n) (keys_of es) ≡ Some i → i < length es
+  place_within n es i at = (Found-position (nat_eq n) es i at).within
+
   -- Where a number stands.
   pub number_at : (n : ℕ) (es : List (ℕ × Option T)) (i : ℕ) → position (nat_eq n) (keys_of es) ≡ Some i → (o : Option T) × (slice_get es i ≡ Some (n, o))
   number_at n es i at =
@@ -258,6 +270,14 @@ module _ {T : Type 0} where
       let it = there_is es i f.within in
       let is : n ≡ it.0.0 = same n it.0.0 (lookup_key_passes (nat_eq n) es it.0.0 (f.key ∙ key_there es i it.0.0 it.0.1 it.1)) in
       (it.0.1, it.1 ∙ ap (λ m. Some (m, it.0.1)) (sym is))
+
+  -- What stands at the place of a number.
+  pub found_at : (n : ℕ) (es : List (ℕ × Option T)) (i k : ℕ) (o : Option T) → AreRising es → position (nat_eq n) (keys_of es) ≡ Some i → slice_get es i ≡ Some (k, o) → lookup (nat_eq n) (items_of es) ≡ o
+  found_at n es i k o rising at there = found_full n es o rising ((Found-position (nat_eq n) es i at).value ∙ value_there es i k o there)
+
+  -- Where it has no place, it finds nothing.
+  pub found_nowhere : (n : ℕ) (es : List (ℕ × Option T)) → AreRising es → position (nat_eq n) (keys_of es) ≡ None → lookup (nat_eq n) (items_of es) ≡ None
+  found_nowhere n es rising none = not_there n es rising (sym (some_index (nat_eq n) es) ∙ ap is_some none)
 
   pub above_here : (k n : ℕ) (es : List (ℕ × Option T)) → AllByRecursion (λ q. k < q.0) es → (i : ℕ) (o : Option T) → slice_get es i ≡ Some (n, o) → k < n
   above_here k n [] above i o at = absurd (none_some (n, o) at)
@@ -312,53 +332,52 @@ module _ {T : Type 0} where
   gap_filled item (Some x) h = absurd (true≢false h)
 
   abbrev pub replaced : ℕ → T → List (ℕ × T) → List (ℕ × T)
-  replaced n item ps = map (λ p. cond (nat_eq n p.0) (p.0, item) p) ps
+  replaced n item ps = altered n (λ x. item) ps
 
-  not_replaced : (n : ℕ) (item : T) (es : List (ℕ × Option T)) → AllByRecursion (λ q. n < q.0) es → replaced n item (items_of es) ≡ items_of es
-  not_replaced n item [] h = refl
-  not_replaced n item ((k, None) ∷ es) h = not_replaced n item es h.1
-  not_replaced n item ((k, Some x) ∷ es) h =
-      ap (λ b. cond b (k, item) (k, x) ∷ replaced n item (items_of es)) (apart n k h.0) ∙ ap (λ ps. (k, x) ∷ ps) (not_replaced n item es h.1)
+  not_altered : (n : ℕ) (f : T → T) (es : List (ℕ × Option T)) → AllByRecursion (λ q. n < q.0) es → altered n f (items_of es) ≡ items_of es
+  not_altered n f [] h = refl
+  not_altered n f ((k, None) ∷ es) h = not_altered n f es h.1
+  not_altered n f ((k, Some x) ∷ es) h = ap (λ b. cond b (k, f x) (k, x) ∷ altered n f (items_of es)) (apart n k h.0) ∙ ap (λ ps. (k, x) ∷ ps) (not_altered n f es h.1)
 
-  set_by : (es : List (ℕ × Option T)) (i n : ℕ) (o : Option T) (item : T) → AreRising es → slice_get es i ≡ Some (n, o)
-      → items_of (set_value_at es i (option_map (λ x. item) o)) ≡ replaced n item (items_of es)
-  set_by [] i n o item rising at = absurd (none_some (n, o) at)
-  set_by ((k, q) ∷ es) zero n o item rising at =
-      subst (λ e. items_of ((e.0, option_map (λ x. item) o) ∷ es) ≡ replaced n item (items_of (e ∷ es))) (sym (some_value (k, q) (n, o) at)) (first o) where
+  set_by : (es : List (ℕ × Option T)) (i n : ℕ) (o : Option T) (f : T → T) → AreRising es → slice_get es i ≡ Some (n, o) → items_of (set_value_at es i (option_map f o)) ≡ altered n f (items_of es)
+  set_by [] i n o f rising at = absurd (none_some (n, o) at)
+  set_by ((k, q) ∷ es) zero n o f rising at =
+      subst (λ e. items_of ((e.0, option_map f o) ∷ es) ≡ altered n f (items_of (e ∷ es))) (sym (some_value (k, q) (n, o) at)) (first o) where
         above : AllByRecursion (λ r. n < r.0) es
         above = subst (λ m. AllByRecursion (λ r. m < r.0) es) (ap (λ e. e.0) (some_value (k, q) (n, o) at)) rising.0
 
-        first : (o : Option T) → items_of ((n, option_map (λ x. item) o) ∷ es) ≡ replaced n item (items_of ((n, o) ∷ es))
-        first None = sym (not_replaced n item es above)
-        first (Some x) = sym (ap (λ b. cond b (n, item) (n, x) ∷ replaced n item (items_of es)) (number_itself n) ∙ ap (λ ps. (n, item) ∷ ps) (not_replaced n item es above))
-  set_by ((k, None) ∷ es) (suc i) n o item rising at = set_by es i n o item rising.1 at
-  set_by ((k, Some y) ∷ es) (suc i) n o item rising at =
-      ap (λ ps. (k, y) ∷ ps) (set_by es i n o item rising.1 at) ∙ sym (ap (λ b. cond b (k, item) (k, y) ∷ replaced n item (items_of es)) (other_by n k es rising.0 i o at))
+        first : (o : Option T) → items_of ((n, option_map f o) ∷ es) ≡ altered n f (items_of ((n, o) ∷ es))
+        first None = sym (not_altered n f es above)
+        first (Some x) = sym (ap (λ b. cond b (n, f x) (n, x) ∷ altered n f (items_of es)) (number_itself n) ∙ ap (λ ps. (n, f x) ∷ ps) (not_altered n f es above))
+  set_by ((k, None) ∷ es) (suc i) n o f rising at = set_by es i n o f rising.1 at
+  set_by ((k, Some y) ∷ es) (suc i) n o f rising at =
+      ap (λ ps. (k, y) ∷ ps) (set_by es i n o f rising.1 at) ∙ sym (ap (λ b. cond b (k, f y) (k, y) ∷ altered n f (items_of es)) (other_by n k es rising.0 i o at))
 
-  gaps_set : (es : List (ℕ × Option T)) (i n : ℕ) (o : Option T) (item : T) → slice_get es i ≡ Some (n, o) → gaps_in (set_value_at es i (option_map (λ x. item) o)) ≡ gaps_in es
-  gaps_set [] i n o item at = refl
-  gaps_set ((k, q) ∷ es) zero n o item at = same q o (ap (λ e. e.1) (some_value (k, q) (n, o) at)) where
-    same : (q o : Option T) → q ≡ o → gaps_in ((k, option_map (λ x. item) o) ∷ es) ≡ gaps_in ((k, q) ∷ es)
+  gaps_set : (es : List (ℕ × Option T)) (i n : ℕ) (o : Option T) (f : T → T) → slice_get es i ≡ Some (n, o) → gaps_in (set_value_at es i (option_map f o)) ≡ gaps_in es
+  gaps_set [] i n o f at = refl
+  gaps_set ((k, q) ∷ es) zero n o f at = same q o (ap (λ e. e.1) (some_value (k, q) (n, o) at)) where
+    same : (q o : Option T) → q ≡ o → gaps_in ((k, option_map f o) ∷ es) ≡ gaps_in ((k, q) ∷ es)
     same q None is = ap (λ r. gaps_in ((k, r) ∷ es)) (sym is)
     same q (Some x) is = ap (λ r. gaps_in ((k, r) ∷ es)) (sym is)
-  gaps_set ((k, None) ∷ es) (suc i) n o item at = ap (λ c. c + 1) (gaps_set es i n o item at)
-  gaps_set ((k, Some y) ∷ es) (suc i) n o item at = gaps_set es i n o item at
+  gaps_set ((k, None) ∷ es) (suc i) n o f at = ap (λ c. c + 1) (gaps_set es i n o f at)
+  gaps_set ((k, Some y) ∷ es) (suc i) n o f at = gaps_set es i n o f at
 
-  pub record IsSet (es : List (ℕ × Option T)) (i n : ℕ) (o : Option T) (item : T) : Type 0 where
-    pub items : items_of (set_value_at es i (option_map (λ x. item) o)) ≡ replaced n item (items_of es)
-    pub gaps : gaps_in (set_value_at es i (option_map (λ x. item) o)) ≡ gaps_in es
+  -- What a change of the element in the slot of this number makes of them.
+  pub record IsSet (es : List (ℕ × Option T)) (i n : ℕ) (o : Option T) (f : T → T) : Type 0 where
+    pub items : items_of (set_value_at es i (option_map f o)) ≡ altered n f (items_of es)
+    pub gaps : gaps_in (set_value_at es i (option_map f o)) ≡ gaps_in es
 
-  pub set_at : (es : List (ℕ × Option T)) (i n k : ℕ) (o : Option T) (item : T) → AreRising es → position (nat_eq n) (keys_of es) ≡ Some i → slice_get es i ≡ Some (k, o) → IsSet es i n o item
-  set_at es i n k o item rising at there =
+  pub set_at : (es : List (ℕ × Option T)) (i n k : ℕ) (o : Option T) (f : T → T) → AreRising es → position (nat_eq n) (keys_of es) ≡ Some i → slice_get es i ≡ Some (k, o) → IsSet es i n o f
+  set_at es i n k o f rising at there =
       let is : n ≡ k = same n k (lookup_key_passes (nat_eq n) es k ((Found-position (nat_eq n) es i at).key ∙ key_there es i k o there)) in
       let here = subst (λ m. slice_get es i ≡ Some (m, o)) (sym is) there in
-      record { items = set_by es i n o item rising here; gaps = gaps_set es i n o item here }
+      record { items = set_by es i n o f rising here; gaps = gaps_set es i n o f here }
 
-  pub not_set : (n : ℕ) (item : T) (ps : List (ℕ × T)) → lookup (nat_eq n) ps ≡ None → replaced n item ps ≡ ps
-  not_set n item [] h = refl
-  not_set n item (p ∷ ps) h = by (nat_eq n p.0) h (not_set n item ps)
+  pub not_set : (n : ℕ) (f : T → T) (ps : List (ℕ × T)) → lookup (nat_eq n) ps ≡ None → altered n f ps ≡ ps
+  not_set n f [] h = refl
+  not_set n f (p ∷ ps) h = by (nat_eq n p.0) h (not_set n f ps)
     where
-      by : (b : Bool) → cond b (Some p.1) (lookup (nat_eq n) ps) ≡ None → (lookup (nat_eq n) ps ≡ None → replaced n item ps ≡ ps) → cond b (p.0, item) p ∷ replaced n item ps ≡ p ∷ ps
+      by : (b : Bool) → cond b (Some p.1) (lookup (nat_eq n) ps) ≡ None → (lookup (nat_eq n) ps ≡ None → altered n f ps ≡ ps) → cond b (p.0, f p.1) p ∷ altered n f ps ≡ p ∷ ps
       by true h rest = absurd (none_some p.1 (sym h))
       by false h rest = ap (λ zs. p ∷ zs) (rest h)
 

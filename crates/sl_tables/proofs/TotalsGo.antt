@@ -1,6 +1,6 @@
 -- What one more element, one less, or another in its place makes of a sum.
 use Rattle.sl_tables.proofs.SlotsStand.{apart, replaced}
-use Rattle.sl_tables.specs.Rising.{AreRising}
+use Rattle.sl_tables.specs.Rising.{AreRising, altered}
 use Rattle.sl_tables.specs.Totals.{total}
 use Rattle.sl_words.proofs.CaseLaws.{none_some, some_value}
 use Rattle.std.proofs.Common.{ap, arith, refl, subst, sym, ◌∙◌}
@@ -57,6 +57,15 @@ module _ {X : Type 0} (w : X → ℕ) where
   pub total_set : (n : ℕ) (items : List (ℕ × X)) (x item : X) → AreRising items → lookup (nat_eq n) items ≡ Some x → total w (replaced n item items) + w x ≡ total w items + w item
   total_set n [] x item rising at = absurd (none_some x at)
   total_set n (p ∷ items) x item rising at = set_by n p items x item (nat_eq n p.0) refl rising.0 at (λ more. total_set n items x item rising.1 more)
+
+  -- A change that leaves what each weighs.
+  pub total_altered : (n : ℕ) (f : X → X) (items : List (ℕ × X)) → ((x : X) → w (f x) ≡ w x) → total w (altered n f items) ≡ total w items
+  total_altered n f [] same = refl
+  total_altered n f (p ∷ items) same = let here = by (nat_eq n p.0) in let rest = total_altered n f items same in omega (arith, here, rest)
+    where
+      by : (b : Bool) → w (cond b (p.0, f p.1) p).1 ≡ w p.1
+      by true = same p.1
+      by false = refl
 
 -- What is counted, where each weighs one that passes.
 pub total_counts : {X : Type 0} (p : X → Bool) (items : List (ℕ × X)) → total (λ x. cond (p x) 1 0) items ≡ count_by p (values_of items)

@@ -4,7 +4,7 @@ use Rattle.sl_trace.specs.Traces.{same_spot}
 use Rattle.sl_trace.specs.declared.effects.Spot.{Spot}
 use Rattle.sl_words.specs.Words.{least}
 use Rattle.std.specs.List.{AllByRecursion}
-use Rattle.std.specs.Prelude.{Bool, List, Option, cond, filter, find, is_none, map, nat_lt, option_map, unwrap_or, ℕ, ◌%◌, ◌&&◌, ◌-◌, ◌==◌, ◌≡◌}
+use Rattle.std.specs.Prelude.{Bool, List, Option, filter, find, is_none, map, option_map, ℕ, ◌%◌, ◌&&◌, ◌-◌, ◌==◌, ◌≡◌}
 
 -- The calls, the oldest first; above which number the next is; for how many more there is memory; the bytes of an area.
 pub record OpenState : Type 0 where
@@ -33,22 +33,6 @@ least_on area at cs = least (map (λ c. c.number) (filter (is_on_area area at) c
 abbrev pub AreNumbered : List (ℕ × OpenCall) → Type 0
 AreNumbered items = AllByRecursion (λ p. p.1.number ≡ p.0) items
 
--- The number of the first call above this one on an area.
-abbrev pub next_on : ℕ → Spot → ℕ → List (ℕ × OpenCall) → Option ℕ
-next_on area at n items = option_map (λ p. p.0) (find (λ p. nat_lt n p.0 && is_on_area area at p.1) items)
-
 -- Whether the call is a write of a session.
 abbrev pub is_write_of : ℕ → OpenCall → Bool
 is_write_of session c = c.session == session && is_none c.sectors
-
--- What it adds to the session's count of them.
-abbrev pub write_weight : ℕ → OpenCall → ℕ
-write_weight session c = cond (is_write_of session c) 1 0
-
--- What a call adds to the count of its session's.
-abbrev pub call_weight : ℕ → OpenCall → ℕ
-call_weight session c = cond (c.session == session) 1 0
-
--- A count that is noted, or not.
-abbrev pub count_in : Option ℕ → ℕ
-count_in o = unwrap_or o 0

@@ -1,7 +1,7 @@
 -- Elements by numbers that rise.
 use Rattle.sl_words.specs.Words.{choose}
 use Rattle.std.specs.List.{AllByRecursion}
-use Rattle.std.specs.Prelude.{Bool, List, None, Option, Some, [], filter_map, is_some, option_map, ℕ, ◌+◌, ◌<◌, ◌∷◌}
+use Rattle.std.specs.Prelude.{Bool, List, None, Option, Some, [], cond, filter_map, is_some, map, nat_eq, option_map, ℕ, ◌+◌, ◌<◌, ◌∷◌}
 
 -- What stands, by number, the least first; above which number the next is; for how many more there is memory; how many gaps there are.
 pub record RisingState (T : Type 0) : Type 0 where
@@ -42,3 +42,7 @@ abbrev pub found_in : {T : Type 0} → (ℕ × T → Bool) → Option (ℕ × Op
 found_in p None = None
 found_in p (Some (n, None)) = None
 found_in p (Some (n, Some x)) = choose (p (n, x)) n
+
+-- A change of the element of this number.
+abbrev pub altered : {T : Type 0} → ℕ → (T → T) → List (ℕ × T) → List (ℕ × T)
+altered n f items = map (λ p. cond (nat_eq n p.0) (p.0, f p.1) p) items

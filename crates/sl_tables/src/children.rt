@@ -122,9 +122,7 @@ impl Children {
         match self.children.get(process as u64).copied() {
             Some(child) => match child.answered(ok) {
                 Some(next) => self.children.set(process as u64, next),
-                None => {
-                    self.children.take(process as u64);
-                }
+                None => self.children.forget(process as u64),
             },
             None => {}
         }
@@ -138,9 +136,7 @@ impl Children {
         match self.children.get(process as u64).copied() {
             Some(child) => match child.exits() {
                 Some(next) => self.children.set(process as u64, next),
-                None => {
-                    self.children.take(process as u64);
-                }
+                None => self.children.forget(process as u64),
             },
             None => {}
         }

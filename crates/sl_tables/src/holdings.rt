@@ -16,7 +16,7 @@ ghost use Rattle.std.specs.Prelude.{None, OnErr, OnOk, cond, filter, find, is_so
 
 use crate::area::Area;
 use crate::firsts::{is_first, note_first, pass_on};
-use crate::rising::Rising;
+use crate::rising::{Rising, place_of};
 use indexmap::IndexMap;
 use sl_trace::{Grant, Mode, Spot};
 use std::alloc::{AllocError, Global};
@@ -128,10 +128,10 @@ fn area_of(grant: &Grant) -> Spot
 }
 
 /// The number of the holding in this slot, if it is one of those sought.
-fn found_in(slots: &IndexMap<u64, Option<Grant>>, index: usize, sought: &Sought) -> Option<u64>
-    ensures { result ≡ found_in (λ p. fits sought.now p.1) (slice_get slots.now.entries index) }
+fn found_in(slots: &[(u64, Option<Grant>)], index: usize, sought: &Sought) -> Option<u64>
+    ensures { result ≡ found_in (λ p. fits sought.now p.1) (slice_get slots.now index) }
 {
-    match slots.get_index(index) {
+    match slots.get(index) {
         Some((number, Some(grant))) if sought.fits(grant) => Some(*number),
         _ => None,
     }
@@ -139,15 +139,22 @@ fn found_in(slots: &IndexMap<u64, Option<Grant>>, index: usize, sought: &Sought)
 
 /// The slot of a number, or the first: what stands before it has numbers below that one.
 #[tactic(auto, using(crate::proofs::HoldingsStand::before_slot))]
-fn slot_of(slots: &IndexMap<u64, Option<Grant>>, number: u64) -> usize
-    ensures within { result ≤ index_map_len slots.now }
-    ensures below { AreRising slots.now.entries → AllByRecursion (λ p. p.0 < number) (items_of (take result slots.now.entries)) }
+fn slot_of(slots: &[(u64, Option<Grant>)], number: u64) -> usize
+    requires { AreRising slots.now }
+    ensures within { result ≤ length slots.now }
+    ensures below { AllByRecursion (λ p. p.0 < number) (items_of (take result slots.now)) }
 {
-    match slots.get_index_of(&number) {
+    if number == 0 {
+        return 0;
+    }
+    match place_of(slots, number) {
         Some(index) => index,
         None => 0,
     }
 }
+
+/// So few holdings are looked through from the first on, whatever the indexes note.
+const FEW: usize = 8;
 
 impl Rising<Grant> {
     /// The number of the first of those sought, none of which has a number below this one.
@@ -180,10 +187,10 @@ impl Rising<Grant> {
 }
 
 /// The process of the holding in this slot, if it is one of those sought.
-fn holder_in(slots: &IndexMap<u64, Option<Grant>>, index: usize, sought: &Sought) -> Option<u32>
-    ensures { result ≡ holder_in sought.now (slice_get slots.now.entries index) }
+fn holder_in(slots: &[(u64, Option<Grant>)], index: usize, sought: &Sought) -> Option<u32>
+    ensures { result ≡ holder_in sought.now (slice_get slots.now index) }
 {
-    match slots.get_index(index) {
+    match slots.get(index) {
         Some((_, Some(grant))) if sought.fits(grant) => Some(grant.process),
         _ => None,
     }
@@ -227,6 +234,9 @@ fn number_of(
     requires processes { AreLed is_of_process (get nat_eq processes.now) held.now.items }
     ensures { result ≡ option_map (λ p. p.0) (find (λ p. fits sought.now p.1) held.now.items) }
 {
+    if held.extent() <= FEW {
+        return held.seek(0, sought);
+    }
     match noted_first(areas, processes, sought) {
         Some(first) => held.seek(first, sought),
         None => None,
@@ -361,6 +371,9 @@ impl Holdings {
     pub fn least_holder(&self, sought: &Sought) -> Option<u32>
         ensures { result ≡ least_holder sought.now self.now.held }
     {
+        if self.held.extent() <= FEW {
+            return self.held.least_holder(0, sought);
+        }
         match noted_first(&self.areas, &self.processes, sought) {
             Some(first) => self.held.least_holder(first, sought),
             None => None,

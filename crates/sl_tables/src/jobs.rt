@@ -2,11 +2,13 @@
 
 ghost use Rattle.sl_host_state.specs.declared.kept_parts.JobState.{JobState as JobStateOf};
 ghost use Rattle.sl_trace.specs.Jobs.{is_asking_lease, is_program};
-ghost use Rattle.sl_tables.specs.Jobs.{changed, ungranted, weight};
+ghost use Rattle.indexmap.specs.IndexMap.{set_value_at};
+ghost use Rattle.sl_tables.specs.Jobs.{changed, ungranted, waiting, weight};
+ghost use Rattle.sl_tables.specs.Rising.{altered};
 ghost use Rattle.std.specs.Option.{option_or};
-ghost use Rattle.std.specs.Prelude.{OnErr, OnOk, Some, cond, filter, find, length, map, max, not, option_map, slice_get, [], ◌+◌, ◌++◌, ◌-◌, ◌<◌, ◌==◌, ◌^◌, ◌∷◌, ◌≡◌, ◌≤◌};
+ghost use Rattle.std.specs.Prelude.{OnErr, OnOk, Option, Some, cond, filter, find, length, map, max, not, option_map, slice_get, vec_capacity, vec_len, [], ◌+◌, ◌++◌, ◌-◌, ◌<◌, ◌==◌, ◌^◌, ◌∷◌, ◌≡◌, ◌≤◌, ℕ};
 
-use crate::rising::Rising;
+use crate::rising::{Rising, place_of};
 use sl_host_state::{JobState, WaitingCall};
 use sl_text::{Data, FilePath, Name};
 use sl_trace::{Command, LockspaceArg, ResourceArg};
@@ -47,6 +49,30 @@ fn starts(job: &JobState) -> u64
     match &job.command {
         Some(command) if job.child.is_none() && starts_program(command) => 1,
         _ => 0,
+    }
+}
+
+/// The job in the slot at this index waits for this call from here on, or for none; a gap stays.
+fn set_waits_in(slots: &mut Vec<(u64, Option<JobState>)>, index: usize, waits: Option<WaitingCall>)
+    requires { index < length slots.old.items }
+    ensures slots { (n : ℕ) × (o : Option JobStateOf) × (slice_get slots.old.items index ≡ Some (n, o)) × (slots.new.items ≡ set_value_at slots.old.items index (option_map (waiting waits) o)) }
+    ensures room { (vec_len slots.new ≡ vec_len slots.old) × (vec_capacity slots.new ≡ vec_capacity slots.old) }
+{
+    match &mut slots[index].1 {
+        Some(job) => job.waits = waits,
+        None => {}
+    }
+}
+
+impl Rising<JobState> {
+    /// The job of this number waits for this call from here on, or for none.
+    fn set_waits(&mut self, number: u64, waits: Option<WaitingCall>)
+        ensures { self.new ≡ record self.old { items = altered number (waiting waits) self.old.items } }
+    {
+        match place_of(&self.slots, number) {
+            Some(index) => set_waits_in(&mut self.slots, index, waits),
+            None => {}
+        }
     }
 }
 
@@ -196,10 +222,7 @@ impl Jobs {
         ensures { self.new ≡ record self.old { jobs = changed number (λ j. record j { waits = waits }) self.old.jobs } }
     {
         let _within: Option<WithinJob> = None;
-        match self.get(number).copied() {
-            Some(old) => self.exchange(number, old, JobState { waits, ..old }),
-            None => {}
-        }
+        self.jobs.set_waits(number, waits);
     }
 
     /// The job of this number has its grant, and waits for this child, if it has none yet.

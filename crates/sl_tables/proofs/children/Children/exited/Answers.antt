@@ -12,7 +12,7 @@ invariant_of-self c =
     subst AreChildren (sym (ap (λ r. r.items) c.set.ensures.state)) (set_are c.args.process c.in-Some-exits.next c.self.inside.children.items (left.2 ∙ there.0) left.1 c.self.invariant)
 
 pub invariant_of-self-in-None-exits : goal.invariant_of-self-in-None-exits
-invariant_of-self-in-None-exits c = subst AreChildren (sym c.take.ensures.items) (take_are (λ p. not (nat_eq c.args.process p.0)) c.self.inside.children.items c.self.invariant)
+invariant_of-self-in-None-exits c = subst AreChildren (sym c.forget.ensures.items) (take_are (λ p. not (nat_eq c.args.process p.0)) c.self.inside.children.items c.self.invariant)
 
 pub returns-in-Some-exits-clause-children : goal.returns-in-Some-exits-clause-children
 returns-in-Some-exits-clause-children c =
@@ -28,7 +28,7 @@ returns-in-None-exits-clause-children c =
     let at = sym c.get.ensures.value ∙ sym c.in-Some.ensures in
     let there = stands_there c.args.process c.self.inside.children.items c.in-Some.child c.self.invariant (sym c.get.ensures.value ∙ sym c.in-Some.ensures) in
     let left : IsLeft (Heard c.args.process) c.in-Some.child None = subst (λ n. IsLeft (Heard n) c.in-Some.child None) there.0 (subst (IsLeft (Heard c.in-Some.child.process) c.in-Some.child) c.in-None-exits.is c.exits.ensures) in
-    ap (λ ps. map child_of (values_of ps)) c.take.ensures.items
+    ap (λ ps. map child_of (values_of ps)) c.forget.ensures.items
     ∙ take_left c.args.process (Heard c.args.process) c.self.inside.children.items c.in-Some.child (exit_about c.args.process) c.self.invariant c.get.ensures.rising at left
     ∙ ap (λ v. children_left (Heard c.args.process) v.children) c.self.view_is
 

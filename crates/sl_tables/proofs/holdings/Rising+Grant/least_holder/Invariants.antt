@@ -5,4 +5,4 @@ use Rattle.std.proofs.Common.{take, ◌≡◌}
 use Rattle.std.specs.Map.{values_of}
 
 abbrev pub invariant-loop-index : goal.invariant-loop-index
-invariant-loop-index l = l.least ≡ least_holder l.fn.sought (values_of (items_of (take l.index l.self-inside.slots.entries)))
+invariant-loop-index l = l.least ≡ least_holder l.fn.sought (values_of (items_of (take l.index l.self-inside.slots.items)))

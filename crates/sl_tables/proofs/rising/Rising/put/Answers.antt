@@ -4,4 +4,4 @@ use Rattle.std.proofs.Common.{length, subst, ◌≤◌}
 
 pub returns-clause-few : goal.returns-clause-few
 returns-clause-few g c =
-    subst (λ v. length v.items ≤ v.next) c.self.view_is (few_items c.self.inside.next c.self.inside.slots.entries c.self.invariant.0 c.self.invariant.1)
+    subst (λ v. length v.items ≤ v.next) c.self.view_is (few_items c.self.inside.next c.self.inside.slots.items c.self.invariant.0 c.self.invariant.1)

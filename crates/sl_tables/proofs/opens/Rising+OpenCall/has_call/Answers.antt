@@ -1,0 +1,12 @@
+use Rattle.sl_tables.proofs.ScansFind.{any_standing}
+use Rattle.sl_tables.proofs.opens.Rising+OpenCall.has_call.Goals as goal
+use Rattle.sl_host_state.specs.declared.kept_parts.OpenCall.{OpenCall}
+use Rattle.sl_words.specs.Words.{some_is}
+use Rattle.std.proofs.Common.{Bool, ap, ◌==◌, ◌∙◌}
+use Rattle.std.specs.List.{list_any}
+use Rattle.std.specs.Map.{values_of}
+
+pub returns : goal.returns
+returns c =
+    let q : OpenCall → Bool = (λ d. d.session == c.args.session) in
+    c.any_call.ensures ∙ (ap (λ es. list_any (λ s. some_is q s.1) es) c.deref.ensures.value ∙ (any_standing q c.self.inside.slots.items ∙ ap (λ v. list_any q (values_of v.items)) c.self.view_is))

@@ -1,7 +1,0 @@
-use Rattle.sl_tables.proofs.opens.Rising+OpenCall.next_on.Given as goal
-use Rattle.sl_tables.specs.Opens.{is_on_area}
-use Rattle.sl_tables.specs.Rising.{items_of}
-use Rattle.std.proofs.Common.{None, find, nat_lt, take, ◌&&◌, ◌≡◌}
-
-abbrev pub invariant-loop-index : goal.invariant-loop-index
-invariant-loop-index l = find (λ p. nat_lt l.fn.number p.0 && is_on_area l.fn.area l.fn.spot p.1) (items_of (take l.index l.self-inside.slots.entries)) ≡ None
