@@ -6,7 +6,7 @@
 
 ghost use Rattle.sl_world.specs.ConflictCounts.{IsCalm};
 
-use crate::events::{after_error, is_ask};
+use crate::events::{after_error, is_ask, untold};
 use crate::step_counts::{PlayError, counted, granted, no_counts};
 use crate::step_lines::push_event;
 use sl_locks::StepTold;
@@ -32,7 +32,7 @@ impl<D: Daemon, L: LockTable> Play<D, L> {
     ghost use Rattle.sl_world_state.specs.Refusals.{refusal_in};
     ghost use Rattle.sl_machine.specs.KeptParts.{kept_state};
     ghost use Rattle.sl_machine.specs.EventTests.{is_tear};
-    ghost use Rattle.sl_play.specs.Plays.{Answers, Begins, PassesCounts, StandsFor, StaysAs, state_of, test_told};
+    ghost use Rattle.sl_play.specs.Plays.{Answers, AnswersStep, Begins, PassesCounts, StandsFor, StaysAs, state_of, test_told};
     ghost use Rattle.sl_play.specs.ToldSteps.{AreCounted, counts_with, tests_told, told_view};
     ghost use Rattle.sl_play.specs.declared.step_counts.PlayError.TheVariants.{NoMemory, TooMany};
     ghost use Rattle.sl_report.specs.Reports as reports;
@@ -80,7 +80,7 @@ impl<D: Daemon, L: LockTable> Play<D, L> {
     }
 
     /// How a test of the watchdog daemon will come out, where the event is one.
-    fn test_of(&self, event: &Event) -> Option<bool>
+    pub fn test_of(&self, event: &Event) -> Option<bool>
         ensures { result ≡ test_told (state_of L.locks self.now).kept event.now }
     {
         match event {
@@ -112,12 +112,17 @@ impl<D: Daemon, L: LockTable> Play<D, L> {
         Ok(())
     }
 
-    /// The event comes to pass, its lines are written and it is counted; or it is refused, and nothing has changed: why.
-    pub fn happen(&mut self, out: &mut Vec<u8>, event: Event) -> Result<Option<Refusal>, PlayError>
+    /// The event comes to pass, its lines are written and it is counted, and the answer is what is told of it; or it is refused, and nothing
+    /// has changed: why.
+    pub fn step(
+        &mut self,
+        out: &mut Vec<u8>,
+        event: Event,
+    ) -> Result<Result<StepTold, Refusal>, PlayError>
         requires { StandsFor D.commands D.stands (state_of L.locks self.old) }
-        ensures ok { IfOk result (Answers D.commands D.stands (state_of L.locks self.old) event out.old.items (state_of L.locks self.new) out.new.items) }
+        ensures ok { IfOk result (AnswersStep D.commands D.stands (state_of L.locks self.old) event out.old.items (state_of L.locks self.new) out.new.items) }
         ensures refused { (w : worlds.World) → WorldStands D.commands D.stands (state_of L.locks self.old).kept (state_of L.locks self.old).hosts w → (why : RefusalOf)
-            → refusals.refusal_of w event ≡ Some why → (result ≡ Ok (Some why)) ⊎ ((is_tear event ≡ true) × (result ≡ Err NoMemory)) }
+            → refusals.refusal_of w event ≡ Some why → (result ≡ Ok (Err why)) ⊎ ((is_tear event ≡ true) × (result ≡ Err NoMemory)) }
         ensures many { result ≡ Err TooMany → PassesCounts D.commands D.stands (state_of L.locks self.old) event }
         ensures stands { StandsFor D.commands D.stands (state_of L.locks self.new) }
         ensures err { OnErr result (out.new.items ≡ out.old.items) }
@@ -133,8 +138,21 @@ impl<D: Daemon, L: LockTable> Play<D, L> {
                     .conflicts_left(machine, granted(&told), self.calm);
                 self.calm = left.calm;
                 self.tell(out, machine, ask, test, &told, left.count)?;
-                Ok(None)
+                Ok(Ok(told))
             }
         }
+    }
+
+    /// The event comes to pass, its lines are written and it is counted; or it is refused, and nothing has changed: why.
+    pub fn happen(&mut self, out: &mut Vec<u8>, event: Event) -> Result<Option<Refusal>, PlayError>
+        requires { StandsFor D.commands D.stands (state_of L.locks self.old) }
+        ensures ok { IfOk result (Answers D.commands D.stands (state_of L.locks self.old) event out.old.items (state_of L.locks self.new) out.new.items) }
+        ensures refused { (w : worlds.World) → WorldStands D.commands D.stands (state_of L.locks self.old).kept (state_of L.locks self.old).hosts w → (why : RefusalOf)
+            → refusals.refusal_of w event ≡ Some why → (result ≡ Ok (Some why)) ⊎ ((is_tear event ≡ true) × (result ≡ Err NoMemory)) }
+        ensures many { result ≡ Err TooMany → PassesCounts D.commands D.stands (state_of L.locks self.old) event }
+        ensures stands { StandsFor D.commands D.stands (state_of L.locks self.new) }
+        ensures err { OnErr result (out.new.items ≡ out.old.items) }
+    {
+        untold(self.step(out, event))
     }
 }
