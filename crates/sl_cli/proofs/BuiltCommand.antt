@@ -5,7 +5,7 @@ use Rattle.clap.specs.Kinds.{Kinds, or_else}
 use Rattle.clap.specs.Simple.{App, Shape, built, new_rule, new_shape}
 use Rattle.clap.specs.Values.{reading_of}
 use Rattle.clap.specs.Walk.{Row, Rule, Text, at_row, default_rows, first_of, has_row, is_empty, more_values, reading_by, used, with_default, with_values, without}
-use Rattle.clap.specs.declared.builder.action.ArgAction.TheVariants.{Set}
+use Rattle.clap.specs.declared.builder.action.ArgAction.TheVariants.{Set, SetTrue}
 use Rattle.clap.specs.declared.builder.value_parser.ValueParser.TheVariants as vp
 use Rattle.clap.specs.declared.parser.matches.ValueSource.TheVariants.{CommandLine}
 use Rattle.sl_cli.specs.ParserShape.{command_line}
@@ -90,21 +90,34 @@ built_shape name rules = record (new_shape name) {
 abbrev pub direct : Shape
 direct = built_shape (codes "direct") rules
 
-abbrev pub replay : Shape
-replay = built_shape (codes "replay") []
+-- A command without arguments.
+abbrev pub bare_command : Text → Shape
+bare_command name = built_shape name []
 
--- The words of `gen`: each by its place.
-abbrev pub gen_rules : List Rule
-gen_rules =
+-- The words of a seed: each by its place.
+abbrev pub seed_rules : List Rule
+seed_rules =
     rule_with (codes "seed") None (Some 1) ∷ rule_with (codes "hosts") None (Some 2) ∷ rule_with (codes "events") None (Some 3)
     ∷ rule_with (codes "format") None (Some 4) ∷ []
 
-abbrev pub generate : Shape
-generate = built_shape (codes "gen") gen_rules
+-- A command with these words.
+abbrev pub seed_command : Text → Shape
+seed_command name = built_shape name seed_rules
 
--- The word of `live`.
+-- A flag, filled in: where it isn't given it is false.
+abbrev pub flag_with : Text → Rule
+flag_with id = record (new_rule id) {
+  long = Some id;
+  action = Some SetTrue;
+  range = Some (record { start_inclusive = 0; end_inclusive = 0 });
+  defaults = codes "false" ∷ [];
+  missing = codes "true" ∷ [];
+  parser = Some vp.Bool;
+}
+
+-- The word of `live`, and its flag.
 abbrev pub live_rules : List Rule
-live_rules = rule_with (codes "folder") None (Some 1) ∷ []
+live_rules = rule_with (codes "folder") None (Some 1) ∷ flag_with (codes "anew") ∷ []
 
 abbrev pub live : Shape
 live = built_shape (codes "live") live_rules
@@ -113,7 +126,7 @@ live = built_shape (codes "live") live_rules
 abbrev pub program : App
 program = record {
   top = record (built_shape (codes "sanlock") []) { is_leaf = false; subcommand_required = true };
-  subs = replay ∷ generate ∷ direct ∷ live ∷ [];
+  subs = bare_command (codes "replay") ∷ seed_command (codes "gen") ∷ direct ∷ live ∷ [];
 }
 
 pub program_is : built command_line ≡ program

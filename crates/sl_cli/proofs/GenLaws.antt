@@ -1,17 +1,17 @@
--- The parser takes the words behind `gen` that the reader takes, and finds in them what the reader finds: up to four words that are no options,
+-- The parser takes the words of a seed, behind `gen`, that the reader takes, and finds in them what the reader finds: up to four words that are no options,
 -- one behind the other, and a first `--` anywhere.
 use Rattle.clap.proofs.OnLiterals.{clap_on_literals}
-use Rattle.clap.specs.Faults.{check_fault, settle_fault, turn_fault, walk_fault}
+use Rattle.clap.specs.Faults.{check_fault, defaults_fault, settle_fault, turn_fault, walk_fault}
 use Rattle.clap.specs.Kinds.{Kinds, or_else}
+use Rattle.clap.specs.Simple.{Shape}
 use Rattle.clap.specs.Walk.{Held, Row, Text, Walk, finished, idle, nothing_held, rows_after, settled, settled_rows, walk_from, walked}
 use Rattle.sl_cli.proofs.BareCommands.{level, or_nothing}
-use Rattle.sl_cli.proofs.BuiltCommand.{gen_rules, generate, no_defaults, no_faults, row_for}
+use Rattle.sl_cli.proofs.BuiltCommand.{no_defaults, no_faults, row_for, seed_command, seed_rules}
 use Rattle.sl_cli.proofs.Letters.{behind, first_char}
 use Rattle.sl_cli.proofs.ReaderSteps.{AreTexts, word_cases}
 use Rattle.sl_cli.proofs.ParserTurns.{Fails, Pending, Plain, fails_with, first_fails, is_short, no_dashes, no_long, walk_at}
-use Rattle.sl_cli.specs.CommandWords.{is_event_count, is_machine_count, is_seed, seeded_in, seeding_in, use_of, without_dashes}
+use Rattle.sl_cli.specs.CommandWords.{Seed, is_event_count, is_machine_count, is_seed, seeded_in, seeding_in, use_of, without_dashes}
 use Rattle.sl_cli.specs.ParserMeets.{seeding_of}
-use Rattle.sl_cli.specs.declared.command_words.Words.{Words}
 use Rattle.std.proofs.Common.{Bool, List, None, Option, Some, [], ap, eqb, false, inl, inr, refl, subst, sym, true, ℕ, ◌&&◌, ◌≡◌, ◌∙◌, ◌∷◌, ◌⊎◌}
 use Rattle.std.proofs.lemmas.Bool.{cases_Bool, eqb-true}
 use Rattle.std.specs.List.{fold}
@@ -64,23 +64,27 @@ place_at (all_got s h e f) = 5
 abbrev stand : Got → Bool → Walk
 stand g trailing = walk_at (rows_at g) (pending_at g) idle (place_at g) trailing
 
+-- What a command is called changes nothing of what is made of its words.
+abbrev generate : Shape
+generate = seed_command (codes "gen")
+
 abbrev turn : Walk → Text → Kinds
 turn w word = turn_fault generate [] w word
 
 abbrev after : Walk → Text → Walk
-after w word = walked gen_rules [] w word
+after w word = walked seed_rules [] w word
 
 abbrev held_after : Walk → List Text → Held
-held_after w ws = (fold (walked gen_rules []) w ws).held
+held_after w ws = (fold (walked seed_rules []) w ws).held
 
 abbrev rest : Walk → List Text → Kinds
-rest w ws = or_else (walk_fault generate [] w ws) (settle_fault gen_rules false (held_after w ws))
+rest w ws = or_else (walk_fault generate [] w ws) (settle_fault seed_rules false (held_after w ws))
 
 abbrev end_rows : Walk → List Text → List Row
-end_rows w ws = settled_rows gen_rules (held_after w ws).pending (held_after w ws).rows
+end_rows w ws = settled_rows seed_rules (held_after w ws).pending (held_after w ws).rows
 
 -- What the rows ask for.
-abbrev says : List Row → Option Words
+abbrev says : List Row → Option Seed
 says rows = seeding_in (seeding_of rows).seed (seeding_of rows).hosts (seeding_of rows).events (seeding_of rows).format
 
 -- ---- one word
@@ -281,20 +285,28 @@ all_agree (word ∷ ws) g texts = elim (word_cases word) [
       (hyphen_agrees g hyphened.0 hyphened.1 ws (subst IsUtf8 hyphened.2 texts.0) (trailing_agree ws g))
 ]
 
--- ---- the command `gen`
+-- ---- the commands of a seed
 
-pub gen_level : (ws : List Text) → level generate ws ≡ rest (walk_from nothing_held) ws
-gen_level ws =
+seed_walk : (name : Text) (w : Walk) (ws : List Text) → walk_fault (seed_command name) [] w ws ≡ walk_fault generate [] w ws
+unfolding clap_on_literals
+seed_walk name w [] = refl
+seed_walk name w (word ∷ ws) = ap (or_else (turn w word)) (seed_walk name (after w word) ws)
+
+seed_level : (name : Text) (ws : List Text) → level (seed_command name) ws ≡ rest (walk_from nothing_held) ws
+seed_level name ws =
     let end : Held = held_after (walk_from nothing_held) ws in
-    let open_values : Kinds = settle_fault gen_rules false end in
-    ap (λ ks. or_else (walk_fault generate [] (walk_from nothing_held) ws) (or_else open_values (or_else ks (check_fault generate (finished gen_rules end) false))))
-    (no_faults (settled gen_rules end).rows gen_rules refl)
+    let open_values : Kinds = settle_fault seed_rules false end in
+    ap (λ ks. or_else ks (or_else open_values (or_else (defaults_fault (settled seed_rules end).rows seed_rules) (check_fault generate (finished seed_rules end) false))))
+    (seed_walk name (walk_from nothing_held) ws)
+    ∙ ap (λ ks. or_else (walk_fault generate [] (walk_from nothing_held) ws) (or_else open_values (or_else ks (check_fault generate (finished seed_rules end) false))))
+    (no_faults (settled seed_rules end).rows seed_rules refl)
     ∙ ap (or_else (walk_fault generate [] (walk_from nothing_held) ws)) (or_nothing open_values)
 
 -- The level's faults and rows against what the reader says.
-pub gen_read : (ws : List Text) → AreTexts ws
-    → ((level generate ws ≡ []) × (says (rows_after gen_rules [] ws) ≡ seeded_in (without_dashes ws))) ⊎ (Fails (level generate ws) × (seeded_in (without_dashes ws) ≡ None))
-gen_read ws texts = elim (all_agree ws none_got texts) [
-  | inl both ↦ inl (gen_level ws ∙ both.0, ap says (no_defaults (end_rows (stand none_got false) ws) gen_rules refl) ∙ both.1)
-  | inr neither ↦ inr (λ none. neither.0 (sym (gen_level ws) ∙ none), neither.1)
+pub seed_read : (name : Text) (ws : List Text) → AreTexts ws
+    → ((level (seed_command name) ws ≡ []) × (says (rows_after seed_rules [] ws) ≡ seeded_in (without_dashes ws)))
+    ⊎ (Fails (level (seed_command name) ws) × (seeded_in (without_dashes ws) ≡ None))
+seed_read name ws texts = elim (all_agree ws none_got texts) [
+  | inl both ↦ inl (seed_level name ws ∙ both.0, ap says (no_defaults (end_rows (stand none_got false) ws) seed_rules refl) ∙ both.1)
+  | inr neither ↦ inr (λ none. neither.0 (sym (seed_level name ws) ∙ none), neither.1)
 ]

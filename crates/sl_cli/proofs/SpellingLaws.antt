@@ -1,11 +1,11 @@
 -- Words in any order are read, and no others are.
 use Rattle.sl_cli.proofs.ActionTexts.{actions_have_one_text}
 use Rattle.sl_cli.specs.Actions.{action_in}
-use Rattle.sl_cli.specs.CommandWords.{Taken, Use, command_in, ends_here, folder_in, given_by, is_event_count, is_format, is_given, is_machine_count, is_only, is_plain, is_seed, nothing_taken, option_named, seeded_in, use_of, uses_from, with_use, without_dashes}
-use Rattle.sl_cli.specs.Spellings.{AsksFor, IsAsked, OnlyItsWordsAskForAnAction, OptionsComeInAnyOrder, are_apart, is_use, letter_named, option_words, spelled, use_words}
-use Rattle.sl_cli.specs.declared.command_words.Words.TheVariants.{Direct, Generate, Help, Live, Replay, Version}
+use Rattle.sl_cli.specs.CommandWords.{Seed, Taken, Use, command_in, direct_in, ends_here, folder_in, generated, given_by, is_given, is_only, is_plain, live_in, nothing_taken, option_named, placed_in, placing_by, placing_in, gen_in, seeded_in, use_of, uses_from, with_use, without_dashes, without_flag}
+use Rattle.sl_cli.specs.Spellings.{AsksFor, FlagStandsAnywhere, IsAsked, OnlyItsWordsAskForAnAction, OptionsComeInAnyOrder, are_apart, is_use, letter_named, option_words, spelled, use_words}
+use Rattle.sl_cli.specs.declared.command_words.Words.TheVariants.{Direct, Help, Live, Replay, Version}
+use Rattle.sl_cli.specs.declared.command_words.Words.{Words}
 use Rattle.sl_direct.specs.declared.action.Action.{Action}
-use Rattle.sl_text.specs.Numbers.{number_of}
 use Rattle.sl_words.proofs.CaseLaws.{none_some}
 use Rattle.sl_words.proofs.WordLaws.{and_true}
 use Rattle.sl_words.specs.Words.{choose}
@@ -123,45 +123,61 @@ direct_by rest a (Some us) read h = asked (action_in (given_by us)) refl h
 abbrev Asks : Action → List (List ℕ) → Type 0
 Asks a ws = IsAsked a × (rest : List (List ℕ)) × (ws ≡ codes "direct" ∷ rest) × AsksFor a rest
 
-no_replay : (b : Bool) (a : Action) → choose b Replay ≡ Some (Direct a) → ⊥
-no_replay true a h = absurd cc
-no_replay false a h = absurd cc
+-- No other command asks for one.
+some_same : (v w : Words) → Some v ≡ Some w → v ≡ w
+some_same v w is = cc
 
-no_seed : (b : Bool) (s h e : ℕ) (paired : Bool) (a : Action) → choose b (Generate s h e paired) ≡ Some (Direct a) → ⊥
-no_seed true s h e paired a is = absurd cc
-no_seed false s h e paired a is = absurd cc
+no_bare : (b : Bool) (w : Words) (a : Action) → (w ≡ Direct a → ⊥) → choose b w ≡ Some (Direct a) → ⊥
+no_bare true w a other h = other (some_same w (Direct a) h)
+no_bare false w a other h = absurd cc
 
-no_gen : (ws : List (List ℕ)) (a : Action) → seeded_in ws ≡ Some (Direct a) → ⊥
-no_gen [] a h = absurd cc
-no_gen (s ∷ []) a h = absurd cc
-no_gen (s ∷ m ∷ []) a h = absurd cc
-no_gen (s ∷ m ∷ e ∷ []) a h =
-    no_seed (is_seed s && (is_machine_count m && (is_event_count e && true))) (number_of s) (number_of m) (number_of e) false a h
-no_gen (s ∷ m ∷ e ∷ f ∷ []) a h =
-    no_seed (is_seed s && (is_machine_count m && (is_event_count e && is_format (Some f)))) (number_of s) (number_of m) (number_of e) true a h
-no_gen (s ∷ m ∷ e ∷ f ∷ w ∷ ws) a h = absurd cc
+no_replay : (a : Action) → Replay ≡ Direct a → ⊥
+no_replay a h = absurd cc
 
-no_folder : (o : Option (List ℕ)) (a : Action) → option_map (λ w. Live w) o ≡ Some (Direct a) → ⊥
-no_folder None a h = absurd cc
-no_folder (Some w) a h = absurd cc
+-- The words ask for it.
+abbrev AsksDirect : Option Words → Action → Type 0
+AsksDirect o a = o ≡ Some (Direct a)
+
+abbrev live_of : Bool → List ℕ → Words
+live_of anew w = Live w anew
+
+no_gen : (o : Option Seed) (a : Action) → AsksDirect (option_map generated o) a → ⊥
+no_gen None a h = absurd cc
+no_gen (Some s) a h = absurd cc
+
+no_folder : (o : Option (List ℕ)) (anew : Bool) (a : Action) → AsksDirect (option_map (live_of anew) o) a → ⊥
+no_folder None anew a h = absurd cc
+no_folder (Some w) anew a h = absurd cc
 
 command_asks : (ws : List (List ℕ)) (a : Action) → command_in ws ≡ Some (Direct a) → Asks a ws
 command_asks [] a h = absurd cc
 command_asks (w ∷ ws) a h = elim (cases_Bool (bytes_eq (codes "replay") w)) [
-  | inl replay ↦ absurd (no_replay (ends_here ws) a (rw replay at h))
-  | inr no_replay ↦ elim (cases_Bool (bytes_eq (codes "gen") w)) [
-    | inl gen ↦ absurd (no_gen (without_dashes ws) a (rw (no_replay, gen) at h))
-    | inr no_gen ↦ elim (cases_Bool (bytes_eq (codes "direct") w)) [
+  | inl replay ↦ absurd (no_bare (ends_here ws) Replay a (no_replay a) (rw replay at h))
+  | inr other ↦ seed_asks w ws a (rw other at h)
+]
+  where
+    direct_asks : (w : List ℕ) (ws : List (List ℕ)) (a : Action)
+        → (if bytes_eq (codes "direct") w then direct_in ws else if bytes_eq (codes "live") w then live_in ws else None) ≡ Some (Direct a) → Asks a (w ∷ ws)
+    direct_asks w ws a h = elim (cases_Bool (bytes_eq (codes "direct") w)) [
       | inl direct ↦
-          let is = direct_by ws a (uses_from nothing_taken ws) refl (rw (no_replay, no_gen, direct) at h) in
+          let is = direct_by ws a (uses_from nothing_taken ws) refl (rw direct at h) in
           (is.0, ws, ap (λ v. v ∷ ws) (sym ((bytes_eq-Decides (codes "direct") w).0 direct)), is.1)
       | inr no_direct ↦ elim (cases_Bool (bytes_eq (codes "live") w)) [
-        | inl live ↦ absurd (no_folder (folder_in ws) a (rw (no_replay, no_gen, no_direct, live) at h))
-        | inr other ↦ absurd (none_some (Direct a) (rw (no_replay, no_gen, no_direct, other) at h))
+        | inl live ↦ absurd (no_folder (placing_in ws).folder (placing_in ws).anew a (rw (no_direct, live) at h))
+        | inr other ↦ absurd (none_some (Direct a) (rw (no_direct, other) at h))
       ]
     ]
-  ]
-]
+
+    seed_asks : (w : List ℕ) (ws : List (List ℕ)) (a : Action)
+        → (if bytes_eq (codes "gen") w then gen_in ws
+        else if bytes_eq (codes "direct") w then direct_in ws
+        else if bytes_eq (codes "live") w then live_in ws
+        else None)
+        ≡ Some (Direct a) → Asks a (w ∷ ws)
+    seed_asks w ws a h = elim (cases_Bool (bytes_eq (codes "gen") w)) [
+      | inl gen ↦ absurd (no_gen (seeded_in (without_dashes ws)) a (rw gen at h))
+      | inr other ↦ direct_asks w ws a (rw other at h)
+    ]
 
 no_help : (a : Action) → Some Help ≡ Some (Direct a) → ⊥
 no_help a h = absurd cc
@@ -177,3 +193,30 @@ only_its_words_ask ws a h = elim (cases_Bool (is_only (codes "--help") (codes "-
     | inr not_version ↦ command_asks ws a (rw (not_help, not_version) at h)
   ]
 ]
+
+-- ---- the flag of `live`
+
+clash : false ≡ true → ⊥
+clash is = absurd cc
+
+-- A word that is no option is neither `--` nor the flag.
+apart : (w other : List ℕ) → is_plain w ≡ true → is_plain other ≡ false → bytes_eq w other ≡ false
+apart w other plain not_plain = elim (cases_Bool (bytes_eq w other)) [
+  | inl is ↦ absurd (clash (sym not_plain ∙ sym (ap is_plain ((bytes_eq-Decides w other).0 is)) ∙ plain))
+  | inr is ↦ is
+]
+
+pub flag_stands_anywhere : FlagStandsAnywhere
+flag_stands_anywhere folder plain =
+    let dashes = apart folder (codes "--") plain refl in
+    let flag = apart folder (codes "--anew") plain refl in
+    let alone : folder_in (folder ∷ []) ≡ Some folder = ap (λ b. choose b folder) plain in
+    let kept : without_flag (codes "--anew") (folder ∷ []) ≡ None = rw (dashes, flag) refl in
+    let cut : without_flag (codes "--anew") (folder ∷ codes "--anew" ∷ []) ≡ Some (folder ∷ []) = rw (dashes, flag) refl in
+    let again : folder_in (folder ∷ codes "--anew" ∷ []) ≡ None = rw (dashes, plain) refl in (
+      ap (λ o. placed_in (placing_by (folder ∷ []) o)) kept ∙ ap (option_map (live_of false)) alone,
+      ap (option_map (live_of true)) alone,
+      ap (λ o. placed_in (placing_by (folder ∷ codes "--anew" ∷ []) o)) cut ∙ ap (option_map (live_of true)) alone,
+      refl,
+      ap (option_map (live_of true)) again,
+    )

@@ -128,14 +128,22 @@ pub record Seeding : Type 0 where
   pub events : Option (List ℕ)
   pub format : Option (List ℕ)
 
+-- A seed, how many hosts and events there are, and whether areas have pairs.
+pub record Seed : Type 0 where
+  pub number : ℕ
+  pub hosts : ℕ
+  pub events : ℕ
+  pub paired : Bool
+
 -- What they ask for.
-abbrev pub seeding_in : Option (List ℕ) → Option (List ℕ) → Option (List ℕ) → Option (List ℕ) → Option Words
+abbrev pub seeding_in : Option (List ℕ) → Option (List ℕ) → Option (List ℕ) → Option (List ℕ) → Option Seed
 seeding_in (Some s) (Some h) (Some e) f =
-    choose (is_seed s && (is_machine_count h && (is_event_count e && is_format f))) (Generate (number_of s) (number_of h) (number_of e) (is_some f))
+    choose (is_seed s && (is_machine_count h && (is_event_count e && is_format f)))
+    (record { number = number_of s; hosts = number_of h; events = number_of e; paired = is_some f })
 seeding_in s h e f = None
 
 -- Three words, or a fourth for the format, and no more.
-abbrev pub seeded_in : List (List ℕ) → Option Words
+abbrev pub seeded_in : List (List ℕ) → Option Seed
 seeded_in (s ∷ h ∷ e ∷ []) = seeding_in (Some s) (Some h) (Some e) None
 seeded_in (s ∷ h ∷ e ∷ f ∷ []) = seeding_in (Some s) (Some h) (Some e) (Some f)
 seeded_in ws = None
@@ -145,9 +153,13 @@ abbrev pub without_dashes : List (List ℕ) → List (List ℕ)
 without_dashes [] = []
 without_dashes (w ∷ ws) = if bytes_eq w (codes "--") then ws else w ∷ without_dashes ws
 
+-- A seed whose report is made.
+abbrev pub generated : Seed → Words
+generated s = Generate s.number s.hosts s.events s.paired
+
 -- What the words behind `gen` say.
 abbrev pub gen_in : List (List ℕ) → Option Words
-gen_in ws = seeded_in (without_dashes ws)
+gen_in ws = option_map generated (seeded_in (without_dashes ws))
 
 -- ---- what is given to `live`
 
@@ -158,9 +170,35 @@ folder_in (w ∷ []) = choose (is_plain w) w
 folder_in (w ∷ v ∷ []) = if bytes_eq w (codes "--") then Some v else choose (is_plain w && bytes_eq v (codes "--")) w
 folder_in (w ∷ v ∷ u ∷ ws) = None
 
+-- The words without a flag that stands before any `--`, if there is one.
+abbrev pub without_flag : List ℕ → List (List ℕ) → Option (List (List ℕ))
+without_flag flag [] = None
+without_flag flag (w ∷ ws) =
+    if bytes_eq w (codes "--") then None
+    else if bytes_eq w flag then Some ws
+    else option_map (λ rest. w ∷ rest) (without_flag flag ws)
+
+-- A folder, and whether its disks are made anew.
+pub record Placing : Type 0 where
+  pub folder : Option (List ℕ)
+  pub anew : Bool
+
+-- What words give of which these are left without the flag, if it is among them.
+abbrev pub placing_by : List (List ℕ) → Option (List (List ℕ)) → Placing
+placing_by ws None = record { folder = folder_in ws; anew = false }
+placing_by ws (Some left) = record { folder = folder_in left; anew = true }
+
+-- What the words behind `live` give: a flag, wherever it stands, and a folder in what is left, where it can't stand again.
+abbrev pub placing_in : List (List ℕ) → Placing
+placing_in ws = placing_by ws (without_flag (codes "--anew") ws)
+
+-- What they ask for, if a folder was given.
+abbrev pub placed_in : Placing → Option Words
+placed_in p = option_map (λ folder. Live folder p.anew) p.folder
+
 -- What the words behind `live` say.
 abbrev pub live_in : List (List ℕ) → Option Words
-live_in ws = option_map (λ w. Live w) (folder_in ws)
+live_in ws = placed_in (placing_in ws)
 
 -- ---- the whole line
 

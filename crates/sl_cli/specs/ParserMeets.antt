@@ -4,11 +4,11 @@ use Rattle.clap.specs.Simple.{subcommand_of}
 use Rattle.clap.specs.Walk.{Row, Text, first_of}
 use Rattle.sl_cli.specs.Actions.{Given, action_in}
 use Rattle.sl_cli.specs.ParserShape.{command_line}
-use Rattle.sl_cli.specs.CommandWords.{Seeding, seeding_in}
+use Rattle.sl_cli.specs.CommandWords.{Placing, Seeding, generated, placed_in, seeding_in}
 use Rattle.sl_cli.specs.declared.parsed_command.Met.{Met}
-use Rattle.sl_cli.specs.declared.command_words.Words.TheVariants.{Direct, Live, Replay}
+use Rattle.sl_cli.specs.declared.command_words.Words.TheVariants.{Direct, Replay}
 use Rattle.sl_cli.specs.declared.command_words.Words.{Words}
-use Rattle.std.specs.Prelude.{List, None, Option, Some, bytes_eq, codes, if◌then◌else◌, option_map, [], ◌≡◌}
+use Rattle.std.specs.Prelude.{Bool, List, None, Option, Some, bytes_eq, codes, false, if◌then◌else◌, option_map, [], ◌≡◌}
 
 -- What was given, by what was found of each argument.
 abbrev pub given_in : List Row → Given
@@ -31,13 +31,22 @@ seeding_of rows = record {
   format = first_of (codes "format") rows;
 }
 
+-- A flag was given: what was found of it is that.
+abbrev pub is_set : Option Text → Bool
+is_set None = false
+is_set (Some w) = bytes_eq w (codes "true")
+
+-- A folder and whether its disks are made anew, by what was found.
+abbrev pub placing_of : List Row → Placing
+placing_of rows = record { folder = first_of (codes "folder") rows; anew = is_set (first_of (codes "anew") rows) }
+
 -- The command of this name that was met, with what was given to it.
 abbrev pub named_met : Text → List Row → Option Met
 named_met name rows =
     if bytes_eq name (codes "replay") then Some Met.Replay
     else if bytes_eq name (codes "gen") then Some (Met.Generate (seeding_of rows))
     else if bytes_eq name (codes "direct") then Some (Met.Direct (given_in rows))
-    else if bytes_eq name (codes "live") then Some (Met.Live (first_of (codes "folder") rows))
+    else if bytes_eq name (codes "live") then Some (Met.Live (placing_of rows))
     else None
 
 -- The command that was met.
@@ -48,9 +57,9 @@ met_in (Some p) = named_met p.0 p.1
 -- What it says.
 abbrev pub said_by : Met → Option Words
 said_by Met.Replay = Some Replay
-said_by (Met.Generate s) = seeding_in s.seed s.hosts s.events s.format
+said_by (Met.Generate s) = option_map generated (seeding_in s.seed s.hosts s.events s.format)
 said_by (Met.Direct given) = option_map (λ a. Direct a) (action_in given)
-said_by (Met.Live folder) = option_map (λ w. Live w) folder
+said_by (Met.Live p) = placed_in p
 
 -- The parser takes the words, and meets this command.
 abbrev pub TakenAs : List Text → Option Met → Type 0

@@ -1,5 +1,6 @@
 -- The command as the argument parser knows it.
 use Rattle.clap.specs.Walk.{Rule}
+use Rattle.clap.specs.declared.builder.action.ArgAction.TheVariants.{SetTrue}
 use Rattle.clap.specs.Simple.{App, Shape, new_app, new_rule, new_shape, with_rule, with_subcommand}
 use Rattle.std.specs.Prelude.{List, Some, codes, true, [], ℕ}
 
@@ -15,24 +16,35 @@ direct_app =
     (option_rule (codes "geometry") 103)) (option_rule (codes "format") 118)
 
 -- `gen SEED HOSTS EVENTS FORMAT`, of which the last word may be left out.
-abbrev pub gen_app : App
-gen_app =
-    with_rule (with_rule (with_rule (with_rule (new_app (codes "gen")) (new_rule (codes "seed"))) (new_rule (codes "hosts"))) (new_rule (codes "events")))
+abbrev pub seed_app : List ℕ → App
+seed_app name =
+    with_rule (with_rule (with_rule (with_rule (new_app name) (new_rule (codes "seed"))) (new_rule (codes "hosts"))) (new_rule (codes "events")))
     (new_rule (codes "format"))
 
--- `live FOLDER`.
+-- A flag, of a word behind two hyphens.
+abbrev pub flag_rule : List ℕ → Rule
+flag_rule id = record (new_rule id) { long = Some id; action = Some SetTrue }
+
+-- `live FOLDER`, with its flag.
 abbrev pub live_app : App
-live_app = with_rule (new_app (codes "live")) (new_rule (codes "folder"))
+live_app = with_rule (with_rule (new_app (codes "live")) (new_rule (codes "folder"))) (flag_rule (codes "anew"))
 
 -- The program, without a name in front of its words, and without what the parser would add of its own.
 abbrev pub bare_shape : Shape
 bare_shape =
     record (new_shape (codes "sanlock")) { no_binary_name = true; disable_help_flag = true; disable_help_subcommand = true; subcommand_required = true }
 
--- With the commands that run no machines.
+-- With the command that reads a schedule.
+abbrev pub reading_app : App
+reading_app = with_subcommand (record { top = bare_shape; subs = [] }) (new_shape (codes "replay"))
+
+-- With those that run one.
+abbrev pub playing_app : App
+playing_app = with_subcommand reading_app (seed_app (codes "gen")).top
+
+-- With all that run no machines.
 abbrev pub offline_app : App
-offline_app =
-    with_subcommand (with_subcommand (with_subcommand (record { top = bare_shape; subs = [] }) (new_shape (codes "replay"))) gen_app.top) direct_app.top
+offline_app = with_subcommand playing_app direct_app.top
 
 -- The whole command.
 abbrev pub command_line : App

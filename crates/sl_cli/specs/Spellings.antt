@@ -3,7 +3,7 @@ use Rattle.sl_area.specs.AreaSizes.{IsGeometry, Sizes, geometries, layout_of}
 use Rattle.sl_cli.specs.Actions.{Given, action_in}
 use Rattle.sl_cli.specs.OptionValues.{is_stretch_size, is_stretch_start}
 use Rattle.sl_cli.specs.CommandWords.{Use, given_by, is_given, is_plain, nothing_taken, options, said_in, uses_from}
-use Rattle.sl_cli.specs.declared.command_words.Words.TheVariants.{Direct, Generate}
+use Rattle.sl_cli.specs.declared.command_words.Words.TheVariants.{Direct, Generate, Live}
 use Rattle.sl_cli.specs.declared.command_words.Words.{Words}
 use Rattle.sl_direct.specs.Actions.{IsAction}
 use Rattle.sl_direct.specs.declared.action.Action.TheVariants.{Dump, InitLockspace, InitResource, ReadLeader, Upgrade}
@@ -180,3 +180,12 @@ pub record AsksFor (a : Action) (ws : List (List ℕ)) : Type 0 where
 abbrev pub OnlyItsWordsAskForAnAction : Type 0
 OnlyItsWordsAskForAnAction = (ws : List (List ℕ)) (a : Action) → said_in ws ≡ Some (Direct a)
     → IsAsked a × (rest : List (List ℕ)) × (ws ≡ codes "direct" ∷ rest) × AsksFor a rest
+
+-- The flag of `live` may stand before or behind its folder, and is given once.
+abbrev pub FlagStandsAnywhere : Type 0
+FlagStandsAnywhere =
+    (folder : List ℕ) → is_plain folder ≡ true
+    → (said_in (codes "live" ∷ folder ∷ []) ≡ Some (Live folder false)) × (said_in (codes "live" ∷ codes "--anew" ∷ folder ∷ []) ≡ Some (Live folder true))
+    × (said_in (codes "live" ∷ folder ∷ codes "--anew" ∷ []) ≡ Some (Live folder true))
+    × (said_in (codes "live" ∷ codes "--anew" ∷ codes "--anew" ∷ folder ∷ []) ≡ None)
+    × (said_in (codes "live" ∷ codes "--anew" ∷ folder ∷ codes "--anew" ∷ []) ≡ None)

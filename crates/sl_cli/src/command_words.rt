@@ -2,7 +2,7 @@
 
 ghost use Rattle.clap.specs.Values.{kind_of};
 ghost use Rattle.sl_cli.specs.Actions.{action_in};
-ghost use Rattle.sl_cli.specs.CommandWords.{command_in, is_only, said_in};
+ghost use Rattle.sl_cli.specs.CommandWords.{command_in, generated, is_only, said_in, seeding_in};
 ghost use Rattle.sl_cli.specs.ParserMeets.{IsRefused, TakenAs, said_by};
 ghost use Rattle.sl_cli.specs.Spellings.{CanBeDone};
 ghost use Rattle.sl_cli.specs.declared.command_words.Words.TheVariants.{Direct};
@@ -10,7 +10,7 @@ ghost use Rattle.sl_cli.specs.declared.command_words.WordsError.TheVariants.{Bad
 ghost use Rattle.std.specs.Prelude.{Err, IfOk, IfSome, None, Some, map, option_and_then, option_map, string_bytes, ◌≡◌};
 
 use crate::folder::Folder;
-use crate::parsed_command::{Given, Met, met_in};
+use crate::parsed_command::{Given, Met, Seeding, met_in};
 use crate::parser_shape::command_line;
 use clap::Error;
 use clap::error::ErrorKind;
@@ -31,9 +31,10 @@ pub enum Words {
     },
     /// Do this to an area.
     Direct(Action),
-    /// Run live machines by a script, on disks that are files below this folder.
+    /// Run live machines by a script, on disks that are files below this folder; `anew`: those that are there are made anew.
     Live {
         folder: Folder,
+        anew: bool,
     },
     /// Put out the help.
     Help,
@@ -86,6 +87,20 @@ fn directed(given: &Given<'_>) -> Option<Words>
     Some(Words::Direct(given.action()?))
 }
 
+/// What was given to `gen` says.
+fn generated(given: &Seeding<'_>) -> Option<Words>
+    ensures exact { result ≡ option_map generated (seeding_in given.now.seed given.now.hosts given.now.events given.now.format) }
+    ensures can { IfSome result CanBeDone }
+{
+    let asked = given.seed()?;
+    Some(Words::Generate {
+        seed: asked.number,
+        hosts: asked.hosts,
+        events: asked.events,
+        paired: asked.paired,
+    })
+}
+
 /// What a command says. An `Err` is want of memory.
 fn said(alloc: Global, met: Met<'_>) -> Result<Option<Words>, AllocError>
     ensures exact { IfOk result (λ words. words ≡ said_by met.entry) }
@@ -93,7 +108,7 @@ fn said(alloc: Global, met: Met<'_>) -> Result<Option<Words>, AllocError>
 {
     match met {
         Met::Replay => Ok(Some(Words::Replay)),
-        Met::Generate(given) => Ok(given.words()),
+        Met::Generate(given) => Ok(generated(&given)),
         Met::Direct(given) => Ok(directed(&given)),
         Met::Live(given) => given.words(alloc),
     }

@@ -1,6 +1,6 @@
 //! What the words of the command line are: laws that need no run.
 
-ghost use Rattle.sl_cli.specs.Spellings.{ActionsHaveOneText, OnlyItsWordsAskForAnAction, OptionsComeInAnyOrder};
+ghost use Rattle.sl_cli.specs.Spellings.{ActionsHaveOneText, FlagStandsAnywhere, OnlyItsWordsAskForAnAction, OptionsComeInAnyOrder};
 
 /// What is given to `direct` asks for an action exactly where it is what the action needs: each word in its one spelling, and no other.
 /// Only the word of sizes may be left out, of sectors of 512 bytes in areas of one mebibyte.
@@ -16,4 +16,9 @@ pub fn options_come_in_any_order()
 /// No other words ask for an action.
 pub fn only_its_words_ask_for_an_action()
     ensures { OnlyItsWordsAskForAnAction }
+{}
+
+/// The flag of `live` may stand before or behind its folder, and is given once.
+pub fn flag_stands_anywhere()
+    ensures { FlagStandsAnywhere }
 {}

@@ -4,12 +4,10 @@ ghost use Rattle.clap.specs.Matches.{found_of};
 ghost use Rattle.clap.specs.Simple.{subcommand_rows_of};
 ghost use Rattle.clap.specs.Walk.{first_of, rows_of};
 ghost use Rattle.sl_cli.specs.Actions.{action_in, area_in, dump_in, init_in, lockspace_in, other_in, read_leader_in, resource_in, upgrade_in};
-ghost use Rattle.sl_cli.specs.CommandWords.{is_event_count, is_format, is_machine_count, is_seed, seeding_in};
-ghost use Rattle.sl_cli.specs.ParserMeets.{given_in, met_in, named_met, seeding_of};
-ghost use Rattle.sl_cli.specs.Spellings.{CanBeDone};
+ghost use Rattle.sl_cli.specs.CommandWords.{is_event_count, is_format, is_machine_count, is_seed, placed_in, seeding_in};
+ghost use Rattle.sl_cli.specs.ParserMeets.{given_in, is_set, met_in, named_met, placing_of, seeding_of};
 ghost use Rattle.sl_text.specs.Numbers.{number_of};
 ghost use Rattle.sl_words.specs.Words.{choose};
-ghost use Rattle.sl_cli.specs.declared.command_words.Words.TheVariants.{Live};
 ghost use Rattle.std.specs.Prelude.{IfOk, IfSome, codes, is_some, option_map, ◌≡◌, ◌≤◌};
 
 use crate::command_words::Words;
@@ -199,6 +197,23 @@ impl<'a> Given<'a> {
     }
 }
 
+/// A seed, how many hosts and events there are, and whether areas have pairs.
+#[derive(Drop)]
+pub(crate) struct Seed {
+    pub(crate) number: u64,
+    pub(crate) hosts: u32,
+    pub(crate) events: u64,
+    pub(crate) paired: bool,
+}
+
+impl Model for Seed {
+    ghost use Rattle.sl_cli.specs.CommandWords as words;
+
+    ghost Value = { words.Seed };
+
+    ghost view = { λ s. record { number = s.number; hosts = s.hosts; events = s.events; paired = s.paired } };
+}
+
 /// The words of a seed, of a number of hosts, of a number of events and of a format: each where it was given.
 #[derive(Drop)]
 pub(crate) struct Seeding<'a> {
@@ -268,13 +283,13 @@ impl<'a> Seeding<'a> {
 
     /// What is asked for, if all but the format are given and each has its form.
     #[tactic(auto, using(crate::proofs::OptionValueLaws::no_second, crate::proofs::OptionValueLaws::no_third, crate::proofs::OptionValueLaws::no_fourth))]
-    pub(crate) fn words(&self) -> Option<Words>
+    pub(crate) fn seed(&self) -> Option<Seed>
         ensures exact { result ≡ seeding_in self.now.seed self.now.hosts self.now.events self.now.format }
-        ensures can { IfSome result CanBeDone }
+        ensures few { IfSome result (λ s. (1 ≤ s.hosts) × (s.hosts ≤ 16) × (s.events ≤ 1000000)) }
     {
         match (self.seed, self.hosts, self.events) {
-            (Some(seed), Some(hosts), Some(events)) => Some(Words::Generate {
-                seed: seed_of(seed)?,
+            (Some(number), Some(hosts), Some(events)) => Some(Seed {
+                number: seed_of(number)?,
                 hosts: machines_of(hosts)?,
                 events: events_of(events)?,
                 paired: format_of(self.format)?,
@@ -284,38 +299,52 @@ impl<'a> Seeding<'a> {
     }
 }
 
-/// The word of a folder, where it was given.
+/// Whether a flag was given, by what the parser keeps of it.
+fn is_set(value: Option<&str>) -> bool
+    ensures { result ≡ is_set (option_map (λ w. w.now) value.entry) }
+{
+    match value {
+        Some(value) => value == "true",
+        None => false,
+    }
+}
+
+/// The word of a folder, where it was given, and whether its disks are made anew.
 #[derive(Drop)]
 pub(crate) struct Placing<'a> {
     folder: Option<&'a str>,
+    anew: bool,
 }
 
 impl<'a> Model for Placing<'a> {
-    ghost use Rattle.std.specs.Prelude.{List, Option, option_map, ℕ};
+    ghost use Rattle.sl_cli.specs.CommandWords as words;
+    ghost use Rattle.std.specs.Prelude.{option_map};
 
-    ghost Value = { Option (List ℕ) };
+    ghost Value = { words.Placing };
 
-    ghost view = { λ p. option_map (λ w. w.now) p.folder };
+    ghost view = { λ p. record { folder = option_map (λ w. w.now) p.folder; anew = p.anew } };
 }
 
 impl<'a> Placing<'a> {
     /// What the parser found.
     pub(crate) fn new(matches: &ArgMatches<'a>) -> Placing<'a>
-        ensures { result ≡ first_of (codes "folder") (rows_of (found_of matches.now)) }
+        ensures { result ≡ placing_of (rows_of (found_of matches.now)) }
     {
         Placing {
             folder: value_of(matches, "folder"),
+            anew: is_set(value_of(matches, "anew")),
         }
     }
 
-    /// What is asked for, if it is given. An `Err` is want of memory.
+    /// What is asked for, if a folder is given. An `Err` is want of memory.
     pub(crate) fn words(&self, alloc: Global) -> Result<Option<Words>, AllocError>
-        ensures { IfOk result (λ words. words ≡ option_map (λ w. Live w) self.now) }
+        ensures { IfOk result (λ words. words ≡ placed_in self.now) }
     {
         match self.folder {
             None => Ok(None),
             Some(word) => Ok(Some(Words::Live {
                 folder: Folder::new(alloc, word)?,
+                anew: self.anew,
             })),
         }
     }

@@ -3,10 +3,10 @@
 ghost use Rattle.clap.specs.Walk.{rule_of};
 ghost use Rattle.clap.specs.Simple.{app_of, new_rule, new_shape, with_rule, with_subcommand};
 ghost use Rattle.clap.specs.declared.builder.command.Command.TheViews.{out-Command as fields_of};
-ghost use Rattle.sl_cli.specs.ParserShape.{bare_shape, command_line, direct_app, gen_app, live_app, offline_app, option_rule};
+ghost use Rattle.sl_cli.specs.ParserShape.{bare_shape, command_line, direct_app, flag_rule, live_app, offline_app, option_rule, playing_app, reading_app, seed_app};
 ghost use Rattle.std.specs.Prelude.{IfOk, [], codes, false, ◌≡◌};
 
-use clap::{Arg, Command};
+use clap::{Arg, ArgAction, Command};
 use std::alloc::{AllocError, Global};
 
 /// The command with one more option, of one letter and with a value.
@@ -62,12 +62,12 @@ fn direct<'a>(alloc: Global) -> Result<Command<'a>, AllocError>
     with_other_options(alloc, command)
 }
 
-/// `gen`, with its seed.
-fn bare_gen<'a>(alloc: Global) -> Result<Command<'a>, AllocError>
-    ensures app { IfOk result (λ c. app_of c ≡ with_rule (record { top = new_shape (codes "gen"); subs = [] }) (new_rule (codes "seed"))) }
+/// A command of this name, with a seed.
+fn with_seed<'a>(alloc: Global, name: &'a str) -> Result<Command<'a>, AllocError>
+    ensures app { IfOk result (λ c. app_of c ≡ with_rule (record { top = new_shape name.entry.now; subs = [] }) (new_rule (codes "seed"))) }
     ensures local { IfOk result (λ c. (fields_of c).has_globals ≡ false) }
 {
-    Command::new(alloc, "gen").arg(Arg::new(alloc, "seed"))
+    Command::new(alloc, name).arg(Arg::new(alloc, "seed"))
 }
 
 /// The command with one more word that is no option.
@@ -83,23 +83,44 @@ fn with_word<'a>(
     command.arg(Arg::new(alloc, id))
 }
 
-/// `gen`, with its seed, its hosts, its events and its format.
-fn generate<'a>(alloc: Global) -> Result<Command<'a>, AllocError>
-    ensures app { IfOk result (λ c. app_of c ≡ gen_app) }
+/// A command of this name, with a seed, hosts, events and a format.
+fn seeded<'a>(alloc: Global, name: &'a str) -> Result<Command<'a>, AllocError>
+    ensures app { IfOk result (λ c. app_of c ≡ seed_app name.entry.now) }
     ensures local { IfOk result (λ c. (fields_of c).has_globals ≡ false) }
 {
-    let command = bare_gen(alloc)?;
+    let command = with_seed(alloc, name)?;
     let command = with_word(alloc, command, "hosts")?;
     let command = with_word(alloc, command, "events")?;
     with_word(alloc, command, "format")
 }
 
 /// `live`, with its folder.
+fn bare_live<'a>(alloc: Global) -> Result<Command<'a>, AllocError>
+    ensures app { IfOk result (λ c. app_of c ≡ with_rule (record { top = new_shape (codes "live"); subs = [] }) (new_rule (codes "folder"))) }
+    ensures local { IfOk result (λ c. (fields_of c).has_globals ≡ false) }
+{
+    Command::new(alloc, "live").arg(Arg::new(alloc, "folder"))
+}
+
+/// The command with one more flag, which is a word behind two hyphens.
+fn with_flag<'a>(
+    alloc: Global,
+    command: Command<'a>,
+    id: &'a str,
+) -> Result<Command<'a>, AllocError>
+    requires { (fields_of command).has_globals ≡ false }
+    ensures app { IfOk result (λ c. app_of c ≡ with_rule (app_of command.entry) (flag_rule id.entry.now)) }
+    ensures local { IfOk result (λ c. (fields_of c).has_globals ≡ false) }
+{
+    command.arg(Arg::new(alloc, id).long(id).action(ArgAction::SetTrue))
+}
+
+/// `live`, with its folder and its flag.
 fn live<'a>(alloc: Global) -> Result<Command<'a>, AllocError>
     ensures app { IfOk result (λ c. app_of c ≡ live_app) }
     ensures local { IfOk result (λ c. (fields_of c).has_globals ≡ false) }
 {
-    Command::new(alloc, "live").arg(Arg::new(alloc, "folder"))
+    with_flag(alloc, bare_live(alloc)?, "anew")
 }
 
 /// The program without its commands. Its words have no name in front, and no word asks the parser for help.
@@ -113,25 +134,25 @@ fn bare<'a>(alloc: Global) -> Command<'a>
         .subcommand_required(true)
 }
 
-/// The program with `replay`.
-fn only_replay<'a>(alloc: Global) -> Result<Command<'a>, AllocError>
-    ensures { IfOk result (λ c. app_of c ≡ with_subcommand (record { top = bare_shape; subs = [] }) (new_shape (codes "replay"))) }
+/// The program with the command that reads a schedule.
+fn reading<'a>(alloc: Global) -> Result<Command<'a>, AllocError>
+    ensures { IfOk result (λ c. app_of c ≡ reading_app) }
 {
     bare(alloc).subcommand(Command::new(alloc, "replay"))
 }
 
-/// The program with the commands that run schedules.
-fn for_schedules<'a>(alloc: Global) -> Result<Command<'a>, AllocError>
-    ensures { IfOk result (λ c. app_of c ≡ with_subcommand (with_subcommand (record { top = bare_shape; subs = [] }) (new_shape (codes "replay"))) gen_app.top) }
+/// The program with the commands that run a schedule.
+fn playing<'a>(alloc: Global) -> Result<Command<'a>, AllocError>
+    ensures { IfOk result (λ c. app_of c ≡ playing_app) }
 {
-    only_replay(alloc)?.subcommand(generate(alloc)?)
+    reading(alloc)?.subcommand(seeded(alloc, "gen")?)
 }
 
 /// The program with the commands that run no machines.
 fn offline<'a>(alloc: Global) -> Result<Command<'a>, AllocError>
     ensures { IfOk result (λ c. app_of c ≡ offline_app) }
 {
-    for_schedules(alloc)?.subcommand(direct(alloc)?)
+    playing(alloc)?.subcommand(direct(alloc)?)
 }
 
 /// The whole command.

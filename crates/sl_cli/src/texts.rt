@@ -9,9 +9,10 @@ usage: sanlock COMMAND
                            run the schedule of a seed, print its words and the
                            last line of its report; with 2 each host's block has
                            a pair of sectors
-  live FOLDER              run the live script on standard input, with disks in
+  live FOLDER [--anew]     run the live script on standard input, with disks in
                            files below FOLDER and child programs; it waits for
-                           the children that it starts, and prints at the end
+                           the children that it starts, and prints at the end;
+                           with --anew disks that are there are made anew
   direct init -s LOCKSPACE -n N [-g GEOMETRY]
                            write the sectors of a lockspace for N hosts
   direct init -r RESOURCE -n N [-v 2] [-g GEOMETRY]
@@ -27,6 +28,7 @@ usage: sanlock COMMAND
   --help, -h               print this
   --version, -V            print the version
 
+The language of schedules, reports and live scripts is in docs/LANGUAGE.md.
 LOCKSPACE is NAME:0:PATH:OFFSET, RESOURCE is LOCKSPACE_NAME:NAME:PATH:OFFSET,
 with OFFSET a multiple of an area's size. In a dump OFFSET and SIZE are
 multiples of a sector's, SIZE at most 1048576. Offsets are below 10^12.

@@ -1,6 +1,6 @@
 use Rattle.clap.specs.Simple.{App, app_of, new_rule, with_rule}
 use Rattle.sl_cli.proofs.AddedRules.{three_added}
-use Rattle.sl_cli.proofs.parser_shape.generate.Goals as goal
+use Rattle.sl_cli.proofs.parser_shape.seeded.Goals as goal
 use Rattle.std.proofs.Common.{subst, ◌≡◌}
 use Rattle.std.specs.Prelude.{IfOk, codes}
 
