@@ -125,7 +125,7 @@ fn in_two_threads<R: Wait + Threads + Clock + Copy + Drop + Send + Sync>(
     told: &mut Told,
     devices: &mut SharedDevices<R>,
 ) {
-    told.truth(devices.make("f", "/d", 2048).is_ok());
+    told.truth(devices.make("f", "/d", 2048, false).is_ok());
     let gate = devices.gate();
     let mut first = devices.area(1, 1, "f/d");
     let mut second = devices.area(2, 1, "f/d");

@@ -6,7 +6,7 @@ use crate::areas::{reads, small, writes};
 use crate::planned::start;
 use crate::told::Told;
 use sl_area::{Area, Place};
-use sl_outside::{ChildSpawner, LiveDevices, Spawner, Words};
+use sl_outside::{ChildSpawner, LiveDevices, NotTaken, Spawner, Words};
 use sl_time::Clock;
 use sl_trace::Signal;
 use std::fs::Permissions;
@@ -167,8 +167,8 @@ fn tell_sevens<A: Area>(told: &mut Told, area: &mut A, at: Place)
 }
 
 /// Makes a disk, and writes a sector of sevens to it: whether it was made, whether the sector was zeros, whether it is written, and read back.
-fn tell_made<D: LiveDevices>(devices: &mut D, told: &mut Told) {
-    told.truth(devices.make("made", "/a/b/disk", 4096).is_ok());
+fn tell_made<D: LiveDevices>(devices: &mut D, told: &mut Told, anew: bool) {
+    told.truth(devices.make("made", "/a/b/disk", 4096, anew).is_ok());
     let Some(run) = small() else {
         return told.need(false);
     };
@@ -185,16 +185,34 @@ fn tell_len<R: Files>(rt: &R, told: &mut Told, path: &str) {
     }
 }
 
-/// Whether a disk is made in a folder that isn't there; what comes of one that is made twice, which is emptied then; and how long its file is.
+/// What comes of a disk once it stands: whether it is seen, whether it is made where it is not to be made anew, and where it is, which
+/// empties it.
+fn tell_standing<D: LiveDevices>(devices: &mut D, told: &mut Told) {
+    told.truth(devices.vacant("made/a/b/disk").is_ok());
+    told.truth(devices.make("made", "/a/b/disk", 4096, false).is_ok());
+    tell_made(devices, told, true);
+}
+
+/// Whether a folder is taken that isn't there, and one that is; and whether that one is taken once more.
+fn tell_taken<D: LiveDevices>(devices: &mut D, told: &mut Told) {
+    told.truth(devices.take("no_folder").is_ok());
+    told.truth(devices.take("made").is_ok());
+    told.truth(devices.take("made") == Err(NotTaken::InUse));
+}
+
+/// Whether a disk is made in a folder that isn't there; whether folders are taken; what comes of a disk that is made, which is not there before,
+/// and of one that stands; and how long its file is.
 pub fn files_are_made<R: Files + AllocGlobal, D: LiveDevices>(
     rt: &R,
     devices: &mut D,
     told: &mut Told,
 ) {
-    told.truth(devices.make("no_folder", "/a/disk", 4096).is_ok());
+    told.truth(devices.make("no_folder", "/a/disk", 4096, false).is_ok());
     told.done(fs::create_dir(rt, "made"));
-    tell_made(devices, told);
-    tell_made(devices, told);
+    tell_taken(devices, told);
+    told.truth(devices.vacant("made/a/b/disk").is_ok());
+    tell_made(devices, told, false);
+    tell_standing(devices, told);
     tell_len(rt, told, "made/a/b/disk");
     told.done(fs::remove_dir_all(rt, "made"));
 }

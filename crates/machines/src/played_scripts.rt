@@ -126,6 +126,7 @@ fn play<R: Clock + Wait + Threads + Copy + Drop + Send + Sync>(
         &rt,
         alloc,
         "f",
+        false,
         source,
         &mut sink,
         &mut devices,

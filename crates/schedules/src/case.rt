@@ -14,6 +14,8 @@ pub struct Case {
     pub writes: Option<u64>,
     /// The call of a disk in memory that fails, where the disks are in memory.
     pub memory: Option<u64>,
+    /// The folder that another program has.
+    pub used: Option<String>,
     pub words: Vec<String>,
     pub source: Vec<u8>,
     /// What is to be put out, where a file says so.
@@ -42,6 +44,17 @@ fn marked<'a>(line: &'a str, mark: &str) -> (bool, &'a str) {
         Some(rest) => (true, rest),
         None => (false, line),
     }
+}
+
+/// The folder that another program has, where one is told at the front of a line, and the rest of the line.
+fn used<'a>(alloc: Global, line: &'a str) -> Result<(Option<String>, &'a str), AllocError> {
+    let Some((folder, rest)) = line
+        .strip_prefix("used ")
+        .and_then(|rest| rest.split_once(' '))
+    else {
+        return Ok((None, line));
+    };
+    Ok((Some(String::from_str(alloc, folder)?), rest))
 }
 
 /// The words of a line.
@@ -139,6 +152,7 @@ pub fn read_case<R: Files + AllocGlobal>(rt: &R, line: &str) -> io::Result<Case>
     let (reads, line) = option(line, "reads");
     let (writes, line) = option(line, "writes");
     let (memory, line) = option(line, "memory");
+    let (used, line) = used(rt.alloc(), line)?;
     let (calm, line) = marked(line, "calm ");
     let (scripted, line) = marked(line, "scripted ");
     let (words, source, due) = parts(rt, line)?;
@@ -146,6 +160,7 @@ pub fn read_case<R: Files + AllocGlobal>(rt: &R, line: &str) -> io::Result<Case>
         reads,
         writes,
         memory,
+        used,
         words,
         source,
         due,

@@ -5,13 +5,14 @@
 //! - `schedule NAME` has the schedule `NAME.schedule` for its source; where it puts out what stands in `NAME.report`, `as due` is printed in
 //!   place of it;
 //! - `behind COUNT NAME TEXT` replays so many lines of that schedule, and behind them the line `TEXT`;
-//! - `lives NAME FOLDER` runs live machines by the script `NAME.script`, with disks in files below that folder.
+//! - `lives NAME WORDS` runs live machines by the script `NAME.script`, with these words behind `live`: the folder below which their disks are
+//!   files, and `--anew` where those that stand there are made anew.
 //!
 //! `scripted` in front of a schedule has it played by daemons that follow a script (`scripted`), and not by the top call.
 //!
 //! What goes wrong on the outside is told in front, in this order: `reads N`, where the source gives 30 bytes a read and its Nth read fails;
 //! `writes N`, where the sink takes 16 bytes a write and its Nth write fails; `memory N`, where the disks `/f` and `/g` are zeros in memory,
-//! and the Nth call of each fails (with 0 none). Else the disks are files.
+//! and the Nth call of each fails (with 0 none). Else the disks are files; `used FOLDER`, where another program has that folder.
 #![tactic(auto)]
 
 mod case;
@@ -25,8 +26,10 @@ use sl_io::{WriteSink, write_all};
 use sl_outside::{AreaPlan, LiveDevices, SharedDevices, SharedPlan};
 use sl_top::FileDevices;
 use std::alloc::{AllocError, Global};
+use std::fs::{File, Files};
 use std::io;
 use std::io::ErrorKind;
+use std::process::{Processes, SystemProcess};
 use std::sync::Wait;
 use std::time::Clock;
 
@@ -54,9 +57,22 @@ fn disks<R: Wait + Clock + Copy + Drop + Send + Sync>(
     };
     let mut devices = SharedDevices::new(rt, alloc, plan);
     for path in ["/f", "/g"] {
-        devices.make("", path, AREA).map_err(|_| AllocError)?;
+        devices.make("", path, AREA, false).map_err(|_| AllocError)?;
     }
     Ok(devices)
+}
+
+/// The devices of another program, which has the folder that is told.
+fn others<R: Files<File = File> + Processes<Started = SystemProcess> + Clock + Copy + Drop + Send>(
+    rt: R,
+    alloc: Global,
+    case: &Case,
+) -> FileDevices<R> {
+    let mut others = FileDevices::new(rt, alloc);
+    if let Some(folder) = &case.used {
+        let _taken = others.take(folder.as_str());
+    }
+    others
 }
 
 /// What is printed of a case with this outcome.
@@ -75,7 +91,10 @@ fn main(rt: HostRuntime) -> io::Result<()> {
         let outcome = match (case.scripted, case.memory) {
             (true, _) => play_scripted(alloc, &case.source)?,
             (false, Some(call)) => run_case(&rt, alloc, &case, disks(rt, alloc, call)?)?,
-            (false, None) => run_case(&rt, alloc, &case, FileDevices::new(rt, alloc))?,
+            (false, None) => {
+                let _others = others(rt, alloc, &case);
+                run_case(&rt, alloc, &case, FileDevices::new(rt, alloc))?
+            }
         };
         let text = told(alloc, line.as_str(), &case, &outcome)?;
         if write_all(&mut sink, &text).is_err() {

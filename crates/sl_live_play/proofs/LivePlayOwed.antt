@@ -1,13 +1,16 @@
 -- What is owed of a play, from what came of its parts.
 use Rattle.sl_reader.specs.declared.live_lines.LiveLine.{LiveLine}
 use Rattle.sl_live_lines.specs.LocksAlong.{begun_along}
-use Rattle.sl_live_play.specs.LiveOwed.{All, Beginnings, Breaks, Breaks_early, Due, Ends, Faults, Lacks, Lives, Nothing, Of, Owes, Part, Parts, Puts, PutsEnded, PutsNoGround, PutsStop, Stops, Stops_early, area_fault_text}
+use Rattle.sl_live_play.specs.LiveOwed.{All, Beginnings, Breaks, Breaks_early, Disk_there, Due, Ends, Faults, In_use, Lacks, Lives, Nothing, Of, Owes, Part, Parts, Puts, PutsEnded, PutsNoEntry, PutsNoGround, PutsStop, Stops, Stops_early, area_fault_text, disk_there_text, in_use_text}
 use Rattle.sl_live_play.specs.declared.play.Lived.TheVariants.{AreaFault, Differs, Done, NoMemory, ReadFault, Refused, WriteFault}
 use Rattle.sl_live_play.specs.declared.play.Lived.{Lived}
 use Rattle.sl_reader.specs.ScriptReading.{ReadsScript}
 use Rattle.sl_reader.specs.declared.script_reading.ScriptEnd.TheVariants as script
 use Rattle.sl_reader.specs.declared.script_reading.ScriptEnd.{ScriptEnd}
 use Rattle.sl_live_run.specs.Causes.{Explains}
+use Rattle.sl_live_run.specs.Folders.{Asked, Bars, IsVacant}
+use Rattle.sl_live_run.specs.declared.folder.NoEntry.TheVariants as no_entry
+use Rattle.sl_live_run.specs.declared.folder.NoEntry.{NoEntry}
 use Rattle.sl_live_run.specs.declared.ground.NoGround.TheVariants as no_ground
 use Rattle.sl_live_run.specs.declared.ground.NoGround.{NoGround}
 use Rattle.sl_live_run.specs.Runs.{AreLiveHistories, IsLiveStop}
@@ -33,54 +36,68 @@ use Rattle.std.specs.Io.KnownBytes.{Appends}
 use Rattle.std.specs.Prelude.{IfErr, IfOk, OnOk}
 
 -- For want of memory nothing was put out.
-lacks : {D : Type 0} (stands : D → Setting → Trace → Type 0) (commands : Header → List (Form Command)) (left after taken now : Option (List ℕ))
+lacks : {D : Type 0} (stands : D → Setting → Trace → Type 0) (commands : Header → List (Form Command)) (f : Asked) (left after taken now : Option (List ℕ))
     (faults later sink_faults sink_later device_faults device_later : ℕ) (s : Lived) → s ≡ NoMemory → Appends taken now []
-    → Owes stands commands left after taken now faults later sink_faults sink_later device_faults device_later s
-lacks stands commands left after taken now faults later sink_faults sink_later device_faults device_later s is nothing =
-    subst (Owes stands commands left after taken now faults later sink_faults sink_later device_faults device_later) (sym is) (Lacks nothing)
+    → Owes stands commands f left after taken now faults later sink_faults sink_later device_faults device_later s
+lacks stands commands f left after taken now faults later sink_faults sink_later device_faults device_later s is nothing =
+    subst (Owes stands commands f left after taken now faults later sink_faults sink_later device_faults device_later) (sym is) (Lacks nothing)
 
 -- The histories of machines, by how their script ended.
-owes_ended : {D : Type 0} (stands : D → Setting → Trace → Type 0) (commands : Header → List (Form Command)) (left after taken now : Option (List ℕ))
+owes_ended : {D : Type 0} (stands : D → Setting → Trace → Type 0) (commands : Header → List (Form Command)) (f : Asked) (left after taken now : Option (List ℕ))
     (faults later sink_faults sink_later device_faults device_later : ℕ) (h : Header) (given : List LiveLine) (hs : List (List Entry)) (end : Option ScriptEnd) (s : Lived)
-    → ReadsScript left after faults later h given end → Lives stands commands h given hs → PutsEnded taken now sink_faults sink_later (begun_along h first_numbers.job) hs end s
-    → Owes stands commands left after taken now faults later sink_faults sink_later device_faults device_later s
-owes_ended stands commands left after taken now faults later sink_faults sink_later device_faults device_later h given hs (Some script.End) s reads lives puts =
-    Of _ Done s (Ends h given hs reads lives) puts
-owes_ended stands commands left after taken now faults later sink_faults sink_later device_faults device_later h given hs (Some (script.Refused number why)) s reads lives puts =
-    Of _ Refused s (Stops h given hs number why reads lives) puts
-owes_ended stands commands left after taken now faults later sink_faults sink_later device_faults device_later h given hs (Some script.ReadFault) s reads lives puts =
-    Of _ ReadFault s (Breaks h given hs reads lives) puts
-owes_ended stands commands left after taken now faults later sink_faults sink_later device_faults device_later h given hs (Some script.NoMemory) s reads lives puts =
-    lacks stands commands left after taken now faults later sink_faults sink_later device_faults device_later s puts.0 puts.1
-owes_ended stands commands left after taken now faults later sink_faults sink_later device_faults device_later h given hs None s reads lives puts =
-    lacks stands commands left after taken now faults later sink_faults sink_later device_faults device_later s puts.0 puts.1
+    → ReadsScript left after faults later h given end → Lives stands commands h given hs → IsVacant f h → PutsEnded taken now sink_faults sink_later (begun_along h first_numbers.job) hs end s
+    → Owes stands commands f left after taken now faults later sink_faults sink_later device_faults device_later s
+owes_ended stands commands f left after taken now faults later sink_faults sink_later device_faults device_later h given hs (Some script.End) s reads lives vacant puts =
+    Of _ Done s (Ends h given hs reads lives vacant) puts
+owes_ended stands commands f left after taken now faults later sink_faults sink_later device_faults device_later h given hs (Some (script.Refused number why)) s reads lives vacant puts =
+    Of _ Refused s (Stops h given hs number why reads lives vacant) puts
+owes_ended stands commands f left after taken now faults later sink_faults sink_later device_faults device_later h given hs (Some script.ReadFault) s reads lives vacant puts =
+    Of _ ReadFault s (Breaks h given hs reads lives vacant) puts
+owes_ended stands commands f left after taken now faults later sink_faults sink_later device_faults device_later h given hs (Some script.NoMemory) s reads lives vacant puts =
+    lacks stands commands f left after taken now faults later sink_faults sink_later device_faults device_later s puts.0 puts.1
+owes_ended stands commands f left after taken now faults later sink_faults sink_later device_faults device_later h given hs None s reads lives vacant puts =
+    lacks stands commands f left after taken now faults later sink_faults sink_later device_faults device_later s puts.0 puts.1
 
 -- What came of a run.
-pub owes_run : {D V : Type 0} (stands : D → Setting → Trace → Type 0) (commands : Header → List (Form Command)) (left after taken now : Option (List ℕ))
+pub owes_run : {D V : Type 0} (stands : D → Setting → Trace → Type 0) (commands : Header → List (Form Command)) (f : Asked) (left after taken now : Option (List ℕ))
     (faults later sink_faults sink_later device_faults device_later : ℕ) (h : Header) (begun : Beginnings h) (before given : List LiveLine) (items : V → List (List Entry))
-    (histories : Result V LiveStop) (end : Option ScriptEnd) (s : Lived) → before ≡ [] → ReadsScript left after faults later h given end
+    (histories : Result V LiveStop) (end : Option ScriptEnd) (s : Lived) → before ≡ [] → ReadsScript left after faults later h given end → IsVacant f h
     → IfOk histories (λ v. AreLiveHistories stands commands begun.header begun.sites before given (items v))
     → IfErr histories (IsLiveStop stands commands begun.header begun.sites before given)
     → IfOk histories (λ v. PutsEnded taken now sink_faults sink_later (begun_along h first_numbers.job) (items v) end s)
     → IfErr histories (λ e. PutsStop taken now sink_faults sink_later e s)
-    → Owes stands commands left after taken now faults later sink_faults sink_later device_faults device_later s
-owes_run stands commands left after taken now faults later sink_faults sink_later device_faults device_later h begun before given items (Ok v) end s none reads ok err puts stops =
-    owes_ended stands commands left after taken now faults later sink_faults sink_later device_faults device_later h given (items v) end s reads
-    (record { begun = begun; histories = subst (λ (b : List LiveLine). AreLiveHistories stands commands begun.header begun.sites b given (items v)) none ok }) puts
-owes_run stands commands left after taken now faults later sink_faults sink_later device_faults device_later h begun before given items (Err (stop.Differ machine d)) end s none reads ok err puts stops =
-    Of _ Differs s (Parts h given end machine d reads (record { begun = begun; differs = subst (λ (b : List LiveLine). IsLiveStop stands commands begun.header begun.sites b given (stop.Differ machine d)) none err })) stops
-owes_run stands commands left after taken now faults later sink_faults sink_later device_faults device_later h begun before given items (Err stop.NoMemory) end s none reads ok err puts stops =
-    lacks stands commands left after taken now faults later sink_faults sink_later device_faults device_later s stops.0 stops.1
+    → Owes stands commands f left after taken now faults later sink_faults sink_later device_faults device_later s
+owes_run stands commands f left after taken now faults later sink_faults sink_later device_faults device_later h begun before given items (Ok v) end s none reads vacant ok err puts stops =
+    owes_ended stands commands f left after taken now faults later sink_faults sink_later device_faults device_later h given (items v) end s reads
+    (record { begun = begun; histories = subst (λ (b : List LiveLine). AreLiveHistories stands commands begun.header begun.sites b given (items v)) none ok }) vacant puts
+owes_run stands commands f left after taken now faults later sink_faults sink_later device_faults device_later h begun before given items (Err (stop.Differ machine d)) end s none reads vacant ok err puts stops =
+    Of _ Differs s (Parts h given end machine d reads (record { begun = begun; differs = subst (λ (b : List LiveLine). IsLiveStop stands commands begun.header begun.sites b given (stop.Differ machine d)) none err }) vacant) stops
+owes_run stands commands f left after taken now faults later sink_faults sink_later device_faults device_later h begun before given items (Err stop.NoMemory) end s none reads vacant ok err puts stops =
+    lacks stands commands f left after taken now faults later sink_faults sink_later device_faults device_later s stops.0 stops.1
 
 -- A run that can't begin.
-pub owes_no_ground : {D : Type 0} (stands : D → Setting → Trace → Type 0) (commands : Header → List (Form Command)) (left after taken now : Option (List ℕ))
+pub owes_no_ground : {D : Type 0} (stands : D → Setting → Trace → Type 0) (commands : Header → List (Form Command)) (f : Asked) (left after taken now : Option (List ℕ))
     (faults later sink_faults sink_later device_faults device_later : ℕ) (why : NoGround) (s : Lived) → Explains device_faults device_later why
     → PutsNoGround taken now sink_faults sink_later why s
-    → Owes stands commands left after taken now faults later sink_faults sink_later device_faults device_later s
-owes_no_ground stands commands left after taken now faults later sink_faults sink_later device_faults device_later no_ground.AreaFault s rose puts =
+    → Owes stands commands f left after taken now faults later sink_faults sink_later device_faults device_later s
+owes_no_ground stands commands f left after taken now faults later sink_faults sink_later device_faults device_later no_ground.AreaFault s rose puts =
     Of area_fault_text AreaFault s (Faults rose) puts
-owes_no_ground stands commands left after taken now faults later sink_faults sink_later device_faults device_later no_ground.NoMemory s rose puts =
-    lacks stands commands left after taken now faults later sink_faults sink_later device_faults device_later s puts.0 puts.1
+owes_no_ground stands commands f left after taken now faults later sink_faults sink_later device_faults device_later no_ground.NoMemory s rose puts =
+    lacks stands commands f left after taken now faults later sink_faults sink_later device_faults device_later s puts.0 puts.1
+
+-- A folder that can't be entered.
+pub owes_no_entry : {D : Type 0} (stands : D → Setting → Trace → Type 0) (commands : Header → List (Form Command)) (f : Asked) (left after taken now : Option (List ℕ))
+    (faults later sink_faults sink_later device_faults device_later : ℕ) (h : Header) (r : ReaderState) (why : NoEntry) (s : Lived) → HeaderBegins left after r h
+    → Bars f.anew h device_faults device_later why → PutsNoEntry taken now sink_faults sink_later why s
+    → Owes stands commands f left after taken now faults later sink_faults sink_later device_faults device_later s
+owes_no_entry stands commands f left after taken now faults later sink_faults sink_later device_faults device_later h r no_entry.AreaFault s begins rose puts =
+    Of area_fault_text AreaFault s (Faults rose) puts
+owes_no_entry stands commands f left after taken now faults later sink_faults sink_later device_faults device_later h r no_entry.InUse s begins rose puts =
+    Of in_use_text AreaFault s (In_use rose) puts
+owes_no_entry stands commands f left after taken now faults later sink_faults sink_later device_faults device_later h r (no_entry.DiskThere path) s begins bars puts =
+    Of (disk_there_text path) AreaFault s (Disk_there r h path begins bars.0 bars.1) puts
+owes_no_entry stands commands f left after taken now faults later sink_faults sink_later device_faults device_later h r no_entry.NoMemory s begins none puts =
+    lacks stands commands f left after taken now faults later sink_faults sink_later device_faults device_later s puts.0 puts.1
 
 -- ---- faults before
 
@@ -103,49 +120,55 @@ script_since left after first faults later h given end le r =
       fault = λ e. (let f = r.fault e in (rose_since first faults later le f.0, f.1));
     }
 
-due_since : {D : Type 0} (stands : D → Setting → Trace → Type 0) (commands : Header → List (Form Command)) (left after : Option (List ℕ))
+due_since : {D : Type 0} (stands : D → Setting → Trace → Type 0) (commands : Header → List (Form Command)) (f : Asked) (left after : Option (List ℕ))
     (first faults later device_faults device_later : ℕ) (text : List ℕ) (whole : Lived) → first ≤ faults
-    → Due stands commands left after faults later device_faults device_later text whole → Due stands commands left after first later device_faults device_later text whole
-due_since stands commands left after first faults later device_faults device_later text whole le (Ends h given hs reads lives) =
-    Ends h given hs (script_since left after first faults later h given _ le reads) lives
-due_since stands commands left after first faults later device_faults device_later text whole le (Stops_early r number why stops) = Stops_early r number why stops
-due_since stands commands left after first faults later device_faults device_later text whole le (Stops h given hs number why reads lives) =
-    Stops h given hs number why (script_since left after first faults later h given _ le reads) lives
-due_since stands commands left after first faults later device_faults device_later text whole le (Breaks_early breaks rose) =
+    → Due stands commands f left after faults later device_faults device_later text whole → Due stands commands f left after first later device_faults device_later text whole
+due_since stands commands f left after first faults later device_faults device_later text whole le (Ends h given hs reads lives vacant) =
+    Ends h given hs (script_since left after first faults later h given _ le reads) lives vacant
+due_since stands commands f left after first faults later device_faults device_later text whole le (Stops_early r number why stops) = Stops_early r number why stops
+due_since stands commands f left after first faults later device_faults device_later text whole le (Stops h given hs number why reads lives vacant) =
+    Stops h given hs number why (script_since left after first faults later h given _ le reads) lives vacant
+due_since stands commands f left after first faults later device_faults device_later text whole le (Breaks_early breaks rose) =
     Breaks_early breaks (rose_since first faults later le rose)
-due_since stands commands left after first faults later device_faults device_later text whole le (Breaks h given hs reads lives) =
-    Breaks h given hs (script_since left after first faults later h given _ le reads) lives
-due_since stands commands left after first faults later device_faults device_later text whole le (Faults rose) = Faults rose
-due_since stands commands left after first faults later device_faults device_later text whole le (Parts h given end machine d reads case_of) =
-    Parts h given end machine d (script_since left after first faults later h given end le reads) case_of
+due_since stands commands f left after first faults later device_faults device_later text whole le (Breaks h given hs reads lives vacant) =
+    Breaks h given hs (script_since left after first faults later h given _ le reads) lives vacant
+due_since stands commands f left after first faults later device_faults device_later text whole le (Faults rose) = Faults rose
+due_since stands commands f left after first faults later device_faults device_later text whole le (In_use rose) = In_use rose
+due_since stands commands f left after first faults later device_faults device_later text whole le (Disk_there r h path begins there rose) =
+    Disk_there r h path begins there rose
+due_since stands commands f left after first faults later device_faults device_later text whole le (Parts h given end machine d reads case_of vacant) =
+    Parts h given end machine d (script_since left after first faults later h given end le reads) case_of vacant
 
-pub owes_since : {D : Type 0} (stands : D → Setting → Trace → Type 0) (commands : Header → List (Form Command)) (left after taken now : Option (List ℕ))
+pub owes_since : {D : Type 0} (stands : D → Setting → Trace → Type 0) (commands : Header → List (Form Command)) (f : Asked) (left after taken now : Option (List ℕ))
     (first faults later sink_faults sink_later device_faults device_later : ℕ) (s : Lived) → first ≤ faults
-    → Owes stands commands left after taken now faults later sink_faults sink_later device_faults device_later s
-    → Owes stands commands left after taken now first later sink_faults sink_later device_faults device_later s
-owes_since stands commands left after taken now first faults later sink_faults sink_later device_faults device_later s le (Of text whole t due puts) =
-    Of text whole s (due_since stands commands left after first faults later device_faults device_later text whole le due) puts
-owes_since stands commands left after taken now first faults later sink_faults sink_later device_faults device_later s le (Lacks nothing) = Lacks nothing
+    → Owes stands commands f left after taken now faults later sink_faults sink_later device_faults device_later s
+    → Owes stands commands f left after taken now first later sink_faults sink_later device_faults device_later s
+owes_since stands commands f left after taken now first faults later sink_faults sink_later device_faults device_later s le (Of text whole t due puts) =
+    Of text whole s (due_since stands commands f left after first faults later device_faults device_later text whole le due) puts
+owes_since stands commands f left after taken now first faults later sink_faults sink_later device_faults device_later s le (Lacks nothing) = Lacks nothing
 
 -- .. and of the devices.
-due_devices : {D : Type 0} (stands : D → Setting → Trace → Type 0) (commands : Header → List (Form Command)) (left after : Option (List ℕ))
+due_devices : {D : Type 0} (stands : D → Setting → Trace → Type 0) (commands : Header → List (Form Command)) (f : Asked) (left after : Option (List ℕ))
     (faults later first device_faults device_later : ℕ) (text : List ℕ) (whole : Lived) → first ≤ device_faults
-    → Due stands commands left after faults later device_faults device_later text whole → Due stands commands left after faults later first device_later text whole
-due_devices stands commands left after faults later first device_faults device_later text whole le (Ends h given hs reads lives) = Ends h given hs reads lives
-due_devices stands commands left after faults later first device_faults device_later text whole le (Stops_early r number why stops) = Stops_early r number why stops
-due_devices stands commands left after faults later first device_faults device_later text whole le (Stops h given hs number why reads lives) = Stops h given hs number why reads lives
-due_devices stands commands left after faults later first device_faults device_later text whole le (Breaks_early breaks rose) = Breaks_early breaks rose
-due_devices stands commands left after faults later first device_faults device_later text whole le (Breaks h given hs reads lives) = Breaks h given hs reads lives
-due_devices stands commands left after faults later first device_faults device_later text whole le (Faults rose) = Faults (rose_since first device_faults device_later le rose)
-due_devices stands commands left after faults later first device_faults device_later text whole le (Parts h given end machine d reads case_of) = Parts h given end machine d reads case_of
+    → Due stands commands f left after faults later device_faults device_later text whole → Due stands commands f left after faults later first device_later text whole
+due_devices stands commands f left after faults later first device_faults device_later text whole le (Ends h given hs reads lives vacant) = Ends h given hs reads lives vacant
+due_devices stands commands f left after faults later first device_faults device_later text whole le (Stops_early r number why stops) = Stops_early r number why stops
+due_devices stands commands f left after faults later first device_faults device_later text whole le (Stops h given hs number why reads lives vacant) = Stops h given hs number why reads lives vacant
+due_devices stands commands f left after faults later first device_faults device_later text whole le (Breaks_early breaks rose) = Breaks_early breaks rose
+due_devices stands commands f left after faults later first device_faults device_later text whole le (Breaks h given hs reads lives vacant) = Breaks h given hs reads lives vacant
+due_devices stands commands f left after faults later first device_faults device_later text whole le (Faults rose) = Faults (rose_since first device_faults device_later le rose)
+due_devices stands commands f left after faults later first device_faults device_later text whole le (In_use rose) = In_use (rose_since first device_faults device_later le rose)
+due_devices stands commands f left after faults later first device_faults device_later text whole le (Disk_there r h path begins there rose) =
+    Disk_there r h path begins there (rose_since first device_faults device_later le rose)
+due_devices stands commands f left after faults later first device_faults device_later text whole le (Parts h given end machine d reads case_of vacant) = Parts h given end machine d reads case_of vacant
 
-pub owes_devices : {D : Type 0} (stands : D → Setting → Trace → Type 0) (commands : Header → List (Form Command)) (left after taken now : Option (List ℕ))
+pub owes_devices : {D : Type 0} (stands : D → Setting → Trace → Type 0) (commands : Header → List (Form Command)) (f : Asked) (left after taken now : Option (List ℕ))
     (faults later sink_faults sink_later first device_faults device_later : ℕ) (s : Lived) → first ≤ device_faults
-    → Owes stands commands left after taken now faults later sink_faults sink_later device_faults device_later s
-    → Owes stands commands left after taken now faults later sink_faults sink_later first device_later s
-owes_devices stands commands left after taken now faults later sink_faults sink_later first device_faults device_later s le (Of text whole t due puts) =
-    Of text whole s (due_devices stands commands left after faults later first device_faults device_later text whole le due) puts
-owes_devices stands commands left after taken now faults later sink_faults sink_later first device_faults device_later s le (Lacks nothing) = Lacks nothing
+    → Owes stands commands f left after taken now faults later sink_faults sink_later device_faults device_later s
+    → Owes stands commands f left after taken now faults later sink_faults sink_later first device_later s
+owes_devices stands commands f left after taken now faults later sink_faults sink_later first device_faults device_later s le (Of text whole t due puts) =
+    Of text whole s (due_devices stands commands f left after faults later first device_faults device_later text whole le due) puts
+owes_devices stands commands f left after taken now faults later sink_faults sink_later first device_faults device_later s le (Lacks nothing) = Lacks nothing
 
 -- ---- the header
 
@@ -154,24 +177,24 @@ none_put : (taken : Option (List ℕ)) → Appends taken taken []
 none_put None = tt
 none_put (Some xs) = sym (append-nil xs)
 
-pub owes_nothing : {D : Type 0} (stands : D → Setting → Trace → Type 0) (commands : Header → List (Form Command)) (left after taken : Option (List ℕ))
+pub owes_nothing : {D : Type 0} (stands : D → Setting → Trace → Type 0) (commands : Header → List (Form Command)) (f : Asked) (left after taken : Option (List ℕ))
     (faults later sink_faults device_faults device_later : ℕ)
-    → Owes stands commands left after taken taken faults later sink_faults sink_faults device_faults device_later NoMemory
-owes_nothing stands commands left after taken faults later sink_faults device_faults device_later = Lacks (none_put taken)
+    → Owes stands commands f left after taken taken faults later sink_faults sink_faults device_faults device_later NoMemory
+owes_nothing stands commands f left after taken faults later sink_faults device_faults device_later = Lacks (none_put taken)
 
 -- A read failed within it.
-pub owes_break : {D : Type 0} (stands : D → Setting → Trace → Type 0) (commands : Header → List (Form Command)) (left after taken : Option (List ℕ))
+pub owes_break : {D : Type 0} (stands : D → Setting → Trace → Type 0) (commands : Header → List (Form Command)) (f : Asked) (left after taken : Option (List ℕ))
     (faults later sink_faults device_faults device_later : ℕ) → HeaderBreaks left after → Rose faults later
-    → Owes stands commands left after taken taken faults later sink_faults sink_faults device_faults device_later ReadFault
-owes_break stands commands left after taken faults later sink_faults device_faults device_later breaks rose =
+    → Owes stands commands f left after taken taken faults later sink_faults sink_faults device_faults device_later ReadFault
+owes_break stands commands f left after taken faults later sink_faults device_faults device_later breaks rose =
     Of [] ReadFault ReadFault (Breaks_early breaks rose) (All (none_put taken))
 
 -- A line of it is refused.
-pub owes_refusal : {D : Type 0} (stands : D → Setting → Trace → Type 0) (commands : Header → List (Form Command)) (left after taken now : Option (List ℕ))
+pub owes_refusal : {D : Type 0} (stands : D → Setting → Trace → Type 0) (commands : Header → List (Form Command)) (f : Asked) (left after taken now : Option (List ℕ))
     (faults later sink_faults sink_later device_faults device_later : ℕ) (r : ReaderState) (number : ℕ) (why : Refusal) (s : Lived) → HeaderStops left after r number why
     → Puts taken now sink_faults sink_later (as_bytes (refusal_line number why ∷ [])) Refused s
-    → Owes stands commands left after taken now faults later sink_faults sink_later device_faults device_later s
-owes_refusal stands commands left after taken now faults later sink_faults sink_later device_faults device_later r number why s stops puts =
+    → Owes stands commands f left after taken now faults later sink_faults sink_later device_faults device_later s
+owes_refusal stands commands f left after taken now faults later sink_faults sink_later device_faults device_later r number why s stops puts =
     Of _ Refused s (Stops_early r number why stops) puts
 
 -- ---- a text that is put out

@@ -1,7 +1,10 @@
 -- What a live script owes that is played: what is read and put out, by how it ends.
 use Rattle.sl_world_state.specs.declared.daemon.Site.{Site}
 use Rattle.sl_world_state.specs.FirstKept.{session_of}
+use Rattle.sl_live_run.specs.Folders.{Asked, IsDiskThere, IsVacant}
 use Rattle.sl_live_run.specs.Grounds.{IsSiteOf}
+use Rattle.sl_live_run.specs.declared.folder.NoEntry.TheVariants as no_entry
+use Rattle.sl_live_run.specs.declared.folder.NoEntry.{NoEntry}
 use Rattle.sl_live_run.specs.declared.ground.NoGround.TheVariants as no_ground
 use Rattle.sl_live_run.specs.declared.ground.NoGround.{NoGround}
 use Rattle.sl_reader.specs.declared.live_lines.LiveLine.{LiveLine}
@@ -24,7 +27,7 @@ use Rattle.sl_run.specs.Headers.{IsHeader}
 use Rattle.sl_run.specs.Worlds.{first_numbers}
 use Rattle.sl_run.specs.declared.event.Refusal.{Refusal}
 use Rattle.sl_run.specs.declared.header.Header.{Header}
-use Rattle.sl_reader.specs.HeaderBegins.{HeaderBreaks, HeaderStops}
+use Rattle.sl_reader.specs.HeaderBegins.{HeaderBegins, HeaderBreaks, HeaderStops}
 use Rattle.sl_reader.specs.LineReads.{ReaderState}
 use Rattle.sl_text.specs.Forms.{Form, as_bytes}
 use Rattle.sl_trace.specs.Traces.{Setting, Trace}
@@ -64,34 +67,49 @@ pub record Differing {D : Type 0} (stands : D → Setting → Trace → Type 0) 
 abbrev pub area_fault_text : List ℕ
 area_fault_text = codes "area fault" ++ 10 ∷ []
 
--- What is to be put out, and how the play then ended, by what was read of the source.
-pub data Due {D : Type 0} (stands : D → Setting → Trace → Type 0) (commands : Header → List (Form Command)) (left after : Option (List ℕ))
+-- The line of a folder that another program has.
+abbrev pub in_use_text : List ℕ
+in_use_text = codes "folder in use" ++ 10 ∷ []
+
+-- The line of a disk that stands already.
+abbrev pub disk_there_text : List ℕ → List ℕ
+disk_there_text path = codes "disk there " ++ path ++ 10 ∷ []
+
+-- What is to be put out, and how the play then ended, by what was read of the source. Machines run where no disk is told to stand, or where
+-- disks are to be made anew.
+pub data Due {D : Type 0} (stands : D → Setting → Trace → Type 0) (commands : Header → List (Form Command)) (f : Asked) (left after : Option (List ℕ))
     (faults later device_faults device_later : ℕ) : List ℕ → Lived → Type 0 where
   -- the script was read to its end
   Ends : (h : Header) (given : List LiveLine) (hs : List (List Entry)) → ReadsScript left after faults later h given (Some script.End)
-      → Lives stands commands h given hs
-      → Due stands commands left after faults later device_faults device_later (live_text (begun_along h first_numbers.job) hs ending.Whole) Done
+      → Lives stands commands h given hs → IsVacant f h
+      → Due stands commands f left after faults later device_faults device_later (live_text (begun_along h first_numbers.job) hs ending.Whole) Done
   -- a line of its header is refused
   Stops_early : (r : ReaderState) (number : ℕ) (why : Refusal) → HeaderStops left after r number why
-      → Due stands commands left after faults later device_faults device_later (as_bytes (refusal_line number why ∷ [])) Refused
+      → Due stands commands f left after faults later device_faults device_later (as_bytes (refusal_line number why ∷ [])) Refused
   -- .. or a line behind it
   Stops : (h : Header) (given : List LiveLine) (hs : List (List Entry)) (number : ℕ) (why : Refusal)
-      → ReadsScript left after faults later h given (Some (script.Refused number why)) → Lives stands commands h given hs
-      → Due stands commands left after faults later device_faults device_later (live_text (begun_along h first_numbers.job) hs (ending.Refused number why)) Refused
+      → ReadsScript left after faults later h given (Some (script.Refused number why)) → Lives stands commands h given hs → IsVacant f h
+      → Due stands commands f left after faults later device_faults device_later (live_text (begun_along h first_numbers.job) hs (ending.Refused number why)) Refused
   -- a read failed within the header
   Breaks_early : HeaderBreaks left after → Rose faults later
-      → Due stands commands left after faults later device_faults device_later [] ReadFault
+      → Due stands commands f left after faults later device_faults device_later [] ReadFault
   -- .. or behind it: what the machines did is put out
   Breaks : (h : Header) (given : List LiveLine) (hs : List (List Entry)) → ReadsScript left after faults later h given (Some script.ReadFault)
-      → Lives stands commands h given hs
-      → Due stands commands left after faults later device_faults device_later (live_text (begun_along h first_numbers.job) hs ending.Cut) ReadFault
+      → Lives stands commands h given hs → IsVacant f h
+      → Due stands commands f left after faults later device_faults device_later (live_text (begun_along h first_numbers.job) hs ending.Cut) ReadFault
   -- a disk can't be made, or a sector of an area can't be written before the threads begin
   Faults : Rose device_faults device_later
-      → Due stands commands left after faults later device_faults device_later area_fault_text AreaFault
+      → Due stands commands f left after faults later device_faults device_later area_fault_text AreaFault
+  -- another program has the folder
+  In_use : Rose device_faults device_later
+      → Due stands commands f left after faults later device_faults device_later in_use_text AreaFault
+  -- a disk of the header stands there
+  Disk_there : (r : ReaderState) (h : Header) (path : List ℕ) → HeaderBegins left after r h → IsDiskThere f.anew h path → Rose device_faults device_later
+      → Due stands commands f left after faults later device_faults device_later (disk_there_text path) AreaFault
   -- records of a machine differ, where the script gave these lines, however it ended
   Parts : (h : Header) (given : List LiveLine) (end : Option ScriptEnd) (machine : ℕ) (d : LiveDiffer)
-      → ReadsScript left after faults later h given end → Differing stands commands h given machine d
-      → Due stands commands left after faults later device_faults device_later (differ_text machine d) Differs
+      → ReadsScript left after faults later h given end → Differing stands commands h given machine d → IsVacant f h
+      → Due stands commands f left after faults later device_faults device_later (differ_text machine d) Differs
 
 -- What was put out of a text, and how the play ended: all of it, a front of it after a fault of the sink, or nothing for want of memory.
 pub data Puts (taken now : Option (List ℕ)) (faults later : ℕ) (text : List ℕ) (whole : Lived) : Lived → Type 0 where
@@ -100,12 +118,12 @@ pub data Puts (taken now : Option (List ℕ)) (faults later : ℕ) (text : List 
   Nothing : Appends taken now [] → Puts taken now faults later text whole NoMemory
 
 -- What is owed: of what is due what was put out, or want of memory before anything was due.
-pub data Owes {D : Type 0} (stands : D → Setting → Trace → Type 0) (commands : Header → List (Form Command)) (left after taken now : Option (List ℕ))
+pub data Owes {D : Type 0} (stands : D → Setting → Trace → Type 0) (commands : Header → List (Form Command)) (f : Asked) (left after taken now : Option (List ℕ))
     (faults later sink_faults sink_later device_faults device_later : ℕ) : Lived → Type 0 where
-  Of : (text : List ℕ) (whole s : Lived) → Due stands commands left after faults later device_faults device_later text whole
+  Of : (text : List ℕ) (whole s : Lived) → Due stands commands f left after faults later device_faults device_later text whole
       → Puts taken now sink_faults sink_later text whole s
-      → Owes stands commands left after taken now faults later sink_faults sink_later device_faults device_later s
-  Lacks : Appends taken now [] → Owes stands commands left after taken now faults later sink_faults sink_later device_faults device_later NoMemory
+      → Owes stands commands f left after taken now faults later sink_faults sink_later device_faults device_later s
+  Lacks : Appends taken now [] → Owes stands commands f left after taken now faults later sink_faults sink_later device_faults device_later NoMemory
 
 -- ---- step by step
 
@@ -126,3 +144,10 @@ PutsStop taken now faults later stop.NoMemory s = (s ≡ NoMemory) × Appends ta
 abbrev pub PutsNoGround : Option (List ℕ) → Option (List ℕ) → ℕ → ℕ → NoGround → Lived → Type 0
 PutsNoGround taken now faults later no_ground.AreaFault s = Puts taken now faults later area_fault_text AreaFault s
 PutsNoGround taken now faults later no_ground.NoMemory s = (s ≡ NoMemory) × Appends taken now []
+
+-- .. where a folder can't be entered.
+abbrev pub PutsNoEntry : Option (List ℕ) → Option (List ℕ) → ℕ → ℕ → NoEntry → Lived → Type 0
+PutsNoEntry taken now faults later no_entry.AreaFault s = Puts taken now faults later area_fault_text AreaFault s
+PutsNoEntry taken now faults later no_entry.InUse s = Puts taken now faults later in_use_text AreaFault s
+PutsNoEntry taken now faults later (no_entry.DiskThere path) s = Puts taken now faults later (disk_there_text path) AreaFault s
+PutsNoEntry taken now faults later no_entry.NoMemory s = (s ≡ NoMemory) × Appends taken now []

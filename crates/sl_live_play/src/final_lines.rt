@@ -1,14 +1,14 @@
 //! What is put out at the end.
 
 ghost use Rattle.sl_live_play.specs.DifferenceLines.{differ_text};
-ghost use Rattle.sl_live_play.specs.LiveOwed.{Puts, area_fault_text};
+ghost use Rattle.sl_live_play.specs.LiveOwed.{Puts, area_fault_text, disk_there_text, in_use_text};
 ghost use Rattle.sl_live_play.specs.declared.play.Lived.TheVariants as lived;
 ghost use Rattle.sl_live_lines.specs.LocksAlong.{begun_along};
 ghost use Rattle.sl_live_lines.specs.LiveTexts.{live_text};
 ghost use Rattle.sl_report.specs.RefusalLines.{refusal_line};
 ghost use Rattle.sl_run.specs.Worlds.{first_numbers};
 ghost use Rattle.sl_text.specs.Forms.{as_bytes};
-ghost use Rattle.std.specs.Prelude.{List, OnOk, [], ℕ, ◌∷◌, ◌≡◌};
+ghost use Rattle.std.specs.Prelude.{List, OnOk, [], ℕ, ◌++◌, ◌∷◌, ◌≡◌};
 
 use crate::difference_lines::push_differ_line;
 use crate::play::Lived;
@@ -17,7 +17,8 @@ use sl_live_lines::{Ending, push_live_text};
 use sl_live_run::LiveDiffer;
 use sl_run::{Header, Refusal};
 use sl_schedule::push_refusal_line;
-use sl_text::Seq;
+use sl_text::write::push_line;
+use sl_text::{FilePath, Seq};
 use sl_trace::Entry;
 use std::alloc::{AllocError, Global};
 
@@ -51,6 +52,30 @@ pub(crate) fn put_area_fault<K: Sink>(sink: &mut K) -> Lived
     ensures { Puts (K.taken sink.old) (K.taken sink.new) (K.faults sink.old) (K.faults sink.new) area_fault_text lived.AreaFault result }
 {
     put(sink, Ok(()), b"area fault\n", Lived::AreaFault)
+}
+
+/// Puts out that another program has the folder.
+pub(crate) fn put_in_use<K: Sink>(sink: &mut K) -> Lived
+    ensures { Puts (K.taken sink.old) (K.taken sink.new) (K.faults sink.old) (K.faults sink.new) in_use_text lived.AreaFault result }
+{
+    put(sink, Ok(()), b"folder in use\n", Lived::AreaFault)
+}
+
+/// Adds the line of a disk that stands already.
+fn push_disk_there(out: &mut Vec<u8>, path: &FilePath) -> Result<(), AllocError>
+    ensures { OnOk result (out.new.items ≡ out.old.items ++ disk_there_text path.now) }
+{
+    out.extend_from_slice(b"disk there ")?;
+    push_line(out, path.as_slice())
+}
+
+/// Puts out that a disk stands already.
+pub(crate) fn put_disk_there<K: Sink>(alloc: Global, sink: &mut K, path: FilePath) -> Lived
+    ensures { Puts (K.taken sink.old) (K.taken sink.new) (K.faults sink.old) (K.faults sink.new) (disk_there_text path) lived.AreaFault result }
+{
+    let mut out = Vec::new(alloc);
+    let pushed = push_disk_there(&mut out, &path);
+    put(sink, pushed, &out, Lived::AreaFault)
 }
 
 /// Puts out what machines did, by how their script ended.

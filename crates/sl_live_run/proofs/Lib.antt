@@ -6,3 +6,4 @@ pub mod SettingLaws
 pub mod WriteLaws
 pub mod LentLaws
 pub mod ReadyLaws
+pub mod FolderLaws

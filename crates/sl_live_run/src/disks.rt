@@ -4,10 +4,10 @@ ghost use Rattle.sl_direct.specs.HalfDone.{Wrote};
 ghost use Rattle.sl_live_run.specs.Areas.{AreLent, faults_in, first_writes};
 ghost use Rattle.sl_live_run.specs.Causes.{Explains};
 ghost use Rattle.sl_live_run.specs.declared.ground.NoGround.TheVariants.{AreaFault};
-ghost use Rattle.sl_outside.specs.Disks.{CountsBack};
+ghost use Rattle.sl_outside.specs.Disks.{CountsBack, Stay};
 ghost use Rattle.sl_run.specs.Headers.{IsHeader};
 ghost use Rattle.sl_io.specs.FaultCauses.{HasCause};
-ghost use Rattle.std.specs.Prelude.{Err, IfErr, IfOk, OnOk, [], ◌<◌, ◌+◌, ◌≡◌, ◌≤◌};
+ghost use Rattle.std.specs.Prelude.{Err, IfErr, IfOk, OnOk, [], false, ◌<◌, ◌+◌, ◌≡◌, ◌≤◌};
 
 use crate::ground::NoGround;
 use crate::initial::{write_lockspaces, write_resources};
@@ -26,18 +26,21 @@ const MEBIBYTE: u64 = 1_048_576;
 /// The machine through whose areas the sectors of moment 0 are written.
 const FIRST_MACHINE: u32 = 1;
 
-/// Makes the disks, each of zeros. After an `Err` those before the one that failed are made.
+/// Makes the disks, each of zeros; one that stands there is emptied if they are made anew, and is a fault else. After an `Err` those before
+/// the one that failed are made.
 pub(crate) fn make_disks<V: LiveDevices>(
     header: &Header,
     folder: &str,
+    anew: bool,
     devices: &mut V,
 ) -> Result<(), Failed>
     requires { IsHeader header.now }
-    ensures { HasCause (V.Devices.faults devices.old) (V.Devices.faults devices.new) result }
+    ensures cause { HasCause (V.Devices.faults devices.old) (V.Devices.faults devices.new) result }
+    ensures kept { anew ≡ false → Stay (V.Devices.disks devices.old) (V.Devices.disks devices.new) }
 {
     for disk in header.disks.as_slice() {
         let size = disk.mebibytes * MEBIBYTE;
-        devices.make(folder, disk.path.as_str(), size)?;
+        devices.make(folder, disk.path.as_str(), size, anew)?;
     }
     Ok(())
 }

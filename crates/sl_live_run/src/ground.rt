@@ -64,7 +64,7 @@ impl From<AllocError> for NoGround {
     }
 }
 
-/// Makes the disks of a header in a folder, writes what stands on them at moment 0, and gets all that its machines run on.
+/// Makes the disks of a header in a folder that was entered, writes what stands on them at moment 0, and gets all that its machines run on.
 ///
 /// An `Ok` has the header with the clocks' readings in place of its `clock` lines, and a machine for each of its machines, in order. An
 /// `Err` is a fault of the devices, whose count then rose, or want of memory; no area is handed out then, and disks that were made stay.
@@ -72,6 +72,7 @@ pub fn prepare<V: LiveDevices>(
     alloc: Global,
     header: Header,
     folder: &str,
+    anew: bool,
     devices: &mut V,
 ) -> Result<Ground<V>, NoGround>
     requires { IsHeader header }
@@ -79,7 +80,7 @@ pub fn prepare<V: LiveDevices>(
     ensures err { IfErr result (Explains (V.Devices.faults devices.old) (V.Devices.faults devices.new)) }
     ensures later { V.Devices.faults devices.old ≤ V.Devices.faults devices.new }
 {
-    make_disks(&header, folder, devices)?;
+    make_disks(&header, folder, anew, devices)?;
     let started = start_clocks(alloc, header.machines, devices)?;
     let header = with_readings(header, started.readings);
     let machines = prepare_all(alloc, &header, folder, started.clocks, devices)?;

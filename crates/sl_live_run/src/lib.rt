@@ -4,7 +4,8 @@
 //! A script's header tells the world at its moment 0, as a schedule's does. Two things of it are made and not told: a machine's first reading
 //! is one of its clock, and a machine without a session has a name that was drawn for it. So what a run begins with is a header too, the
 //! given one with the clocks' readings in place of its `clock` lines (`Ground`), and each machine's daemon begins as one of that header's world
-//! does: `laws` says that its site is good to begin with. Disks are made first (`disks`), then the clocks are read (`clocks`). Then each
+//! does: `laws` says that its site is good to begin with. First the folder is taken, and no disk may stand there unless it is to be made anew
+//! (`folder`). Disks are made next (`disks`), then the clocks are read (`clocks`). Then each
 //! machine is given its parts (`machine_sites`), its areas among them; the areas of machine 1 are the ones through which the sectors of moment 0
 //! are written (`initial`), so that they stand before any thread runs. An area that was handed out goes back to the devices if the run can't
 //! begin: that is how a fault of it is counted.
@@ -19,6 +20,7 @@
 mod clocks;
 mod compare;
 mod disks;
+mod folder;
 mod ground;
 mod initial;
 pub mod laws;
@@ -30,5 +32,6 @@ mod script_lines;
 
 pub use compare::{LiveDiffer, LiveStop};
 pub use disks::give_back;
+pub use folder::{NoEntry, enter};
 pub use ground::{Ground, NoGround, Prepared, prepare};
 pub use run::{Disks, LiveRun, run_machines};

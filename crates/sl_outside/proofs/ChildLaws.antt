@@ -2,12 +2,12 @@
 use Rattle.sl_outside.specs.Acts.{IsLess}
 use Rattle.sl_outside.specs.declared.mem_children.MemChild.{MemChild}
 use Rattle.sl_words.proofs.CaseLaws.{some_value}
-use Rattle.std.proofs.Common.{ap, refl, slice_index_or, slice_set, subst, sym, ◌∙◌}
+use Rattle.std.proofs.Common.{ap, slice_index_or, slice_set, subst, sym, ◌∙◌}
 use Rattle.std.proofs.Math.Seq.{map-set_same}
 use Rattle.std.proofs.lemmas.List.{map-append}
 use Rattle.std.proofs.lemmas.Option.{slice_get-get_or}
 use Rattle.std.specs.List.{remove}
-use Rattle.std.specs.Prelude.{List, None, Some, [], drop, length, map, slice_get, suc, take, zero, ℕ, ◌++◌, ◌<◌, ◌∷◌, ◌≡◌}
+use Rattle.std.specs.Prelude.{List, Some, [], drop, length, map, slice_get, suc, take, zero, ℕ, ◌++◌, ◌<◌, ◌∷◌, ◌≡◌}
 
 -- A list about one place.
 cut_at : {A : Type 0} (xs : List A) (i : ℕ) (c : A) → slice_get xs i ≡ Some c → xs ≡ take i xs ++ c ∷ drop (suc i) xs

@@ -1,16 +1,15 @@
 -- Disks in memory: where the one at a path stands, and what is told of all when another is put in its place.
-use Rattle.sl_outside.specs.Disks.{Disks, HandsOut, KeepsAllBut, TakesBack, told_at}
+use Rattle.sl_outside.specs.Disks.{Disks, KeepsAllBut, Stay, TakesBack, told_at}
 use Rattle.sl_outside.specs.MemDisks.{content_at, is_at}
 use Rattle.sl_outside.specs.declared.mem_devices.MemDisk.{MemDisk}
-use Rattle.std.proofs.Common.{Bool, List, None, Option, Some, ap, false, length, refl, slice_index_or, slice_set, subst, sym, true, ℕ, ◌∙◌, ◌≡◌, ◌≤◌}
-use Rattle.std.proofs.lemmas.Bool.{ltb-false}
+use Rattle.std.proofs.Common.{Bool, List, None, Option, Some, ap, false, inl, inr, length, refl, slice_index_or, slice_set, subst, sym, true, ℕ, ◌∙◌, ◌≡◌, ◌≤◌}
+use Rattle.std.proofs.lemmas.Bool.{cases_Bool, ltb-false}
 use Rattle.std.proofs.lemmas.List.Folds.{find-set, find_at, find_past}
 use Rattle.std.proofs.lemmas.List.Quantifiers.{position-Some}
 use Rattle.std.proofs.lemmas.Option.{slice_get-get_or, slice_get_past}
 use Rattle.std.proofs.lemmas.Slice.Eq.{bytes_eq-Decides}
-use Rattle.std.specs.Io.KnownBytes.{Keeps}
 use Rattle.std.specs.List.{position, position_or_len, slice_get}
-use Rattle.std.specs.Prelude.{if◌then◌else◌, nat_lt, option_map, ◌≢◌}
+use Rattle.std.specs.Prelude.{find, if◌then◌else◌, is_some, nat_lt, option_map, ◌∷◌, ◌≢◌}
 
 -- ---- where it stands
 
@@ -75,3 +74,20 @@ others_stay : (path : List ℕ) (told : Option (List ℕ)) (before now : Disks) 
     → KeepsAllBut path before now
 others_stay path None before now content back = λ other apart. back other
 others_stay path (Some c) before now content back = back.1
+
+-- ---- one before all others
+
+find_behind : (b : Bool) (d : MemDisk) (o : Option MemDisk) → b ≡ false → (if b then Some d else o) ≡ o
+find_behind true d o e = absurd cc
+find_behind false d o e = refl
+
+not_both : {A : Type 0} (o : Option A) (x : A) → is_some o ≡ false → o ≡ Some x → ⊥
+not_both None x none some = absurd cc
+not_both (Some y) x none some = absurd cc
+
+-- What stood stands, if it was not at its path.
+pub stay_behind : (d : MemDisk) (ds : List MemDisk) → is_some (content_at ds d.path) ≡ false → Stay (content_at ds) (content_at (d ∷ ds))
+stay_behind d ds none path content stood = elim (cases_Bool (is_at path d)) [
+  | inl here ↦ absurd (not_both (content_at ds d.path) content none (ap (content_at ds) ((bytes_eq-Decides d.path path).0 here) ∙ stood))
+  | inr apart ↦ ap (λ (x : Option MemDisk). option_map (λ (d : MemDisk). d.area.content) x) (find_behind (is_at path d) d (find (is_at path) ds) apart) ∙ stood
+]

@@ -15,6 +15,10 @@ told_at disks path = option_map (λ content. path) (disks path)
 abbrev pub KeepsAllBut : List ℕ → Disks → Disks → Type 0
 KeepsAllBut path before now = (other : List ℕ) → other ≢ path → now other ≡ before other
 
+-- What stood, as it was told, stands as it was.
+abbrev pub Stay : Disks → Disks → Type 0
+Stay before now = (path content : List ℕ) → before path ≡ Some content → now path ≡ Some content
+
 -- The disk at a path is handed out: the area has what the disk had, and of the others nothing changes.
 pub record HandsOut (path : List ℕ) (before now : Disks) (lent content : Option (List ℕ)) : Type 0 where
   pub content_is : Keeps (before path) content

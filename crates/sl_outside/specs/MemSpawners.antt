@@ -8,7 +8,7 @@ use Rattle.sl_words.specs.RoomyLists.{Roomy}
 use Rattle.sl_trace.specs.declared.effects.Signal.TheVariants.{Kill, Term}
 use Rattle.sl_trace.specs.declared.effects.Signal.{Signal}
 use Rattle.std.specs.List.{position, remove}
-use Rattle.std.specs.Prelude.{Bool, List, None, Option, Some, false, if◌then◌else◌, length, map, min, nat_le, not, option_map, slice_get, slice_set, true, unwrap_or, [], ℕ, ◌+◌, ◌++◌, ◌-◌, ◌==◌, ◌^◌, ◌||◌, ◌∷◌, ◌≡◌}
+use Rattle.std.specs.Prelude.{Bool, List, None, Option, Some, false, if◌then◌else◌, length, map, min, nat_le, not, option_map, slice_get, slice_set, true, unwrap_or, [], ℕ, ◌+◌, ◌++◌, ◌-◌, ◌==◌, ◌^◌, ◌∷◌, ◌≡◌}
 
 -- The process numbers of children.
 abbrev pub numbers : Roomy MemChild → List ℕ

@@ -7,6 +7,7 @@ ghost use Rattle.std.specs.Prelude.{◌≡◌};
 use crate::child_spawner::ChildSpawner;
 use crate::device::TimedDevice;
 use crate::devices::Devices;
+use crate::folders::NotTaken;
 use crate::gate::OpenGate;
 use crate::live_devices::LiveDevices;
 use crate::paths::disk_path;
@@ -15,7 +16,7 @@ use crate::words::SystemWords;
 use sl_area::FileArea;
 use sl_io::{Failed, FaultCount};
 use std::alloc::Global;
-use std::fs::{File, Files, OpenFile, create_dir};
+use std::fs::{File, Files, OpenFile, TryLockError, create_dir, symlink_metadata};
 use std::io;
 use std::process::{Processes, SystemProcess};
 use std::time::{Clock, Instant};
@@ -26,6 +27,8 @@ pub struct FileDevices<R> {
     rt: R,
     alloc: Global,
     start: Option<Instant>,
+    /// The folder that was taken, open and locked.
+    folder: Option<File>,
     faults: FaultCount,
 }
 
@@ -39,6 +42,7 @@ impl<R: Files + Clock> FileDevices<R> {
             rt,
             alloc,
             start,
+            folder: None,
             faults: FaultCount::new(),
         }
     }
@@ -64,17 +68,41 @@ fn make_folders<R: Files>(rt: &R, path: &str, from: usize) -> io::Result<()> {
     Ok(())
 }
 
-/// Makes a file of so many zeros at the folder's text followed by the path; the folder must be there.
+/// Opens a folder. A slash is put behind its text, so that nothing else is opened, as a pipe to which nobody writes.
+fn open_folder<R: Files<File = File>>(rt: &R, alloc: Global, folder: &str) -> io::Result<File> {
+    let text = disk_path(alloc, folder, "/")?;
+    File::open(rt, text.as_str())
+}
+
+/// The folder itself, locked as long as it is open.
+fn lock_folder<R: Files<File = File>>(
+    rt: &R,
+    alloc: Global,
+    folder: &str,
+) -> Result<File, TryLockError> {
+    let file = open_folder(rt, alloc, folder).map_err(TryLockError::Error)?;
+    file.try_lock()?;
+    Ok(file)
+}
+
+/// Makes a file of so many zeros at the folder's text followed by the path, in place of an old one if it is made anew; the folder must be
+/// there.
 fn make_file<R: Files>(
     rt: &R,
     alloc: Global,
     folder: &str,
     path: &str,
     size: u64,
+    anew: bool,
 ) -> io::Result<()> {
     let whole = disk_path(alloc, folder, path)?;
     make_folders(rt, whole.as_str(), folder.len())?;
-    File::create(rt, whole.as_str())?.set_len(size)
+    let file = if anew {
+        File::create(rt, whole.as_str())?
+    } else {
+        File::create_new(rt, whole.as_str())?
+    };
+    file.set_len(size)
 }
 
 impl<R: Files + Drop> Devices for FileDevices<R> {
@@ -94,8 +122,9 @@ impl<R: Files + Drop> Devices for FileDevices<R> {
     }
 }
 
-impl<R: Files + Processes<Started = SystemProcess> + Clock + Copy + Drop + Send> LiveDevices
-    for FileDevices<R> {
+impl<
+    R: Files<File = File> + Processes<Started = SystemProcess> + Clock + Copy + Drop + Send,
+> LiveDevices for FileDevices<R> {
     type Clock = RealClock<R>;
 
     type Spawner = ChildSpawner<R>;
@@ -106,8 +135,29 @@ impl<R: Files + Processes<Started = SystemProcess> + Clock + Copy + Drop + Send>
 
     type Gate = OpenGate;
 
-    fn make(&mut self, folder: &str, path: &str, size: u64) -> Result<(), Failed> {
-        match make_file(&self.rt, self.alloc, folder, path, size) {
+    fn take(&mut self, folder: &str) -> Result<(), NotTaken> {
+        match lock_folder(&self.rt, self.alloc, folder) {
+            Ok(file) => {
+                self.folder = Some(file);
+                Ok(())
+            }
+            Err(TryLockError::WouldBlock) => {
+                self.faults.raise();
+                Err(NotTaken::InUse)
+            }
+            Err(TryLockError::Error(_)) => Err(NotTaken::from(self.faults.raise())),
+        }
+    }
+
+    fn vacant(&mut self, path: &str) -> Result<(), Failed> {
+        match symlink_metadata(&self.rt, path) {
+            Ok(_) => Err(self.faults.raise()),
+            Err(_) => Ok(()),
+        }
+    }
+
+    fn make(&mut self, folder: &str, path: &str, size: u64, anew: bool) -> Result<(), Failed> {
+        match make_file(&self.rt, self.alloc, folder, path, size, anew) {
             Ok(()) => Ok(()),
             Err(_) => Err(self.faults.raise()),
         }

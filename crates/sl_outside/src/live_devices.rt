@@ -1,9 +1,11 @@
 //! What a live run takes beside disks.
 ghost use Rattle.sl_io.specs.FaultCauses.{HasCause};
-ghost use Rattle.std.specs.Prelude.{[], ◌≡◌};
+ghost use Rattle.sl_outside.specs.Disks.{Stay};
+ghost use Rattle.std.specs.Prelude.{None, OnOk, [], false, ◌≡◌};
 
 use crate::device::Device;
 use crate::devices::Devices;
+use crate::folders::NotTaken;
 use crate::gate::Gate;
 use crate::spawner::Spawner;
 use crate::words::Words;
@@ -22,9 +24,21 @@ pub trait LiveDevices: Devices {
 
     type Gate: Gate + Drop + Send + Sync;
 
+    /// Takes the folder of this text, for as long as these devices are there: till then it is in use for all others that would take it.
+    fn take(&mut self, folder: &str) -> Result<(), NotTaken>
+        ensures cause { HasCause (Self.faults self.old) (Self.faults self.new) result }
+        ensures same { Self.disks self.new ≡ Self.disks self.old };
+
+    /// Sees that nothing stands at this path, a folder's text followed by that of a disk. It is a fault where something does, whatever it is.
+    fn vacant(&mut self, path: &str) -> Result<(), Failed>
+        ensures free { OnOk result (Self.disks self.old path.now ≡ None) }
+        ensures cause { HasCause (Self.faults self.old) (Self.faults self.new) result }
+        ensures same { Self.disks self.new ≡ Self.disks self.old };
+
     /// Makes the disk whose path is the folder's text followed by this path, of so many bytes, whose last sector is zeros. An old one is
-    /// emptied; folders below this folder that are missing are made.
-    fn make(&mut self, folder: &str, path: &str, size: u64) -> Result<(), Failed>
+    /// emptied if disks are made anew; else it is a fault that one stands there. Folders below this folder that are missing are made.
+    fn make(&mut self, folder: &str, path: &str, size: u64, anew: bool) -> Result<(), Failed>
+        ensures kept { anew ≡ false → Stay (Self.disks self.old) (Self.disks self.new) }
         ensures cause { HasCause (Self.faults self.old) (Self.faults self.new) result };
 
     /// A clock for a thread of a machine.

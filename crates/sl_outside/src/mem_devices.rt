@@ -5,13 +5,14 @@
 //!
 //! Their other parts are the forms in memory: clocks at 0, spawners with no room, a gate that is open.
 ghost use Rattle.sl_io.specs.FaultCounts.{one_more};
-ghost use Rattle.sl_outside.specs.Disks.{CountsBack, HandsOut, TakesBack, told_at};
+ghost use Rattle.sl_outside.specs.Disks.{CountsBack, HandsOut, Stay, TakesBack, told_at};
 ghost use Rattle.sl_outside.specs.MemDisks.{content_at, is_at, lent_in};
 ghost use Rattle.std.specs.List.{position};
-ghost use Rattle.std.specs.Prelude.{IfSome, None, Some, [], option_map, ◌≡◌};
+ghost use Rattle.std.specs.Prelude.{IfSome, None, Some, [], false, is_some, option_map, ◌≡◌};
 
 use crate::device::TimedDevice;
 use crate::devices::Devices;
+use crate::folders::NotTaken;
 use crate::gate::OpenGate;
 use crate::live_devices::LiveDevices;
 use crate::mem_spawner::MemSpawner;
@@ -200,12 +201,31 @@ fn zeros(alloc: Global, folder: &str, path: &str, size: u64) -> Option<MemDisk> 
     })
 }
 
+/// Puts a disk before all others; false for want of memory.
+fn put_first(disks: &mut Vec<MemDisk>, disk: MemDisk) -> bool
+    ensures { is_some (content_at disks.old.items disk.path) ≡ false → Stay (content_at disks.old.items) (content_at disks.new.items) }
+{
+    disks.insert(0, disk).is_ok()
+}
+
 impl MemDevices {
-    /// Puts a disk before all others; false for want of memory.
-    fn put(&mut self, disk: MemDisk) -> bool
-        ensures { self.new.faults ≡ self.old.faults }
+    /// Whether a disk stands at this path.
+    fn has(&self, path: &[u8]) -> bool
+        ensures { result ≡ is_some (content_at self.now.all path.now) }
     {
-        self.all.insert(0, disk).is_ok()
+        content_of(&self.all, path).is_some()
+    }
+
+    /// Puts a disk before all others: whether it is there. It is not for want of memory, nor where one stands at its path that is not to be
+    /// emptied.
+    fn put(&mut self, disk: MemDisk, anew: bool) -> bool
+        ensures faults { self.new.faults ≡ self.old.faults }
+        ensures kept { anew ≡ false → Stay (content_at self.old.all) (content_at self.new.all) }
+    {
+        if !anew && self.has(disk.path.as_slice()) {
+            return false;
+        }
+        put_first(&mut self.all, disk)
     }
 }
 
@@ -220,9 +240,22 @@ impl LiveDevices for MemDevices {
 
     type Gate = OpenGate;
 
-    fn make(&mut self, folder: &str, path: &str, size: u64) -> Result<(), Failed> {
+    /// Nobody else takes a folder in memory.
+    fn take(&mut self, _folder: &str) -> Result<(), NotTaken> {
+        Ok(())
+    }
+
+    fn vacant(&mut self, path: &str) -> Result<(), Failed> {
+        if self.has(path.as_bytes()) {
+            Err(self.faults.raise())
+        } else {
+            Ok(())
+        }
+    }
+
+    fn make(&mut self, folder: &str, path: &str, size: u64, anew: bool) -> Result<(), Failed> {
         let made = match zeros(self.alloc, folder, path, size) {
-            Some(disk) => self.put(disk),
+            Some(disk) => self.put(disk, anew),
             None => false,
         };
         if made {

@@ -6,6 +6,7 @@ ghost use Rattle.std.specs.Prelude.{IfSome, length, [], ◌<◌, ◌≡◌};
 
 use crate::device::TimedDevice;
 use crate::devices::Devices;
+use crate::folders::NotTaken;
 use crate::live_devices::LiveDevices;
 use crate::mem_spawner::MemSpawner;
 use crate::paths::disk_path;
@@ -197,12 +198,14 @@ impl<R: Wait + Clock + Copy> SharedDevices<R> {
         }
     }
 
-    /// Puts a new disk in the place of the one at its path, or behind all others.
-    fn put(&mut self, disk: SharedDisk) -> Result<(), AllocError>
+    /// Puts a new disk in the place of the one at its path, if disks are made anew, or behind all others: whether it is put there.
+    fn put(&mut self, disk: SharedDisk, anew: bool) -> bool
         ensures { self.new ≡ self.old }
     {
-        let at = place_of(&self.disks, disk.path.as_str());
-        put_at(&mut self.disks, at, disk)
+        match place_of(&self.disks, disk.path.as_str()) {
+            Some(_) if !anew => false,
+            at => put_at(&mut self.disks, at, disk).is_ok(),
+        }
     }
 }
 
@@ -234,10 +237,22 @@ impl<R: Wait + Clock + Copy + Drop + Send + Sync> LiveDevices for SharedDevices<
 
     type Gate = Option<TurnGate<R>>;
 
-    fn make(&mut self, folder: &str, path: &str, size: u64) -> Result<(), Failed> {
+    /// Nobody else takes a folder in memory.
+    fn take(&mut self, _folder: &str) -> Result<(), NotTaken> {
+        Ok(())
+    }
+
+    fn vacant(&mut self, path: &str) -> Result<(), Failed> {
+        match place_of(&self.disks, path) {
+            Some(_) => Err(self.makes.raise()),
+            None => Ok(()),
+        }
+    }
+
+    fn make(&mut self, folder: &str, path: &str, size: u64, anew: bool) -> Result<(), Failed> {
         self.makes.begin()?;
         let made = match zeros(self.alloc, folder, path, size) {
-            Ok(disk) => self.put(disk).is_ok(),
+            Ok(disk) => self.put(disk, anew),
             Err(_) => false,
         };
         if made {

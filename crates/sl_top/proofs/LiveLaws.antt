@@ -3,9 +3,10 @@ use Rattle.sl_world_state.specs.Daemons.{begun_with}
 use Rattle.sl_due_law.proofs.DueIsLawful.{due_is_lawful}
 use Rattle.sl_host_step.specs.HostServes.{Serves, whole_commands}
 use Rattle.sl_live_play.specs.DifferenceLines.{differ_text}
-use Rattle.sl_live_play.specs.LiveOwed.{All, Breaks, Breaks_early, Differing, Due, Ends, Faults, Lacks, Nothing, Of, Owes as OwesLive, Part, Parts, Puts, Stops, Stops_early}
+use Rattle.sl_live_play.specs.LiveOwed.{All, Breaks, Breaks_early, Differing, Disk_there, Due, Ends, Faults, In_use, Lacks, Nothing, Of, Owes as OwesLive, Part, Parts, Puts, Stops, Stops_early}
 use Rattle.sl_live_play.specs.declared.play.Lived.TheVariants as lived
 use Rattle.sl_live_play.specs.declared.play.Lived.{Lived}
+use Rattle.sl_live_run.specs.Folders.{Asked}
 use Rattle.sl_live_run.specs.declared.compare.LiveDiffer.{LiveDiffer}
 use Rattle.sl_reader.specs.ScriptReading.{ReadsScript}
 use Rattle.sl_reader.specs.declared.live_lines.LiveLine.{LiveLine}
@@ -16,12 +17,13 @@ use Rattle.sl_top.specs.LiveHistories.{LiveHistoriesAreGood}
 use Rattle.sl_top.specs.StatusLaws.{SomeDiffer}
 use Rattle.sl_cli.specs.declared.command_words.Words.TheVariants.{Direct, Generate, Help, Live, Replay, Version}
 use Rattle.sl_cli.specs.declared.command_words.Words.{Words}
-use Rattle.sl_top.specs.Runs.{IsLive, Outside, Owes, RunsLive, folder_in, folder_of}
+use Rattle.sl_top.specs.Runs.{IsLive, Outside, Owes, RunsLive, place_in, place_of}
 use Rattle.sl_top.specs.Statuses.{status_of_live}
 use Rattle.sl_top.specs.declared.status.Status.TheVariants.{AreaFault, BadWords, Differs, NoMemory, NotTheLeader, ReadFault, WriteFault}
 use Rattle.sl_top.specs.declared.status.Status.{Status}
 use Rattle.sl_io.specs.FaultCauses.{Rose}
-use Rattle.std.proofs.Common.{List, None, Option, Some, ap, refl, subst, sym, ℕ, ◌∙◌, ◌≡◌}
+use Rattle.sl_words.proofs.CaseLaws.{some_value}
+use Rattle.std.proofs.Common.{Bool, List, None, Option, Some, ap, ap₂, refl, subst, sym, ℕ, ◌∙◌, ◌≡◌}
 use Rattle.std.specs.Io.KnownBytes.{Appends}
 
 -- ---- histories
@@ -35,8 +37,8 @@ live_histories_are_good h given hs l place site history at there =
 -- ---- statuses
 
 -- For want of memory, before anything was done.
-pub never_run : (x : Outside) → RunsLive x x NoMemory
-never_run x = record { ended = lived.NoMemory; owes = Lacks (nothing_put x.taken); status = refl }
+pub never_run : (folder : List ℕ) (anew : Bool) (x : Outside) → RunsLive folder anew x x NoMemory
+never_run folder anew x = record { ended = lived.NoMemory; owes = Lacks (nothing_put x.taken); status = refl }
 
 pub not_bad : (l : Lived) → status_of_live l ≡ BadWords → ⊥
 not_bad lived.Done e = absurd cc
@@ -112,21 +114,25 @@ pub record Tells (left after : Option (List ℕ)) (faults later device_faults de
   pub written : whole ≡ lived.WriteFault → ⊥
   pub differs : whole ≡ lived.Differs → Differed left after faults later (λ told. text ≡ told)
 
-due_tells : (left after : Option (List ℕ)) (faults later device_faults device_later : ℕ) (text : List ℕ) (whole : Lived)
-    → Due Serves whole_commands left after faults later device_faults device_later text whole → Tells left after faults later device_faults device_later text whole
-due_tells left after faults later device_faults device_later text whole (Ends h given hs reads lives) =
+due_tells : (f : Asked) (left after : Option (List ℕ)) (faults later device_faults device_later : ℕ) (text : List ℕ) (whole : Lived)
+    → Due Serves whole_commands f left after faults later device_faults device_later text whole → Tells left after faults later device_faults device_later text whole
+due_tells f left after faults later device_faults device_later text whole (Ends h given hs reads lives vacant) =
     record { read = λ e. absurd cc; area = λ e. absurd cc; written = λ e. absurd cc; differs = λ e. absurd cc }
-due_tells left after faults later device_faults device_later text whole (Stops_early r number why stops) =
+due_tells f left after faults later device_faults device_later text whole (Stops_early r number why stops) =
     record { read = λ e. absurd cc; area = λ e. absurd cc; written = λ e. absurd cc; differs = λ e. absurd cc }
-due_tells left after faults later device_faults device_later text whole (Stops h given hs number why reads lives) =
+due_tells f left after faults later device_faults device_later text whole (Stops h given hs number why reads lives vacant) =
     record { read = λ e. absurd cc; area = λ e. absurd cc; written = λ e. absurd cc; differs = λ e. absurd cc }
-due_tells left after faults later device_faults device_later text whole (Breaks_early breaks rose) =
+due_tells f left after faults later device_faults device_later text whole (Breaks_early breaks rose) =
     record { read = λ e. rose; area = λ e. absurd cc; written = λ e. absurd cc; differs = λ e. absurd cc }
-due_tells left after faults later device_faults device_later text whole (Breaks h given hs reads lives) =
+due_tells f left after faults later device_faults device_later text whole (Breaks h given hs reads lives vacant) =
     record { read = λ e. (reads.fault refl).0; area = λ e. absurd cc; written = λ e. absurd cc; differs = λ e. absurd cc }
-due_tells left after faults later device_faults device_later text whole (Faults rose) =
+due_tells f left after faults later device_faults device_later text whole (Faults rose) =
     record { read = λ e. absurd cc; area = λ e. rose; written = λ e. absurd cc; differs = λ e. absurd cc }
-due_tells left after faults later device_faults device_later text whole (Parts h given end machine d reads case_of) =
+due_tells f left after faults later device_faults device_later text whole (In_use rose) =
+    record { read = λ e. absurd cc; area = λ e. rose; written = λ e. absurd cc; differs = λ e. absurd cc }
+due_tells f left after faults later device_faults device_later text whole (Disk_there r h path begins there rose) =
+    record { read = λ e. absurd cc; area = λ e. rose; written = λ e. absurd cc; differs = λ e. absurd cc }
+due_tells f left after faults later device_faults device_later text whole (Parts h given end machine d reads case_of vacant) =
     record {
       read = λ e. absurd cc;
       area = λ e. absurd cc;
@@ -167,13 +173,13 @@ put_caused left after taken now faults later sink_faults sink_later device_fault
 put_caused left after taken now faults later sink_faults sink_later device_faults device_later text whole s tells (Nothing appends) =
     record { read = λ e. absurd cc; written = λ e. absurd cc; area = λ e. absurd cc; differs = λ e. absurd cc }
 
-owes_caused : (left after taken now : Option (List ℕ)) (faults later sink_faults sink_later device_faults device_later : ℕ) (s : Lived)
-    → OwesLive Serves whole_commands left after taken now faults later sink_faults sink_later device_faults device_later s
+owes_caused : (f : Asked) (left after taken now : Option (List ℕ)) (faults later sink_faults sink_later device_faults device_later : ℕ) (s : Lived)
+    → OwesLive Serves whole_commands f left after taken now faults later sink_faults sink_later device_faults device_later s
     → Caused left after taken now faults later sink_faults sink_later device_faults device_later s
-owes_caused left after taken now faults later sink_faults sink_later device_faults device_later s (Of text whole t due puts) =
+owes_caused f left after taken now faults later sink_faults sink_later device_faults device_later s (Of text whole t due puts) =
     put_caused left after taken now faults later sink_faults sink_later device_faults device_later text whole s
-    (due_tells left after faults later device_faults device_later text whole due) puts
-owes_caused left after taken now faults later sink_faults sink_later device_faults device_later s (Lacks nothing) =
+    (due_tells f left after faults later device_faults device_later text whole due) puts
+owes_caused f left after taken now faults later sink_faults sink_later device_faults device_later s (Lacks nothing) =
     record { read = λ e. absurd cc; written = λ e. absurd cc; area = λ e. absurd cc; differs = λ e. absurd cc }
 
 -- So of a live run.
@@ -183,9 +189,9 @@ pub record LiveCaused (x y : Outside) (s : Status) : Type 0 where
   pub area : s ≡ AreaFault → Rose x.device_faults y.device_faults
   pub differs : s ≡ Differs → SomeDiffer x y
 
-pub live_caused : (x y : Outside) (s : Status) → RunsLive x y s → LiveCaused x y s
-live_caused x y s run =
-    let why = owes_caused x.left y.left x.taken y.taken x.source_faults y.source_faults x.sink_faults y.sink_faults x.device_faults y.device_faults run.ended run.owes in
+pub live_caused : (folder : List ℕ) (anew : Bool) (x y : Outside) (s : Status) → RunsLive folder anew x y s → LiveCaused x y s
+live_caused folder anew x y s run =
+    let why = owes_caused (record { path = folder; anew = anew; disks = x.disks }) x.left y.left x.taken y.taken x.source_faults y.source_faults x.sink_faults y.sink_faults x.device_faults y.device_faults run.ended run.owes in
     record {
       read = λ e. why.read (read_failed run.ended (sym run.status ∙ e));
       written = λ e. why.written (write_failed run.ended (sym run.status ∙ e));
@@ -205,23 +211,34 @@ live_caused x y s run =
 
 -- ---- words that ask for live machines
 
-folder_is_live : (w : Words) (f : List ℕ) → folder_of w ≡ Some f → IsLive (Some w)
-folder_is_live (Live folder) f is = (folder, refl)
-folder_is_live Replay f is = absurd cc
-folder_is_live (Generate seed hosts events paired) f is = absurd cc
-folder_is_live (Direct a) f is = absurd cc
-folder_is_live Help f is = absurd cc
-folder_is_live Version f is = absurd cc
+place_is_live : (w : Words) (p : List ℕ × Bool) → place_of w ≡ Some p → IsLive (Some w)
+place_is_live (Live folder anew) p is = (folder, anew, refl)
+place_is_live Replay p is = absurd cc
+place_is_live (Generate seed hosts events paired) p is = absurd cc
+place_is_live (Direct a) p is = absurd cc
+place_is_live Help p is = absurd cc
+place_is_live Version p is = absurd cc
 
-pub is_live : (s : Option Words) (f : List ℕ) → folder_in s ≡ Some f → IsLive s
-is_live None f is = absurd cc
-is_live (Some w) f is = folder_is_live w f is
+pub is_live : (s : Option Words) (p : List ℕ × Bool) → place_in s ≡ Some p → IsLive s
+is_live None p is = absurd cc
+is_live (Some w) p is = place_is_live w p is
+
+said_live : (w : Words) (folder : List ℕ) (anew : Bool) → place_of w ≡ Some (folder, anew) → w ≡ Live folder anew
+said_live (Live other flag) folder anew is =
+    let same : (other, flag) ≡ (folder, anew) = some_value (other, flag) (folder, anew) is in
+    ap₂ (λ (text : List ℕ) (on : Bool). Live text on) (ap (λ (p : List ℕ × Bool). p.0) same) (ap (λ (p : List ℕ × Bool). p.1) same)
+said_live Replay folder anew is = absurd cc
+said_live (Generate seed hosts events paired) folder anew is = absurd cc
+said_live (Direct a) folder anew is = absurd cc
+said_live Help folder anew is = absurd cc
+said_live Version folder anew is = absurd cc
 
 -- So what live machines did is owed by such words.
-pub owes_live : (s : Option Words) (f : List ℕ) (x y : Outside) (st : Status) → folder_in s ≡ Some f → RunsLive x y st → Owes s x y st
-owes_live s f x y st is run = let live = is_live s f is in subst (λ w. Owes w x y st) (sym live.1) run
+pub owes_live : (s : Option Words) (folder : List ℕ) (anew : Bool) (x y : Outside) (st : Status) → place_in s ≡ Some (folder, anew) → RunsLive folder anew x y st → Owes s x y st
+owes_live None folder anew x y st is run = absurd cc
+owes_live (Some w) folder anew x y st is run = subst (λ w. Owes (Some w) x y st) (sym (said_live w folder anew is)) run
 
-pub not_live : (s : Option Words) → folder_in s ≡ None → IsLive s → ⊥
+pub not_live : (s : Option Words) → place_in s ≡ None → IsLive s → ⊥
 not_live s none live =
-    let no : Some live.0 ≡ None = sym (ap folder_in live.1) ∙ none in
+    let no : Some (live.0, live.1) ≡ None = sym (ap place_in live.2) ∙ none in
     absurd cc

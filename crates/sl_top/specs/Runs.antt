@@ -109,10 +109,11 @@ pub record Outside : Type 0 where
 abbrev pub Tells : List ℕ → Status → Outside → Outside → Status → Type 0
 Tells text whole x y s = PutsOut x.taken y.taken x.sink_faults y.sink_faults text whole s
 
--- What a live run owes: what its machines replied, as histories of hosts that were compared with what their threads did; or why there is none.
-pub record RunsLive (x y : Outside) (s : Status) : Type 0 where
+-- What a live run owes, in this folder, where disks are made anew or not: what its machines replied, as histories of hosts that were compared
+-- with what their threads did; or why there is none.
+pub record RunsLive (folder : List ℕ) (anew : Bool) (x y : Outside) (s : Status) : Type 0 where
   pub ended : Lived
-  pub owes : OwesLive Serves whole_commands x.left y.left x.taken y.taken x.source_faults y.source_faults x.sink_faults y.sink_faults x.device_faults y.device_faults ended
+  pub owes : OwesLive Serves whole_commands (record { path = folder; anew = anew; disks = x.disks }) x.left y.left x.taken y.taken x.source_faults y.source_faults x.sink_faults y.sink_faults x.device_faults y.device_faults ended
   pub status : s ≡ status_of_live ended
 
 -- What a run owes, by what its words say.
@@ -121,7 +122,7 @@ Owes None x y s = Tells bad_words_text BadWords x y s
 Owes (Some Replay) x y s = Replays x.left y.left x.source_faults y.source_faults x.taken y.taken x.sink_faults y.sink_faults s
 Owes (Some (Generate seed hosts events paired)) x y s = Generates seed hosts events paired x.taken y.taken x.sink_faults y.sink_faults s
 Owes (Some (Direct a)) x y s = ActsOn a x.disks y.disks x.device_faults y.device_faults x.taken y.taken x.sink_faults y.sink_faults s
-Owes (Some (Live folder)) x y s = RunsLive x y s
+Owes (Some (Live folder anew)) x y s = RunsLive folder anew x y s
 Owes (Some Help) x y s = Tells HELP.now Done x y s
 Owes (Some Version) x y s = Tells VERSION.now Done x y s
 
@@ -134,14 +135,14 @@ IsDirect w = (a : Action) × (w ≡ Some (Direct a))
 
 -- Only these wait for anything.
 abbrev pub IsLive : Option Words → Type 0
-IsLive w = (folder : List ℕ) × (w ≡ Some (Live folder))
+IsLive w = (folder : List ℕ) × (anew : Bool) × (w ≡ Some (Live folder anew))
 
--- The folder of live machines, if the words ask for them.
-abbrev pub folder_of : Words → Option (List ℕ)
-folder_of (Live folder) = Some folder
-folder_of w = None
+-- The folder of live machines, and whether disks are made anew there, if the words ask for them.
+abbrev pub place_of : Words → Option (List ℕ × Bool)
+place_of (Live folder anew) = Some (folder, anew)
+place_of w = None
 
 -- .. if they say anything.
-abbrev pub folder_in : Option Words → Option (List ℕ)
-folder_in None = None
-folder_in (Some w) = folder_of w
+abbrev pub place_in : Option Words → Option (List ℕ × Bool)
+place_in None = None
+place_in (Some w) = place_of w

@@ -23,7 +23,8 @@ pub enum Status {
     WriteFault,
     /// There is no memory.
     NoMemory,
-    /// A read or a write of an area failed; the output ends with the line `area fault`.
+    /// A read or a write of an area failed, and the output ends with the line `area fault`; or the folder of live machines is in use, or a disk
+    /// stands there that is not made anew, and the output is the line that says so.
     AreaFault,
     /// The sector that was to be a resource's leader holds none, or one of other names; the output says what it holds.
     NotTheLeader,

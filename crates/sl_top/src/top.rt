@@ -6,9 +6,9 @@
 //! runs out, a front of the report. `gen` reads nothing: it draws its events as it plays them. `direct` takes one disk of the devices, does its action there, and gives the disk back.
 
 ghost use Rattle.sl_direct.specs.Actions.{IsAction};
-ghost use Rattle.sl_top.specs.Runs.{ActsOn, Generates, IsDirect, IsLive, IsReplay, Owes, PutsOut, Replays, RunsLive, folder_in, folder_of, said};
+ghost use Rattle.sl_top.specs.Runs.{ActsOn, Generates, IsDirect, IsLive, IsReplay, Owes, PutsOut, Replays, RunsLive, place_in, place_of, said};
 ghost use Rattle.sl_top.specs.declared.status.Status.TheVariants.{WriteFault};
-ghost use Rattle.std.specs.Prelude.{IfOk, ◌≡◌, ◌≢◌, ◌≤◌};
+ghost use Rattle.std.specs.Prelude.{IfOk, option_map, ◌≡◌, ◌≢◌, ◌≤◌};
 
 use crate::status::{Status, status_after, status_of, status_of_generated, status_of_live};
 use sl_area::Area;
@@ -83,25 +83,38 @@ fn direct<K: Sink, D: Devices>(
     status_after(directed)
 }
 
-/// Runs live machines by the script that the source gives, on disks in this folder, and puts out what they replied.
+/// Where live machines have their disks, and whether those that stand there are made anew.
+#[derive(Drop)]
+struct Place {
+    folder: Folder,
+    anew: bool,
+}
+
+/// Runs live machines by the script that the source gives, on disks at this place, and puts out what they replied.
 fn live<R: Threads + Wait + Clock + Sync, S: Source + Send, K: Sink, D: LiveDevices>(
     rt: &R,
     alloc: Global,
-    folder: &str,
+    place: &Place,
     source: S,
     sink: &mut K,
     devices: &mut D,
 ) -> (Status, S)
 where
     D::Area: Send,
-    ensures { RunsLive
+    ensures { RunsLive place.now.folder place.now.anew
         (record { left = S.left source; source_faults = S.faults source; taken = K.taken sink.old; sink_faults = K.faults sink.old; disks = D.Devices.disks devices.old; device_faults = D.Devices.faults devices.old })
         (record { left = S.left result.1; source_faults = S.faults result.1; taken = K.taken sink.new; sink_faults = K.faults sink.new; disks = D.Devices.disks devices.new; device_faults = D.Devices.faults devices.new })
         result.0 }
 {
     whole_language_may_play();
     let (lived, source) = play_live::<LiveHost, S, K, D, R>(
-        rt, alloc, folder, source, sink, devices,
+        rt,
+        alloc,
+        place.folder.as_str(),
+        place.anew,
+        source,
+        sink,
+        devices,
     );
     (status_of_live(lived), source)
 }
@@ -144,7 +157,12 @@ pub fn run_offline<S: Source, K: Sink, D: Devices>(
             },
         ) => generate_from(alloc, seed, hosts, events, paired, sink),
         Ok(Words::Direct(action)) => direct(alloc, &action, sink, devices),
-        Ok(Words::Live { folder: _folder }) => unreachable!(),
+        Ok(
+            Words::Live {
+                folder: _folder,
+                anew: _anew,
+            },
+        ) => unreachable!(),
         Ok(Words::Help) => tell(sink, HELP.as_bytes(), Status::Done),
         Ok(Words::Version) => tell(sink, VERSION.as_bytes(), Status::Done),
         Err(WordsError::Bad) => tell(sink, b"sanlock: bad words\n", Status::BadWords),
@@ -152,12 +170,12 @@ pub fn run_offline<S: Source, K: Sink, D: Devices>(
     }
 }
 
-/// The folder of live machines, if the words ask for them.
-fn folder_of(words: Words) -> Option<Folder>
-    ensures { result ≡ folder_of words }
+/// The place of live machines, if the words ask for them.
+fn place_of(words: Words) -> Option<Place>
+    ensures { option_map (λ p. (p.folder, p.anew)) result ≡ place_of words }
 {
     match words {
-        Words::Live { folder } => Some(folder),
+        Words::Live { folder, anew } => Some(Place { folder, anew }),
         Words::Replay => None,
         Words::Generate { .. } => None,
         Words::Direct(_) => None,
@@ -166,12 +184,12 @@ fn folder_of(words: Words) -> Option<Folder>
     }
 }
 
-/// The folder of live machines, if the words of the command line ask for them. An `Err` is want of memory.
-fn live_folder(alloc: Global, words: &[String]) -> Result<Option<Folder>, AllocError>
-    ensures { IfOk result (λ folder. folder ≡ folder_in (said words.now)) }
+/// The place of live machines, if the words of the command line ask for them. An `Err` is want of memory.
+fn live_place(alloc: Global, words: &[String]) -> Result<Option<Place>, AllocError>
+    ensures { IfOk result (λ place. option_map (λ p. (p.folder, p.anew)) place ≡ place_in (said words.now)) }
 {
     match read_words(alloc, words) {
-        Ok(words) => Ok(folder_of(words)),
+        Ok(words) => Ok(place_of(words)),
         Err(WordsError::Bad) => Ok(None),
         Err(WordsError::NoMemory) => Err(AllocError),
     }
@@ -183,7 +201,7 @@ fn live_folder(alloc: Global, words: &[String]) -> Result<Option<Folder>, AllocE
 /// # Statuses
 /// Those of `run_offline`. `live` ends with `Done` where its script was read to its end, with `Refused` where a line of it is refused, with
 /// `ReadFault` and `WriteFault` only where the source's or the sink's count of faults rose, with `AreaFault` only where the devices' did
-/// before its machines began, with `Differs` only where a case holds of a machine, which is put out; `NoMemory` for want of memory, after which
+/// before its machines began, as where another program has the folder, or a disk stands there that is not made anew, with `Differs` only where a case holds of a machine, which is put out; `NoMemory` for want of memory, after which
 /// nothing was put out. It returns once its machines have ended, which wait for their children.
 pub fn run<R: Threads + Wait + Clock + Sync, S: Source + Send, K: Sink, D: LiveDevices>(
     rt: &R,
@@ -203,10 +221,10 @@ where
     ensures devices { (IsDirect (said words.now) → ⊥) → (IsLive (said words.now) → ⊥) → result.2 ≡ devices }
 {
     let (mut source, mut devices) = (source, devices);
-    match live_folder(alloc, words) {
+    match live_place(alloc, words) {
         Err(_) => (Status::NoMemory, source, devices),
-        Ok(Some(folder)) => {
-            let (status, source) = live(rt, alloc, folder.as_str(), source, sink, &mut devices);
+        Ok(Some(place)) => {
+            let (status, source) = live(rt, alloc, &place, source, sink, &mut devices);
             (status, source, devices)
         }
         Ok(None) => {

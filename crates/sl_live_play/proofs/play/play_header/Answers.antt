@@ -1,19 +1,12 @@
-use Rattle.sl_live_run.proofs.SettingLaws.{sites_are_settings}
-use Rattle.sl_live_play.proofs.MachineBeginnings.{are_settings}
-use Rattle.sl_live_play.proofs.LivePlayOwed.{owes_devices, owes_no_ground}
+use Rattle.sl_live_play.proofs.LivePlayOwed.{owes_devices, owes_no_entry}
 use Rattle.sl_live_play.proofs.play.play_header.Goals as goal
-
-pub play_ground-requires-clause-header : goal.play_ground-requires-clause-header
-play_ground-requires-clause-header g c κs within = c.in-Ok.ensures.ok.lawful
-
-pub play_ground-requires-clause-settings : goal.play_ground-requires-clause-settings
-play_ground-requires-clause-settings g c κs within =
-    are_settings _ _ _ _ _ g.D.Daemon.commands c.args.header c.in-Ok.ground sites_are_settings c.requires.reads c.in-Ok.ensures.ok
 
 pub returns-in-Ok : goal.returns-in-Ok
 returns-in-Ok g c first begins =
-    owes_devices g.D.Daemon.stands g.D.Daemon.commands first _ _ _ _ _ _ _ _ _ _ c.play_ground.result.0 c.in-Ok.ensures.later (c.play_ground.ensures first c.args.header c.in-Ok.ensures.ok begins)
+    owes_devices g.D.Daemon.stands g.D.Daemon.commands (record { path = c.args.folder.now; anew = c.args.anew; disks = g.V.Devices.disks c.args.devices.now }) first _ _ _ _ _ _ _ _ _ _
+    c.play_entered.result.0 c.in-Ok.ensures.later (c.play_entered.ensures _ first begins c.in-Ok.ensures.vacant)
 
 pub returns-in-Err : goal.returns-in-Err
 returns-in-Err g c first begins =
-    owes_no_ground g.D.Daemon.stands g.D.Daemon.commands first _ _ _ _ _ _ _ _ _ c.in-Err.why c.put_no_ground.result c.in-Err.ensures.err c.put_no_ground.ensures
+    owes_no_entry g.D.Daemon.stands g.D.Daemon.commands (record { path = c.args.folder.now; anew = c.args.anew; disks = g.V.Devices.disks c.args.devices.now }) first _ _ _ _ _ _ _ _ _
+    c.args.header c.args.reader c.in-Err.why c.put_no_entry.result begins c.in-Err.ensures.bars c.put_no_entry.ensures

@@ -6,7 +6,7 @@ use Rattle.sl_words.proofs.Numbers.{refl_le}
 use Rattle.std.proofs.Common.{arith}
 
 pub returns-in_err-make_disks-clause-err : goal.returns-in_err-make_disks-clause-err
-returns-in_err-make_disks-clause-err g c = handed_on c.from_residual.result AreaFault _ _ c.from_residual.ensures.1 c.in_err-make_disks.ensures.failed
+returns-in_err-make_disks-clause-err g c = handed_on c.from_residual.result AreaFault _ _ c.from_residual.ensures.1 c.in_err-make_disks.ensures.cause.failed
 
 pub returns-in_err-started-clause-err : goal.returns-in_err-started-clause-err
 returns-in_err-started-clause-err g c = handed_on c.from_residual-in_err-started.result NoMemory _ _ c.from_residual-in_err-started.ensures.1 tt
@@ -25,7 +25,7 @@ prepare_all-requires-clause-each g c lives within = header_machines c.args.heade
 pub returns-in_err-machines-clause-err : goal.returns-in_err-machines-clause-err
 returns-in_err-machines-clause-err g c =
     let why = c.in_err-machines.field-0.0 in
-    let first = c.make_disks.ensures.later in
+    let first = c.make_disks.ensures.cause.later in
     let same = c.start_clocks.ensures.count in
     handed_on c.from_residual-in_err-machines.result why _ _ c.from_residual-in_err-machines.ensures.1
     (explains_between why (g.V.Devices.faults c.args.devices.now) (g.V.Devices.faults c.start_clocks.new.devices) (g.V.Devices.faults c.prepare_all.new.devices)
