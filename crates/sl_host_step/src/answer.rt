@@ -105,9 +105,18 @@ fn step_heard<S: Sectors>(
     ensures sizes { scratch.new.sizes ≡ scratch.old.sizes }
 {
     let reach = reach_at(host, number);
-    let begun = start(alloc, host, scratch, now, reach)?;
+    let is_loud = start(alloc, host, scratch, now, reach)?;
     take_answer(host, scratch, number, heard);
-    Ok(conclude(host, scratch, begun.none, begun.is_loud))
+    Ok(conclude(alloc, host, scratch, is_loud))
+}
+
+/// A sector of its own with these bytes. An `Err` is want of memory.
+fn copied_sector(alloc: Global, bytes: &Bytes) -> Result<Arc<Image>, AllocError>
+    requires { IsSectorSize (length bytes.now) }
+    ensures { IfOk result (λ image. arc_value image ≡ bytes.now) }
+{
+    let copy = Bytes::from_slice(alloc, bytes.as_slice())?;
+    Ok(Arc::new(alloc, Image::of_bytes(copy))?)
 }
 
 /// A step at the answer ok of a read, whose bytes are these.
@@ -118,12 +127,12 @@ fn step_bytes(
     scratch: &mut Scratch,
     now: u64,
     number: u64,
-    bytes: Bytes,
+    bytes: &Bytes,
 ) -> Result<Effects, AllocError>
-    requires comes { StepComes now (Told number (ReadOf bytes)) host.old.kept }
+    requires comes { StepComes now (Told number (ReadOf bytes.now)) host.old.kept }
     requires rests { Rests scratch.old host.old }
     requires sizes { scratch.old.sizes ≡ host.old.kept.config.sizes }
-    ensures ok { IfOk result (λ fx. HasStepped now (Told number (ReadOf bytes)) host.old host.new fx) }
+    ensures ok { IfOk result (λ fx. HasStepped now (Told number (ReadOf bytes.now)) host.old host.new fx) }
     ensures err { OnErr result (host.new ≡ host.old) }
     ensures rests { OnErr result (Rests scratch.new host.new) }
     ensures used { OnOk result (scratch.new.spare ≡ false) }
@@ -131,7 +140,7 @@ fn step_bytes(
     ensures sizes { scratch.new.sizes ≡ scratch.old.sizes }
 {
     if is_joining(host, number) {
-        let sector = Arc::new(alloc, Image::of_bytes(bytes))?;
+        let sector = copied_sector(alloc, bytes)?;
         return step_heard::<SectorBytes<'_>>(
             alloc,
             host,
@@ -154,16 +163,16 @@ pub(crate) fn step_answer(
     scratch: &mut Scratch,
     now: u64,
     number: u64,
-    answer: Answer,
+    answer: &Answer,
 ) -> Result<Effects, AllocError>
-    requires comes { StepComes now (Told number answer) host.old.kept }
+    requires comes { StepComes now (Told number answer.now) host.old.kept }
     requires rests { Rests scratch.old host.old }
     requires sizes { scratch.old.sizes ≡ host.old.kept.config.sizes }
-    ensures ok { IfOk result (λ fx. HasStepped now (Told number answer) host.old host.new fx) }
+    ensures ok { IfOk result (λ fx. HasStepped now (Told number answer.now) host.old host.new fx) }
     ensures err { OnErr result (host.new ≡ host.old) }
     ensures rests { OnErr result (Rests scratch.new host.new) }
     ensures used { OnOk result (scratch.new.spare ≡ false) }
-    ensures spared { scratch.old.spare ≡ true → takes_more host.old.kept (Told number answer) ≡ false → IsOk result }
+    ensures spared { scratch.old.spare ≡ true → takes_more host.old.kept (Told number answer.now) ≡ false → IsOk result }
     ensures sizes { scratch.new.sizes ≡ scratch.old.sizes }
 {
     match answer {
@@ -226,7 +235,7 @@ fn step_copied(
 {
     let mut bytes = Vec::new(alloc);
     sectors.push_bytes(&mut bytes)?;
-    step_bytes(alloc, host, scratch, now, number, Bytes::new(bytes))
+    step_bytes(alloc, host, scratch, now, number, &Bytes::new(bytes))
 }
 
 /// A step at the answer ok of a read, with its sectors as the world has them.

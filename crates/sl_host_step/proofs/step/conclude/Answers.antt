@@ -9,10 +9,10 @@ grow_calm-requires c =
     let a = c.requires.at in
     record { done = (a.0, a.1, a.2, c.end.ensures.done a.0 a.1 a.2 a.3) }
 
-pub rest-requires-clause-done : goal.rest-requires-clause-done
-rest-requires-clause-done c =
+pub rest-requires : goal.rest-requires
+rest-requires c =
     let a = c.requires.at in
-    (a.0, a.1, a.2, c.end.new.host.kept, c.end.ensures.done a.0 a.1 a.2 a.3, c.grow_calm.ensures.calm)
+    record { done = (a.0, a.1, a.2, c.end.new.host.kept, c.end.ensures.done a.0 a.1 a.2 a.3, c.grow_calm.ensures.calm) }
 
 pub returns-clause-stepped : goal.returns-clause-stepped
 returns-clause-stepped c now i first at ends =
