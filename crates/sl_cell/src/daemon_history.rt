@@ -3,18 +3,18 @@
 ghost use Rattle.sl_cell.specs.CopyRoom.{Holds};
 ghost use Rattle.sl_cell.specs.Cells.{HasNumbers, IsAnswered, IsTold, KeepsIdle, Stepped, made_entry};
 ghost use Rattle.sl_run.specs.Lawful.{IsSetting};
-ghost use Rattle.sl_world_state.specs.Daemons.{begun_with};
+ghost use Rattle.sl_world_state.specs.Daemons.{IsNumbered, IsStep, MayCome, begun_with, entry_of};
 ghost use Rattle.sl_world_state.specs.declared.daemon.Most.{Most};
 ghost use Rattle.sl_run.specs.Headers.{IsHeader};
-ghost use Rattle.sl_trace.specs.Traces.{IsTrace, is_expected, takes_number};
+ghost use Rattle.sl_trace.specs.Traces.{IsTrace, Setting, Trace, is_expected, takes_number};
 ghost use Rattle.sl_words.specs.Bounds.{moments};
 ghost use Rattle.sl_words.specs.Words.{greatest};
-ghost use Rattle.std.specs.Prelude.{All, IfOk, IsFalse, OnErr, OnOk, if◌then◌else◌, length, map, reverse, true, [], ◌++◌, ◌+◌, ◌<◌, ◌^◌, ◌∷◌, ◌≡◌, ◌≤◌, ◌-◌};
+ghost use Rattle.std.specs.Prelude.{All, IfOk, IsFalse, IsOk, OnErr, OnOk, if◌then◌else◌, length, map, reverse, true, [], ◌++◌, ◌+◌, ◌<◌, ◌^◌, ◌∷◌, ◌≡◌, ◌≤◌, ◌-◌};
 ghost use Rattle.std.specs.Vec.{vec_capacity, vec_len};
 
 use crate::pages::Pages;
 use crate::seat::{Made, Seat};
-use crate::step_copies::copy_input_twice;
+use crate::step_copies::copy_input;
 use crate::teller::Teller;
 use sl_run::Header;
 use sl_trace::{Effects, Entry, Given, Input, Numbers};
@@ -127,7 +127,7 @@ fn advanced(next: Numbers, input: &Input, calls: usize) -> Numbers
     }
 }
 
-/// Copies of the input, where there are numbers and memory for a step of so much. An `Err` is want of them.
+/// A copy of the input, where there are numbers and memory for a step of so much. An `Err` is want of them.
 fn prepare(
     pages: &mut Pages,
     alloc: Global,
@@ -135,19 +135,39 @@ fn prepare(
     most: &Most,
     longest: usize,
     input: &Input,
-) -> Result<(Input, Input), AllocError>
+) -> Result<Input, AllocError>
     ensures history { pages.new.history.items ≡ pages.old.history.items }
     ensures numbers { OnOk result (HasNumbers next most.now) }
     ensures room { OnOk result (vec_len pages.new.history < vec_capacity pages.new.history) }
     ensures kept { OnOk result (Holds pages.new.kept most.now longest) }
     ensures told { OnOk result (Holds pages.new.told most.now longest) }
-    ensures copies { IfOk result (λ copies. (copies.0 ≡ input.now) × (copies.1 ≡ input.now)) }
+    ensures copy { IfOk result (λ copy. copy ≡ input.now) }
 {
     if is_full(next, most) {
         return Err(AllocError);
     }
     pages.reserve(most, longest)?;
-    copy_input_twice(alloc, input)
+    copy_input(alloc, input)
+}
+
+/// The daemon makes a step, and then sees that the memory of one step more stands by, for what can't wait for memory when it comes. What that
+/// gave goes out beside the effects: it is no answer of this step. An `Err` is want of memory for the step, and changes nothing.
+fn step_ready<D: Daemon>(
+    daemon: &mut D,
+    now: u64,
+    input: &Input,
+) -> Result<(Effects, Result<(), AllocError>), AllocError>
+    requires { (st : Setting) × (es : Trace) × D.stands daemon.old st es × MayCome st es now input.now }
+    ensures stays { (st : Setting) → (es : Trace) → D.stands daemon.old st es → MayCome st es now input.now
+        → IfOk result (λ r. D.stands daemon.new st (entry_of now input.now r.0 ∷ es) × IsNumbered st es r.0) }
+    ensures sound { (st : Setting) → (es : Trace) → D.stands daemon.old st es → MayCome st es now input.now
+        → IfOk result (λ r. IsStep st (D.makes daemon.old) r.0) }
+    ensures ready { IfOk result (λ r. IsOk r.1 → D.spare daemon.new ≡ 1) }
+    ensures err { OnErr result (daemon.new ≡ daemon.old) }
+{
+    let effects = daemon.step(now, input)?;
+    let ready = daemon.reserve();
+    Ok((effects, ready))
 }
 
 impl<D: Teller, J: Station> Core<D, J> {
@@ -205,7 +225,7 @@ impl<D: Teller, J: Station> Core<D, J> {
     {
         let most = self.daemon.most();
         let longest = self.daemon.longest();
-        let inputs = prepare(
+        let copy = prepare(
             &mut self.pages,
             self.alloc,
             self.next,
@@ -214,9 +234,10 @@ impl<D: Teller, J: Station> Core<D, J> {
             &input,
         )?;
         let reading = now.max(self.reading);
-        let effects = self.daemon.step(reading, input)?;
-        self.next = advanced(self.next, &inputs.0, effects.calls.len());
+        let (effects, _ready) = step_ready(&mut self.daemon, reading, &input)?;
+        self.next = advanced(self.next, &input, effects.calls.len());
         self.reading = reading;
+        let inputs = (copy, input);
         let entry = self.pages.write(self.alloc, reading, inputs, &effects);
         Ok((entry, effects))
     }

@@ -121,8 +121,8 @@ live_case : {D : Type 0} (stands : D → Setting → Trace → Type 0) (st : Set
     → HasRun stands st outcome → IsCaseIn a outcome due d → IsLiveCase stands st a due d
 live_case stands st a due (Ok h) (Cell c) run is = absurd is
 live_case stands st a due (Ok h) (Line number asked expected) run is = (h, run.stood, run.ran, is)
-live_case stands st a due (Ok h) (Left number call) run is = (h, run.stood, run.ran, is)
-live_case stands st a due (Ok h) (Untold number process) run is = (h, run.stood, run.ran, is)
+live_case stands st a due (Ok h) (Left number call) run is = (h, run.stood, run.ran, is.0, is.1)
+live_case stands st a due (Ok h) (Untold number process) run is = (h, run.stood, run.ran, is.0, is.1)
 live_case stands st a due (Err e) d run is =
     subst (IsLiveCase stands st a due) (sym is.2) (subst (Stops (IsCaseOfRun st)) is.1 run.stops)
 
