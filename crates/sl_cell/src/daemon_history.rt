@@ -14,7 +14,7 @@ ghost use Rattle.std.specs.Vec.{vec_capacity, vec_len};
 
 use crate::pages::Pages;
 use crate::seat::{Made, Seat};
-use crate::step_copies::copy_input_twice;
+use crate::step_copies::copy_input;
 use crate::teller::Teller;
 use sl_run::Header;
 use sl_trace::{Effects, Entry, Given, Input, Numbers};
@@ -127,7 +127,7 @@ fn advanced(next: Numbers, input: &Input, calls: usize) -> Numbers
     }
 }
 
-/// Copies of the input, where there are numbers and memory for a step of so much. An `Err` is want of them.
+/// A copy of the input, where there are numbers and memory for a step of so much. An `Err` is want of them.
 fn prepare(
     pages: &mut Pages,
     alloc: Global,
@@ -135,19 +135,19 @@ fn prepare(
     most: &Most,
     longest: usize,
     input: &Input,
-) -> Result<(Input, Input), AllocError>
+) -> Result<Input, AllocError>
     ensures history { pages.new.history.items ≡ pages.old.history.items }
     ensures numbers { OnOk result (HasNumbers next most.now) }
     ensures room { OnOk result (vec_len pages.new.history < vec_capacity pages.new.history) }
     ensures kept { OnOk result (Holds pages.new.kept most.now longest) }
     ensures told { OnOk result (Holds pages.new.told most.now longest) }
-    ensures copies { IfOk result (λ copies. (copies.0 ≡ input.now) × (copies.1 ≡ input.now)) }
+    ensures copy { IfOk result (λ copy. copy ≡ input.now) }
 {
     if is_full(next, most) {
         return Err(AllocError);
     }
     pages.reserve(most, longest)?;
-    copy_input_twice(alloc, input)
+    copy_input(alloc, input)
 }
 
 impl<D: Teller, J: Station> Core<D, J> {
@@ -205,7 +205,7 @@ impl<D: Teller, J: Station> Core<D, J> {
     {
         let most = self.daemon.most();
         let longest = self.daemon.longest();
-        let inputs = prepare(
+        let copy = prepare(
             &mut self.pages,
             self.alloc,
             self.next,
@@ -214,9 +214,12 @@ impl<D: Teller, J: Station> Core<D, J> {
             &input,
         )?;
         let reading = now.max(self.reading);
-        let effects = self.daemon.step(reading, input)?;
-        self.next = advanced(self.next, &inputs.0, effects.calls.len());
+        let effects = self.daemon.step(reading, &input)?;
+        self.next = advanced(self.next, &input, effects.calls.len());
         self.reading = reading;
+        // what can't wait for memory has it when it comes; a refusal is no answer of this step
+        let _stands_by = self.daemon.reserve();
+        let inputs = (copy, input);
         let entry = self.pages.write(self.alloc, reading, inputs, &effects);
         Ok((entry, effects))
     }

@@ -88,14 +88,6 @@ pub(crate) fn copy_input(alloc: Global, input: &Input) -> Result<Input, AllocErr
     })
 }
 
-/// Two copies of what came. An `Err` is want of memory.
-pub(crate) fn copy_input_twice(alloc: Global, input: &Input) -> Result<(Input, Input), AllocError>
-    ensures { IfOk result (λ copies. (copies.0 ≡ input.now) × (copies.1 ≡ input.now)) }
-{
-    let first = copy_input(alloc, input)?;
-    Ok((first, copy_input(alloc, input)?))
-}
-
 /// A copy of an answer. An `Err` is want of memory.
 fn copy_answer(alloc: Global, answer: &Answer) -> Result<Answer, AllocError>
     ensures { IfOk result (λ copy. copy ≡ answer.now) }

@@ -118,12 +118,12 @@ fn step_bytes(
     scratch: &mut Scratch,
     now: u64,
     number: u64,
-    bytes: Bytes,
+    bytes: &Bytes,
 ) -> Result<Effects, AllocError>
-    requires comes { StepComes now (Told number (ReadOf bytes)) host.old.kept }
+    requires comes { StepComes now (Told number (ReadOf bytes.now)) host.old.kept }
     requires rests { Rests scratch.old host.old }
     requires sizes { scratch.old.sizes ≡ host.old.kept.config.sizes }
-    ensures ok { IfOk result (λ fx. HasStepped now (Told number (ReadOf bytes)) host.old host.new fx) }
+    ensures ok { IfOk result (λ fx. HasStepped now (Told number (ReadOf bytes.now)) host.old host.new fx) }
     ensures err { OnErr result (host.new ≡ host.old) }
     ensures rests { OnErr result (Rests scratch.new host.new) }
     ensures used { OnOk result (scratch.new.spare ≡ false) }
@@ -131,7 +131,8 @@ fn step_bytes(
     ensures sizes { scratch.new.sizes ≡ scratch.old.sizes }
 {
     if is_joining(host, number) {
-        let sector = Arc::new(alloc, Image::of_bytes(bytes))?;
+        let copy = Bytes::from_slice(alloc, bytes.as_slice())?;
+        let sector = Arc::new(alloc, Image::of_bytes(copy))?;
         return step_heard::<SectorBytes<'_>>(
             alloc,
             host,
@@ -154,16 +155,16 @@ pub(crate) fn step_answer(
     scratch: &mut Scratch,
     now: u64,
     number: u64,
-    answer: Answer,
+    answer: &Answer,
 ) -> Result<Effects, AllocError>
-    requires comes { StepComes now (Told number answer) host.old.kept }
+    requires comes { StepComes now (Told number answer.now) host.old.kept }
     requires rests { Rests scratch.old host.old }
     requires sizes { scratch.old.sizes ≡ host.old.kept.config.sizes }
-    ensures ok { IfOk result (λ fx. HasStepped now (Told number answer) host.old host.new fx) }
+    ensures ok { IfOk result (λ fx. HasStepped now (Told number answer.now) host.old host.new fx) }
     ensures err { OnErr result (host.new ≡ host.old) }
     ensures rests { OnErr result (Rests scratch.new host.new) }
     ensures used { OnOk result (scratch.new.spare ≡ false) }
-    ensures spared { scratch.old.spare ≡ true → takes_more host.old.kept (Told number answer) ≡ false → IsOk result }
+    ensures spared { scratch.old.spare ≡ true → takes_more host.old.kept (Told number answer.now) ≡ false → IsOk result }
     ensures sizes { scratch.new.sizes ≡ scratch.old.sizes }
 {
     match answer {
@@ -226,7 +227,7 @@ fn step_copied(
 {
     let mut bytes = Vec::new(alloc);
     sectors.push_bytes(&mut bytes)?;
-    step_bytes(alloc, host, scratch, now, number, Bytes::new(bytes))
+    step_bytes(alloc, host, scratch, now, number, &Bytes::new(bytes))
 }
 
 /// A step at the answer ok of a read, with its sectors as the world has them.

@@ -97,19 +97,6 @@ impl HostDaemon {
         let hosts = self.host.config().geometry.hosts() as usize;
         hosts.max(self.host.seats())
     }
-
-    /// Sees that there is room for one step more, so that a wake, an exit or the answer of a renewal can't want memory. It changes nothing that a
-    /// later step does. An `Err` is want of memory, or of numbers of calls, jobs, children or steps, and changes nothing.
-    #[tactic(auto, using(crate::proofs::SpareRoom::stands_by, crate::proofs::SpareRoom::serves_still, crate::proofs::SpareRoom::nothing_made))]
-    pub fn reserve(&mut self) -> Result<(), AllocError>
-        requires { (st : Setting) × (es : Trace) × Serves self.old st es }
-        ensures ok { OnOk result (spare_of self.new ≡ 1) }
-        ensures kept { self.new.kept ≡ self.old.kept }
-        ensures serves { (st : Setting) (es : Trace) → Serves self.old st es → Serves self.new st es }
-        ensures err { OnErr result (self.new ≡ self.old) }
-    {
-        stand_by(self.alloc, &mut self.host, &mut self.scratch)
-    }
 }
 
 impl Daemon for HostDaemon {
@@ -118,6 +105,10 @@ impl Daemon for HostDaemon {
     ghost stands = { Serves };
 
     ghost makes = { most_of };
+
+    ghost spare = { spare_of };
+
+    ghost takes_more = { λ d i. takes_more d.kept i };
 
     fn is_for_locks(header: &Header, text: &[u8]) -> bool {
         // the step parses the text again, so here it is parsed only where it can name the process
@@ -160,18 +151,20 @@ impl Daemon for HostDaemon {
         }
     }
 
-    #[tactic(auto, using(crate::proofs::HostDaemons::comes_so, crate::proofs::HostDaemons::steps_so, crate::proofs::HostDaemons::is_step_so, crate::proofs::HostDaemons::sizes_so, crate::proofs::SpareRoom::is_standing, crate::proofs::SpareRoom::rests_on, crate::proofs::SpareRoom::spent))]
-    fn step(&mut self, now: u64, input: Input) -> Result<Effects, AllocError>
-        requires { (st : Setting) × (es : Trace) × Serves self.old st es × MayCome st es now input }
-        ensures stays { (st : Setting) → (es : Trace) → Serves self.old st es → MayCome st es now input
-            → IfOk result (λ fx. Serves self.new st (entry_of now input fx ∷ es) × IsNumbered st es fx) }
-        ensures sound { (st : Setting) → (es : Trace) → Serves self.old st es → MayCome st es now input → IfOk result (IsStep st (most_of self.old)) }
+    #[tactic(auto, using(crate::proofs::SpareRoom::stands_by, crate::proofs::SpareRoom::serves_still, crate::proofs::SpareRoom::nothing_made))]
+    fn reserve(&mut self) -> Result<(), AllocError>
+        requires { (st : Setting) × (es : Trace) × Serves self.old st es }
+        ensures ok { OnOk result (spare_of self.new ≡ 1) }
+        ensures kept { self.new.kept ≡ self.old.kept }
+        ensures serves { (st : Setting) (es : Trace) → Serves self.old st es → Serves self.new st es }
         ensures err { OnErr result (self.new ≡ self.old) }
-        // with room standing by it is done, and at most that room is used
-        ensures spared { spare_of self.old ≡ 1 → takes_more self.old.kept input ≡ false → IsOk result }
-        ensures spent { spare_of self.new ≤ spare_of self.old }
     {
-        is_byte_input(&input);
+        stand_by(self.alloc, &mut self.host, &mut self.scratch)
+    }
+
+    #[tactic(auto, using(crate::proofs::HostDaemons::comes_so, crate::proofs::HostDaemons::steps_so, crate::proofs::HostDaemons::is_step_so, crate::proofs::HostDaemons::sizes_so, crate::proofs::SpareRoom::is_standing, crate::proofs::SpareRoom::rests_on, crate::proofs::SpareRoom::spent))]
+    fn step(&mut self, now: u64, input: &Input) -> Result<Effects, AllocError> {
+        is_byte_input(input);
         step_at(self.alloc, &mut self.host, &mut self.scratch, now, input)
     }
 

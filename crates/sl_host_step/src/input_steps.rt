@@ -23,25 +23,25 @@ pub(crate) fn step_at(
     host: &mut Host,
     scratch: &mut Scratch,
     now: u64,
-    input: Input,
+    input: &Input,
 ) -> Result<Effects, AllocError>
-    requires comes { StepComes now input host.old.kept }
+    requires comes { StepComes now input.now host.old.kept }
     requires rests { Rests scratch.old host.old }
     requires sizes { scratch.old.sizes ≡ host.old.kept.config.sizes }
-    ensures ok { IfOk result (λ fx. HasStepped now input host.old host.new fx) }
+    ensures ok { IfOk result (λ fx. HasStepped now input.now host.old host.new fx) }
     ensures err { OnErr result (host.new ≡ host.old) }
     ensures rests { OnErr result (Rests scratch.new host.new) }
     ensures used { OnOk result (scratch.new.spare ≡ false) }
-    ensures spared { scratch.old.spare ≡ true → takes_more host.old.kept input ≡ false → IsOk result }
+    ensures spared { scratch.old.spare ≡ true → takes_more host.old.kept input.now ≡ false → IsOk result }
     ensures sizes { scratch.new.sizes ≡ scratch.old.sizes }
 {
     match input {
         Input::Line(text) => step_line(alloc, host, scratch, now, text.as_slice()),
         Input::Number(_) => step_number(alloc, host, scratch, now),
-        Input::Answer { call, answer } => step_answer(alloc, host, scratch, now, call, answer),
+        Input::Answer { call, answer } => step_answer(alloc, host, scratch, now, *call, answer),
         Input::Wake => step_wake(alloc, host, scratch, now),
-        Input::Exit { process } => step_exit(alloc, host, scratch, now, process),
-        Input::Spawned { process, ok } => step_start(alloc, host, scratch, now, process, ok),
+        Input::Exit { process } => step_exit(alloc, host, scratch, now, *process),
+        Input::Spawned { process, ok } => step_start(alloc, host, scratch, now, *process, *ok),
     }
 }
 

@@ -31,25 +31,16 @@ impl Model for LiveHost {
     ghost view = { λ h. h.host };
 }
 
-impl LiveHost {
-    /// Sees that there is room for one step more, as the host's own does. An `Err` is want of memory, or of numbers, and changes nothing.
-    pub fn reserve(&mut self) -> Result<(), AllocError>
-        requires { (st : Setting) × (es : Trace) × Serves self.old st es }
-        ensures ok { OnOk result (spare_of self.new ≡ 1) }
-        ensures kept { self.new.kept ≡ self.old.kept }
-        ensures serves { (st : Setting) (es : Trace) → Serves self.old st es → Serves self.new st es }
-        ensures err { OnErr result (self.new ≡ self.old) }
-    {
-        self.host.reserve()
-    }
-}
-
 impl Daemon for LiveHost {
     ghost commands = { whole_commands };
 
     ghost stands = { Serves };
 
     ghost makes = { most_of };
+
+    ghost spare = { spare_of };
+
+    ghost takes_more = { λ d i. takes_more d.kept i };
 
     fn is_for_locks(header: &Header, text: &[u8]) -> bool {
         HostDaemon::is_for_locks(header, text)
@@ -69,16 +60,11 @@ impl Daemon for LiveHost {
         self.host.most()
     }
 
-    fn step(&mut self, now: u64, input: Input) -> Result<Effects, AllocError>
-        requires { (st : Setting) × (es : Trace) × Serves self.old st es × MayCome st es now input }
-        ensures stays { (st : Setting) → (es : Trace) → Serves self.old st es → MayCome st es now input
-            → IfOk result (λ fx. Serves self.new st (entry_of now input fx ∷ es) × IsNumbered st es fx) }
-        ensures sound { (st : Setting) → (es : Trace) → Serves self.old st es → MayCome st es now input → IfOk result (IsStep st (most_of self.old)) }
-        ensures err { OnErr result (self.new ≡ self.old) }
-        // with room standing by it is done, and at most that room is used
-        ensures spared { spare_of self.old ≡ 1 → takes_more self.old.kept input ≡ false → IsOk result }
-        ensures spent { spare_of self.new ≤ spare_of self.old }
-    {
+    fn reserve(&mut self) -> Result<(), AllocError> {
+        self.host.reserve()
+    }
+
+    fn step(&mut self, now: u64, input: &Input) -> Result<Effects, AllocError> {
         self.host.step(now, input)
     }
 

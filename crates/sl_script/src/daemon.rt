@@ -5,7 +5,7 @@ ghost use Rattle.sl_play.specs.Headers.HeaderLaw.{whole_commands};
 ghost use Rattle.sl_run.specs.Refusals.{is_for_locks};
 ghost use Rattle.sl_script.specs.ScriptStates.{Follows, are_open, is_due, most_of, starts_wait};
 ghost use Rattle.sl_trace.specs.Traces.{Setting, Trace, is_expected};
-ghost use Rattle.std.specs.Prelude.{IfOk, Ok, OnErr, [], find, option_copied, ◌<◌, ◌==◌, ◌^◌, ◌∷◌, ◌≡◌};
+ghost use Rattle.std.specs.Prelude.{IfOk, Ok, OnErr, [], find, option_copied, true, ◌<◌, ◌==◌, ◌^◌, ◌∷◌, ◌≡◌};
 
 use crate::answered_inputs::{Heard, SeenChild};
 use crate::draft::MOST;
@@ -87,6 +87,10 @@ impl Daemon for Script {
 
     ghost makes = { λ s. most_of };
 
+    ghost spare = { λ s. 1 };
+
+    ghost takes_more = { λ s i. true };
+
     fn is_for_locks(header: &Header, text: &[u8]) -> bool {
         match parse_command(text, &header.geometry) {
             Ok(command) => acts_for_locks(&command),
@@ -122,10 +126,15 @@ impl Daemon for Script {
         }
     }
 
+    // each of its steps takes memory, so none stands by
+    fn reserve(&mut self) -> Result<(), AllocError> {
+        Ok(())
+    }
+
     #[tactic(auto, using(crate::proofs::ScriptsFollow::step_stays, crate::proofs::ScriptsFollow::step_is_sound))]
-    fn step(&mut self, now: u64, input: Input) -> Result<Effects, AllocError> {
-        self.follow(&input)?;
-        self.go_on(Heard::of(&input))
+    fn step(&mut self, now: u64, input: &Input) -> Result<Effects, AllocError> {
+        self.follow(input)?;
+        self.go_on(Heard::of(input))
     }
 
     #[tactic(auto, using(crate::proofs::ScriptsFollow::step_stays, crate::proofs::ScriptsFollow::step_is_sound))]

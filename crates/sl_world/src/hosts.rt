@@ -53,9 +53,9 @@ fn begin_first<D: Daemon>(
 }
 
 /// One step of the daemon, if one runs; an `Err` where none does.
-fn step_host<D: Daemon>(host: &mut Option<D>, now: u64, input: Input) -> Result<Effects, AllocError>
-    requires { MayStepAt D.stands (host.old ∷ []) 0 now input }
-    ensures ok { IfOk result (HostStepped D.stands D.makes (host.old ∷ []) 0 now input (host.new ∷ [])) }
+fn step_host<D: Daemon>(host: &mut Option<D>, now: u64, input: &Input) -> Result<Effects, AllocError>
+    requires { MayStepAt D.stands (host.old ∷ []) 0 now input.now }
+    ensures ok { IfOk result (HostStepped D.stands D.makes (host.old ∷ []) 0 now input.now (host.new ∷ [])) }
     ensures err { OnErr result (host.new ≡ host.old) }
 {
     match host {
@@ -128,9 +128,9 @@ impl<D: Daemon> Hosts<D> {
     }
 
     /// One step of the daemon at this place. An `Err` is want of memory, and changes nothing.
-    pub fn step(&mut self, index: usize, now: u64, input: Input) -> Result<Effects, AllocError>
-        requires { MayStepAt D.stands self.old index now input }
-        ensures ok { IfOk result (HostStepped D.stands D.makes self.old index now input self.new) }
+    pub fn step(&mut self, index: usize, now: u64, input: &Input) -> Result<Effects, AllocError>
+        requires { MayStepAt D.stands self.old index now input.now }
+        ensures ok { IfOk result (HostStepped D.stands D.makes self.old index now input.now self.new) }
         ensures err { OnErr result (self.new ≡ self.old) }
     {
         step_host(&mut self.items[index], now, input)

@@ -69,7 +69,7 @@ impl<D: Daemon, L: LockTable> World<D, L> {
         let heard = hear(&input);
         let locks = lock_input_of(*self.kept.machines.allocator(), &input)?;
         self.kept.reserve(machine, &most)?;
-        let effects = self.hosts.step(index, now, input)?;
+        let effects = self.hosts.step(index, now, &input)?;
         let told = self.kept.step(machine, heard, locks, effects);
         Ok(told)
     }

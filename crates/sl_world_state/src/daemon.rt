@@ -7,7 +7,8 @@ ghost use Rattle.sl_run.specs.declared.header.Header.{Header as HeaderOf};
 ghost use Rattle.sl_text.specs.Forms.{Form};
 ghost use Rattle.sl_trace.specs.Traces.{Setting, Trace, is_expected};
 ghost use Rattle.sl_trace.specs.declared.command.Command.{Command};
-ghost use Rattle.std.specs.Prelude.{IfOk, List, OnErr, [], ◌∷◌, ◌≡◌};
+ghost use Rattle.sl_trace.specs.declared.input.Input.{Input as InputOf};
+ghost use Rattle.std.specs.Prelude.{Bool, IfOk, IsOk, List, OnErr, OnOk, [], false, ℕ, ◌∷◌, ◌≡◌, ◌≤◌};
 
 use sl_run::Header;
 use sl_sector::Images;
@@ -50,6 +51,12 @@ pub trait Daemon: Drop {
     /// How much its next step makes at most.
     ghost makes: { Self → Most };
 
+    /// For how many steps memory stands by: one or none.
+    ghost spare: { Self → ℕ };
+
+    /// Whether a step at this input takes memory beside it.
+    ghost takes_more: { Self → InputOf → Bool };
+
     /// Whether a command line is for lvmlockd's process, which acts by lines of its own alone: such a line may not come to a daemon.
     fn is_for_locks(header: &Header, text: &[u8]) -> bool
         requires { IsHeader header.now }
@@ -68,13 +75,24 @@ pub trait Daemon: Drop {
     fn most(&self) -> Most
         ensures { result ≡ makes self.now };
 
-    /// One step. An `Err` is want of memory, and changes nothing.
-    fn step(&mut self, now: u64, input: Input) -> Result<Effects, AllocError>
-        requires { (st : Setting) × (es : Trace) × stands self.old st es × MayCome st es now input }
-        ensures stays { (st : Setting) → (es : Trace) → stands self.old st es → MayCome st es now input
-            → IfOk result (λ fx. stands self.new st (entry_of now input fx ∷ es) × IsNumbered st es fx) }
-        ensures sound { (st : Setting) → (es : Trace) → stands self.old st es → MayCome st es now input → IfOk result (IsStep st (makes self.old)) }
+    /// Sees that the memory of one step more stands by, so that a step which takes none beside it can't want any. It changes nothing that a later
+    /// step does. An `Err` is want of memory, or of numbers, and changes nothing.
+    fn reserve(&mut self) -> Result<(), AllocError>
+        requires { (st : Setting) × (es : Trace) × stands self.old st es }
+        ensures ok { OnOk result (spare self.new ≡ 1) }
+        ensures stands { (st : Setting) → (es : Trace) → stands self.old st es → stands self.new st es }
         ensures err { OnErr result (self.new ≡ self.old) };
+
+    /// One step. An `Err` is want of memory, and changes nothing.
+    fn step(&mut self, now: u64, input: &Input) -> Result<Effects, AllocError>
+        requires { (st : Setting) × (es : Trace) × stands self.old st es × MayCome st es now input.now }
+        ensures stays { (st : Setting) → (es : Trace) → stands self.old st es → MayCome st es now input.now
+            → IfOk result (λ fx. stands self.new st (entry_of now input.now fx ∷ es) × IsNumbered st es fx) }
+        ensures sound { (st : Setting) → (es : Trace) → stands self.old st es → MayCome st es now input.now → IfOk result (IsStep st (makes self.old)) }
+        ensures err { OnErr result (self.new ≡ self.old) }
+        // with memory standing by it is done, and at most that memory is used
+        ensures spared { spare self.old ≡ 1 → takes_more self.old input.now ≡ false → IsOk result }
+        ensures spent { spare self.new ≤ spare self.old };
 
     /// One step, at the answer ok of a read, with the sectors as the world has them. An `Err` is want of memory, and changes nothing.
     fn read(&mut self, now: u64, call: u64, sectors: &Images) -> Result<Effects, AllocError>
