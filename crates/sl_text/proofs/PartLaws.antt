@@ -1,12 +1,12 @@
 -- Words of four or five parts: what is made of the parts one by one is made of the whole word where all its tests hold.
 use Rattle.sl_text.specs.Forms.{word_at}
-use Rattle.sl_text.specs.Walks.{Part, Passed, Unread, are_five, are_four, five_read, four_read, left_after, next_as}
+use Rattle.sl_text.specs.Walks.{Part, Unread, are_five, are_four, five_read, four_read, next_as}
 use Rattle.sl_words.specs.Results.{ensure, ◌>>=◌}
 use Rattle.sl_words.specs.Words.{choose, first_of_list}
-use Rattle.std.proofs.Common.{Bool, List, None, Option, Some, [], ap, arith, eqb, false, length, refl, subst, suc, sym, true, ℕ, ◌&&◌, ◌<◌, ◌≡◌, ◌∙◌, ◌∷◌}
+use Rattle.std.proofs.Common.{Bool, List, None, Option, Some, [], ap, arith, eqb, false, length, refl, suc, sym, true, ℕ, ◌&&◌, ◌<◌, ◌≡◌, ◌∙◌, ◌∷◌}
 use Rattle.std.proofs.lemmas.Bool.{ne_eqb}
 use Rattle.std.specs.Option.{ok_or}
-use Rattle.std.specs.Prelude.{Err, IfOk, Ok, Result, if◌then◌else◌}
+use Rattle.std.specs.Prelude.{Err, Ok, Result, if◌then◌else◌}
 use Rattle.std.specs.Result.{result_ok}
 
 -- A step behind which nothing is read.
@@ -92,22 +92,3 @@ accepted passes value column (x ∷ ws) w read first of_word =
     let same : w ≡ x = cc in
     ap (λ o. ok_or o column) of_word ∙ ap (λ v. ok_or (choose (passes v) (value v)) column) same
     ∙ elim (passes x) as (λ t. ok_or (choose t (value x)) column ≡ (if t then Ok (value x) else Err column)) [ true ↦ refl | false ↦ refl ]
-
--- What the next word stands for is read of it, and the words behind it are left.
-passed_word : {A : Type 0} (passes : List ℕ → Bool) (value : List ℕ → A) (column : ℕ) (w : List ℕ) (ws : List (List ℕ)) (t : Bool) → passes w ≡ t
-    → let u : Unread = record { column = column; words = w ∷ ws } in
-    let r : Result A ℕ = if t then Ok (value w) else Err column in IfOk r (Passed passes value u (left_after r u))
-passed_word passes value column w ws true e = (w, refl, e, refl)
-passed_word passes value column w ws false e = tt
-
-passed_from : {A : Type 0} (passes : List ℕ → Bool) (value : List ℕ → A) (column : ℕ) (ws : List (List ℕ))
-    → let u : Unread = record { column = column; words = ws } in IfOk (next_as passes value u) (Passed passes value u (left_after (next_as passes value u) u))
-passed_from passes value column [] = tt
-passed_from passes value column (w ∷ ws) = passed_word passes value column w ws (passes w) refl
-
-pub passed : {A : Type 0} (passes : List ℕ → Bool) (value : List ℕ → A) (u new : Unread) (r : Result A ℕ)
-    → r ≡ next_as passes value u → new ≡ left_after r u → IfOk r (Passed passes value u new)
-passed {A} passes value u new r exact left =
-    let P : Result A ℕ → Unread → Type 0 = λ r new. IfOk r (Passed passes value u new) in
-    let from_exact : P r (left_after r u) = subst (λ (s : Result A ℕ). P s (left_after s u)) (sym exact) (passed_from passes value u.column u.words) in
-    subst (λ (n : Unread). P r n) (sym left) from_exact

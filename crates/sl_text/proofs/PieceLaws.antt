@@ -1,17 +1,21 @@
 -- The pieces of a text between its separators: cutting off the first, and joining them again.
 use Rattle.sl_text.specs.Forms.{is_free_of, pieces}
 use Rattle.sl_text.specs.Walks.{column_behind, column_past, pieces_behind, text_left, with_behind}
+use Rattle.sl_words.proofs.CaseLaws.{true_is_false}
 use Rattle.sl_words.proofs.ListLaws.{list_all_from_places}
 use Rattle.sl_words.proofs.OptionLaws.{cond_none}
 use Rattle.sl_words.proofs.WordLaws.{and_true}
+use Rattle.sl_words.specs.Words.{first_of_list, some_is}
 use Rattle.std.proofs.Common.{Bool, IsTrue, List, None, Option, Some, [], ap, arith, cond, drop, eqb, false, get_or, length, length-append, length-take, ltb, map, not, refl, sym, take, true, ℕ, ◌+◌, ◌++◌, ◌<◌, ◌≡◌, ◌≤◌, ◌∙◌, ◌∷◌}
-use Rattle.std.proofs.lemmas.Bool.{and_from, both_ways, eq-eqb, eqb-true, ltb-false, ltb-true, ne_eqb, not-true, not_from_false}
+use Rattle.std.proofs.lemmas.Bool.{and_from, both_ways, eq-eqb, eqb-true, false_from_ne_true, ltb-false, ltb-true, ne_eqb, not-true, not_from_false}
 use Rattle.std.proofs.lemmas.List.Quantifiers.{position-Some}
 use Rattle.std.proofs.lemmas.List.Splits.{join_with_byte-slice_split, slice_split-cons_no, slice_split-cons_yes, slice_split_first, slice_split_none}
 use Rattle.std.proofs.lemmas.List.Sums.{prefix_len_passes}
 use Rattle.std.proofs.lemmas.List.{append-nil, drop_more, get_or-take, take-append-drop}
 use Rattle.std.proofs.lemmas.Option.{cond_some}
-use Rattle.std.specs.List.{flat_map, join_with_byte, list_all, onto_first, position, position_or_len}
+use Rattle.std.proofs.lemmas.Slice.Eq.{bytes_eq-Decides, starts_is}
+use Rattle.std.specs.List.{flat_map, join_with_byte, list_all, onto_first, position, position_or_len, starts_with}
+use Rattle.std.specs.Prelude.{bytes_eq, nat_eq}
 
 -- Where no byte is the separator, none is before the end.
 free_from_none : (c : ℕ) (bs : List ℕ) → position (λ b. eqb b c) bs ≡ None → (k : ℕ) (d : ℕ) → k < length bs → not (eqb (get_or bs k d) c) ≡ true
@@ -135,3 +139,16 @@ free_of_failing p c (b ∷ bs) fails all =
 
 -- Cutting and joining.
 pub ruleset cuts_and_joins = (join_with_byte-pieces, pieces-join_with_byte, pieces_free)
+
+-- A text that doesn't begin with this word begins with none that is it.
+other_front : (word bs w rest : List ℕ) → starts_with nat_eq bs word ≡ false → bs ≡ w ++ rest → bytes_eq word w ≡ false
+other_front word bs w rest other split = false_from_ne_true _ (λ same.
+    let is = (bytes_eq-Decides word w).0 same in
+    true_is_false (sym ((starts_is (λ a b. (eqb-true a b, eq-eqb a b)) bs word _ refl).1 rest (split ∙ ap (λ front. front ++ rest) (sym is))) ∙ other))
+
+-- So its first piece is another.
+pub another_piece : (c : ℕ) (word bs : List ℕ) → starts_with nat_eq bs word ≡ false → some_is (bytes_eq word) (first_of_list (pieces c bs)) ≡ false
+another_piece c word bs other = elim (position (λ b. eqb b c) bs) as (λ p. position (λ b. eqb b c) bs ≡ p → some_is (bytes_eq word) (first_of_list (pieces c bs)) ≡ false) [
+  | None ↦ λ h. rw (pieces_alone c bs h) (other_front word bs bs [] other (sym (append-nil bs)))
+  | Some at ↦ λ h. rw (pieces_at c bs at h) (other_front word bs (take at bs) (c ∷ drop (at + 1) bs) other (text_at c bs at h))
+] refl

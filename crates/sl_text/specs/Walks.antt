@@ -4,7 +4,7 @@ use Rattle.sl_text.specs.Forms.{Form, pieces, word_at}
 use Rattle.sl_words.specs.Results.{ensure, ◌>>=◌}
 use Rattle.sl_words.specs.Words.{first_of_list, some_is}
 use Rattle.std.specs.Option.{ok_or}
-use Rattle.std.specs.Prelude.{Bool, Err, IsTrue, List, None, Ok, Option, Result, Some, drop, false, suc, zero, if◌then◌else◌, length, [], ℕ, ◌&&◌, ◌+◌, ◌++◌, ◌==◌, ◌∷◌, ◌≡◌}
+use Rattle.std.specs.Prelude.{Bool, Err, IsTrue, List, None, Ok, Option, Result, Some, drop, false, suc, zero, if◌then◌else◌, length, [], ℕ, ◌&&◌, ◌+◌, ◌++◌, ◌<◌, ◌==◌, ◌^◌, ◌∷◌, ◌≡◌}
 
 -- The pieces of what stands behind a separator, and none where there is no separator.
 abbrev pub pieces_behind : ℕ → Option (List ℕ) → List (List ℕ)
@@ -36,6 +36,11 @@ abbrev pub column_behind : ℕ → List (List ℕ) → ℕ
 column_behind column [] = column
 column_behind column (w ∷ []) = column + length w
 column_behind column (w ∷ x ∷ ws) = column + length w + 1
+
+-- The next word was cut off, if one is left, with what stands behind it; its column and its bytes stay below 2^64 together.
+abbrev pub IsCut : ℕ → Unread → Option (List ℕ) → Option (List ℕ) → Type 0
+IsCut c u None rest = u.words ≡ []
+IsCut c u (Some w) rest = (u.words ≡ w ∷ pieces_behind c rest) × (u.column + length (with_behind c w rest) < 2 ^ 64)
 
 -- The same with one word less.
 abbrev pub past_word : Unread → Unread

@@ -10,13 +10,13 @@
 //! from the left so, forms make what they make of the whole line, and fail at the same column
 //! (`laws::forms_are_followed_from_the_left`).
 
-ghost use Rattle.std.specs.Prelude.{if◌then◌else◌, nat_lt, option_copied, IfOk, IsTrue, ◌==◌, ◌≡◌, ◌∷◌, ◌<◌, ◌^◌};
+ghost use Rattle.std.specs.Prelude.{if◌then◌else◌, nat_lt, option_copied, false, IfOk, IsFalse, IsTrue, ◌==◌, ◌≡◌, ◌∷◌, ◌<◌, ◌^◌};
 ghost use Rattle.std.specs.Int.{is_in_range};
 ghost use Rattle.std.specs.Option.{ok_or};
 ghost use Rattle.std.specs.List.{join_with_byte, position};
 ghost use Rattle.sl_text.specs.Forms as forms;
 ghost use Rattle.sl_text.specs.Numbers as numbers;
-ghost use Rattle.sl_text.specs.Walks.{at_end, column_past, left_after, next_as, next_passes, past_word, pieces_behind, unread, with_behind, Passed};
+ghost use Rattle.sl_text.specs.Walks.{IsCut, at_end, column_past, left_after, next_as, next_passes, past_word, pieces_behind, unread, with_behind, Passed};
 ghost use Rattle.sl_words.specs.Words.{first_of_list};
 ghost use Rattle.sl_text.specs.Names.{is_name, is_path};
 
@@ -54,6 +54,13 @@ fn column_past(column: usize, word: &[u8], rest: Option<&[u8]>) -> usize
         Some(_) => column + word.len() + 1,
         None => column + word.len(),
     }
+}
+
+/// The next piece of a text, if one is left, with what stands behind it.
+#[derive(Clone, Copy)]
+struct Cut<'a> {
+    word: Option<&'a [u8]>,
+    rest: Option<&'a [u8]>,
 }
 
 /// The pieces of a text that separators keep apart, read one by one from the left. Contracts see what is left of them,
@@ -116,8 +123,50 @@ impl<'a, const SEPARATOR: u8> Pieces<'a, SEPARATOR> {
     pub fn peek(&self) -> Option<&'a [u8]>
         ensures { option_copied result ≡ first_of_list self.now.words }
     {
-        let (word, _) = split_piece(SEPARATOR, self.rest?);
-        Some(word)
+        self.cut().word
+    }
+
+    /// The next piece, cut off: it stays the next.
+    #[tactic(auto, using(crate::proofs::PieceLaws::going_on))]
+    fn cut(&self) -> Cut<'a>
+        ensures { IsCut SEPARATOR self.now (option_copied result.word) (option_copied result.rest) }
+    {
+        match self.rest {
+            Some(text) => {
+                let (word, rest) = split_piece(SEPARATOR, text);
+                Cut {
+                    word: Some(word),
+                    rest,
+                }
+            }
+            None => Cut {
+                word: None,
+                rest: None,
+            },
+        }
+    }
+
+    /// Passes the piece that was cut off, if there is one.
+    #[tactic(auto, using(crate::proofs::PieceLaws::going_on))]
+    fn pass(&mut self, cut: Cut<'a>)
+        requires { IsCut SEPARATOR self.old (option_copied cut.word) (option_copied cut.rest) }
+        ensures { self.new ≡ past_word self.old }
+    {
+        if let Some(word) = cut.word {
+            self.column = column_past(self.column, word, cut.rest);
+            self.rest = cut.rest;
+        }
+    }
+
+    /// Passes the piece that was cut off, if something was read of it; else gives its column.
+    fn accept_cut<T>(&mut self, cut: Cut<'a>, read: Option<T>) -> Result<T, usize>
+        requires { IsCut SEPARATOR self.old (option_copied cut.word) (option_copied cut.rest) }
+        ensures exact { result ≡ ok_or read self.old.column }
+        ensures left { self.new ≡ left_after result self.old }
+    {
+        let value = read.ok_or(self.column)?;
+        self.pass(cut);
+        Ok(value)
     }
 
     /// What is left of the text, separators included.
@@ -142,14 +191,30 @@ impl<'a, const SEPARATOR: u8> Pieces<'a, SEPARATOR> {
         Ok(value)
     }
 
+    /// Whether what is left begins with this text, as it does where the next piece is it. Most texts that are asked for differ in their first bytes, so
+    /// nothing is cut off for them.
+    #[tactic(auto, using(crate::proofs::PieceLaws::another_piece))]
+    fn may_be(&self, text: &[u8]) -> bool
+        ensures { IsFalse result → next_passes (forms.exactly text.now) self.now ≡ false }
+    {
+        match self.rest {
+            Some(left) => left.starts_with(text),
+            None => false,
+        }
+    }
+
     /// Passes the next piece if it is this text, and says whether it was.
     pub fn skip(&mut self, text: &[u8]) -> bool
         ensures exact { result ≡ next_passes (forms.exactly text.now) self.old }
         ensures left { self.new ≡ (if result then past_word self.old else self.old) }
     {
-        let found = self.peek() == Some(text);
+        if !self.may_be(text) {
+            return false;
+        }
+        let cut = self.cut();
+        let found = cut.word == Some(text);
         if found {
-            let _ = self.next_piece();
+            self.pass(cut);
         }
         found
     }
@@ -173,7 +238,8 @@ impl<'a, const SEPARATOR: u8> Pieces<'a, SEPARATOR> {
         ensures left { self.new ≡ left_after result self.old }
         ensures found { IfOk result (Passed is_name (λ w. w) self.old self.new) }
     {
-        self.accept(self.peek().and_then(Name::new))
+        let cut = self.cut();
+        self.accept_cut(cut, cut.word.and_then(Name::new))
     }
 
     /// Reads the next piece as a path; else gives its column.
@@ -182,7 +248,8 @@ impl<'a, const SEPARATOR: u8> Pieces<'a, SEPARATOR> {
         ensures left { self.new ≡ left_after result self.old }
         ensures found { IfOk result (Passed is_path (λ w. w) self.old self.new) }
     {
-        self.accept(self.peek().and_then(FilePath::new))
+        let cut = self.cut();
+        self.accept_cut(cut, cut.word.and_then(FilePath::new))
     }
 
     /// Reads the next piece as a number, capped at 2^64 - 1; else gives its column.
@@ -191,7 +258,8 @@ impl<'a, const SEPARATOR: u8> Pieces<'a, SEPARATOR> {
         ensures left { self.new ≡ left_after result self.old }
         ensures found { IfOk result (Passed numbers.is_number_text numbers.capped_long self.old self.new) }
     {
-        self.accept(self.peek().and_then(read_number))
+        let cut = self.cut();
+        self.accept_cut(cut, cut.word.and_then(read_number))
     }
 
     /// Reads the next piece as a number above 0, capped at 2^64 - 1; else gives its column.
@@ -200,11 +268,9 @@ impl<'a, const SEPARATOR: u8> Pieces<'a, SEPARATOR> {
         ensures left { self.new ≡ left_after result self.old }
         ensures found { IfOk result (Passed (numbers.is_number_that (λ n. nat_lt 0 n)) numbers.capped_long self.old self.new) }
     {
-        self.accept(
-            self.peek()
-                .and_then(read_number)
-                .filter(|number| 0 < *number),
-        )
+        let cut = self.cut();
+        let read = cut.word.and_then(read_number).filter(|number| 0 < *number);
+        self.accept_cut(cut, read)
     }
 
     /// Reads the next piece as a number above 0, capped at 2^32 - 1; else gives its column.
@@ -213,11 +279,12 @@ impl<'a, const SEPARATOR: u8> Pieces<'a, SEPARATOR> {
         ensures left { self.new ≡ left_after result self.old }
         ensures found { IfOk result (Passed (numbers.is_number_that (λ n. nat_lt 0 n)) numbers.capped_short self.old self.new) }
     {
-        self.accept(
-            self.peek()
-                .and_then(read_short_number)
-                .filter(|number| 0 < *number),
-        )
+        let cut = self.cut();
+        let read = cut
+            .word
+            .and_then(read_short_number)
+            .filter(|number| 0 < *number);
+        self.accept_cut(cut, read)
     }
 
     /// Reads the next piece as a number from `low` to `high`; else gives its column.
@@ -226,10 +293,11 @@ impl<'a, const SEPARATOR: u8> Pieces<'a, SEPARATOR> {
         ensures left { self.new ≡ left_after result self.old }
         ensures found { IfOk result (Passed (numbers.is_number_that (is_in_range low high)) numbers.number_of self.old self.new) }
     {
-        self.accept(
-            self.peek()
-                .and_then(|word| read_number_within(word, low, high)),
-        )
+        let cut = self.cut();
+        let read = cut
+            .word
+            .and_then(|word| read_number_within(word, low, high));
+        self.accept_cut(cut, read)
     }
 
     /// Reads the next piece as the hex digits of 1 to 256 bytes; else gives its column.
@@ -238,8 +306,8 @@ impl<'a, const SEPARATOR: u8> Pieces<'a, SEPARATOR> {
         ensures left { self.new ≡ left_after result self.old }
         ensures found { IfOk result (Passed (numbers.is_hex_word 2 512) numbers.hex_bytes self.old self.new) }
     {
-        let word = self.peek().ok_or(self.column())?;
-        self.accept(read_hex(word))
+        let cut = self.cut();
+        self.accept_cut(cut, cut.word.and_then(read_hex))
     }
 
     /// That no piece is left; else gives the column of the next one.

@@ -5,6 +5,9 @@ ghost use Rattle.std.specs.Prelude.{length, max, IfOk, OnErr, OnOk, [], ◌+◌,
 use std::alloc::{AllocError, Global};
 use std::marker::Model;
 
+/// For more there is never room.
+const MOST: usize = 0xffff_ffff;
+
 /// A list with memory for `room` more elements: together fewer than 2^32.
 #[derive(Drop)]
 pub struct Room<T> {
@@ -23,7 +26,29 @@ impl<T> Model for Room<T> {
     ghost invariant = { λ r. (vec_len r.items + r.room ≤ vec_capacity r.items) × (vec_len r.items + r.room < 2 ^ 32) };
 }
 
+impl<T: Drop> Room<T> {
+    /// Nothing, with the memory of a list whose elements go.
+    pub fn again(used: Vec<T>) -> Room<T>
+        ensures { result.items ≡ [] }
+    {
+        let mut items = used;
+        items.clear();
+        let room = items.capacity().min(MOST);
+        Room { items, room }
+    }
+}
+
 impl<T> Room<T> {
+    /// Nothing, with no memory.
+    pub fn empty(alloc: Global) -> Room<T>
+        ensures { result ≡ record { items = []; room = 0 } }
+    {
+        Room {
+            items: Vec::new(alloc),
+            room: 0,
+        }
+    }
+
     /// Nothing, with memory for so many. An `Err` is want of memory.
     pub fn new(alloc: Global, room: usize) -> Result<Room<T>, AllocError>
         requires { room < 2 ^ 32 }
