@@ -168,6 +168,8 @@ impl Daemon for HostDaemon {
         step_at(self.alloc, &mut self.host, &mut self.scratch, now, input)
     }
 
+    fn take_back(&mut self, told: Effects) {}
+
     #[tactic(auto, using(crate::proofs::HostDaemons::comes_so, crate::proofs::HostDaemons::steps_so, crate::proofs::HostDaemons::is_step_so, crate::proofs::HostDaemons::sizes_so, crate::proofs::SpareRoom::is_standing, crate::proofs::SpareRoom::rests_on, crate::proofs::SpareRoom::spent))]
     fn read(&mut self, now: u64, call: u64, sectors: &Images) -> Result<Effects, AllocError>
         requires { (st : Setting) × (es : Trace) × Serves self.old st es × MayCome st es now (read_of call sectors.now) }

@@ -68,6 +68,10 @@ impl Daemon for LiveHost {
         self.host.step(now, input)
     }
 
+    fn take_back(&mut self, told: Effects) {
+        self.host.take_back(told);
+    }
+
     fn read(&mut self, now: u64, call: u64, sectors: &Images) -> Result<Effects, AllocError>
         requires { (st : Setting) × (es : Trace) × Serves self.old st es × MayCome st es now (read_of call sectors.now) }
         ensures stays { (st : Setting) → (es : Trace) → Serves self.old st es → MayCome st es now (read_of call sectors.now)

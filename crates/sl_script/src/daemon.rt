@@ -137,6 +137,9 @@ impl Daemon for Script {
         self.go_on(Heard::of(input))
     }
 
+    // a script's effects are written out anew each time
+    fn take_back(&mut self, told: Effects) {}
+
     #[tactic(auto, using(crate::proofs::ScriptsFollow::step_stays, crate::proofs::ScriptsFollow::step_is_sound))]
     fn read(&mut self, now: u64, call: u64, sectors: &Images) -> Result<Effects, AllocError> {
         self.go_on(Heard::Call { number: call })

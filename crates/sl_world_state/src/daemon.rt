@@ -94,6 +94,10 @@ pub trait Daemon: Drop {
         ensures spared { spare self.old ≡ 1 → takes_more self.old input.now ≡ false → IsOk result }
         ensures spent { spare self.new ≤ spare self.old };
 
+    /// The effects of a step were told: their memory may serve a later step. Nothing that is seen changes.
+    fn take_back(&mut self, told: Effects)
+        ensures { self.new ≡ self.old };
+
     /// One step, at the answer ok of a read, with the sectors as the world has them. An `Err` is want of memory, and changes nothing.
     fn read(&mut self, now: u64, call: u64, sectors: &Images) -> Result<Effects, AllocError>
         requires { (st : Setting) × (es : Trace) × stands self.old st es × MayCome st es now (read_of call sectors.now) }
