@@ -5,7 +5,9 @@ ghost use Rattle.std.specs.Prelude.{IfOk, OnOk};
 
 use crate::room::Room;
 use crate::script_waits::Post;
-use sl_cell::{Seat, Station, Teller};
+use crate::thread_numbers::DEVICE;
+use sl_cell::{Seat, Teller};
+use sl_history::Station;
 use sl_live::laws::device_step;
 use sl_outside::{Device, Spawner};
 use sl_time::Clock;
@@ -18,11 +20,11 @@ use std::time;
 fn test<D: Teller, J: Station, R: Wait, C: Clock, P: Spawner, V: Device>(
     rt: &R,
     room: &Room<D, J, P>,
-    seat: &mut Seat,
+    seat: &mut Seat<J>,
     clock: &mut C,
     device: &mut V,
 ) -> Result<(), AllocError>
-    ensures { OnOk result (IsDeviceThread seat.old.calls → IsDeviceThread seat.new.calls) }
+    ensures { OnOk result (IsDeviceThread seat.old → IsDeviceThread seat.new) }
 {
     let mut children = room.children.lock(rt);
     device_step(rt, &room.cell, seat, clock, device, &mut *children)
@@ -33,11 +35,11 @@ fn test_each<D: Teller, J: Station, R: Wait + time::Clock, C: Clock, P: Spawner,
     rt: &R,
     room: &Room<D, J, P>,
     post: &Post,
-    seat: &mut Seat,
+    seat: &mut Seat<J>,
     clock: &mut C,
     device: &mut V,
 ) -> Result<(), AllocError>
-    ensures { OnOk result (IsDeviceThread seat.old.calls → IsDeviceThread seat.new.calls) }
+    ensures { OnOk result (IsDeviceThread seat.old → IsDeviceThread seat.new) }
 {
     for _ in rt.forever() {
         let seen = post.device.moves(rt);
@@ -51,7 +53,7 @@ fn test_each<D: Teller, J: Station, R: Wait + time::Clock, C: Clock, P: Spawner,
 }
 
 /// The thread's whole course: what it tested. An `Err` is want of memory.
-#[tactic(auto, using(crate::proofs::SeatLaws::no_turns))]
+#[tactic(auto, using(crate::proofs::SeatLaws::gave_none))]
 pub(crate) fn keep_alive<
     D: Teller,
     J: Station,
@@ -65,10 +67,10 @@ pub(crate) fn keep_alive<
     post: &Post,
     mut clock: C,
     mut device: V,
-) -> Result<Seat, AllocError>
-    ensures { IfOk result (λ s. IsDeviceThread s.calls) }
+) -> Result<Seat<J>, AllocError>
+    ensures { IfOk result (λ s. IsDeviceThread s) }
 {
-    let mut seat = room.cell.seat();
+    let mut seat = room.cell.seat(DEVICE);
     test_each(rt, room, post, &mut seat, &mut clock, &mut device)?;
     Ok(seat)
 }

@@ -13,6 +13,7 @@ mod machine;
 mod room;
 mod script_waits;
 mod starter;
+mod thread_numbers;
 mod thread_roll;
 mod threads;
 mod ticker;

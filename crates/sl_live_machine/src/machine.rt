@@ -11,7 +11,8 @@ ghost use Rattle.std.specs.Prelude.{IfErr, IfOk, reverse, ◌≡◌};
 use crate::room::{Pace, Room};
 use crate::threads::{Clocks, Stand, Threaded, run_threads};
 use sl_area::Area;
-use sl_cell::{CloseError, HostCell, Seat, Station, Teller};
+use sl_cell::{CloseError, HostCell, Seat, Teller};
+use sl_history::{Front, Opened, Station};
 use sl_live::{Children, Disk};
 use sl_locks::LvmLocks;
 use sl_outside::{Device, Gate, Spawner};
@@ -57,13 +58,16 @@ fn pace_of(header: &Header) -> Pace {
 /// Closes the cell of a machine whose threads have ended. Where there was no memory, no child goes on: one may have been started behind the kill of
 /// the child thread.
 #[tactic(auto, using(crate::proofs::RunLaws::ok_run, crate::proofs::RunLaws::err_run))]
-fn close<D: Teller, J: Station, P: Spawner>(
+fn close<D: Teller, J: Station, R: Wait, P: Spawner>(
+    rt: &R,
     room: Room<D, J, P>,
     failed: bool,
-    seats: Result<Vec<Seat>, AllocError>,
+    seats: Result<Vec<Seat<J>>, AllocError>,
+    mine: Front<J>,
 ) -> Result<Seq<Entry>, CloseError>
     requires setting { IsSetting J.setting }
     requires seats { IfOk seats (λ v. AreSeats v.items) }
+    requires mine { mine ≡ [] }
     ensures stood { IfOk result (λ h. Stood D.Daemon.stands J.setting (reverse h)) }
     ensures ok { IfOk result (λ h. IsRun J.setting h) }
     ensures differ { IfErr result (Stops (IsCaseOfRun J.setting)) }
@@ -80,10 +84,10 @@ fn close<D: Teller, J: Station, P: Spawner>(
     if failed {
         children.into_inner().kill();
     }
-    match seats {
-        Ok(seats) => cell.close(seats),
-        Err(_) => Err(CloseError::NoMemory),
-    }
+    let mut mine = mine;
+    let entries = cell.hand_out(rt, &mut mine)?;
+    cell.close(&seats?, &mine)?;
+    Ok(Seq::new(entries))
 }
 
 /// Runs a machine until its script's end: seven threads over one cell, which are all joined before the cell is closed.
@@ -105,6 +109,7 @@ pub fn run_machine<
     alloc: Global,
     header: &Header,
     site: Site,
+    opened: Opened,
     parts: Parts<C, P, V, A>,
     gate: &G,
     stand: &Stand<'_>,
@@ -112,6 +117,7 @@ pub fn run_machine<
     requires header { IsHeader header.now }
     requires setting { IsSetting J.setting }
     requires site { J.setting ≡ begun_with D.Daemon.commands header.now site }
+    requires book { opened.seen.book ≡ J.book }
     ensures stood { IfOk result.history (λ h. Stood D.Daemon.stands J.setting (reverse h)) }
     ensures ok { IfOk result.history (λ h. IsRun J.setting h) }
     ensures differ { IfErr result.history (Stops (IsCaseOfRun J.setting)) }
@@ -124,8 +130,8 @@ pub fn run_machine<
         resource,
     } = parts;
     let machine = site.machine;
-    let cell: HostCell<D, J> = match HostCell::new(alloc, header, site) {
-        Ok(cell) => cell,
+    let (cell, front) = match HostCell::<D, J>::new(alloc, header, site, opened) {
+        Ok(begun) => begun,
         Err(_) => {
             stand.give_up(rt);
             return Ran {
@@ -151,7 +157,7 @@ pub fn run_machine<
     } = run_threads(rt, &room, stand, gate, clocks, device, delta, resource);
     let failed = stand.post.has_failed(rt);
     Ran {
-        history: close(room, failed, seats),
+        history: close(rt, room, failed, seats, front),
         delta,
         resource,
     }
