@@ -2,9 +2,8 @@
 //!
 //! A line of standard input is a case. What comes of it is printed behind it.
 //!
-//! `cell STEPS` makes two cells of one machine's daemon and two seats that the first of them is closed with, `a` and `b`, and one that is left
-//! out, `c`. Steps are divided by `, `; each is `SEAT CELL READING ACT`, and says what its seat does on its cell. Behind what each step gave
-//! stands what came of the close (`cells`).
+//! `cell STEPS` makes a cell of a machine's daemon and two seats that it is closed with, `a` and `b`, and one that is left out, `c`. Steps are
+//! divided by `, `; each is `SEAT READING ACT`, and says what its seat does. Behind what each step gave stands what came of the close (`cells`).
 //!
 //! Any other line is a live script `NAME.script` that is played, with what is peculiar to the outside told in front of its name (`outside`). How it
 //! ended is printed, then its output; of replies only the machine, the number of the job and the first word.

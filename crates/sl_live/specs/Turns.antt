@@ -1,14 +1,18 @@
 -- What a thread does in a turn: the input that it gives, and what its step asks of the machine's children.
-use Rattle.sl_cell.specs.Cells.{Gave, IsUnasked, calls_of}
+use Rattle.sl_cell.specs.Parts.{calls_of}
 use Rattle.sl_cell.specs.Seats.{IsMine, SeatState}
-use Rattle.sl_cell.specs.declared.seat.Part.{Part}
-use Rattle.sl_history.specs.Histories.{IsWithin, entries}
+use Rattle.sl_cell.specs.Told.{Gave, IsUnasked}
+use Rattle.sl_cell.specs.declared.part.Part.{Part}
+use Rattle.sl_history.specs.Histories.{entries, trace_of}
 use Rattle.sl_history.specs.declared.signed.Signed.{Signed}
 use Rattle.sl_live.specs.declared.children.Awaited.{Awaited}
+use Rattle.sl_live.specs.declared.steps.Gone.{Gone}
 use Rattle.sl_outside.specs.Acts.{Grows, IsTold}
 use Rattle.sl_outside.specs.declared.act.Act.TheVariants.{Signalled, Started}
 use Rattle.sl_outside.specs.declared.act.Act.{Act}
+use Rattle.sl_trace.specs.Traces.{Setting, is_expected}
 use Rattle.sl_trace.specs.declared.effects.Effects.{Effects}
+use Rattle.sl_trace.specs.declared.effects.Entry.{Entry}
 use Rattle.sl_trace.specs.declared.effects.Sent.{Sent}
 use Rattle.sl_trace.specs.declared.effects.Signal.TheVariants.{Kill}
 use Rattle.sl_trace.specs.declared.effects.Start.{Start}
@@ -17,8 +21,9 @@ use Rattle.sl_trace.specs.declared.input.Input.TheVariants.{Answer as Told, Exit
 use Rattle.sl_trace.specs.declared.input.Input.{Input}
 use Rattle.sl_trace.specs.declared.effects.Call.{Call}
 use Rattle.sl_io.specs.FaultCauses.{Rose}
-use Rattle.std.specs.List.{flat_map, list_any, position, remove}
-use Rattle.std.specs.Prelude.{All, Bool, Err, List, None, Ok, Option, Result, Some, false, if◌then◌else◌, is_some, length, map, nat_le, true, [], ℕ, ◌&&◌, ◌++◌, ◌+◌, ◌==◌, ◌||◌, ◌∷◌, ◌≡◌, ◌≤◌, ◌⊎◌}
+use Rattle.std.specs.List.{list_any, position, remove}
+use Rattle.std.specs.Prelude.{All, Bool, Err, List, None, Ok, Option, Result, Some, false, if◌then◌else◌, is_some, length, map, nat_le, take, true, [], ℕ, ◌&&◌, ◌++◌, ◌+◌, ◌==◌, ◌||◌, ◌∷◌, ◌≡◌, ◌≤◌, ◌⊎◌}
+use mathlib.Core.List.{IsPrefix}
 
 -- ---- the machine's children
 
@@ -78,15 +83,16 @@ pub record Carries {P : Type 0} (told : P → Option (List Act)) (faults : P →
 
 -- ---- a turn
 
--- The input was given at this reading, and what its step asks for was done; or it answered nothing that was open, and nothing was done.
-pub data MakesTurn {P : Type 0} (told : P → Option (List Act)) (faults : P → ℕ) (running : P → List ℕ) (now : ℕ) (i : Input)
-    (before after : ChildrenState P) (s s' : SeatState) : Type 0 where
-  Steps : (fx : Effects) → Gave s s' now i fx → Carries told faults running fx before after → MakesTurn told faults running now i before after s s'
-  Passes : IsUnasked s s' i → after ≡ before → MakesTurn told faults running now i before after s s'
+-- The input was given at this reading, and what its step asks for was done, with these effects; or it answered nothing that was open, and nothing
+-- was done.
+abbrev pub MakesTurn : {P : Type 0} → (P → Option (List Act)) → (P → ℕ) → (P → List ℕ) → Setting → ℕ → Option Effects → Input
+    → ChildrenState P → ChildrenState P → SeatState → SeatState → Type 0
+MakesTurn told faults running st now (Some fx) i before after s s' = Gave s s' now i fx × Carries told faults running fx before after
+MakesTurn told faults running st now None i before after s s' = IsUnasked st s s' i × (after ≡ before)
 
--- Nothing was done, though a step may have been made.
-abbrev pub GivesUp : {C : Type 0} → C → C → SeatState → SeatState → Type 0
-GivesUp before after s s' = after ≡ before
+-- Nothing was done, though a step may have been made: one by this input.
+abbrev pub GivesUp : {C : Type 0} → ℕ → Input → C → C → SeatState → SeatState → Type 0
+GivesUp now i before after s s' = (after ≡ before) × ((s' ≡ s) ⊎ ((fx : Effects) × Gave s s' now i fx))
 
 -- ---- starts
 
@@ -122,21 +128,19 @@ pub record TakesIn {P C : Type 0} (told : P → Option (List Act)) (faults : P �
   pub none : child ≡ None → ok ≡ false
   pub failed : ok ≡ false → (child ≡ None) ⊎ Rose (faults before.spawner) (faults after.spawner)
 
--- What a start came to was taken in, and told in a turn.
-pub record TellsStart {P C : Type 0} (told : P → Option (List Act)) (faults : P → ℕ) (running : P → List ℕ) (process : ℕ) (child : Option C)
+-- What a start came to was taken in, and whether it runs is told in a turn of this kind.
+pub record TellsStart {P C : Type 0} (told : P → Option (List Act)) (faults : P → ℕ) (running : P → List ℕ) (process : ℕ) (child : Option C) (ok : Bool)
     (IsTurn : Input → ChildrenState P → ChildrenState P → SeatState → SeatState → Type 0) (before after : ChildrenState P) (s s' : SeatState) : Type 0 where
-  pub ok : Bool
   pub taken : ChildrenState P
   pub takes : TakesIn told faults running process child before taken ok
   pub turn : IsTurn (Spawned process ok) taken after s s'
 
 -- ---- exits
 
--- A child has exited, as the spawner was found to tell, and its exit is given in a turn of this kind.
-pub record TellsExit {P : Type 0} (told : P → Option (List Act)) (faults : P → ℕ) (running : P → List ℕ)
+-- The child of this process has exited, as the spawner was found to tell, and its exit is given in a turn of this kind.
+pub record TellsExit {P : Type 0} (told : P → Option (List Act)) (faults : P → ℕ) (running : P → List ℕ) (process : ℕ)
     (IsTurn : Input → ChildrenState P → ChildrenState P → SeatState → SeatState → Type 0)
     (before after : ChildrenState P) (s s' : SeatState) : Type 0 where
-  pub process : ℕ
   pub polled : ChildrenState P
   pub gave : IsTold (Some process) (running before.spawner) (running polled.spawner)
   pub gone : polled.numbers ≡ without process before.numbers
@@ -153,12 +157,13 @@ pub record IsIdleTurn {P : Type 0} (told : P → Option (List Act)) (faults : P 
   pub quiet : IsQuiet told faults before.spawner after.spawner
   pub seat : s' ≡ s
 
--- What a look for an exited child did, by whether it found one; for want of memory it left off.
-abbrev pub Looks : {P E : Type 0} → (P → Option (List Act)) → (P → ℕ) → (P → List ℕ) → ℕ → ChildrenState P
-    → ChildrenState P → SeatState → SeatState → Result Bool E → Type 0
-Looks told faults running now before after s s' (Ok true) = TellsExit told faults running (MakesTurn told faults running now) before after s s'
-Looks told faults running now before after s s' (Ok false) = IsIdleTurn told faults running before after s s'
-Looks told faults running now before after s s' (Err e) = TellsExit told faults running (λ i. GivesUp) before after s s'
+-- What a look for an exited child did, by which it found, if it found one; for want of memory it left off.
+abbrev pub Looks : {P E : Type 0} → (P → Option (List Act)) → (P → ℕ) → (P → List ℕ) → Setting → ℕ → ChildrenState P
+    → ChildrenState P → SeatState → SeatState → Result (Option Gone) E → Type 0
+Looks told faults running st now before after s s' (Ok (Some gone)) =
+    TellsExit told faults running gone.process (MakesTurn told faults running st now gone.effects) before after s s'
+Looks told faults running st now before after s s' (Ok None) = IsIdleTurn told faults running before after s s'
+Looks told faults running st now before after s s' (Err e) = (process : ℕ) × TellsExit told faults running process (GivesUp now) before after s s'
 
 -- ---- tests
 
@@ -190,14 +195,11 @@ IsSpawned i = (process : ℕ) × (ok : Bool) × (i ≡ Spawned process ok)
 abbrev pub IsLine : Input → Type 0
 IsLine i = (text : List ℕ) × ((i ≡ Line text) ⊎ (i ≡ Number text))
 
-abbrev pub IsAnswer : Input → Type 0
-IsAnswer i = (call : ℕ) × (a : Answer) × (i ≡ Told call a)
-
 -- All that a seat gave is of this kind.
 pub record Gives (IsInput : Input → Type 0) (s : SeatState) : Type 0 where
-  pub made : List Signed
+  pub made : List Entry
   pub mine : IsMine s made
-  pub each : All (λ (g : Signed). IsInput g.entry.input) made
+  pub each : All (λ (e : Entry). IsInput e.input) made
 
 -- The ticker wakes, the child thread tells exits, the starter tells what starts came to, the line thread gives lines: and nothing else.
 abbrev pub IsTicker : SeatState → Type 0
@@ -212,22 +214,30 @@ IsStarterThread s = Gives IsSpawned s
 abbrev pub IsLineThread : SeatState → Type 0
 IsLineThread s = Gives IsLine s
 
--- The calls that entries answer.
-abbrev pub answered_by : Input → List ℕ
-answered_by (Told call a) = call ∷ []
-answered_by i = []
+-- An answer of this call.
+abbrev pub IsAnswerOf : Call → Input → Type 0
+IsAnswerOf c i = (a : Answer) × (i ≡ Told c.number a)
 
-abbrev pub answered_in : List Signed → List ℕ
-answered_in gs = flat_map (λ (g : Signed). answered_by g.entry.input) gs
+-- An answer of this call answered nothing that was open when so much of the history stood.
+pub record IsPassed (st : Setting) (h : List Signed) (c : Call) : Type 0 where
+  pub answer : Answer
+  pub past : List Signed
+  pub before : IsPrefix past h
+  pub unasked : is_expected st (trace_of past) (Told c.number answer) ≡ false
 
--- The numbers of the calls of a part, the first made first.
-abbrev pub numbers_of : Part → List Signed → List ℕ
-numbers_of part h = map (λ (c : Call). c.number) (calls_of part (entries h))
+-- The entries answer these calls in their order, each once; of a call that none answers the answer answered nothing that was open.
+abbrev pub AreServed : Setting → List Signed → List Call → List Entry → Type 0
+AreServed st h [] [] = Unit {0}
+AreServed st h [] (e ∷ es) = ⊥
+AreServed st h (c ∷ cs) [] = IsPassed st h c × AreServed st h cs []
+AreServed st h (c ∷ cs) (e ∷ es) = (IsAnswerOf c e.input × AreServed st h cs es) ⊎ (IsPassed st h c × AreServed st h cs (e ∷ es))
 
--- Of the calls of its part that it took, each once and in their order, a worker answers some, each once and in that order; and it gives nothing else.
-pub record Works (part : Part) (s : SeatState) : Type 0 where
-  pub gives : Gives IsAnswer s
-  pub of_part : IsWithin (answered_in gives.made) (take s.taken (numbers_of part s.front))
+-- A worker answers the calls of its part in the order in which they were made, from the first on, as many as it took; and it gives nothing else.
+pub record Works (st : Setting) (part : Part) (s : SeatState) : Type 0 where
+  pub made : List Entry
+  pub mine : IsMine s made
+  pub most : s.taken ≤ length (calls_of part (entries s.front))
+  pub serves : AreServed st s.front (take s.taken (calls_of part (entries s.front))) made
 
 -- The device thread gives nothing.
 abbrev pub IsDeviceThread : SeatState → Type 0

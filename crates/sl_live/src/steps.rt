@@ -5,9 +5,9 @@
 //! starts are ordered. A start is made by a thread that holds no lock meanwhile. What it came to is taken in and told in one turn, for which the
 //! children are lent, so no exit comes before its start is told.
 
-ghost use Rattle.sl_cell.specs.Cells.{IsTested};
+ghost use Rattle.sl_cell.specs.Told.{IsTested};
 ghost use Rattle.sl_live.specs.Turns.{GivesUp, Guards, Looks, MakesTurn, Starts, TellsStart};
-ghost use Rattle.std.specs.Prelude.{Bool, OnErr, OnOk, is_some, result_map, ◌≡◌, ◌≤◌};
+ghost use Rattle.std.specs.Prelude.{Bool, IfOk, OnErr, OnOk, ◌≡◌, ◌≤◌};
 
 use crate::children::{Awaited, Children};
 use sl_cell::{HostCell, NotApplied, Seat, Teller};
@@ -28,8 +28,8 @@ pub fn give_step<D: Teller, J: Station, R: Wait, C: Clock, P: Spawner>(
     children: &mut Children<P>,
     input: Input,
 ) -> Result<Option<Effects>, AllocError>
-    ensures ok { OnOk result (MakesTurn P.acts P.faults P.running (C.last clock.new) input children.old children.new seat.old seat.new) }
-    ensures err { OnErr result (GivesUp children.old children.new seat.old seat.new) }
+    ensures ok { IfOk result (λ fx. MakesTurn P.acts P.faults P.running J.setting (C.last clock.new) fx input children.old children.new seat.old seat.new) }
+    ensures err { OnErr result (GivesUp (C.last clock.new) input children.old children.new seat.old seat.new) }
     ensures clock { C.last clock.old ≤ C.last clock.new }
 {
     let now = clock.now();
@@ -71,7 +71,8 @@ pub fn start_step<P: Spawner>(starter: &mut P, awaited: &Awaited) -> Option<Star
         .ok()
 }
 
-/// Takes in what the start of a process came to, and tells it: whether it runs, and the step's effects. An `Err` is want of memory, of the turn that tells it.
+/// Takes in what the start of a process came to, and tells it: whether it runs, and the step's effects. An `Err` is of the turn that tells it, as
+/// above.
 pub fn spawned_step<D: Teller, J: Station, R: Wait, C: Clock, P: Spawner>(
     rt: &R,
     cell: &HostCell<D, J>,
@@ -81,9 +82,9 @@ pub fn spawned_step<D: Teller, J: Station, R: Wait, C: Clock, P: Spawner>(
     process: u32,
     child: Option<StartedChild>,
 ) -> Result<Told, AllocError>
-    ensures ok { OnOk result (TellsStart P.acts P.faults P.running process child (MakesTurn P.acts P.faults P.running (C.last clock.new))
-        children.old children.new seat.old seat.new) }
-    ensures err { OnErr result (TellsStart P.acts P.faults P.running process child (λ i. GivesUp)
+    ensures ok { IfOk result (λ t. TellsStart P.acts P.faults P.running process child t.ok
+        (MakesTurn P.acts P.faults P.running J.setting (C.last clock.new) t.effects) children.old children.new seat.old seat.new) }
+    ensures err { OnErr result ((ok : Bool) × TellsStart P.acts P.faults P.running process child ok (GivesUp (C.last clock.new))
         children.old children.new seat.old seat.new) }
     ensures clock { C.last clock.old ≤ C.last clock.new }
 {
@@ -93,8 +94,8 @@ pub fn spawned_step<D: Teller, J: Station, R: Wait, C: Clock, P: Spawner>(
     Ok(Told { ok, effects })
 }
 
-/// Polls the children once, and tells the exit of one, if one has exited and was not told before: which, and the step's effects. An `Err` is want of
-/// memory, of the turn that tells it.
+/// Polls the children once, and tells the exit of one, if one has exited and was not told before: which, and the step's effects. An `Err` is of the
+/// turn that tells it.
 pub fn child_step<D: Teller, J: Station, R: Wait, C: Clock, P: Spawner>(
     rt: &R,
     cell: &HostCell<D, J>,
@@ -102,7 +103,7 @@ pub fn child_step<D: Teller, J: Station, R: Wait, C: Clock, P: Spawner>(
     clock: &mut C,
     children: &mut Children<P>,
 ) -> Result<Option<Gone>, AllocError>
-    ensures looks { Looks P.acts P.faults P.running (C.last clock.new) children.old children.new seat.old seat.new (result_map is_some result) }
+    ensures looks { Looks P.acts P.faults P.running J.setting (C.last clock.new) children.old children.new seat.old seat.new result }
     ensures clock { C.last clock.old ≤ C.last clock.new }
 {
     let Some(process) = children.poll() else {
@@ -113,7 +114,8 @@ pub fn child_step<D: Teller, J: Station, R: Wait, C: Clock, P: Spawner>(
 }
 
 /// Tests the machine's connections at the clock's reading, and keeps the device from firing exactly where the test holds. Where the device
-/// has fired by then, each child is killed and each awaited start marked, and nowhere else. An `Err` is a history that is not the daemon's any more, and nothing was done.
+/// has fired by then, each child is killed and each awaited start marked, and nowhere else. An `Err` is a history that is not the daemon's any more:
+/// nothing was done then.
 pub fn device_step<D: Teller, J: Station, R: Wait, C: Clock, P: Spawner, V: Device>(
     rt: &R,
     cell: &HostCell<D, J>,

@@ -111,7 +111,7 @@ pub(crate) fn tell_exits<D: Teller, J: Station, R: Wait + time::Clock, C: Clock,
 ) -> Result<Seat<J>, AllocError>
     ensures { IfOk result (λ s. IsChildThread s) }
 {
-    let mut seat = room.cell.seat(CHILDREN);
+    let mut seat = room.cell.seat(CHILDREN, &room.front);
     let mut interval = SHORTEST;
     for _ in rt.forever() {
         let seen = post.children.moves(rt);

@@ -1,6 +1,7 @@
 //! The thread that tests the machine's connections and keeps its watchdog device from firing while they hold.
 
 ghost use Rattle.sl_live.specs.Turns.{IsDeviceThread};
+ghost use Rattle.sl_live_machine.specs.ThreadSeats.{TestedTurn};
 ghost use Rattle.std.specs.Prelude.{IfOk, OnOk};
 
 use crate::room::Room;
@@ -15,8 +16,7 @@ use std::alloc::AllocError;
 use std::sync::Wait;
 use std::time;
 
-/// Tests once. An `Err` is want of memory.
-#[tactic(auto, using(crate::proofs::SeatLaws::ok_tests))]
+/// Tests once, and gives nothing. An `Err` is a history that is not the daemon's any more.
 fn test<D: Teller, J: Station, R: Wait, C: Clock, P: Spawner, V: Device>(
     rt: &R,
     room: &Room<D, J, P>,
@@ -24,7 +24,8 @@ fn test<D: Teller, J: Station, R: Wait, C: Clock, P: Spawner, V: Device>(
     clock: &mut C,
     device: &mut V,
 ) -> Result<(), AllocError>
-    ensures { OnOk result (IsDeviceThread seat.old → IsDeviceThread seat.new) }
+    ensures tested { OnOk result (TestedTurn J.setting seat.old seat.new) }
+    ensures thread { OnOk result (IsDeviceThread seat.old → IsDeviceThread seat.new) }
 {
     let mut children = room.children.lock(rt);
     device_step(rt, &room.cell, seat, clock, device, &mut *children)
@@ -53,7 +54,6 @@ fn test_each<D: Teller, J: Station, R: Wait + time::Clock, C: Clock, P: Spawner,
 }
 
 /// The thread's whole course: what it tested. An `Err` is want of memory.
-#[tactic(auto, using(crate::proofs::SeatLaws::gave_none))]
 pub(crate) fn keep_alive<
     D: Teller,
     J: Station,
@@ -70,7 +70,7 @@ pub(crate) fn keep_alive<
 ) -> Result<Seat<J>, AllocError>
     ensures { IfOk result (λ s. IsDeviceThread s) }
 {
-    let mut seat = room.cell.seat(DEVICE);
+    let mut seat = room.cell.seat(DEVICE, &room.front);
     test_each(rt, room, post, &mut seat, &mut clock, &mut device)?;
     Ok(seat)
 }

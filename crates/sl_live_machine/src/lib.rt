@@ -20,7 +20,7 @@ mod ticker;
 mod turn;
 mod worker;
 
-pub use machine::{Parts, Ran, run_machine};
+pub use machine::{CloseError, Parts, Ran, run_machine};
 pub use script_waits::{Post, fail_all};
 pub use thread_roll::Roll;
 pub use threads::{Clocks, Stand};

@@ -229,7 +229,7 @@ pub(crate) fn give_lines<D: Teller, J: Station, R: Wait, C: Clock, P: Spawner>(
 ) -> Result<Seat<J>, AllocError>
     ensures { IfOk result (λ s. IsLineThread s) }
 {
-    let mut seat = room.cell.seat(LINES);
+    let mut seat = room.cell.seat(LINES, &room.front);
     let mut locks = room.locks.lock(rt);
     give_each(rt, room, post, &mut seat, &mut clock, &mut *locks)?;
     Ok(seat)

@@ -5,7 +5,7 @@
 
 use sl_area::Geometry;
 use sl_cell::{HostCell, Teller};
-use sl_history::Station;
+use sl_history::{Front, Station};
 use sl_live::Children;
 use sl_locks::LvmLocks;
 use sl_outside::Spawner;
@@ -30,6 +30,8 @@ pub(crate) struct Room<D: Teller, J: Station, P: Spawner> {
     pub geometry: Geometry,
     pub pace: Pace,
     pub cell: HostCell<D, J>,
+    /// The front of one who has seen nothing: a thread gets its seat by it.
+    pub front: Front<J>,
     pub children: Mutex<Children<P>>,
     pub locks: Mutex<LvmLocks>,
 }

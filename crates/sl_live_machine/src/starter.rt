@@ -112,7 +112,7 @@ pub(crate) fn start_programs<D: Teller, J: Station, R: Wait, C: Clock, P: Spawne
 ) -> Result<Seat<J>, AllocError>
     ensures { IfOk result (λ s. IsStarterThread s) }
 {
-    let mut seat = room.cell.seat(STARTER);
+    let mut seat = room.cell.seat(STARTER, &room.front);
     let mut starter = room.children.lock(rt).starter();
     start_each(rt, room, post, &mut seat, &mut clock, &mut starter)?;
     Ok(seat)

@@ -5,7 +5,7 @@
 ghost use Rattle.sl_live.specs.Turns.{IsChildThread, IsDeviceThread, IsLineThread, IsStarterThread, IsTicker, Works};
 ghost use Rattle.sl_live_machine.specs.ThreadSeats.{AreSeats};
 ghost use Rattle.std.specs.Prelude.{IfOk, Ok, ◌≡◌};
-ghost use Rattle.sl_cell.specs.declared.seat.Part.TheVariants.{Delta as DeltaPart, Resource as ResourcePart};
+ghost use Rattle.sl_cell.specs.declared.part.Part.TheVariants.{Delta as DeltaPart, Resource as ResourcePart};
 ghost use denote.Param.Send.{IsSend, IsSync};
 
 use crate::children::tell_exits;
@@ -66,7 +66,11 @@ impl<'a> Stand<'a> {
     }
 
     /// What a thread ended with. Where there was no memory, all threads are to end.
-    fn ended<R: Wait>(&self, rt: &R, seat: Result<Seat<J>, AllocError>) -> Result<Seat<J>, AllocError>
+    fn ended<J: Station, R: Wait>(
+        &self,
+        rt: &R,
+        seat: Result<Seat<J>, AllocError>,
+    ) -> Result<Seat<J>, AllocError>
         ensures { result ≡ seat }
     {
         if seat.is_err() {
@@ -179,7 +183,7 @@ fn worker_seat<
     clock: C,
     disks: &mut [Disk<A>],
 ) -> Result<Seat<J>, AllocError>
-    ensures { IfOk result (λ s. Works part s) }
+    ensures { IfOk result (λ s. Works J.setting part s) }
 {
     stand.enter(rt)?;
     stand.ended(rt, work(rt, room, stand.post, gate, part, clock, disks))
@@ -193,7 +197,7 @@ fn worker<D: Teller, J: Station, R: Wait + time::Clock, C: Clock, P: Spawner, A:
     gate: &G,
     tools: Tools<C, A>,
 ) -> Worked<J, A>
-    ensures { IfOk result.seat (λ s. Works tools.part s) }
+    ensures { IfOk result.seat (λ s. Works J.setting tools.part s) }
 {
     let Tools {
         part,
@@ -221,8 +225,8 @@ fn workers<
     delta: Tools<C, A>,
     resource: Tools<C, A>,
 ) -> (Worked<J, A>, Worked<J, A>)
-    ensures delta { IfOk result.0.seat (λ s. Works delta.part s) }
-    ensures resource { IfOk result.1.seat (λ s. Works resource.part s) }
+    ensures delta { IfOk result.0.seat (λ s. Works J.setting delta.part s) }
+    ensures resource { IfOk result.1.seat (λ s. Works J.setting resource.part s) }
 {
     join(
         rt,
@@ -383,14 +387,14 @@ fn gather<J: Station>(
     resource: Ending<J>,
     others: OtherEndings<J>,
 ) -> Result<Vec<Seat<J>>, AllocError>
-    requires delta { IfOk delta (λ s. Works DeltaPart s) }
-    requires resource { IfOk resource (λ s. Works ResourcePart s) }
+    requires delta { IfOk delta (λ s. Works J.setting DeltaPart s) }
+    requires resource { IfOk resource (λ s. Works J.setting ResourcePart s) }
     requires ticks { IfOk others.ticks (λ s. IsTicker s) }
     requires lines { IfOk others.lines (λ s. IsLineThread s) }
     requires exits { IfOk others.exits (λ s. IsChildThread s) }
     requires starts { IfOk others.starts (λ s. IsStarterThread s) }
     requires tests { IfOk others.tests (λ s. IsDeviceThread s) }
-    ensures { IfOk result (λ v. AreSeats v.items) }
+    ensures { IfOk result (λ v. AreSeats J.setting v.items) }
 {
     let OtherEndings {
         ticks,
@@ -420,14 +424,14 @@ fn gather_threads<J: Station, A: Area>(
     resource: Worked<J, A>,
     others: OtherEndings<J>,
 ) -> Threaded<J, A>
-    requires delta { IfOk delta.seat (λ s. Works DeltaPart s) }
-    requires resource { IfOk resource.seat (λ s. Works ResourcePart s) }
+    requires delta { IfOk delta.seat (λ s. Works J.setting DeltaPart s) }
+    requires resource { IfOk resource.seat (λ s. Works J.setting ResourcePart s) }
     requires ticks { IfOk others.ticks (λ s. IsTicker s) }
     requires lines { IfOk others.lines (λ s. IsLineThread s) }
     requires exits { IfOk others.exits (λ s. IsChildThread s) }
     requires starts { IfOk others.starts (λ s. IsStarterThread s) }
     requires tests { IfOk others.tests (λ s. IsDeviceThread s) }
-    ensures { IfOk result.seats (λ v. AreSeats v.items) }
+    ensures { IfOk result.seats (λ v. AreSeats J.setting v.items) }
 {
     let Worked {
         seat: delta,
@@ -464,7 +468,7 @@ pub(crate) fn run_threads<
     delta: Vec<Disk<A>>,
     resource: Vec<Disk<A>>,
 ) -> Threaded<J, A>
-    ensures { IfOk result.seats (λ v. AreSeats v.items) }
+    ensures { IfOk result.seats (λ v. AreSeats J.setting v.items) }
 {
     let Clocks {
         ticks,

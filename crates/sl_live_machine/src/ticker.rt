@@ -42,7 +42,7 @@ pub(crate) fn tick<D: Teller, J: Station, R: Wait + time::Clock, C: Clock, P: Sp
 ) -> Result<Seat<J>, AllocError>
     ensures { IfOk result (λ s. IsTicker s) }
 {
-    let mut seat = room.cell.seat(TICKER);
+    let mut seat = room.cell.seat(TICKER, &room.front);
     for _ in rt.forever() {
         let seen = post.ticker.moves(rt);
         if !post.begin_wake(rt) {

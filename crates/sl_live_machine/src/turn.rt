@@ -56,7 +56,7 @@ pub(crate) fn give<D: Teller, J: Station, R: Wait, C: Clock, P: Spawner>(
     clock: &mut C,
     input: Input,
 ) -> Result<Turn, AllocError>
-    ensures { OnOk result (GaveTurn input seat.old seat.new) }
+    ensures { OnOk result (GaveTurn J.setting input seat.old seat.new) }
 {
     let happened = Happened::of(&input);
     let mut children = room.children.lock(rt);

@@ -44,7 +44,7 @@ fn answer<D: Teller, J: Station, R: Wait, C: Clock, P: Spawner, A: Area, G: Gate
     clock: &mut C,
     disks: &mut [Disk<A>],
 ) -> Result<Turn, AllocError>
-    ensures { OnOk result ((a : Answer) × GaveTurn (Told call.now.number a) seat.old seat.new) }
+    ensures { OnOk result ((a : Answer) × GaveTurn J.setting (Told call.now.number a) seat.old seat.new) }
 {
     let answer = make(room, gate, call, disks)?;
     let input = Input::Answer {
@@ -65,7 +65,7 @@ fn serve<D: Teller, J: Station, R: Wait, C: Clock, P: Spawner, A: Area, G: Gate>
     clock: &mut C,
     disks: &mut [Disk<A>],
 ) -> Result<Option<Turn>, AllocError>
-    ensures { OnOk result (Works part seat.old → Works part seat.new) }
+    ensures { OnOk result (Works J.setting part seat.old → Works J.setting part seat.new) }
 {
     let Ok(taken) = room.cell.take(rt, seat, part) else {
         return Err(AllocError);
@@ -87,7 +87,7 @@ fn turn<D: Teller, J: Station, R: Wait, C: Clock, P: Spawner, A: Area, G: Gate>(
     clock: &mut C,
     disks: &mut [Disk<A>],
 ) -> Result<bool, AllocError>
-    ensures { OnOk result (Works part seat.old → Works part seat.new) }
+    ensures { OnOk result (Works J.setting part seat.old → Works J.setting part seat.new) }
 {
     let served = serve(rt, room, gate, part, seat, clock, disks)?;
     post.end_turn_of(rt, &served)?;
@@ -105,7 +105,7 @@ fn serve_each<D: Teller, J: Station, R: Wait, C: Clock, P: Spawner, A: Area, G: 
     clock: &mut C,
     disks: &mut [Disk<A>],
 ) -> Result<(), AllocError>
-    ensures { OnOk result (Works part seat.old → Works part seat.new) }
+    ensures { OnOk result (Works J.setting part seat.old → Works J.setting part seat.new) }
 {
     let bell = post.worker(part);
     for _ in rt.forever() {
@@ -131,9 +131,9 @@ pub(crate) fn work<D: Teller, J: Station, R: Wait, C: Clock, P: Spawner, A: Area
     mut clock: C,
     disks: &mut [Disk<A>],
 ) -> Result<Seat<J>, AllocError>
-    ensures { IfOk result (λ s. Works part s) }
+    ensures { IfOk result (λ s. Works J.setting part s) }
 {
-    let mut seat = room.cell.seat(worker_number(part));
+    let mut seat = room.cell.seat(worker_number(part), &room.front);
     serve_each(rt, room, post, gate, part, &mut seat, &mut clock, disks)?;
     Ok(seat)
 }

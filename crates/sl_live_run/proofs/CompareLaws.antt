@@ -1,6 +1,6 @@
 -- A machine's outcome beside what the script gave it, and all of them, one machine more at a time.
-use Rattle.sl_cell.specs.declared.audit.CloseError.TheVariants.{Differ as Differs, NoMemory as NoMemoryClose}
-use Rattle.sl_cell.specs.declared.audit.CloseError.{CloseError}
+use Rattle.sl_live_machine.specs.declared.machine.CloseError.TheVariants.{Differ as Differs, NoMemory as NoMemoryClose}
+use Rattle.sl_live_machine.specs.declared.machine.CloseError.{CloseError}
 use Rattle.sl_live_lines.specs.AuditedHistory.{AreLines, IsAnswered, IsUnanswered, LineDiffers}
 use Rattle.sl_live_lines.specs.declared.unanswered.Unanswered.TheVariants.{Call as CallLeft, Start as StartLeft}
 use Rattle.sl_live_lines.specs.declared.unanswered.Unanswered.{Unanswered}

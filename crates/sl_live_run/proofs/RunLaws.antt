@@ -1,6 +1,5 @@
 -- A whole run, from what its machines, its script and the comparison say.
-use Rattle.sl_cell.specs.DifferenceCases.{Stops}
-use Rattle.sl_cell.specs.declared.audit.CloseError.{CloseError}
+use Rattle.sl_live_machine.specs.declared.machine.CloseError.{CloseError}
 use Rattle.sl_world_state.specs.Daemons.{begun_with}
 use Rattle.sl_world_state.specs.declared.daemon.Site.{Site}
 use Rattle.sl_reader.specs.declared.live_lines.LiveLine.{LiveLine}
