@@ -1,11 +1,16 @@
 -- Counts that make up the whole history are each exact.
-use Rattle.sl_cell.specs.Closings.{AreBelow, AreExact, AreSeen, counts}
+use Rattle.sl_cell.specs.Cells.{KeptState}
+use Rattle.sl_cell.specs.Closings.{AreBelow, AreExact, AreSeen, DiffersSo, EntriesDiffer, IsCase, IsCaseOfSome, counts}
 use Rattle.sl_cell.specs.Seats.{SeatState}
+use Rattle.sl_cell.specs.declared.closing.Differ.TheVariants.{Broken, Entry}
+use Rattle.sl_cell.specs.declared.closing.Differ.{Differ}
 use Rattle.sl_history.proofs.Givens.{given_more, given_other, given_this}
-use Rattle.sl_history.specs.Histories.{given_by, is_by}
+use Rattle.sl_history.specs.Histories.{given_by, is_by, trace_of}
 use Rattle.sl_history.specs.declared.signed.Signed.{Signed}
+use Rattle.sl_trace.specs.Traces.{IsTrace, Setting}
 use Rattle.std.proofs.Common.{Bool, List, [], ap, arith, false, length, refl, subst, suc, true, ℕ, ◌+◌, ◌<◌, ◌∷◌, ◌≡◌, ◌≤◌}
 use Rattle.std.proofs.lemmas.Bool.Decides.{Decides-eqb}
+use Rattle.std.specs.Prelude.{Err, IfErr, Ok, Result}
 use borrow.Author.Tests.{ltb-false, ltb-true}
 use lib.Dec.{ltb}
 use mathlib.Core.List.{IsPrefix}
@@ -107,3 +112,15 @@ seen_cons k s ss h by pre few rest =
     let more : length (given_by s.by s.front) ≤ length (given_by s.by h) = given_more s.by s.front h pre in
     let here : s.count ≤ length (given_by s.by h) = omega (arith, more, few) in
     ((by, pre, subst (λ (n : ℕ). s.count ≤ length (given_by n h)) by here), rest)
+
+-- ---- why they differ
+
+pub case_of : {T : Type 0} (k : KeptState) (seats : List SeatState) (mine h : List Signed) (r : Result T Differ) → h ≡ k.history → IfErr r (DiffersSo seats h) → IfErr r (IsCase k seats mine)
+case_of k seats mine h (Ok x) same so = tt
+case_of k seats mine h (Err (Entry n counted)) same so = subst (λ (xs : List Signed). (n ≡ length xs) × EntriesDiffer seats xs counted) same so
+case_of k seats mine h (Err (Broken n)) same so = absurd so
+
+pub case_of_some : {T : Type 0} (st : Setting) (k : KeptState) (seats : List SeatState) (mine : List Signed) (r : Result T Differ) → IsTrace st (trace_of k.history)
+    → IfErr r (IsCase k seats mine) → IfErr r (IsCaseOfSome st seats mine)
+case_of_some st k seats mine (Ok x) trace so = tt
+case_of_some st k seats mine (Err d) trace so = (k, trace, so)

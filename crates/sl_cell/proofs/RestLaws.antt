@@ -94,6 +94,23 @@ rest_same st h handed r r' rest connected delta resource waits = record {
     left_same part q q' left calls taken =
         subst (λ n. IsLeft part (entries h) n q'.calls.items) (sym taken) (subst (λ xs. IsLeft part (entries h) q.taken xs) (sym calls) left)
 
+-- a step: room, then what it leaves
+pub rest_stepped : (st : Setting) (h h' handed : List Signed) (s : Signed) (e : Entry) (fx : Effects) (r ready r' : Rest) → IsRest st h handed r
+    → ready.connections.items ≡ r.connections.items
+    → (ready.delta.calls.items ≡ r.delta.calls.items) × (ready.delta.taken ≡ r.delta.taken) → (ready.resource.calls.items ≡ r.resource.calls.items) × (ready.resource.taken ≡ r.resource.taken)
+    → ready.waiting.items ≡ r.waiting.items → h' ≡ h ++ s ∷ [] → s.entry.effects ≡ fx → e ≡ s.entry
+    → r'.connections.items ≡ fold after_move ready.connections.items fx.moves
+    → (r'.delta.calls.items ≡ ready.delta.calls.items ++ filter (is_of Delta) fx.calls) × (r'.delta.taken ≡ ready.delta.taken)
+    → (r'.resource.calls.items ≡ ready.resource.calls.items ++ filter (is_of Resource) fx.calls) × (r'.resource.taken ≡ ready.resource.taken)
+    → r'.waiting.items ≡ ready.waiting.items ++ e ∷ [] → IsRest st h' handed r'
+rest_stepped st h h' handed s e fx r ready r' rest connected delta resource waits grown told is connected' delta' resource' waits' =
+    let back : fx ≡ s.entry.effects = sym told in
+    rest_on st h h' handed s ready r' (rest_same st h handed r ready rest connected delta resource waits) grown
+    (subst (λ (x : Effects). r'.connections.items ≡ fold after_move ready.connections.items x.moves) back connected')
+    (subst (λ (x : Effects). r'.delta.calls.items ≡ ready.delta.calls.items ++ filter (is_of Delta) x.calls) back delta'.0, delta'.1)
+    (subst (λ (x : Effects). r'.resource.calls.items ≡ ready.resource.calls.items ++ filter (is_of Resource) x.calls) back resource'.0, resource'.1)
+    (subst (λ (x : Entry). r'.waiting.items ≡ ready.waiting.items ++ x ∷ []) is waits')
+
 -- ---- a call goes
 
 first_of : (xs : List Call) (n : ℕ) (c : Call) (rest : List Call) → c ∷ rest ≡ drop n xs → (slice_get xs n ≡ Some c) × (rest ≡ drop (n + 1) xs) × (n + 1 ≤ length xs)

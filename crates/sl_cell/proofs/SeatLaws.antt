@@ -1,4 +1,5 @@
 -- What a seat counts, as it goes on.
+use Rattle.sl_cell.specs.Leads.{IsEntry}
 use Rattle.sl_cell.specs.Parts.{calls_of, is_of}
 use Rattle.sl_cell.specs.Seats.{IsMine, SeatState}
 use Rattle.sl_cell.specs.Told.{Gave, HasSeen}
@@ -93,3 +94,26 @@ pub calls_prefix : (part : Part) (xs ys : List Signed) → IsPrefix xs ys → Is
 calls_prefix part xs ys p =
     let es = entries_prefix xs ys p in
     (calls_of part es.0, sym (calls_append part (entries xs) es.0) ∙ ap (calls_of part) es.1)
+
+-- ---- what it is told
+
+pub gave_told : (s s' : SeatState) (now : ℕ) (i : Input) (fx : Effects) (past : List Signed) (x : Signed) → IsEntry s.by now i x → x.entry.effects ≡ fx → IsPrefix s.front past
+    → s' ≡ record { by = s.by; count = s.count + 1; taken = s.taken; front = past ++ x ∷ [] } → Gave s s' now i fx
+gave_told s s' now i fx past x is told before same = record {
+  past = past;
+  entry = x;
+  is = is;
+  told = told;
+  before = before;
+  front = ap (λ (t : SeatState). t.front) same;
+  by = ap (λ (t : SeatState). t.by) same;
+  count = ap (λ (t : SeatState). t.count) same;
+  taken = ap (λ (t : SeatState). t.taken) same;
+}
+
+pub seen_told : (s s' : SeatState) (taken : ℕ) (h : List Signed) → IsPrefix s.front h → s' ≡ record { by = s.by; count = s.count; taken = taken; front = h } → HasSeen s s'
+seen_told s s' taken h before same = record {
+  before = subst (λ (l : List Signed). IsPrefix s.front l) (sym (ap (λ (t : SeatState). t.front) same)) before;
+  by = ap (λ (t : SeatState). t.by) same;
+  count = ap (λ (t : SeatState). t.count) same;
+}

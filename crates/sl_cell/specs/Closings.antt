@@ -6,7 +6,7 @@ use Rattle.sl_cell.specs.declared.closing.Differ.{Differ}
 use Rattle.sl_history.specs.Histories.{given_by, trace_of}
 use Rattle.sl_history.specs.declared.signed.Signed.{Signed}
 use Rattle.sl_trace.specs.Traces.{IsTrace, Setting}
-use Rattle.std.specs.Prelude.{List, false, length, [], ℕ, ◌+◌, ◌<◌, ◌∷◌, ◌≡◌, ◌≤◌, ◌⊎◌}
+use Rattle.std.specs.Prelude.{Bool, List, false, length, [], ℕ, ◌+◌, ◌<◌, ◌∷◌, ◌≡◌, ◌≤◌, ◌⊎◌}
 use mathlib.Core.List.{IsPrefix}
 
 -- Each element has one of the numbers below this one.
@@ -47,14 +47,14 @@ abbrev pub DiffersSo : List SeatState → List Signed → Differ → Type 0
 DiffersSo seats h (Entry length_is counted) = (length_is ≡ length h) × EntriesDiffer seats h counted
 DiffersSo seats h (Broken length_is) = ⊥
 
--- The daemon does not stand for the history, or this front is not all of it, or it is not what was handed out.
-abbrev pub IsTorn : KeptState → List Signed → Type 0
-IsTorn k mine = (k.whole ≡ false) ⊎ ((k.handed ≡ mine → ⊥) ⊎ (k.history ≡ mine → ⊥))
+-- The daemon does not stand for the history, or this front is not what was handed out, or it is not all of the history.
+abbrev pub IsTorn : Bool → List Signed → List Signed → List Signed → Type 0
+IsTorn whole h handed mine = (whole ≡ false) ⊎ ((handed ≡ mine → ⊥) ⊎ (h ≡ mine → ⊥))
 
 -- Each case with what it tells of seats and history.
 abbrev pub IsCase : KeptState → List SeatState → List Signed → Differ → Type 0
 IsCase k seats mine (Entry length_is counted) = (length_is ≡ length k.history) × EntriesDiffer seats k.history counted
-IsCase k seats mine (Broken length_is) = (length_is ≡ length k.history) × IsTorn k mine
+IsCase k seats mine (Broken length_is) = (length_is ≡ length k.history) × IsTorn k.whole k.history k.handed mine
 
 -- A case holds of these seats and this front, and of a history that the daemon could have.
 abbrev pub IsCaseOfSome : Setting → List SeatState → List Signed → Differ → Type 0

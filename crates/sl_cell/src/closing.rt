@@ -1,7 +1,7 @@
 //! The end: the counts of all threads make up the history.
 
-ghost use Rattle.sl_cell.specs.Closings.{AreBelow, AreExact, AreSeen, DiffersSo, IsSomeApart, counts};
-ghost use Rattle.std.specs.Prelude.{IfErr, IfNone, IfSome, OnOk, length, ◌+◌, ◌<◌, ◌^◌, ◌≡◌};
+ghost use Rattle.sl_cell.specs.Closings.{AreBelow, AreExact, AreSeen, DiffersSo, IsSomeApart, IsTorn, counts};
+ghost use Rattle.std.specs.Prelude.{IfErr, IfNone, IfSome, IsFalse, IsTrue, OnOk, length, true, ◌+◌, ◌<◌, ◌^◌, ◌≡◌};
 
 use crate::seat::Seat;
 use sl_history::{Front, Station};
@@ -14,6 +14,19 @@ pub enum Differ {
     Entry { entries: u64, counted: u64 },
     /// The daemon does not stand for the history of so many entries, or not all of it was handed out to the one who has this front.
     Broken { entries: u64 },
+}
+
+/// Whether the daemon does not stand for the history, or not all of it was handed out to the one who has this front.
+pub(crate) fn is_torn<J: Station>(
+    whole: bool,
+    all: &Front<J>,
+    handed: &Front<J>,
+    mine: &Front<J>,
+) -> bool
+    ensures torn { IsTrue result → IsTorn whole all.now handed.now mine.now }
+    ensures whole { IsFalse result → (whole ≡ true) × (handed.now ≡ mine.now) × (all.now ≡ mine.now) }
+{
+    !whole || !handed.is_same(mine) || !all.is_same(mine)
 }
 
 /// How many entries they gave, where the seats have their places as numbers, and have seen beginnings of this.

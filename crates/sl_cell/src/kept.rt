@@ -12,7 +12,7 @@ ghost use Rattle.sl_world_state.specs.Daemons.{begun_with};
 ghost use Rattle.std.specs.Prelude.{Err, IfErr, IfOk, OnErr, OnOk, length, true, [], ◌++◌, ◌<◌, ◌^◌, ◌≡◌};
 ghost use mathlib.Core.List.{IsPrefix};
 
-use crate::closing::{Differ, check};
+use crate::closing::{Differ, check, is_torn};
 use crate::connections::given_connections;
 use crate::lead::{Broken, Lead, NotApplied};
 use crate::part::Part;
@@ -176,7 +176,7 @@ impl<D: Teller, J: Station> Kept<D, J> {
             handed,
         } = self;
         let (all, whole) = lead.end();
-        if !whole || !handed.is_same(mine) || !all.is_same(mine) {
+        if is_torn(whole, &all, &handed, mine) {
             return Err(Differ::Broken { entries: all.len() });
         }
         check(seats, &all)
