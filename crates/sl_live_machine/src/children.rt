@@ -102,7 +102,7 @@ fn wait<R: Wait + time::Clock>(rt: &R, post: &Post, seen: u64, found: Found, int
 }
 
 /// Tells exits until the machine ends. An `Err` is want of memory.
-#[tactic(auto, using(crate::proofs::SeatLaws::gave_none))]
+#[tactic(auto, using(crate::proofs::SeatLaws::exits_none))]
 pub(crate) fn tell_exits<D: Teller, J: Station, R: Wait + time::Clock, C: Clock, P: Spawner>(
     rt: &R,
     room: &Room<D, J, P>,

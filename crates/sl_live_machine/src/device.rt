@@ -17,6 +17,7 @@ use std::sync::Wait;
 use std::time;
 
 /// Tests once, and gives nothing. An `Err` is a history that is not the daemon's any more.
+#[tactic(auto, using(crate::proofs::SeatLaws::tests_on))]
 fn test<D: Teller, J: Station, R: Wait, C: Clock, P: Spawner, V: Device>(
     rt: &R,
     room: &Room<D, J, P>,

@@ -220,7 +220,7 @@ fn give_each<D: Teller, J: Station, R: Wait, C: Clock, P: Spawner>(
 }
 
 /// The thread's whole course: what it gave. An `Err` is want of memory.
-#[tactic(auto, using(crate::proofs::SeatLaws::gave_none))]
+#[tactic(auto, using(crate::proofs::SeatLaws::lines_none))]
 pub(crate) fn give_lines<D: Teller, J: Station, R: Wait, C: Clock, P: Spawner>(
     rt: &R,
     room: &Room<D, J, P>,

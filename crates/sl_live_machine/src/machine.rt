@@ -79,7 +79,7 @@ fn hand_out<D: Teller, J: Station, R: Wait>(
 }
 
 /// Closes a cell with the seats of all threads. The history has these entries.
-#[tactic(auto, using(crate::proofs::RunLaws::ok_run, crate::proofs::RunLaws::err_run))]
+#[tactic(auto, using(crate::proofs::RunLaws::run_whole, crate::proofs::RunLaws::stood_whole, crate::proofs::RunLaws::case_run))]
 fn close_with<D: Teller, J: Station>(
     cell: HostCell<D, J>,
     seats: Vec<Seat<J>>,
@@ -100,7 +100,7 @@ fn close_with<D: Teller, J: Station>(
 }
 
 /// Closes the cell of threads of which one has ended too soon: want of memory, if the daemon stands for its history.
-#[tactic(auto, using(crate::proofs::RunLaws::broken_run))]
+#[tactic(auto, using(crate::proofs::RunLaws::case_broken))]
 fn close_early<D: Teller, J: Station>(
     alloc: Global,
     cell: HostCell<D, J>,

@@ -26,7 +26,7 @@ fn next<D: Teller, J: Station, R: Wait, P: Spawner>(
 }
 
 /// Takes in what a start came to, and tells it. An `Err` is want of memory.
-#[tactic(auto, using(crate::proofs::SeatLaws::ok_starts))]
+#[tactic(auto, using(crate::proofs::SeatLaws::starts_on))]
 fn tell<D: Teller, J: Station, R: Wait, C: Clock, P: Spawner>(
     rt: &R,
     room: &Room<D, J, P>,
@@ -103,7 +103,7 @@ fn start_each<D: Teller, J: Station, R: Wait, C: Clock, P: Spawner>(
 }
 
 /// The thread's whole course: what it told. An `Err` is want of memory.
-#[tactic(auto, using(crate::proofs::SeatLaws::gave_none))]
+#[tactic(auto, using(crate::proofs::SeatLaws::starts_none))]
 pub(crate) fn start_programs<D: Teller, J: Station, R: Wait, C: Clock, P: Spawner>(
     rt: &R,
     room: &Room<D, J, P>,

@@ -33,7 +33,7 @@ fn wake<D: Teller, J: Station, R: Wait, C: Clock, P: Spawner>(
 }
 
 /// Wakes the daemon again and again until the machine ends. An `Err` is want of memory.
-#[tactic(auto, using(crate::proofs::SeatLaws::gave_none))]
+#[tactic(auto, using(crate::proofs::SeatLaws::ticker_none))]
 pub(crate) fn tick<D: Teller, J: Station, R: Wait + time::Clock, C: Clock, P: Spawner>(
     rt: &R,
     room: &Room<D, J, P>,

@@ -48,7 +48,7 @@ pub(crate) struct Turn {
 }
 
 /// Gives an input with all that follows of it. An `Err` is want of memory.
-#[tactic(auto, using(crate::proofs::SeatLaws::ok_gave))]
+#[tactic(auto, using(crate::proofs::SeatLaws::made_gave))]
 pub(crate) fn give<D: Teller, J: Station, R: Wait, C: Clock, P: Spawner>(
     rt: &R,
     room: &Room<D, J, P>,
