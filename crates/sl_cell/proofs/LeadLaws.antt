@@ -1,7 +1,7 @@
 -- A daemon with the front of its history, as it goes on.
 use Rattle.sl_cell.proofs.ListFronts.{take_next}
 use Rattle.sl_cell.specs.Copies.{AreShort, AreWithin}
-use Rattle.sl_cell.specs.Leads.{HasNumbers, IsLead, IsMade, signed_of}
+use Rattle.sl_cell.specs.Leads.{HasNumbers, IsLead, IsMade, IsReady, LeadState}
 use Rattle.sl_cell.specs.Parts.{calls_of, is_of}
 use Rattle.sl_cell.specs.declared.part.Part.{Part}
 use Rattle.sl_history.proofs.Givens.{trace_last}
@@ -21,10 +21,10 @@ use Rattle.sl_trace.specs.declared.input.Numbers.{Numbers}
 use Rattle.sl_words.specs.Bounds.{moments}
 use Rattle.sl_words.specs.Words.{greatest}
 use Rattle.sl_world_law.proofs.NextNumbers.{calls_next, jobs_next}
-use Rattle.sl_world_state.specs.Daemons.{IsNumbered, IsStep, MayCome, begun_with, entry_of}
+use Rattle.sl_world_state.specs.Daemons.{IsStep, MayCome, begun_with, spare_numbers}
 use Rattle.sl_world_state.specs.declared.daemon.Most.{Most}
 use Rattle.sl_world_state.specs.declared.daemon.Site.{Site}
-use Rattle.std.proofs.Common.{All, List, ap, ap₂, append_assoc, arith, false, filter, if◌then◌else◌, length, length-append, map, max, refl, reverse, slice_index_or, subst, sym, take, true, Bool, ◌++◌, ◌+◌, ◌<◌, ◌∙◌, ◌∷◌, ◌≡◌, ◌≤◌, [], ℕ}
+use Rattle.std.proofs.Common.{All, List, ap, ap₂, append_assoc, arith, false, filter, if◌then◌else◌, length, length-append, map, max, refl, reverse, slice_index_or, subst, sym, take, true, Bool, ◌++◌, ◌+◌, ◌-◌, ◌<◌, ◌^◌, ◌∙◌, ◌∷◌, ◌≡◌, ◌≤◌, [], ℕ}
 use Rattle.std.proofs.lemmas.List.Elements.{All-cons, All-nil}
 use Rattle.std.proofs.lemmas.List.{append-nil, map-append, reverse-append, reverse-reverse}
 use Rattle.std.specs.List.{AllByRecursion}
@@ -62,20 +62,47 @@ lead_broken stands st d d' whole h reading next lead = record {
   jobs = lead.jobs;
 }
 
-pub may_come : {D : Type 0} (stands : D → Setting → Trace → Type 0) (st : Setting) (d : D) (whole : Bool) (h : List Signed) (reading now : ℕ) (next : Numbers) (m : Most) (i : Input)
-    → IsLead stands st d whole h reading next → now < moments → is_expected st (trace_of h) i ≡ true → HasNumbers next m → MayCome st (trace_of h) (max now reading) i
-may_come stands st d whole h reading now next m i lead below expected left =
+pub ready : {D : Type 0} (stands : D → Setting → Trace → Type 0) (st : Setting) (d : D) (whole : Bool) (h : List Signed) (reading : ℕ) (next : Numbers) (m : Most) (count : ℕ) (i : Input) (expects : Bool)
+    → IsLead stands st d whole h reading next → whole ≡ true → ((s : Setting) → (es : Trace) → stands d s es → expects ≡ is_expected s es i) → expects ≡ true
+    → HasNumbers next m count → count ≡ length h → IsReady stands st (record { daemon = d; whole = whole; history = h }) m i
+ready stands st d whole h reading next m count i expects lead is says so left counted =
+    record {
+      stands = lead.stands is;
+      expected = sym (says st (trace_of h) (lead.stands is)) ∙ so;
+      numbers = record {
+        call = subst (λ n. n < 2 ^ 63 - spare_numbers) lead.calls left.call;
+        job = subst (λ n. n < 2 ^ 63 - spare_numbers) lead.jobs left.job;
+        calls = left.calls;
+        short = subst (λ n. n < 2 ^ 60) counted left.short;
+      };
+    }
+
+pub may_come : {D : Type 0} (stands : D → Setting → Trace → Type 0) (st : Setting) (d : D) (whole : Bool) (h : List Signed) (reading now at : ℕ) (next : Numbers) (k : LeadState D) (m : Most) (i : Input)
+    → IsLead stands st d whole h reading next → now < moments → IsReady stands st k m i → k.history ≡ h → at ≡ max now reading → MayCome st (trace_of h) at i
+may_come stands st d whole h reading now at next k m i lead below ready same is =
     let last = lead.last in
     let small = lead.below in
-    let calls = lead.calls in
-    let jobs = lead.jobs in
-    let call = left.call in
-    let job = left.job in
+    let es : trace_of k.history ≡ trace_of h = ap trace_of same in
+    let call : next_call st (trace_of h) < 2 ^ 63 - spare_numbers = subst (λ xs. next_call st xs < 2 ^ 63 - spare_numbers) es ready.numbers.call in
+    let job : next_job st (trace_of h) < 2 ^ 63 - spare_numbers = subst (λ xs. next_job st xs < 2 ^ 63 - spare_numbers) es ready.numbers.job in
     record {
-      time = omega (arith, last);
-      below = omega (arith, below, small);
-      expected = expected;
-      room = (omega (arith, calls, call), omega (arith, jobs, job));
+      time = omega (arith, last, is);
+      below = omega (arith, below, small, is);
+      expected = subst (λ xs. is_expected st xs i ≡ true) es ready.expected;
+      room = (call, job);
+    }
+
+-- the kept numbers are the history's
+pub has_numbers : {D : Type 0} (stands : D → Setting → Trace → Type 0) (st : Setting) (d : D) (whole : Bool) (h : List Signed) (reading : ℕ) (next : Numbers) (k : LeadState D) (m : Most) (i : Input)
+    → IsLead stands st d whole h reading next → IsReady stands st k m i → k.history ≡ h → HasNumbers next m (length h)
+has_numbers stands st d whole h reading next k m i lead ready same =
+    let call : next_call st (trace_of h) < 2 ^ 63 - spare_numbers = subst (λ (xs : List Signed). next_call st (trace_of xs) < 2 ^ 63 - spare_numbers) same ready.numbers.call in
+    let job : next_job st (trace_of h) < 2 ^ 63 - spare_numbers = subst (λ (xs : List Signed). next_job st (trace_of xs) < 2 ^ 63 - spare_numbers) same ready.numbers.job in
+    record {
+      call = subst (λ n. n < 2 ^ 63 - spare_numbers) (sym lead.calls) call;
+      job = subst (λ n. n < 2 ^ 63 - spare_numbers) (sym lead.jobs) job;
+      calls = ready.numbers.calls;
+      short = subst (λ (xs : List Signed). length xs < 2 ^ 60) same ready.numbers.short;
     }
 
 pub within : (st : Setting) (m : Most) (longest : ℕ) (fx : Effects) → IsStep st m fx → AreShort longest fx.replies → AreWithin m longest fx
@@ -141,6 +168,9 @@ calls_behind part [] e = append-nil (filter (is_of part) e.effects.calls)
 calls_behind part (x ∷ es) e =
     ap (λ l. filter (is_of part) x.effects.calls ++ l) (calls_behind part es e) ∙ sym (append_assoc (filter (is_of part) x.effects.calls) (calls_of part es) (filter (is_of part) e.effects.calls))
 
+adds_up : (a b c d n m : ℕ) → a ≤ n → d ≤ c → m ≡ n + c → b ≡ a + d → b ≤ m
+adds_up a b c d n m le few next all = omega (arith, le, few, next, all)
+
 calls_few : (part : Part) (st : Setting) (es : Trace) → length (calls_of part (reverse es)) ≤ next_call st es
 calls_few part st [] = omega arith
 calls_few part st (e ∷ es) =
@@ -150,7 +180,7 @@ calls_few part st (e ∷ es) =
     let next : next_call st (e ∷ es) ≡ next_call st es + length e.effects.calls = calls_next st es e in
     let all : length (calls_of part (reverse (e ∷ es))) ≡ length (calls_of part (reverse es)) + length made =
     ap (λ xs. length (calls_of part xs)) (reverse-append (e ∷ []) es) ∙ ap length (calls_behind part (reverse es) e) ∙ length-append (calls_of part (reverse es)) made in
-    omega (arith, rest, few, next, all)
+    adds_up (length (calls_of part (reverse es))) (length (calls_of part (reverse (e ∷ es)))) (length e.effects.calls) (length made) (next_call st es) (next_call st (e ∷ es)) rest few next all
 
 -- no more calls of a part were made than the next number says
 pub calls_most : (part : Part) (st : Setting) (h : List Signed) (n : ℕ) → n ≡ next_call st (trace_of h) → length (calls_of part (entries h)) ≤ n

@@ -52,7 +52,7 @@ left_on part es e taken taken' cs cs' left more same =
     let count : length (calls_of part (es ++ e ∷ [])) ≡ length all + length made = ap length grown ∙ length-append all made in
     record {
       most = omega (arith, most, count, same);
-      rest = more ∙ ap (λ xs. xs ++ made) left.rest ∙ sym (drop-append-le taken all made most) ∙ sym (ap₂ (λ n xs. drop n xs) same grown);
+      rest = more ∙ ap (λ xs. xs ++ made) left.rest ∙ sym (drop-append-le taken all made most) ∙ sym (ap₂ (λ (n : ℕ) (xs : List Call). drop n xs) same grown);
     }
 
 waiting_on : (h handed : List Signed) (s : Signed) (waiting waiting' : List Entry) → IsWaiting h handed waiting → waiting' ≡ waiting ++ s.entry ∷ [] → IsWaiting (h ++ s ∷ []) handed waiting'
@@ -121,7 +121,7 @@ first_of (x ∷ xs) (suc n) c rest is =
     let so = first_of xs n c rest is in
     let le : n + 1 ≤ length xs = so.2 in
     let next : suc n + 1 ≡ suc (n + 1) = omega arith in
-    (so.0, rw next so.1, omega (arith, le))
+    (so.0, subst (λ (k : ℕ). rest ≡ drop k (x ∷ xs)) (sym next) so.1, omega (arith, le))
 
 none_of : (xs : List Call) (n : ℕ) → [] ≡ drop n xs → n ≤ length xs → n ≡ length xs
 none_of xs n is le =
@@ -200,7 +200,7 @@ rest_handed st h handed r r' rest connected delta resource none = record {
 pub none_waits : (h handed : List Signed) (waiting : List Entry) → IsWaiting h handed waiting → handed ≡ h → waiting ≡ []
 none_waits h handed waiting so same =
     let all : length (entries h) ≡ length (entries h) + length waiting =
-    ap length so.others ∙ length-append (entries handed) waiting ∙ ap (λ xs. length (entries xs) + length waiting) same in
+    ap length so.others ∙ length-append (entries handed) waiting ∙ ap (λ (xs : List Signed). length (entries xs) + length waiting) same in
     empty waiting (omega (arith, all))
   where
     empty : (xs : List Entry) → length xs ≡ 0 → xs ≡ []

@@ -1,7 +1,7 @@
 -- A daemon with the front of the history that led to it.
 use Rattle.sl_history.specs.Histories.{trace_of}
 use Rattle.sl_history.specs.declared.signed.Signed.{Signed}
-use Rattle.sl_trace.specs.Traces.{IsTrace, Setting, Trace, last_reading, next_call, next_job}
+use Rattle.sl_trace.specs.Traces.{IsTrace, Setting, Trace, is_expected, last_reading, next_call, next_job}
 use Rattle.sl_trace.specs.declared.effects.Effects.{Effects}
 use Rattle.sl_trace.specs.declared.input.Input.{Input}
 use Rattle.sl_trace.specs.declared.input.Numbers.{Numbers}
@@ -25,11 +25,21 @@ pub record IsLead {D : Type 0} (Stands : D → Setting → Trace → Type 0) (st
   pub calls : next.call ≡ next_call st (trace_of h)
   pub jobs : next.job ≡ next_job st (trace_of h)
 
--- There are numbers for a step, and memory for its calls.
-pub record HasNumbers (next : Numbers) (m : Most) : Type 0 where
+-- There are numbers for a step behind so many entries, and memory for its calls.
+pub record HasNumbers (next : Numbers) (m : Most) (count : ℕ) : Type 0 where
   pub call : next.call < 2 ^ 63 - spare_numbers
   pub job : next.job < 2 ^ 63 - spare_numbers
   pub calls : m.calls ≤ 2 ^ 28
+  pub short : count < 2 ^ 60
+
+abbrev pub next_numbers : Setting → Trace → Numbers
+next_numbers st es = record { call = next_call st es; job = next_job st es }
+
+-- The daemon stands for the history, the input may come to it, and there are numbers for its step.
+pub record IsReady {D : Type 0} (Stands : D → Setting → Trace → Type 0) (st : Setting) (k : LeadState D) (m : Most) (i : Input) : Type 0 where
+  pub stands : Stands k.daemon st (trace_of k.history)
+  pub expected : is_expected st (trace_of k.history) i ≡ true
+  pub numbers : HasNumbers (next_numbers st (trace_of k.history)) m (length k.history)
 
 -- The entry of a step, signed.
 abbrev pub signed_of : ℕ → ℕ → Input → Effects → Signed

@@ -1,6 +1,6 @@
 //! A daemon with the front of the history that led to it.
 
-ghost use Rattle.sl_cell.specs.Leads.{HasNumbers, IsEntry, IsFew, IsMade, signed_of};
+ghost use Rattle.sl_cell.specs.Leads.{HasNumbers, IsEntry, IsFew, IsMade, IsReady, signed_of};
 ghost use Rattle.sl_cell.specs.Parts.{calls_of};
 ghost use Rattle.sl_cell.specs.declared.lead.NotApplied.{NotApplied as Why};
 ghost use Rattle.sl_cell.specs.declared.part.Part.{Part as PartOf};
@@ -12,7 +12,7 @@ ghost use Rattle.sl_words.specs.Bounds.{moments};
 ghost use Rattle.sl_words.specs.Words.{greatest};
 ghost use Rattle.sl_world_state.specs.Daemons.{MayCome, begun_with};
 ghost use Rattle.sl_world_state.specs.declared.daemon.Most.{Most};
-ghost use Rattle.std.specs.Prelude.{Err, IfOk, IsFalse, IsTrue, OnErr, false, if◌then◌else◌, length, map, true, [], ◌++◌, ◌+◌, ◌<◌, ◌∷◌, ◌≡◌, ◌≤◌};
+ghost use Rattle.std.specs.Prelude.{Err, IfOk, IsFalse, IsTrue, OnErr, OnOk, false, if◌then◌else◌, length, map, true, [], ℕ, ◌++◌, ◌+◌, ◌<◌, ◌∷◌, ◌≡◌, ◌≤◌};
 
 use crate::step_copies::Spare;
 use crate::teller::Teller;
@@ -93,16 +93,19 @@ fn greatest_renewed(given: &[Given]) -> u64
     reading
 }
 
-/// Whether there are no numbers left for a step, or no memory for its calls.
-fn is_full(next: Numbers, most: &Most) -> bool
-    ensures { IsFalse result → HasNumbers next most.now }
+/// Whether there are no numbers left for a step behind so many entries, or no memory for its calls.
+fn is_full(next: Numbers, most: &Most, count: u64) -> bool
+    ensures { IsFalse result → HasNumbers next most.now count }
 {
-    next.call >= LAST_NUMBER || next.job >= LAST_NUMBER || most.calls > MOST_CALLS
+    next.call >= LAST_NUMBER
+        || next.job >= LAST_NUMBER
+        || most.calls > MOST_CALLS
+        || count >= MOST_ENTRIES
 }
 
 /// The next numbers after a step.
 fn advanced(next: Numbers, entry: &Entry) -> Numbers
-    requires { (most : Most) × HasNumbers next most × (length entry.now.effects.calls ≤ most.calls) }
+    requires { (most : Most) × (count : ℕ) × HasNumbers next most count × (length entry.now.effects.calls ≤ most.calls) }
     ensures calls { result.call ≡ next.call + length entry.now.effects.calls }
     ensures jobs { result.job ≡ (if takes_number entry.now.input then next.job + 1 else next.job) }
 {
@@ -201,6 +204,25 @@ impl<D: Teller, J: Station> Lead<D, J> {
         self.next.call
     }
 
+    /// Whether the input may come to the daemon, and there are numbers for its step.
+    #[tactic(auto, using(crate::proofs::LeadLaws::ready))]
+    fn admit(&self, input: &Input) -> Result<(), NotApplied>
+        ensures ready { OnOk result (IsReady D.Daemon.stands J.setting self.now (D.Daemon.makes self.now.daemon) input.now) }
+        ensures unasked { result ≡ Err Why.Unasked → is_expected J.setting (trace_of self.now.history) input.now ≡ false }
+    {
+        if !self.whole {
+            return Err(NotApplied::Broken);
+        }
+        if !self.daemon.expects(input) {
+            return Err(NotApplied::Unasked);
+        }
+        let most = self.daemon.most();
+        if is_full(self.next, &most, self.front.len()) {
+            return Err(NotApplied::NoMemory);
+        }
+        Ok(())
+    }
+
     /// The input comes to the daemon, at this reading or the last one if that is later, and its entry stands behind the history.
     pub(crate) fn step(
         &mut self,
@@ -218,16 +240,7 @@ impl<D: Teller, J: Station> Lead<D, J> {
         ensures memory { result ≡ Err Why.NoMemory → self.new ≡ self.old }
         ensures err { OnErr result (self.new.history ≡ self.old.history) }
     {
-        if !self.whole {
-            return Err(NotApplied::Broken);
-        }
-        if !self.daemon.expects(&input) {
-            return Err(NotApplied::Unasked);
-        }
-        let most = self.daemon.most();
-        if is_full(self.next, &most) || self.front.len() >= MOST_ENTRIES {
-            return Err(NotApplied::NoMemory);
-        }
+        self.admit(&input)?;
         let mut front = self.front.again();
         let reading = now.max(self.reading);
         let (signed, effects) = make(
