@@ -5,7 +5,7 @@ use Rattle.sl_live.specs.Turns.{AreServed, IsAnswerOf, IsPassed}
 use Rattle.sl_trace.specs.Traces.{Setting}
 use Rattle.sl_trace.specs.declared.effects.Call.{Call}
 use Rattle.sl_trace.specs.declared.effects.Entry.{Entry}
-use Rattle.std.proofs.Common.{List, Some, [], ap, arith, inl, inr, length, refl, slice_get, suc, take, zero, ℕ, ◌++◌, ◌+◌, ◌<◌, ◌∷◌, ◌≡◌, ◌≤◌}
+use Rattle.std.proofs.Common.{List, Some, [], ap, arith, inl, inr, length, refl, slice_get, subst, suc, take, zero, ℕ, ◌++◌, ◌+◌, ◌<◌, ◌∷◌, ◌≡◌, ◌≤◌}
 use mathlib.Core.List.{IsPrefix}
 
 -- ---- the first of a list that a longer one begins with
@@ -23,7 +23,9 @@ take_same (suc k) (x ∷ xs) (y ∷ ys) le p =
 pub take_next : {A : Type 0} (k : ℕ) (c : A) (xs : List A) → slice_get xs k ≡ Some c → take (k + 1) xs ≡ take k xs ++ c ∷ []
 take_next k c [] at = absurd cc
 take_next zero c (x ∷ xs) at = let same : x ≡ c = cc at in ap (λ y. y ∷ []) same
-take_next (suc k) c (x ∷ xs) at = ap (λ l. x ∷ l) (take_next k c xs at)
+take_next (suc k) c (x ∷ xs) at =
+    let n : suc (k + 1) ≡ suc k + 1 = omega arith in
+    subst (λ m. take m (x ∷ xs) ≡ x ∷ (take k xs ++ c ∷ [])) n (ap (λ l. x ∷ l) (take_next k c xs at))
 
 pub next_within : {A : Type 0} (k : ℕ) (c : A) (xs : List A) → slice_get xs k ≡ Some c → k < length xs
 next_within k c [] at = absurd cc

@@ -90,8 +90,10 @@ pub fn spawned_step<D: Teller, J: Station, R: Wait, C: Clock, P: Spawner>(
 {
     let ok = children.take_in(process, child);
     let input = Input::Spawned { process, ok };
-    let effects = give_step(rt, cell, seat, clock, children, input)?;
-    Ok(Told { ok, effects })
+    match give_step(rt, cell, seat, clock, children, input) {
+        Ok(effects) => Ok(Told { ok, effects }),
+        Err(error) => Err(error),
+    }
 }
 
 /// Polls the children once, and tells the exit of one, if one has exited and was not told before: which, and the step's effects. An `Err` is of the
@@ -109,8 +111,10 @@ pub fn child_step<D: Teller, J: Station, R: Wait, C: Clock, P: Spawner>(
     let Some(process) = children.poll() else {
         return Ok(None);
     };
-    let effects = give_step(rt, cell, seat, clock, children, Input::Exit { process })?;
-    Ok(Some(Gone { process, effects }))
+    match give_step(rt, cell, seat, clock, children, Input::Exit { process }) {
+        Ok(effects) => Ok(Some(Gone { process, effects })),
+        Err(error) => Err(error),
+    }
 }
 
 /// Tests the machine's connections at the clock's reading, and keeps the device from firing exactly where the test holds. Where the device
