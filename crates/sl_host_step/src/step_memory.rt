@@ -2,7 +2,8 @@
 //!
 //! A step may have to do with each job, holding, lease and session: so much it then has room for, of effects and of calls. Where nothing is due by
 //! time, most inputs have to do with a few of them: a step at such an input has room for these and for what comes last of each session, however
-//! much the host holds. That is the step's `Reach`. The lists that it goes by keep their memory from step to step.
+//! much the host holds. That is the step's `Reach`. The lists that it goes by keep their memory from step to step, and the memory of effects that were
+//! told serves those of a later step.
 //!
 //! The room of one step more can be taken ahead, whatever its input. It then stands by, so that a recovery still kills whom it must where no memory
 //! is left.
@@ -28,8 +29,8 @@ const ROOM_END: usize = 0x8000_0000;
 /// A host counts no more steps.
 const LAST_ENTRY: u64 = 0x8000_0000_0000_0000;
 
-/// Lists that a step goes by: numbers of members and jobs, areas, orphans, and the blocks of a read in areas of these sizes; `none` has no effects, but
-/// memory of such that were told. `spare` says whether the host has the room of a step already.
+/// Lists that a step goes by: numbers of members and jobs, areas, orphans, and the blocks of a read in areas of these sizes. `none` holds no effects,
+/// but memory of such that were told; `spare` is whether the host has the room of a step already.
 #[derive(Drop)]
 pub(crate) struct Scratch {
     pub(crate) members: Notes<u64>,
