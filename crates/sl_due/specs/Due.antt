@@ -1,4 +1,10 @@
--- What a step does: the effects that the trace so far, the reading and the input make due.
+-- What a step does: the effects that the trace so far, the reading and the input make due. Its order:
+-- 1. `begin_recoveries`: by time, of sessions whose last renewal is `fail` old;
+-- 2. `kills`: of holders whose grace has passed;
+-- 3. `time_outs`: of jobs whose call is overdue;
+-- 4. `take_input`: the line, the answer, the exit, the answer to a start;
+-- 5. `on_wake`, on a wake alone: joinings, renewals, settlings;
+-- 6. `finish`: ends of sessions, frees, removals of connections.
 use Rattle.sl_due.specs.DueRecovery.{begin_recoveries, kills}
 use Rattle.sl_due.specs.DueTimeOuts.{time_outs}
 use Rattle.sl_due.specs.DueInputs.{take_input}
