@@ -38,7 +38,7 @@ mod start;
 mod torn_writes;
 mod world;
 
-pub use apply::ApplyError;
+pub use apply::{ApplyError, is_untold};
 pub use conflicts::Conflicts;
 pub use hosts::Hosts;
 pub use sites::{first_site, session_of};
