@@ -17,6 +17,7 @@ use sl_trace::{Call, Effects, End, Grant, JobReply, Mode, Move, Op, Sent, Signal
 use std::alloc::AllocError;
 
 /// Adds the front of a machine's line: its number, and a word.
+#[tactic(auto, using(crate::proofs::LineLaws::front_stays))]
 fn push_machine(out: &mut Vec<u8>, machine: u32, word: &str) -> Result<(), AllocError>
     ensures ok { OnOk result (out.new.items ≡ out.old.items ++ texts.machine_line machine (word.now ∷ [])) }
     ensures kept { KeepsFronts out.old.items out.new.items }

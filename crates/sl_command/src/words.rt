@@ -13,7 +13,8 @@ pub(crate) fn push_behind(out: &mut Vec<u8>, number: u64) -> Result<(), AllocErr
     ensures kept { KeepsFronts out.old.items out.new.items }
 {
     out.push(b' ')?;
-    push_number(out, number)
+    push_number(out, number)?;
+    Ok(())
 }
 
 /// Adds numbers, each behind a space.
@@ -64,7 +65,8 @@ pub(crate) fn push_number_part(out: &mut Vec<u8>, number: u64) -> Result<(), All
     ensures kept { KeepsFronts out.old.items out.new.items }
 {
     out.push(b':')?;
-    push_number(out, number)
+    push_number(out, number)?;
+    Ok(())
 }
 
 /// Adds a text.
