@@ -10,6 +10,6 @@ returns c =
     let i = c.args.input.now in
     record {
       left = c.end_by.ensures (told_as c.hear-line.result)
-        ∙ ap (ended_locks (lock_input i)) (c.hear-line.ensures ∙ ap (λ o. turned_by i o (locks_of c.args.self.now)) c.split_reply-effects.ensures.found);
+          ∙ ap (ended_locks (lock_input i)) (c.hear-line.ensures ∙ ap (λ o. turned_by i o (locks_of c.args.self.now)) c.split_reply-effects.ensures.found);
       effects = c.split_reply-effects.ensures.rest;
     }
