@@ -8,6 +8,7 @@ ghost use Rattle.sl_host_step.specs.HostServes.{whole_commands};
 ghost use Rattle.sl_run.specs.Headers.{IsHeader};
 ghost use Rattle.sl_run.specs.Lawful.{IsSetting};
 ghost use Rattle.sl_world_state.specs.Daemons.{begun_with};
+ghost use Rattle.std.specs.Prelude.{Contains};
 
 use crate::cell_starts::{Begun, begin};
 use crate::lone_daemon::LoneDaemon;
@@ -23,9 +24,9 @@ use sl_text::FilePath;
 use sl_trace::{Call, Effects, Input};
 use std::alloc::{AllocError, Global};
 use std::collections::VecDeque;
+use std::io::ErrorKind;
 use std::rt::Files;
 use std::{fs, io};
-use std::io::ErrorKind;
 
 /// A request of so many bytes tells that from here on all are to be refused.
 const REFUSE: usize = 1_000_003;
@@ -189,7 +190,13 @@ fn write_there(
     if line.path != path {
         return Ok(());
     }
-    match write_resource(area, header.geometry, line.lockspace, line.name, line.offset) {
+    match write_resource(
+        area,
+        header.geometry,
+        line.lockspace,
+        line.name,
+        line.offset,
+    ) {
         Ok(()) => Ok(()),
         Err(_) => Err(io::Error::from(ErrorKind::Other)),
     }
