@@ -52,23 +52,23 @@ fn reach_of(command: &Command) -> Reach
 fn take_command(
     host: &mut Host,
     scratch: &mut Scratch,
-    seat: Option<Member>,
+    seat: &mut Option<Member>,
     lists: Lists,
-    command: Command,
+    command: &Command,
 )
-    requires at { (now : ℕ) × (text : List ℕ) × (first : HostKept) × (command_in (forms (layout_of first.config.sizes)) text ≡ Ok command) × AtInput now (LineOf text) first host.old.kept }
-    requires left { (first : HostView) × HasLeft (reach_of command) first host.old }
+    requires at { (now : ℕ) × (text : List ℕ) × (first : HostKept) × (command_in (forms (layout_of first.config.sizes)) text ≡ Ok command.now) × AtInput now (LineOf text) first host.old.kept }
+    requires left { (first : HostView) × HasLeft (reach_of command.now) first host.old }
     requires scratch { Suffices scratch.old host.old }
-    requires lists { FitsLists host.old.kept.config.sizes host.old.seats command lists }
-    requires seat { HasSeat host.old command seat }
-    ensures at { (now : ℕ) (text : List ℕ) (first : HostKept) → command_in (forms (layout_of first.config.sizes)) text ≡ Ok command → AtInput now (LineOf text) first host.old.kept
+    requires lists { FitsLists host.old.kept.config.sizes host.old.seats command.now lists }
+    requires seat { HasSeat host.old command.now seat.old }
+    ensures at { (now : ℕ) (text : List ℕ) (first : HostKept) → command_in (forms (layout_of first.config.sizes)) text ≡ Ok command.now → AtInput now (LineOf text) first host.old.kept
         → AtEnd now (LineOf text) first host.new.kept }
-    ensures left { (first : HostView) → HasLeft (reach_of command) first host.old → EndsWith first host.new }
+    ensures left { (first : HostView) → HasLeft (reach_of command.now) first host.old → EndsWith first host.new }
     ensures lists { host.new.seats ≤ scratch.new.members }
     ensures sizes { scratch.new.sizes ≡ scratch.old.sizes }
     ensures spare { scratch.new.spare ≡ scratch.old.spare }
 {
-    take_line(host, &mut scratch.jobs, seat, lists, Ok(command));
+    take_line(host, &mut scratch.jobs, seat, lists, command);
 }
 
 /// The member that a command joins with, if it does, with memory for as many leases as the step may make calls. An `Err` is want of memory.
@@ -103,9 +103,9 @@ fn step_misread(
     ensures used { OnOk result (scratch.new.spare ≡ false) }
     ensures sizes { scratch.new.sizes ≡ scratch.old.sizes }
 {
-    let begun = start(alloc, host, scratch, now, Reach::Few)?;
+    let is_loud = start(alloc, host, scratch, now, Reach::Few)?;
     take_misread(host, column);
-    Ok(conclude(host, scratch, begun.none, begun.is_loud))
+    Ok(conclude(alloc, host, scratch, is_loud))
 }
 
 /// A step at a command whose lists and member are made.
@@ -115,25 +115,25 @@ fn step_prepared(
     host: &mut Host,
     scratch: &mut Scratch,
     now: u64,
-    seat: Option<Member>,
+    seat: &mut Option<Member>,
     lists: Lists,
-    command: Command,
+    command: &Command,
 ) -> Result<Effects, AllocError>
-    requires comes { (text : List ℕ) × StepComes now (LineOf text) host.old.kept × (command_in (forms (layout_of host.old.kept.config.sizes)) text ≡ Ok command) }
+    requires comes { (text : List ℕ) × StepComes now (LineOf text) host.old.kept × (command_in (forms (layout_of host.old.kept.config.sizes)) text ≡ Ok command.now) }
     requires rests { Rests scratch.old host.old }
-    requires lists { FitsLists host.old.kept.config.sizes host.old.seats command lists }
-    requires seat { HasPlace host.old command seat }
-    ensures ok { (text : List ℕ) → StepComes now (LineOf text) host.old.kept → command_in (forms (layout_of host.old.kept.config.sizes)) text ≡ Ok command
+    requires lists { FitsLists host.old.kept.config.sizes host.old.seats command.now lists }
+    requires seat { HasPlace host.old command.now seat.old }
+    ensures ok { (text : List ℕ) → StepComes now (LineOf text) host.old.kept → command_in (forms (layout_of host.old.kept.config.sizes)) text ≡ Ok command.now
         → IfOk result (λ fx. HasStepped now (LineOf text) host.old host.new fx) }
     ensures err { OnErr result (host.new ≡ host.old) }
     ensures rests { OnErr result (Rests scratch.new host.new) }
     ensures used { OnOk result (scratch.new.spare ≡ false) }
     ensures sizes { scratch.new.sizes ≡ scratch.old.sizes }
 {
-    let reach = reach_of(&command);
-    let begun = start(alloc, host, scratch, now, reach)?;
+    let reach = reach_of(command);
+    let is_loud = start(alloc, host, scratch, now, reach)?;
     take_command(host, scratch, seat, lists, command);
-    Ok(conclude(host, scratch, begun.none, begun.is_loud))
+    Ok(conclude(alloc, host, scratch, is_loud))
 }
 
 /// A step at a command.
@@ -143,20 +143,20 @@ fn step_command(
     host: &mut Host,
     scratch: &mut Scratch,
     now: u64,
-    command: Command,
+    command: &Command,
 ) -> Result<Effects, AllocError>
-    requires comes { (text : List ℕ) × StepComes now (LineOf text) host.old.kept × (command_in (forms (layout_of host.old.kept.config.sizes)) text ≡ Ok command) }
+    requires comes { (text : List ℕ) × StepComes now (LineOf text) host.old.kept × (command_in (forms (layout_of host.old.kept.config.sizes)) text ≡ Ok command.now) }
     requires rests { Rests scratch.old host.old }
-    ensures ok { (text : List ℕ) → StepComes now (LineOf text) host.old.kept → command_in (forms (layout_of host.old.kept.config.sizes)) text ≡ Ok command
+    ensures ok { (text : List ℕ) → StepComes now (LineOf text) host.old.kept → command_in (forms (layout_of host.old.kept.config.sizes)) text ≡ Ok command.now
         → IfOk result (λ fx. HasStepped now (LineOf text) host.old host.new fx) }
     ensures err { OnErr result (host.new ≡ host.old) }
     ensures rests { OnErr result (Rests scratch.new host.new) }
     ensures used { OnOk result (scratch.new.spare ≡ false) }
     ensures sizes { scratch.new.sizes ≡ scratch.old.sizes }
 {
-    let lists = Lists::of(alloc, &host.config().geometry, host.seats(), &command)?;
-    let seat = seat_for(alloc, host, &command)?;
-    step_prepared(alloc, host, scratch, now, seat, lists, command)
+    let lists = Lists::of(alloc, &host.config().geometry, host.seats(), command)?;
+    let mut seat = seat_for(alloc, host, command)?;
+    step_prepared(alloc, host, scratch, now, &mut seat, lists, command)
 }
 
 /// A step at a line.
@@ -176,7 +176,8 @@ pub(crate) fn step_line(
     ensures used { OnOk result (scratch.new.spare ≡ false) }
     ensures sizes { scratch.new.sizes ≡ scratch.old.sizes }
 {
-    match parse_command(text, &host.config().geometry) {
+    let read = parse_command(text, &host.config().geometry);
+    match &read {
         Err(bad) => step_misread(alloc, host, scratch, now, bad.column),
         Ok(command) => step_command(alloc, host, scratch, now, command),
     }

@@ -99,6 +99,16 @@ fn read_host<D: Daemon>(
     }
 }
 
+/// The effects of a step of the daemon were told, if one runs. Nothing that is seen changes.
+fn take_back_host<D: Daemon>(host: &mut Option<D>, told: Effects)
+    ensures { host.new ≡ host.old }
+{
+    match host {
+        Some(host) => host.take_back(told),
+        None => {}
+    }
+}
+
 impl<D: Daemon> Hosts<D> {
     /// The daemons of a header's session lines. An `Err` is want of memory.
     pub fn begin(alloc: Global, header: &Header) -> Result<Hosts<D>, AllocError>
@@ -134,6 +144,15 @@ impl<D: Daemon> Hosts<D> {
         ensures err { OnErr result (self.new ≡ self.old) }
     {
         step_host(&mut self.items[index], now, input)
+    }
+
+    /// The effects of a step of the daemon at this place were told: their memory may serve a later step. Nothing that is seen changes.
+    pub fn take_back(&mut self, index: usize, told: Effects)
+        ensures { self.new ≡ self.old }
+    {
+        if index < self.items.len() {
+            take_back_host(&mut self.items[index], told);
+        }
     }
 
     /// One step of the daemon at this place, at the answer ok of a read. An `Err` is want of memory, and changes nothing.
