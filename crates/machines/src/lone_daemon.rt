@@ -3,12 +3,12 @@
 ghost use Rattle.sl_cell.specs.Cells.{HasNumbers};
 ghost use Rattle.sl_run.specs.Headers.{IsHeader};
 ghost use Rattle.sl_run.specs.Lawful.{IsSetting};
-ghost use Rattle.sl_trace.specs.Traces.{takes_number};
+ghost use Rattle.sl_trace.specs.Traces.{Setting, Trace, is_expected, takes_number};
 ghost use Rattle.sl_words.specs.Bounds.{moments};
 ghost use Rattle.sl_words.specs.Words.{greatest};
 ghost use Rattle.sl_world_state.specs.Daemons.{begun_with};
 ghost use Rattle.sl_world_state.specs.declared.daemon.Most.{Most};
-ghost use Rattle.std.specs.Prelude.{IsFalse, if◌then◌else◌, map, ◌+◌, ◌<◌, ◌≡◌, ◌≤◌};
+ghost use Rattle.std.specs.Prelude.{OnOk, if◌then◌else◌, map, true, ◌+◌, ◌<◌, ◌≡◌, ◌≤◌};
 
 use sl_run::Header;
 use sl_trace::{Effects, Given, Input, Numbers};
@@ -54,11 +54,25 @@ fn greatest_renewed(given: &[Given]) -> u64
     reading
 }
 
-/// Whether there are no numbers left for a step.
-fn is_full(next: Numbers, most: &Most) -> bool
-    ensures { IsFalse result → HasNumbers next most.now }
+/// Sees that there are numbers for a step of so much. An `Err` is want of them.
+fn has_numbers(next: Numbers, most: &Most) -> Result<(), AllocError>
+    ensures { OnOk result (HasNumbers next most.now) }
 {
-    next.call >= LAST_NUMBER || next.job >= LAST_NUMBER || most.calls > MOST_CALLS
+    if next.call >= LAST_NUMBER || next.job >= LAST_NUMBER || most.calls > MOST_CALLS {
+        return Err(AllocError);
+    }
+    Ok(())
+}
+
+/// Sees that the daemon waits for such an input. An `Err` says that it does not.
+fn awaits<D: Daemon>(daemon: &D, input: &Input) -> Result<(), AllocError>
+    ensures { (st : Setting) → (es : Trace) → D.stands daemon.now st es → OnOk result (is_expected st es input.now ≡ true) }
+{
+    if daemon.expects(input) {
+        Ok(())
+    } else {
+        Err(AllocError)
+    }
 }
 
 /// The next numbers after a step.
@@ -68,8 +82,12 @@ fn advanced(next: Numbers, input: &Input, calls: usize) -> Numbers
     ensures jobs { result.job ≡ (if takes_number input.now then next.job + 1 else next.job) }
 {
     let job = match input {
-        Input::Line(_) | Input::Number(_) => next.job + 1,
-        Input::Answer { .. } | Input::Wake | Input::Exit { .. } | Input::Spawned { .. } => next.job,
+        Input::Line(_) => next.job + 1,
+        Input::Number(_) => next.job + 1,
+        Input::Answer { .. } => next.job,
+        Input::Wake => next.job,
+        Input::Exit { .. } => next.job,
+        Input::Spawned { .. } => next.job,
     };
     Numbers {
         call: next.call + calls as u64,
@@ -103,9 +121,8 @@ impl<D: Daemon> LoneDaemon<D> {
         requires { now < moments }
     {
         let most = self.daemon.most();
-        if is_full(self.next, &most) || !self.daemon.expects(input) {
-            return Err(AllocError);
-        }
+        has_numbers(self.next, &most)?;
+        awaits(&self.daemon, input)?;
         let reading = now.max(self.reading);
         let effects = self.daemon.step(reading, input)?;
         self.next = advanced(self.next, input, effects.calls.len());

@@ -9,5 +9,5 @@ invariant_of-result g c =
       st,
       [],
       core_first g.D.Daemon.stands g.D.Daemon.commands st c.in_ok-begin.field-0 c.args.header.now c.args.site [] c.greatest_renewed-reading.result c.as_slice.result.now refl
-      c.requires.setting c.in_ok-begin.ensures refl c.greatest_renewed-reading.ensures c.as_slice.ensures,
+          c.requires.setting c.in_ok-begin.ensures refl c.greatest_renewed-reading.ensures c.as_slice.ensures,
     )
