@@ -228,7 +228,8 @@ fn take_room(
     }
     let near = counts.within(reach);
     scratch.reserve(alloc, host, counts.leases)?;
-    host.reserve(near.effects(), near.calls())
+    host.reserve(near.effects(), near.calls())?;
+    Ok(())
 }
 
 /// The room of a step with this reach: what stands by, or memory that is taken now. An `Err` is as above, and never comes where room stands by.
