@@ -121,9 +121,9 @@ fn step_misread(
     ensures used { OnOk result (scratch.new.spare ≡ false) }
     ensures sizes { scratch.new.sizes ≡ scratch.old.sizes }
 {
-    let begun = start(alloc, host, scratch, now, Reach::Few)?;
+    let is_loud = start(alloc, host, scratch, now, Reach::Few)?;
     take_misread(host, column);
-    Ok(conclude(host, scratch, begun.none, begun.is_loud))
+    Ok(conclude(alloc, host, scratch, is_loud))
 }
 
 /// A step at a command whose lists and member are made.
@@ -149,9 +149,9 @@ fn step_prepared(
     ensures sizes { scratch.new.sizes ≡ scratch.old.sizes }
 {
     let reach = reach_of(command);
-    let begun = start(alloc, host, scratch, now, reach)?;
+    let is_loud = start(alloc, host, scratch, now, reach)?;
     take_command(host, scratch, seat, lists, command);
-    Ok(conclude(host, scratch, begun.none, begun.is_loud))
+    Ok(conclude(alloc, host, scratch, is_loud))
 }
 
 /// A step at a command.
