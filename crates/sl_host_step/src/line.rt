@@ -12,6 +12,7 @@ ghost use Rattle.sl_host_step.specs.declared.step_memory.Reach.TheVariants.{Few}
 ghost use Rattle.sl_host_step.specs.JoiningSeats.{HasPlace, MayBeSeated};
 ghost use Rattle.sl_host_step.specs.SpareRoom.{Rests};
 ghost use Rattle.sl_trace.specs.CommandForms.{command_in, forms};
+ghost use Rattle.sl_trace.specs.declared.command.Command.TheVariants.{AddLockspace};
 ghost use Rattle.sl_trace.specs.declared.input.Input.TheVariants.{Line as LineOf};
 ghost use Rattle.sl_host.specs.Host.{HostView};
 ghost use Rattle.std.specs.Prelude.{Err, IfOk, List, Ok, OnErr, OnOk, false, ℕ, ◌≡◌, ◌≤◌};
@@ -22,7 +23,7 @@ use sl_command::parse_command;
 use sl_host::Host;
 use sl_host_lines::{Lists, misread, take_line};
 use sl_member::Member;
-use sl_trace::{Command, Effects};
+use sl_trace::{Command, Effects, LockspaceArg};
 use std::alloc::{AllocError, Global};
 
 /// A line that says no command is taken.
@@ -71,18 +72,35 @@ fn take_command(
     take_line(host, &mut scratch.jobs, seat, lists, command);
 }
 
-/// The member that a command joins with, if it does, with memory for as many leases as the step may make calls. An `Err` is want of memory.
-fn seat_for(alloc: Global, host: &Host, command: &Command) -> Result<Option<Member>, AllocError>
+/// The member that joins by these words takes its place, with memory for as many leases as the step may make calls. An `Err` is want of memory.
+fn seat(
+    alloc: Global,
+    host: &Host,
+    lockspace: &LockspaceArg,
+    place: &mut Option<Member>,
+) -> Result<(), AllocError>
+    requires { MayBeSeated host.now.kept (AddLockspace lockspace.now) }
+    ensures { OnOk result (HasPlace host.now (AddLockspace lockspace.now) place.new) }
+{
+    let leases = calls_for(host);
+    let member = host.seat(alloc, lockspace, host.next_job(), leases)?;
+    *place = Some(member);
+    Ok(())
+}
+
+/// The member that a command joins with, if it does, takes its place. An `Err` is want of memory.
+fn seat_for(
+    alloc: Global,
+    host: &Host,
+    command: &Command,
+    place: &mut Option<Member>,
+) -> Result<(), AllocError>
     requires { MayBeSeated host.now.kept command.now }
-    ensures { IfOk result (HasPlace host.now command.now) }
+    ensures { OnOk result (HasPlace host.now command.now place.new) }
 {
     match command {
-        Command::AddLockspace(lockspace) => {
-            let leases = calls_for(host);
-            let member = host.seat(alloc, lockspace, host.next_job(), leases)?;
-            Ok(Some(member))
-        }
-        _ => Ok(None),
+        Command::AddLockspace(lockspace) => seat(alloc, host, lockspace, place),
+        _ => Ok(()),
     }
 }
 
@@ -155,7 +173,8 @@ fn step_command(
     ensures sizes { scratch.new.sizes ≡ scratch.old.sizes }
 {
     let lists = Lists::of(alloc, &host.config().geometry, host.seats(), command)?;
-    let mut seat = seat_for(alloc, host, command)?;
+    let mut seat = None;
+    seat_for(alloc, host, command, &mut seat)?;
     step_prepared(alloc, host, scratch, now, &mut seat, lists, command)
 }
 
