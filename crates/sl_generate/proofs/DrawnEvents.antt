@@ -67,9 +67,6 @@ module _ {D : Type 0} (commands : Header → List (Form Command)) (stands : D �
   pub same_still : (p q n : PlayState D) → StaysAs p q → StaysAs q n → StaysAs p n
   same_still p q n first then = record { kept = then.kept ∙ first.kept; hosts = then.hosts ∙ first.hosts; counts = then.counts ∙ first.counts }
 
-  pub not_moved : (p : PlayState D) → StaysAs p p
-  not_moved p = record { kept = refl; hosts = refl; counts = refl }
-
   -- Whether the first of these is allowed says which is the first that is.
   found_by : (k : KeptState) (event : Event) (rest : List Event) (b : Bool) → is_none (refusal_in commands k event) ≡ b
       → first_allowed commands k (event ∷ rest) ≡ unwrap_or (cond b (Some event) (find (λ e. is_none (refusal_in commands k e)) rest)) (Pass 0 None)
@@ -101,29 +98,13 @@ module _ {D : Type 0} (commands : Header → List (Form Command)) (stands : D �
           happened = subst (λ e. HasHappened commands stands q e out n now) (sym (found ∙ found_by p.kept event rest true may)) happened;
         }
 
-  -- Where each is refused time may stand still.
-  module _ (p q n : PlayState D) (out now : List ℕ) (same : StaysAs p q) where
-    pub stood_still : (events : List Event) → first_allowed commands p.kept events ≡ first_allowed commands p.kept [] → HasHappened commands stands q (Pass 0 None) out n now
-        → TakesFirst commands stands p events n
-    stood_still events found happened =
-        record {
-          still = q;
-          same = same;
-          before = out;
-          after = now;
-          happened = subst (λ e. HasHappened commands stands q e out n now) (sym found) happened;
-        }
-
-    pub never_barred : (why : Refusal) → IsDrawing commands stands p → IsBarred commands stands q (Pass 0 None) out n now why → ⊥
-    never_barred why drawing barred =
-        let w : World = drawing.world in
-        let d = drawing.draws in
-        let some = barred.barred w (stands_still p q w same d.stands_for) in
-        absurd (false_is_true (sym (ap is_none some) ∙ time_may_stand_still commands w d.stands_for.sane d.timely))
-
-  pub drawing_still : (p q : PlayState D) → StaysAs p q → IsDrawing commands stands p → IsDrawing commands stands q
-  drawing_still p q same drawing =
-      record { world = drawing.world; draws = record { stands_for = stands_still p q drawing.world same drawing.draws.stands_for; timely = drawing.draws.timely } }
+  -- Where each is refused, time may stand still.
+  pub never_barred : (p q n : PlayState D) (out now : List ℕ) (why : Refusal) → StaysAs p q → IsDrawing commands stands p → IsBarred commands stands q (Pass 0 None) out n now why → ⊥
+  never_barred p q n out now why same drawing barred =
+      let w : World = drawing.world in
+      let d = drawing.draws in
+      let some = barred.barred w (stands_still p q w same d.stands_for) in
+      absurd (false_is_true (sym (ap is_none some) ∙ time_may_stand_still commands w d.stands_for.sane d.timely))
 
   pub drawing_then : (p n : PlayState D) (a b c number : ℕ) → IsDrawing commands stands p → TakesDrawn commands stands p a b c number n → IsDrawing commands stands n
   drawing_then p n a b c number drawing takes =

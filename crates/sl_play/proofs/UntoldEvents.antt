@@ -21,6 +21,7 @@ use Rattle.sl_world.specs.ToldEvents.{ComesTold, is_untold, nothing_told}
 use Rattle.sl_world.specs.declared.world.World.{World as KeptWorld}
 use Rattle.sl_world_law.specs.ToldEvents.{held_in, others_in}
 use Rattle.sl_world_state.specs.KeptWorld.{KeptState}
+use native.Mathlib.Numerals.{unary_clauses}
 use Rattle.std.proofs.Common.{Bool, List, None, Option, ap, arith, drop, false, length, refl, subst, sym, take, true, ℕ, ◌++◌, ◌-◌, ◌∙◌, ◌≡◌}
 use Rattle.std.proofs.lemmas.List.{drop_all}
 
@@ -44,9 +45,12 @@ none_left k m =
     let held : List Grant = held_in k m in
     ap (conflicts_after (others_in k m) m (take (length held - 0) held)) (drop_all (length held - 0) held (omega arith))
 
--- So one event is counted, and nothing else.
+-- Where nothing is told and no conflict is left, one event is counted and nothing else.
+no_more : (c : Counts) → counts_with false nothing_told 0 c ≡ one_more c
+no_more c = simp unary_clauses refl
+
 one_is_more : (k : KeptState) (m : ℕ) (c : Counts) → counts_with false nothing_told (conflicts_left k m 0) c ≡ one_more c
-one_is_more k m c = ap (λ n. counts_with false nothing_told n c) (none_left k m)
+one_is_more k m c = ap (λ n. counts_with false nothing_told n c) (none_left k m) ∙ no_more c
 
 -- ---- the event
 

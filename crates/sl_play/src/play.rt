@@ -158,11 +158,7 @@ impl<D: Daemon, L: LockTable> Play<D, L> {
     }
 
     /// The same as `happen`, of an event of which something is told.
-    fn happen_told(
-        &mut self,
-        out: &mut Vec<u8>,
-        event: Event,
-    ) -> Result<Option<Refusal>, PlayError>
+    fn happen_told(&mut self, out: &mut Vec<u8>, event: Event) -> Result<Option<Refusal>, PlayError>
         requires stands { StandsFor D.commands D.stands (state_of L.locks self.old) }
         requires told { is_untold event ≡ false }
         ensures ok { IfOk result (Answers D.commands D.stands (state_of L.locks self.old) event out.old.items (state_of L.locks self.new) out.new.items) }

@@ -53,7 +53,11 @@ fn begin_first<D: Daemon>(
 }
 
 /// One step of the daemon, if one runs; an `Err` where none does.
-fn step_host<D: Daemon>(host: &mut Option<D>, now: u64, input: &Input) -> Result<Effects, AllocError>
+fn step_host<D: Daemon>(
+    host: &mut Option<D>,
+    now: u64,
+    input: &Input,
+) -> Result<Effects, AllocError>
     requires { MayStepAt D.stands (host.old ∷ []) 0 now input.now }
     ensures ok { IfOk result (HostStepped D.stands D.makes (host.old ∷ []) 0 now input.now (host.new ∷ [])) }
     ensures err { OnErr result (host.new ≡ host.old) }

@@ -15,11 +15,7 @@ use std::alloc::AllocError;
 
 impl<D: Daemon, L: LockTable> World<D, L> {
     /// Time passes.
-    pub(crate) fn pass(
-        &mut self,
-        time: u64,
-        growths: &Option<Seq<u64>>,
-    ) -> Result<(), AllocError>
+    pub(crate) fn pass(&mut self, time: u64, growths: &Option<Seq<u64>>) -> Result<(), AllocError>
         requires { IsAllowed D.commands D.stands (kept_state L.locks self.old.kept) self.old.hosts (Pass time growths.now) }
         ensures ok { OnOk result (ComesTold D.commands D.stands (kept_state L.locks self.old.kept) self.old.hosts (Pass time growths.now) (kept_state L.locks self.new.kept) self.new.hosts nothing_told) }
         ensures err { OnErr result (IsSame (kept_state L.locks self.old.kept) self.old.hosts (kept_state L.locks self.new.kept) self.new.hosts) }
@@ -29,12 +25,7 @@ impl<D: Daemon, L: LockTable> World<D, L> {
     }
 
     /// A read samples its next sectors. An `Err` is want of memory.
-    pub(crate) fn sample(
-        &mut self,
-        machine: u32,
-        call: u64,
-        sectors: u64,
-    ) -> Result<(), AllocError>
+    pub(crate) fn sample(&mut self, machine: u32, call: u64, sectors: u64) -> Result<(), AllocError>
         requires { IsAllowed D.commands D.stands (kept_state L.locks self.old.kept) self.old.hosts (Sample machine call sectors) }
         ensures ok { OnOk result (ComesTold D.commands D.stands (kept_state L.locks self.old.kept) self.old.hosts (Sample machine call sectors) (kept_state L.locks self.new.kept) self.new.hosts nothing_told) }
         ensures err { OnErr result (IsSame (kept_state L.locks self.old.kept) self.old.hosts (kept_state L.locks self.new.kept) self.new.hosts) }

@@ -13,6 +13,7 @@ ghost use Rattle.sl_run.specs.Refusals as refusals;
 ghost use Rattle.sl_run.specs.Worlds as worlds;
 ghost use Rattle.sl_run.specs.declared.event.Event.TheVariants.{Tear};
 ghost use Rattle.sl_run.specs.declared.event.Refusal.{Refusal as RefusalOf};
+ghost use Rattle.sl_world.specs.declared.apply.ApplyError.TheVariants as errors;
 ghost use Rattle.std.specs.Prelude.{Err, OnErr, OnOk, Some, true, ◌≡◌, ◌⊎◌};
 
 use crate::apply::ApplyError;
@@ -95,9 +96,9 @@ impl<D: Daemon, L: LockTable> World<D, L> {
         requires stands { StandsForSome D.commands D.stands (kept_state L.locks self.old.kept) self.old.hosts }
         requires untold { is_untold event ≡ true }
         ensures refused { (w : worlds.World) → WorldStands D.commands D.stands (kept_state L.locks self.old.kept) self.old.hosts w → (r : RefusalOf)
-            → refusals.refusal_of w event ≡ Some r → (result ≡ Err (ApplyError.Refused r)) ⊎ ((is_tear event ≡ true) × (result ≡ Err ApplyError.OutOfMemory)) }
+            → refusals.refusal_of w event ≡ Some r → (result ≡ Err (errors.Refused r)) ⊎ ((is_tear event ≡ true) × (result ≡ Err errors.OutOfMemory)) }
         ensures only { (w : worlds.World) → WorldStands D.commands D.stands (kept_state L.locks self.old.kept) self.old.hosts w → (r : RefusalOf)
-            → result ≡ Err (ApplyError.Refused r) → refusals.refusal_of w event ≡ Some r }
+            → result ≡ Err (errors.Refused r) → refusals.refusal_of w event ≡ Some r }
         ensures ok { OnOk result (ComesTold D.commands D.stands (kept_state L.locks self.old.kept) self.old.hosts event (kept_state L.locks self.new.kept) self.new.hosts nothing_told) }
         ensures err { OnErr result (IsSame (kept_state L.locks self.old.kept) self.old.hosts (kept_state L.locks self.new.kept) self.new.hosts) }
     {
