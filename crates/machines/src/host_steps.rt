@@ -34,8 +34,8 @@ const REFUSE: usize = 1_000_003;
 /// .. that none is any longer. This one isn't either.
 const ALLOW: usize = 1_000_033;
 
-/// Bytes of a mebibyte.
-const MEBIBYTE: usize = 1_048_576;
+/// The bytes of the script's disk.
+const ROOM: usize = 4 * 1_048_576;
 
 /// The most calls that wait.
 const WAITING: usize = 64;
@@ -209,7 +209,7 @@ fn first_disk(alloc: Global, header: &Header) -> io::Result<Disk<MemArea>>
     let Some(line) = header.disks.as_slice().first() else {
         return Err(io::Error::from(ErrorKind::InvalidData));
     };
-    let mut area = MemArea::new(alloc, line.mebibytes as usize * MEBIBYTE, Vec::new(alloc))?;
+    let mut area = MemArea::new(alloc, ROOM, Vec::new(alloc))?;
     for resource in header.resources.as_slice() {
         write_there(header, line.path, resource, &mut area)?;
     }
