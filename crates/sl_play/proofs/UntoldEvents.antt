@@ -1,5 +1,4 @@
 -- An event of which nothing is told: it is counted, and only the line of a test is written.
-use Rattle.sl_locks.specs.declared.line_steps.StepTold.{StepTold}
 use Rattle.sl_machine.specs.KeptParts.{kept_state}
 use Rattle.sl_play.proofs.EventsHappen.{calm_still, calm_then, calm_told, passes_so, told_so}
 use Rattle.sl_play.specs.Plays.{HasHappened, PassesCounts, PlayState, test_told}
@@ -24,7 +23,7 @@ use Rattle.sl_world.specs.declared.world.World.{World as KeptWorld}
 use Rattle.sl_world_law.specs.ToldEvents.{held_in, others_in}
 use Rattle.sl_world_state.specs.KeptWorld.{KeptState}
 use native.Mathlib.Numerals.{unary_clauses}
-use Rattle.std.proofs.Common.{Bool, List, None, Option, ap, arith, drop, false, length, refl, subst, sym, take, true, ℕ, ◌++◌, ◌-◌, ◌∙◌, ◌≡◌}
+use Rattle.std.proofs.Common.{Bool, List, None, Option, ap, arith, false, length, refl, subst, sym, take, true, ℕ, ◌++◌, ◌-◌, ◌∙◌, ◌≡◌}
 use Rattle.std.proofs.lemmas.List.{drop_all}
 use Rattle.std.specs.Prelude.{Err, Ok, OnErr, OnOk, Result}
 
