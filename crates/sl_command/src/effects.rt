@@ -9,10 +9,9 @@ ghost use Rattle.sl_text.specs.Forms.{as_bytes, spaced};
 ghost use Rattle.sl_trace.specs.EffectTexts as texts;
 
 use crate::replies::push_reply_behind;
-use crate::words::{push_behind, push_part, push_text, push_word};
+use crate::words::{push_behind, push_decimal, push_part, push_text, push_word};
 use sl_sector::{Rec, push_record_text};
 use sl_text::Name;
-use sl_text::number::push_number;
 use sl_trace::{Call, Effects, End, Grant, JobReply, Mode, Move, Op, Sent, Signal, Start};
 use std::alloc::AllocError;
 
@@ -21,7 +20,7 @@ fn push_machine(out: &mut Vec<u8>, machine: u32, word: &str) -> Result<(), Alloc
     ensures ok { OnOk result (out.new.items ≡ out.old.items ++ texts.machine_line machine (word.now ∷ [])) }
     ensures kept { KeepsFronts out.old.items out.new.items }
 {
-    push_number(out, u64::from(machine))?;
+    push_decimal(out, u64::from(machine))?;
     push_word(out, word.as_bytes())
 }
 

@@ -10,7 +10,9 @@ ghost use Rattle.sl_text.specs.Forms.{spaced};
 ghost use Rattle.sl_text.specs.Numbers.{hex_text};
 ghost use Rattle.sl_trace.specs.EffectTexts as texts;
 
-use crate::words::{push_behind, push_counted, push_number_part, push_part, push_text, push_word};
+use crate::words::{
+    push_behind, push_byte, push_counted, push_number_part, push_part, push_text, push_word,
+};
 use sl_sector::Owner;
 use sl_text::hex::push_hex;
 use sl_text::{Data, Name};
@@ -131,13 +133,12 @@ fn push_digits(out: &mut Vec<u8>, bytes: &[u8]) -> Result<(), AllocError>
 }
 
 /// Adds the lver and the seq of a value, and its bytes.
-#[tactic(auto, using(crate::proofs::LineLaws::front_stays))]
 fn push_value(out: &mut Vec<u8>, lver: u64, seq: u64, bytes: &Data) -> Result<(), AllocError>
     ensures ok { OnOk result (out.new.items ≡ out.old.items ++ spaced (codes "ok" ∷ decimal lver ∷ decimal seq ∷ dash_for_none (hex_text bytes.now) ∷ [])) }
     ensures kept { KeepsFronts out.old.items out.new.items }
 {
     push_counted(out, "ok", &[lver, seq])?;
-    out.push(b' ')?;
+    push_byte(out, b' ')?;
     push_digits(out, bytes.as_slice())
 }
 
@@ -383,12 +384,11 @@ fn push_reply(out: &mut Vec<u8>, reply: &Reply) -> Result<(), AllocError>
 }
 
 /// Adds the text of a reply behind a space.
-#[tactic(auto, using(crate::proofs::LineLaws::front_stays))]
 pub(crate) fn push_reply_behind(out: &mut Vec<u8>, reply: &Reply) -> Result<(), AllocError>
     ensures ok { OnOk result (out.new.items ≡ out.old.items ++ 32 ∷ texts.reply_text reply.now) }
     ensures kept { KeepsFronts out.old.items out.new.items }
 {
-    out.push(b' ')?;
+    push_byte(out, b' ')?;
     push_reply(out, reply)
 }
 

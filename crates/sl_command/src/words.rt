@@ -1,19 +1,37 @@
 //! Words and numbers, written one behind another. Also where memory runs out, what was there stays in front of what has been added.
 
-ghost use Rattle.std.specs.Prelude.{OnOk, decimal, flat_map, ◌++◌, ◌∷◌, ◌≡◌};
+ghost use Rattle.std.specs.Prelude.{OnOk, decimal, flat_map, ◌++◌, ◌∷◌, ◌≡◌, []};
 ghost use Rattle.sl_command.specs.OutputLines.{KeepsFronts, counted};
 
 use sl_text::number::push_number;
 use std::alloc::AllocError;
 
-/// Adds a number behind a space.
+/// Adds a byte.
 #[tactic(auto, using(crate::proofs::LineLaws::front_stays))]
+pub(crate) fn push_byte(out: &mut Vec<u8>, byte: u8) -> Result<(), AllocError>
+    ensures ok { OnOk result (out.new.items ≡ out.old.items ++ byte ∷ []) }
+    ensures kept { KeepsFronts out.old.items out.new.items }
+{
+    out.push(byte)?;
+    Ok(())
+}
+
+/// Adds a number.
+#[tactic(auto, using(crate::proofs::LineLaws::front_stays))]
+pub(crate) fn push_decimal(out: &mut Vec<u8>, number: u64) -> Result<(), AllocError>
+    ensures ok { OnOk result (out.new.items ≡ out.old.items ++ decimal number) }
+    ensures kept { KeepsFronts out.old.items out.new.items }
+{
+    push_number(out, number)
+}
+
+/// Adds a number behind a space.
 pub(crate) fn push_behind(out: &mut Vec<u8>, number: u64) -> Result<(), AllocError>
     ensures ok { OnOk result (out.new.items ≡ out.old.items ++ 32 ∷ decimal number) }
     ensures kept { KeepsFronts out.old.items out.new.items }
 {
-    out.push(b' ')?;
-    push_number(out, number)
+    push_byte(out, b' ')?;
+    push_decimal(out, number)
 }
 
 /// Adds numbers, each behind a space.
@@ -38,33 +56,30 @@ pub(crate) fn push_counted(out: &mut Vec<u8>, word: &str, numbers: &[u64]) -> Re
 }
 
 /// Adds a word behind a space.
-#[tactic(auto, using(crate::proofs::LineLaws::front_stays))]
 pub(crate) fn push_word(out: &mut Vec<u8>, word: &[u8]) -> Result<(), AllocError>
     ensures ok { OnOk result (out.new.items ≡ out.old.items ++ 32 ∷ word.now) }
     ensures kept { KeepsFronts out.old.items out.new.items }
 {
-    out.push(b' ')?;
+    push_byte(out, b' ')?;
     push_text(out, word)
 }
 
 /// Adds a part of a word behind a colon.
-#[tactic(auto, using(crate::proofs::LineLaws::front_stays))]
 pub(crate) fn push_part(out: &mut Vec<u8>, part: &[u8]) -> Result<(), AllocError>
     ensures ok { OnOk result (out.new.items ≡ out.old.items ++ 58 ∷ part.now) }
     ensures kept { KeepsFronts out.old.items out.new.items }
 {
-    out.push(b':')?;
+    push_byte(out, b':')?;
     push_text(out, part)
 }
 
 /// Adds a number behind a colon.
-#[tactic(auto, using(crate::proofs::LineLaws::front_stays))]
 pub(crate) fn push_number_part(out: &mut Vec<u8>, number: u64) -> Result<(), AllocError>
     ensures ok { OnOk result (out.new.items ≡ out.old.items ++ 58 ∷ decimal number) }
     ensures kept { KeepsFronts out.old.items out.new.items }
 {
-    out.push(b':')?;
-    push_number(out, number)
+    push_byte(out, b':')?;
+    push_decimal(out, number)
 }
 
 /// Adds a text.
