@@ -54,13 +54,12 @@ core_on stands st d d' h reading now next next' i fx core may here numbered call
 -- The entry was written with a copy of the input, behind what is the history.
 pub core_written : {D : Type 0} (stands : D → Setting → Trace → Type 0) (st : Setting) (d d' : D) (h was items : List Entry) (reading now : ℕ) (next next' : Numbers) (i copy : Input)
     (fx : Effects) (count : ℕ) → IsCore stands st d h reading next → MayCome st (reverse h) now i → stands d' st (entry_of now i fx ∷ reverse h) → IsNumbered st (reverse h) fx
-    → next'.call ≡ next.call + count → count ≡ length fx.calls → next'.job ≡ (if takes_number copy then next.job + 1 else next.job) → copy ≡ i → was ≡ h
+    → next'.call ≡ next.call + count → count ≡ length fx.calls → next'.job ≡ (if takes_number i then next.job + 1 else next.job) → copy ≡ i → was ≡ h
     → items ≡ was ++ entry_of now copy fx ∷ [] → IsCore stands st d' items now next'
 core_written stands st d d' h was items reading now next next' i copy fx count core may here numbered calls counted jobs same behind written =
     let grown : items ≡ h ++ entry_of now i fx ∷ [] = written ∙ ap₂ (λ (xs : List Entry) (x : Input). xs ++ entry_of now x fx ∷ []) behind same in
     subst (λ xs. IsCore stands st d' xs now next') (sym grown)
-    (core_on stands st d d' h reading now next next' i fx core may here numbered (calls ∙ ap (λ n. next.call + n) counted)
-    (jobs ∙ ap (λ (x : Input). if takes_number x then next.job + 1 else next.job) same))
+    (core_on stands st d d' h reading now next next' i fx core may here numbered (calls ∙ ap (λ n. next.call + n) counted) jobs)
 
 pub may_come : {D : Type 0} (stands : D → Setting → Trace → Type 0) (st : Setting) (d : D) (h : List Entry) (reading now : ℕ) (next : Numbers) (m : Most) (i : Input)
     → IsCore stands st d h reading next → now < moments → is_expected st (reverse h) i ≡ true → HasNumbers next m → MayCome st (reverse h) (max now reading) i

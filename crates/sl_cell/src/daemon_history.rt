@@ -3,13 +3,13 @@
 ghost use Rattle.sl_cell.specs.CopyRoom.{Holds};
 ghost use Rattle.sl_cell.specs.Cells.{HasNumbers, IsAnswered, IsTold, KeepsIdle, Stepped, made_entry};
 ghost use Rattle.sl_run.specs.Lawful.{IsSetting};
-ghost use Rattle.sl_world_state.specs.Daemons.{begun_with};
+ghost use Rattle.sl_world_state.specs.Daemons.{IsNumbered, IsStep, MayCome, begun_with, entry_of};
 ghost use Rattle.sl_world_state.specs.declared.daemon.Most.{Most};
 ghost use Rattle.sl_run.specs.Headers.{IsHeader};
-ghost use Rattle.sl_trace.specs.Traces.{IsTrace, is_expected, takes_number};
+ghost use Rattle.sl_trace.specs.Traces.{IsTrace, Setting, Trace, is_expected, takes_number};
 ghost use Rattle.sl_words.specs.Bounds.{moments};
 ghost use Rattle.sl_words.specs.Words.{greatest};
-ghost use Rattle.std.specs.Prelude.{All, IfOk, IsFalse, OnErr, OnOk, if◌then◌else◌, length, map, reverse, true, [], ◌++◌, ◌+◌, ◌<◌, ◌^◌, ◌∷◌, ◌≡◌, ◌≤◌, ◌-◌};
+ghost use Rattle.std.specs.Prelude.{All, IfOk, IsFalse, IsOk, OnErr, OnOk, if◌then◌else◌, length, map, reverse, true, [], ◌++◌, ◌+◌, ◌<◌, ◌^◌, ◌∷◌, ◌≡◌, ◌≤◌, ◌-◌};
 ghost use Rattle.std.specs.Vec.{vec_capacity, vec_len};
 
 use crate::pages::Pages;
@@ -150,6 +150,26 @@ fn prepare(
     copy_input(alloc, input)
 }
 
+/// The daemon makes a step, and then sees that the memory of one step more stands by, for what can't wait for memory when it comes. What that
+/// gave goes out beside the effects: it is no answer of this step. An `Err` is want of memory for the step, and changes nothing.
+fn step_ready<D: Daemon>(
+    daemon: &mut D,
+    now: u64,
+    input: &Input,
+) -> Result<(Effects, Result<(), AllocError>), AllocError>
+    requires { (st : Setting) × (es : Trace) × D.stands daemon.old st es × MayCome st es now input.now }
+    ensures stays { (st : Setting) → (es : Trace) → D.stands daemon.old st es → MayCome st es now input.now
+        → IfOk result (λ r. D.stands daemon.new st (entry_of now input.now r.0 ∷ es) × IsNumbered st es r.0) }
+    ensures sound { (st : Setting) → (es : Trace) → D.stands daemon.old st es → MayCome st es now input.now
+        → IfOk result (λ r. IsStep st (D.makes daemon.old) r.0) }
+    ensures ready { IfOk result (λ r. IsOk r.1 → D.spare daemon.new ≡ 1) }
+    ensures err { OnErr result (daemon.new ≡ daemon.old) }
+{
+    let effects = daemon.step(now, input)?;
+    let ready = daemon.reserve();
+    Ok((effects, ready))
+}
+
 impl<D: Teller, J: Station> Core<D, J> {
     /// A daemon to which nothing came yet. An `Err` is want of memory.
     #[tactic(auto, using(crate::proofs::KeptLaws::core_new))]
@@ -214,11 +234,9 @@ impl<D: Teller, J: Station> Core<D, J> {
             &input,
         )?;
         let reading = now.max(self.reading);
-        let effects = self.daemon.step(reading, &input)?;
+        let (effects, _ready) = step_ready(&mut self.daemon, reading, &input)?;
         self.next = advanced(self.next, &input, effects.calls.len());
         self.reading = reading;
-        // what can't wait for memory has it when it comes; a refusal is no answer of this step
-        let _stands_by = self.daemon.reserve();
         let inputs = (copy, input);
         let entry = self.pages.write(self.alloc, reading, inputs, &effects);
         Ok((entry, effects))
