@@ -1,7 +1,6 @@
 -- An event of which nothing is told: it is counted, and only the line of a test is written.
-use Rattle.sl_locks.specs.declared.line_steps.StepTold.{StepTold}
 use Rattle.sl_machine.specs.KeptParts.{kept_state}
-use Rattle.sl_play.proofs.EventsHappen.{calm_then, calm_told, passes_so, told_so}
+use Rattle.sl_play.proofs.EventsHappen.{calm_still, calm_then, calm_told, passes_so, told_so}
 use Rattle.sl_play.specs.Plays.{HasHappened, PassesCounts, PlayState, test_told}
 use Rattle.sl_play.specs.ToldSteps.{AreCounted, counts_with, one_more, tests_told}
 use Rattle.sl_report.specs.Reports.{Counts, conflicts_after}
@@ -17,13 +16,16 @@ use Rattle.sl_trace.specs.declared.effects.Grant.{Grant}
 use Rattle.sl_words.proofs.CaseLaws.{false_is_true, true_is_false}
 use Rattle.sl_world.specs.AllowedEvents.{StandsForSome}
 use Rattle.sl_world.specs.ConflictCounts.{IsCalm, conflicts_left}
+use Rattle.sl_world.specs.GivenSteps.{IsSame}
 use Rattle.sl_world.specs.ToldEvents.{ComesTold, is_untold, nothing_told}
+use Rattle.sl_world.specs.declared.apply.ApplyError.{ApplyError}
 use Rattle.sl_world.specs.declared.world.World.{World as KeptWorld}
 use Rattle.sl_world_law.specs.ToldEvents.{held_in, others_in}
 use Rattle.sl_world_state.specs.KeptWorld.{KeptState}
 use native.Mathlib.Numerals.{unary_clauses}
-use Rattle.std.proofs.Common.{Bool, List, None, Option, ap, arith, drop, false, length, refl, subst, sym, take, true, ℕ, ◌++◌, ◌-◌, ◌∙◌, ◌≡◌}
+use Rattle.std.proofs.Common.{Bool, List, None, Option, ap, arith, false, length, refl, subst, sym, take, true, ℕ, ◌++◌, ◌-◌, ◌∙◌, ◌≡◌}
 use Rattle.std.proofs.lemmas.List.{drop_all}
+use Rattle.std.specs.Prelude.{Err, Ok, OnErr, OnOk, Result}
 
 -- ---- which events those are
 
@@ -69,8 +71,16 @@ module _ {D L : Type 0} (locks : L → Locks) (commands : Header → List (Form 
       (λ fits. passes (subst AreCounted (one_is_more (kept_state locks x.kept) (machine_of e) p.counts) fits))
 
 -- Where no two uses conflict before it, none do behind it.
-pub untold_calm : {D L : Type 0} (locks : L → Locks) (commands : Header → List (Form Command)) (stands : D → Setting → Trace → Type 0) (y x : KeptWorld D L) (e : Event) (calm : Bool)
+untold_calm : {D L : Type 0} (locks : L → Locks) (commands : Header → List (Form Command)) (stands : D → Setting → Trace → Type 0) (y x : KeptWorld D L) (e : Event) (calm : Bool)
     → IsCalm calm y.kept → StandsForSome commands stands (kept_state locks y.kept) y.hosts
     → ComesTold commands stands (kept_state locks y.kept) y.hosts e (kept_state locks x.kept) x.hosts nothing_told → IsCalm calm x.kept
 untold_calm locks commands stands y x e calm known s comes =
     calm_then locks x (machine_of e) 0 calm calm (calm_told locks commands stands y x e (machine_of e) nothing_told 0 calm known s comes refl refl) refl
+
+-- So too where it is refused.
+pub untold_stays : {A D L : Type 0} (locks : L → Locks) (commands : Header → List (Form Command)) (stands : D → Setting → Trace → Type 0) (y x : KeptWorld D L) (e : Event) (calm : Bool)
+    (r : Result A ApplyError) → IsCalm calm y.kept → StandsForSome commands stands (kept_state locks y.kept) y.hosts
+    → OnOk r (ComesTold commands stands (kept_state locks y.kept) y.hosts e (kept_state locks x.kept) x.hosts nothing_told)
+    → OnErr r (IsSame (kept_state locks y.kept) y.hosts (kept_state locks x.kept) x.hosts) → IsCalm calm x.kept
+untold_stays locks commands stands y x e calm (Ok a) known s comes same = untold_calm locks commands stands y x e calm known s comes
+untold_stays locks commands stands y x e calm (Err error) known s comes same = calm_still locks y x calm same.kept known

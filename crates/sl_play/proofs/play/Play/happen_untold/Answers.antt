@@ -1,7 +1,7 @@
 -- An event of which nothing is told comes to pass, or is refused.
 use Rattle.sl_machine.specs.KeptParts.{kept_state}
-use Rattle.sl_play.proofs.EventsHappen.{calm_still, handed_on, never_many, refused_ok, refused_so, stands_so}
-use Rattle.sl_play.proofs.UntoldEvents.{untold_calm, untold_passes, untold_so}
+use Rattle.sl_play.proofs.EventsHappen.{handed_on, never_many, refused_ok, refused_so, stands_so}
+use Rattle.sl_play.proofs.UntoldEvents.{untold_passes, untold_so, untold_stays}
 use Rattle.sl_play.proofs.play.Play.happen_untold.Goals as goal
 use Rattle.sl_play.specs.Plays.{state_of}
 use Rattle.sl_play.specs.declared.step_counts.PlayError.TheVariants.{TooMany}
@@ -41,13 +41,9 @@ returns-in_ok-tell_test-in-Ok-clause-stands g c =
     stands_so g.L.LockTable.locks g.D.Daemon.commands g.D.Daemon.stands (state_of g.L.LockTable.locks c.args.self.now) c.apply_untold.new.self c.tell_test.new.self.world c.args.event nothing_told
     c.tell_test.ensures.world c.requires.stands c.in-Ok.ensures.ok
 
-pub invariant_of-self-in-Ok : goal.invariant_of-self-in-Ok
-invariant_of-self-in-Ok g c =
-    record {
-      known = untold_calm g.L.LockTable.locks g.D.Daemon.commands g.D.Daemon.stands c.args.self.now.world c.apply_untold.new.self c.args.event c.args.self.now.calm c.args.self.now.known
-          c.requires.stands c.in-Ok.ensures.ok;
-    }
-
 pub invariant_of-self : goal.invariant_of-self
 invariant_of-self g c =
-    record { known = calm_still g.L.LockTable.locks c.args.self.now.world c.apply_untold.new.self c.args.self.now.calm c.in-Err.ensures.err.kept c.args.self.now.known }
+    record {
+      known = untold_stays g.L.LockTable.locks g.D.Daemon.commands g.D.Daemon.stands c.args.self.now.world c.apply_untold.new.self c.args.event c.args.self.now.calm c.apply_untold.result
+          c.args.self.now.known c.requires.stands c.apply_untold.ensures.ok c.apply_untold.ensures.err;
+    }
