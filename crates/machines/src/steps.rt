@@ -70,7 +70,7 @@ fn answered(number: &str, answer: Answer) -> Input {
 }
 
 /// What an act gives to a daemon.
-fn input(alloc: Global, act: &str) -> Result<Input, AllocError> {
+pub fn input(alloc: Global, act: &str) -> Result<Input, AllocError> {
     let (word, rest) = act.split_once(' ').unwrap_or((act, ""));
     Ok(match word {
         "line" => Input::Line(Bytes::from_slice(alloc, rest.as_bytes())?),

@@ -1,5 +1,5 @@
 -- Words and lines that are written one behind another.
-use Rattle.sl_command.specs.OutputLines.{behind, class_text, counted, line_text}
+use Rattle.sl_command.specs.OutputLines.{IsFront, KeepsFronts, behind, class_text, counted, line_text}
 use Rattle.sl_sector.proofs.TextLaws.{join_with_byte-cons}
 use Rattle.sl_sector.specs.RecordTexts.{dash_for_none, record_words}
 use Rattle.sl_sector.specs.declared.sector.Rec.TheVariants.{BlockIs, DeltaIs, LeaderIs, PairIs, PairLeaderIs, RequestIs, ValueIs}
@@ -11,12 +11,24 @@ use Rattle.sl_trace.specs.declared.effects.JobReply.{JobReply}
 use Rattle.sl_trace.specs.declared.reply.Reply.TheVariants.{Ahead, BadCommand as Misread, Busy, Done, Generation, Granted, Held as HeldBy, Hosts, IdHeld, IdLate, IdLost, IoFault, IoTimeout, Joined, Joining as StillJoining, Limit as LimitReached, NoOrphan, NoProcess, NoSession, NotHeld, Pending, Recovering, RequestOld, Rival, Sessions, Shared as SharedBy, SpawnFault, Started, TornBlock, TornDelta, TornLeader, Value, ValueSet, ValueTorn, WrongArea, WrongDelta}
 use Rattle.sl_trace.specs.declared.reply.Reply.{Reply}
 use Rattle.sl_words.specs.Words.{is_empty}
-use Rattle.std.proofs.Common.{List, [], ap, append-nil, codes, decimal, false, length, map, refl, slice_index_or, sym, take, ℕ, ◌+◌, ◌++◌, ◌<◌, ◌≡◌, ◌∙◌, ◌∷◌}
+use Rattle.std.proofs.Common.{List, [], ap, append-nil, arith, codes, decimal, false, length, map, refl, slice_index_or, sym, take, ℕ, ◌+◌, ◌++◌, ◌<◌, ◌≡◌, ◌≤◌, ◌∙◌, ◌∷◌}
 use Rattle.std.proofs.lemmas.List.Concat.{flat_map-append}
 use Rattle.std.proofs.lemmas.List.Folds.{flat_map-map}
-use Rattle.std.proofs.lemmas.List.{append_assoc, take_more}
+use Rattle.std.proofs.lemmas.List.{append_assoc, length-take, take-append-le, take_all, take_more}
 use Rattle.std.specs.List.{flat_map}
 use Rattle.std.specs.Prelude.{Err, Ok, OnOk, Result}
+
+-- A front stays where more is written behind the text.
+pub front_stays : (front old new more : List ℕ) → IsFront front old → new ≡ old ++ more → IsFront front new
+unfolding IsFront
+front_stays front old new more is written =
+    let inside : length front ≤ length old = omega (arith, ap length is, length-take (length front) old) in
+    ap (take (length front)) written ∙ take-append-le (length front) old more inside ∙ is
+
+-- The whole text is a front too, so cutting at its length brings it back.
+pub whole_kept : (old new : List ℕ) → KeepsFronts old new → take (length old) new ≡ old
+unfolding IsFront
+whole_kept old new kept = kept old (take_all (length old) old (omega arith))
 
 -- A first word, and others behind it.
 pub spaced-cons : (word : List ℕ) (ws : List (List ℕ)) → spaced (word ∷ ws) ≡ word ++ behind ws
@@ -161,7 +173,7 @@ pub ruleset numbers = (numbers_written)
 pub ruleset words = (words_written)
 
 -- What writing bytes uses.
-pub ruleset digits = (dash_for_none-hex_text)
+pub ruleset digits = (dash_for_none-hex_text, front_stays)
 
 -- What writing replies uses.
 pub ruleset replies = (reply_written)

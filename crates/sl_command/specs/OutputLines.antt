@@ -3,7 +3,15 @@ use Rattle.sl_text.specs.Forms.{coloned, spaced}
 use Rattle.sl_trace.specs.EffectTexts.{is_free_host, machine_line, state_word}
 use Rattle.sl_trace.specs.declared.reply.SessionOf.{SessionOf}
 use Rattle.sl_trace.specs.declared.reply.StateOf.{StateOf}
-use Rattle.std.specs.Prelude.{List, decimal, filter, flat_map, map, not, [], ℕ, ◌++◌, ◌∷◌}
+use Rattle.std.specs.Prelude.{List, decimal, filter, flat_map, length, map, not, take, [], ℕ, ◌++◌, ◌∷◌, ◌≡◌}
+
+-- A text begins with this one.
+unfoldable pub IsFront : List ℕ → List ℕ → Type 0
+IsFront front text = take (length front) text ≡ front
+
+-- Whatever the text began with, it begins with still.
+abbrev pub KeepsFronts : List ℕ → List ℕ → Type 0
+KeepsFronts old new = (front : List ℕ) → IsFront front old → IsFront front new
 
 -- Words, each with a space before it.
 abbrev pub behind : List (List ℕ) → List ℕ

@@ -4,13 +4,15 @@
 //! could not is `torn`.
 
 ghost use Rattle.std.specs.Prelude.{OnErr, OnOk, codes, decimal, false, map, ◌++◌, ◌∷◌, ◌≡◌, []};
-ghost use Rattle.sl_command.specs.OutputLines.{behind, counted, host_word, host_words, session_word};
+ghost use Rattle.sl_command.specs.OutputLines.{KeepsFronts, behind, counted, host_word, host_words, session_word};
 ghost use Rattle.sl_sector.specs.RecordTexts.{dash_for_none};
 ghost use Rattle.sl_text.specs.Forms.{spaced};
 ghost use Rattle.sl_text.specs.Numbers.{hex_text};
 ghost use Rattle.sl_trace.specs.EffectTexts as texts;
 
-use crate::words::{push_behind, push_counted, push_number_part, push_part, push_text, push_word};
+use crate::words::{
+    push_behind, push_byte, push_counted, push_number_part, push_part, push_text, push_word,
+};
 use sl_sector::Owner;
 use sl_text::hex::push_hex;
 use sl_text::{Data, Name};
@@ -57,7 +59,8 @@ fn is_free(state: HostState) -> bool
 
 /// Adds an id and what it looks like behind a space.
 fn push_state(out: &mut Vec<u8>, host: &StateOf) -> Result<(), AllocError>
-    ensures { OnOk result (out.new.items ≡ out.old.items ++ 32 ∷ host_word host.now) }
+    ensures ok { OnOk result (out.new.items ≡ out.old.items ++ 32 ∷ host_word host.now) }
+    ensures kept { KeepsFronts out.old.items out.new.items }
 {
     push_behind(out, u64::from(host.id))?;
     push_part(out, state_word(host.state).as_bytes())
@@ -65,7 +68,8 @@ fn push_state(out: &mut Vec<u8>, host: &StateOf) -> Result<(), AllocError>
 
 /// Adds the ids that are not free, each behind a space.
 fn push_each_state(out: &mut Vec<u8>, hosts: &[StateOf]) -> Result<(), AllocError>
-    ensures { OnOk result (out.new.items ≡ out.old.items ++ behind (host_words hosts.now)) }
+    ensures ok { OnOk result (out.new.items ≡ out.old.items ++ behind (host_words hosts.now)) }
+    ensures kept { KeepsFronts out.old.items out.new.items }
 {
     for host in hosts {
         if !is_free(host.state) {
@@ -78,15 +82,17 @@ fn push_each_state(out: &mut Vec<u8>, hosts: &[StateOf]) -> Result<(), AllocErro
 /// Adds the ids that are not free.
 #[tactic(auto, using(crate::proofs::LineLaws::words))]
 fn push_states(out: &mut Vec<u8>, hosts: &[StateOf]) -> Result<(), AllocError>
-    ensures { OnOk result (out.new.items ≡ out.old.items ++ spaced (codes "ok" ∷ host_words hosts.now)) }
+    ensures ok { OnOk result (out.new.items ≡ out.old.items ++ spaced (codes "ok" ∷ host_words hosts.now)) }
+    ensures kept { KeepsFronts out.old.items out.new.items }
 {
-    out.extend_from_slice(b"ok")?;
+    push_text(out, b"ok")?;
     push_each_state(out, hosts)
 }
 
 /// Adds the sessions, each behind a space.
 fn push_each_session(out: &mut Vec<u8>, sessions: &[SessionOf]) -> Result<(), AllocError>
-    ensures { OnOk result (out.new.items ≡ out.old.items ++ behind (map session_word sessions.now)) }
+    ensures ok { OnOk result (out.new.items ≡ out.old.items ++ behind (map session_word sessions.now)) }
+    ensures kept { KeepsFronts out.old.items out.new.items }
 {
     for session in sessions {
         push_session(out, session)?;
@@ -97,15 +103,17 @@ fn push_each_session(out: &mut Vec<u8>, sessions: &[SessionOf]) -> Result<(), Al
 /// Adds the sessions.
 #[tactic(auto, using(crate::proofs::LineLaws::words))]
 fn push_sessions(out: &mut Vec<u8>, sessions: &[SessionOf]) -> Result<(), AllocError>
-    ensures { OnOk result (out.new.items ≡ out.old.items ++ spaced (codes "ok" ∷ map session_word sessions.now)) }
+    ensures ok { OnOk result (out.new.items ≡ out.old.items ++ spaced (codes "ok" ∷ map session_word sessions.now)) }
+    ensures kept { KeepsFronts out.old.items out.new.items }
 {
-    out.extend_from_slice(b"ok")?;
+    push_text(out, b"ok")?;
     push_each_session(out, sessions)
 }
 
 /// Adds a session behind a space.
 fn push_session(out: &mut Vec<u8>, session: &SessionOf) -> Result<(), AllocError>
-    ensures { OnOk result (out.new.items ≡ out.old.items ++ 32 ∷ session_word session.now) }
+    ensures ok { OnOk result (out.new.items ≡ out.old.items ++ 32 ∷ session_word session.now) }
+    ensures kept { KeepsFronts out.old.items out.new.items }
 {
     push_word(out, session.lockspace.as_slice())?;
     push_number_part(out, u64::from(session.id))?;
@@ -115,20 +123,22 @@ fn push_session(out: &mut Vec<u8>, session: &SessionOf) -> Result<(), AllocError
 /// Adds the digits of a value's bytes, and a dash where there are none.
 #[tactic(auto, using(crate::proofs::LineLaws::digits))]
 fn push_digits(out: &mut Vec<u8>, bytes: &[u8]) -> Result<(), AllocError>
-    ensures { OnOk result (out.new.items ≡ out.old.items ++ dash_for_none (hex_text bytes.now)) }
+    ensures ok { OnOk result (out.new.items ≡ out.old.items ++ dash_for_none (hex_text bytes.now)) }
+    ensures kept { KeepsFronts out.old.items out.new.items }
 {
     if bytes.is_empty() {
-        return out.extend_from_slice(b"-");
+        return push_text(out, b"-");
     }
     push_hex(out, bytes)
 }
 
 /// Adds the lver and the seq of a value, and its bytes.
 fn push_value(out: &mut Vec<u8>, lver: u64, seq: u64, bytes: &Data) -> Result<(), AllocError>
-    ensures { OnOk result (out.new.items ≡ out.old.items ++ spaced (codes "ok" ∷ decimal lver ∷ decimal seq ∷ dash_for_none (hex_text bytes.now) ∷ [])) }
+    ensures ok { OnOk result (out.new.items ≡ out.old.items ++ spaced (codes "ok" ∷ decimal lver ∷ decimal seq ∷ dash_for_none (hex_text bytes.now) ∷ [])) }
+    ensures kept { KeepsFronts out.old.items out.new.items }
 {
     push_counted(out, "ok", &[lver, seq])?;
-    out.push(b' ')?;
+    push_byte(out, b' ')?;
     push_digits(out, bytes.as_slice())
 }
 
@@ -138,7 +148,8 @@ fn push_versions(
     first: DeltaVersion,
     later: Option<DeltaVersion>,
 ) -> Result<(), AllocError>
-    ensures { OnOk result (out.new.items ≡ out.old.items ++ spaced (codes "IdHeld" ∷ texts.version_words first ++ texts.or_torn texts.version_words later)) }
+    ensures ok { OnOk result (out.new.items ≡ out.old.items ++ spaced (codes "IdHeld" ∷ texts.version_words first ++ texts.or_torn texts.version_words later)) }
+    ensures kept { KeepsFronts out.old.items out.new.items }
 {
     push_counted(out, "IdHeld", &[first.generation, first.seq])?;
     match later {
@@ -149,7 +160,8 @@ fn push_versions(
 
 /// Adds what a delta sector spells, behind a space.
 fn push_version(out: &mut Vec<u8>, version: DeltaVersion) -> Result<(), AllocError>
-    ensures { OnOk result (out.new.items ≡ out.old.items ++ 32 ∷ spaced (texts.version_words version)) }
+    ensures ok { OnOk result (out.new.items ≡ out.old.items ++ 32 ∷ spaced (texts.version_words version)) }
+    ensures kept { KeepsFronts out.old.items out.new.items }
 {
     push_behind(out, version.generation)?;
     push_behind(out, version.seq)
@@ -161,7 +173,8 @@ fn push_owners(
     own: DeltaOwner,
     found: Option<DeltaOwner>,
 ) -> Result<(), AllocError>
-    ensures { OnOk result (out.new.items ≡ out.old.items ++ spaced (codes "IdLost" ∷ texts.owner_words own ++ texts.or_torn texts.owner_words found)) }
+    ensures ok { OnOk result (out.new.items ≡ out.old.items ++ spaced (codes "IdLost" ∷ texts.owner_words own ++ texts.or_torn texts.owner_words found)) }
+    ensures kept { KeepsFronts out.old.items out.new.items }
 {
     push_text(out, b"IdLost")?;
     push_owner(out, own)?;
@@ -173,7 +186,8 @@ fn push_owners(
 
 /// Adds a session that owns an id, behind a space.
 fn push_owner(out: &mut Vec<u8>, owner: DeltaOwner) -> Result<(), AllocError>
-    ensures { OnOk result (out.new.items ≡ out.old.items ++ 32 ∷ spaced (texts.owner_words owner)) }
+    ensures ok { OnOk result (out.new.items ≡ out.old.items ++ 32 ∷ spaced (texts.owner_words owner)) }
+    ensures kept { KeepsFronts out.old.items out.new.items }
 {
     push_behind(out, owner.generation)?;
     push_word(out, owner.name.as_slice())
@@ -181,7 +195,8 @@ fn push_owner(out: &mut Vec<u8>, owner: DeltaOwner) -> Result<(), AllocError>
 
 /// Adds the lver that a request held, and the one that is stored.
 fn push_stored(out: &mut Vec<u8>, held: u64, stored: Option<u64>) -> Result<(), AllocError>
-    ensures { OnOk result (out.new.items ≡ out.old.items ++ spaced (codes "RequestOld" ∷ decimal held ∷ texts.number_word stored ∷ [])) }
+    ensures ok { OnOk result (out.new.items ≡ out.old.items ++ spaced (codes "RequestOld" ∷ decimal held ∷ texts.number_word stored ∷ [])) }
+    ensures kept { KeepsFronts out.old.items out.new.items }
 {
     push_number_behind(out, "RequestOld", held)?;
     match stored {
@@ -197,7 +212,8 @@ fn push_area(
     resource: &Name,
     hosts: u32,
 ) -> Result<(), AllocError>
-    ensures { OnOk result (out.new.items ≡ out.old.items ++ spaced (codes "WrongArea" ∷ lockspace.now ∷ resource.now ∷ decimal hosts ∷ [])) }
+    ensures ok { OnOk result (out.new.items ≡ out.old.items ++ spaced (codes "WrongArea" ∷ lockspace.now ∷ resource.now ∷ decimal hosts ∷ [])) }
+    ensures kept { KeepsFronts out.old.items out.new.items }
 {
     push_text(out, b"WrongArea")?;
     push_word(out, lockspace.as_slice())?;
@@ -207,7 +223,8 @@ fn push_area(
 
 /// Adds a delta sector's lockspace and id.
 fn push_delta(out: &mut Vec<u8>, lockspace: &Name, id: u32) -> Result<(), AllocError>
-    ensures { OnOk result (out.new.items ≡ out.old.items ++ spaced (codes "WrongArea" ∷ lockspace.now ∷ decimal id ∷ [])) }
+    ensures ok { OnOk result (out.new.items ≡ out.old.items ++ spaced (codes "WrongArea" ∷ lockspace.now ∷ decimal id ∷ [])) }
+    ensures kept { KeepsFronts out.old.items out.new.items }
 {
     push_text(out, b"WrongArea")?;
     push_word(out, lockspace.as_slice())?;
@@ -216,21 +233,24 @@ fn push_delta(out: &mut Vec<u8>, lockspace: &Name, id: u32) -> Result<(), AllocE
 
 /// Adds a word alone.
 fn push_alone(out: &mut Vec<u8>, word: &str) -> Result<(), AllocError>
-    ensures { OnOk result (out.new.items ≡ out.old.items ++ counted word.now []) }
+    ensures ok { OnOk result (out.new.items ≡ out.old.items ++ counted word.now []) }
+    ensures kept { KeepsFronts out.old.items out.new.items }
 {
     push_text(out, word.as_bytes())
 }
 
 /// Adds a word, and a number behind it.
 fn push_number_behind(out: &mut Vec<u8>, word: &str, number: u64) -> Result<(), AllocError>
-    ensures { OnOk result (out.new.items ≡ out.old.items ++ counted word.now (number ∷ [])) }
+    ensures ok { OnOk result (out.new.items ≡ out.old.items ++ counted word.now (number ∷ [])) }
+    ensures kept { KeepsFronts out.old.items out.new.items }
 {
     push_counted(out, word, &[number])
 }
 
 /// Adds a word, and an id or a process behind it.
 fn push_id_behind(out: &mut Vec<u8>, word: &str, id: u32) -> Result<(), AllocError>
-    ensures { OnOk result (out.new.items ≡ out.old.items ++ counted word.now (id ∷ [])) }
+    ensures ok { OnOk result (out.new.items ≡ out.old.items ++ counted word.now (id ∷ [])) }
+    ensures kept { KeepsFronts out.old.items out.new.items }
 {
     push_number_behind(out, word, u64::from(id))
 }
@@ -242,42 +262,48 @@ fn push_both_behind(
     first: u64,
     second: u64,
 ) -> Result<(), AllocError>
-    ensures { OnOk result (out.new.items ≡ out.old.items ++ counted word.now (first ∷ second ∷ [])) }
+    ensures ok { OnOk result (out.new.items ≡ out.old.items ++ counted word.now (first ∷ second ∷ [])) }
+    ensures kept { KeepsFronts out.old.items out.new.items }
 {
     push_counted(out, word, &[first, second])
 }
 
 /// Adds a word, and a host and a number behind it.
 fn push_host_behind(out: &mut Vec<u8>, word: &str, host: u32, number: u64) -> Result<(), AllocError>
-    ensures { OnOk result (out.new.items ≡ out.old.items ++ counted word.now (host ∷ number ∷ [])) }
+    ensures ok { OnOk result (out.new.items ≡ out.old.items ++ counted word.now (host ∷ number ∷ [])) }
+    ensures kept { KeepsFronts out.old.items out.new.items }
 {
     push_both_behind(out, word, u64::from(host), number)
 }
 
 /// Adds a call that got no answer in time, and from when to when it had.
 fn push_timeout(out: &mut Vec<u8>, call: u64, from: u64, to: u64) -> Result<(), AllocError>
-    ensures { OnOk result (out.new.items ≡ out.old.items ++ counted (codes "IoTimeout") (call ∷ from ∷ to ∷ [])) }
+    ensures ok { OnOk result (out.new.items ≡ out.old.items ++ counted (codes "IoTimeout") (call ∷ from ∷ to ∷ [])) }
+    ensures kept { KeepsFronts out.old.items out.new.items }
 {
     push_counted(out, "IoTimeout", &[call, from, to])
 }
 
 /// Adds the lver that is held, and its owner.
 fn push_held(out: &mut Vec<u8>, lver: u64, owner: Owner) -> Result<(), AllocError>
-    ensures { OnOk result (out.new.items ≡ out.old.items ++ spaced (codes "Held" ∷ decimal lver ∷ decimal owner.id ∷ decimal owner.generation ∷ [])) }
+    ensures ok { OnOk result (out.new.items ≡ out.old.items ++ spaced (codes "Held" ∷ decimal lver ∷ decimal owner.id ∷ decimal owner.generation ∷ [])) }
+    ensures kept { KeepsFronts out.old.items out.new.items }
 {
     push_counted(out, "Held", &[lver, u64::from(owner.id), owner.generation])
 }
 
 /// Adds one of those who share a resource.
 fn push_shared(out: &mut Vec<u8>, owner: Owner) -> Result<(), AllocError>
-    ensures { OnOk result (out.new.items ≡ out.old.items ++ spaced (codes "Shared" ∷ decimal owner.id ∷ decimal owner.generation ∷ [])) }
+    ensures ok { OnOk result (out.new.items ≡ out.old.items ++ spaced (codes "Shared" ∷ decimal owner.id ∷ decimal owner.generation ∷ [])) }
+    ensures kept { KeepsFronts out.old.items out.new.items }
 {
     push_counted(out, "Shared", &[u64::from(owner.id), owner.generation])
 }
 
 /// Adds what was counted, and its limit.
 fn push_limit(out: &mut Vec<u8>, which: Limited) -> Result<(), AllocError>
-    ensures { OnOk result (out.new.items ≡ out.old.items ++ spaced (codes "Limit" ∷ texts.limit_words which)) }
+    ensures ok { OnOk result (out.new.items ≡ out.old.items ++ spaced (codes "Limit" ∷ texts.limit_words which)) }
+    ensures kept { KeepsFronts out.old.items out.new.items }
 {
     let (word, most) = match which {
         Limited::Lockspaces => ("Limit lockspaces", MOST_LOCKSPACES),
@@ -298,7 +324,8 @@ fn push_limit(out: &mut Vec<u8>, which: Limited) -> Result<(), AllocError>
 #[tactic(auto, unfolding(sl_trace::specs::EffectTexts::reply_words))]
 fn push_refusal(out: &mut Vec<u8>, reply: &Reply) -> Result<(), AllocError>
     requires { texts.is_ok_reply reply.now ≡ false }
-    ensures { OnOk result (out.new.items ≡ out.old.items ++ texts.reply_text reply.now) }
+    ensures ok { OnOk result (out.new.items ≡ out.old.items ++ texts.reply_text reply.now) }
+    ensures kept { KeepsFronts out.old.items out.new.items }
 {
     match reply {
         Reply::NoSession => push_alone(out, "NoSession"),
@@ -340,7 +367,8 @@ fn push_refusal(out: &mut Vec<u8>, reply: &Reply) -> Result<(), AllocError>
 /// Adds the text of a reply.
 #[tactic(auto, unfolding(sl_trace::specs::EffectTexts::reply_words))]
 fn push_reply(out: &mut Vec<u8>, reply: &Reply) -> Result<(), AllocError>
-    ensures { OnOk result (out.new.items ≡ out.old.items ++ texts.reply_text reply.now) }
+    ensures ok { OnOk result (out.new.items ≡ out.old.items ++ texts.reply_text reply.now) }
+    ensures kept { KeepsFronts out.old.items out.new.items }
 {
     match reply {
         Reply::Done => push_alone(out, "ok"),
@@ -357,18 +385,23 @@ fn push_reply(out: &mut Vec<u8>, reply: &Reply) -> Result<(), AllocError>
 
 /// Adds the text of a reply behind a space.
 pub(crate) fn push_reply_behind(out: &mut Vec<u8>, reply: &Reply) -> Result<(), AllocError>
-    ensures { OnOk result (out.new.items ≡ out.old.items ++ 32 ∷ texts.reply_text reply.now) }
+    ensures ok { OnOk result (out.new.items ≡ out.old.items ++ 32 ∷ texts.reply_text reply.now) }
+    ensures kept { KeepsFronts out.old.items out.new.items }
 {
-    out.push(b' ')?;
+    push_byte(out, b' ')?;
     push_reply(out, reply)
 }
 
 /// Adds the text of a reply, without a line feed. An `Err` is want of memory, and `out` stays as it was.
+#[tactic(auto, using(crate::proofs::LineLaws::whole_kept))]
 pub fn push_reply_text(out: &mut Vec<u8>, reply: &Reply) -> Result<(), AllocError>
     ensures ok { OnOk result (out.new.items ≡ out.old.items ++ texts.reply_text reply.now) }
     ensures err { OnErr result (out.new.items ≡ out.old.items) }
 {
-    let mut text = Vec::new(*out.allocator());
-    push_reply(&mut text, reply)?;
-    out.extend_from_slice(&text)
+    let len = out.len();
+    let pushed = push_reply(out, reply);
+    if pushed.is_err() {
+        out.truncate(len);
+    }
+    pushed
 }

@@ -1,22 +1,43 @@
-//! Words and numbers, written one behind another.
+//! Words and numbers, written one behind another. Also where memory runs out, what was there stays in front of what has been added.
 
-ghost use Rattle.std.specs.Prelude.{OnOk, decimal, flat_map, ◌++◌, ◌∷◌, ◌≡◌};
-ghost use Rattle.sl_command.specs.OutputLines.{counted};
+ghost use Rattle.std.specs.Prelude.{OnOk, decimal, flat_map, ◌++◌, ◌∷◌, ◌≡◌, []};
+ghost use Rattle.sl_command.specs.OutputLines.{KeepsFronts, counted};
 
 use sl_text::number::push_number;
 use std::alloc::AllocError;
 
+/// Adds a byte.
+#[tactic(auto, using(crate::proofs::LineLaws::front_stays))]
+pub(crate) fn push_byte(out: &mut Vec<u8>, byte: u8) -> Result<(), AllocError>
+    ensures ok { OnOk result (out.new.items ≡ out.old.items ++ byte ∷ []) }
+    ensures kept { KeepsFronts out.old.items out.new.items }
+{
+    out.push(byte)?;
+    Ok(())
+}
+
+/// Adds a number.
+#[tactic(auto, using(crate::proofs::LineLaws::front_stays))]
+pub(crate) fn push_decimal(out: &mut Vec<u8>, number: u64) -> Result<(), AllocError>
+    ensures ok { OnOk result (out.new.items ≡ out.old.items ++ decimal number) }
+    ensures kept { KeepsFronts out.old.items out.new.items }
+{
+    push_number(out, number)
+}
+
 /// Adds a number behind a space.
 pub(crate) fn push_behind(out: &mut Vec<u8>, number: u64) -> Result<(), AllocError>
-    ensures { OnOk result (out.new.items ≡ out.old.items ++ 32 ∷ decimal number) }
+    ensures ok { OnOk result (out.new.items ≡ out.old.items ++ 32 ∷ decimal number) }
+    ensures kept { KeepsFronts out.old.items out.new.items }
 {
-    out.push(b' ')?;
-    push_number(out, number)
+    push_byte(out, b' ')?;
+    push_decimal(out, number)
 }
 
 /// Adds numbers, each behind a space.
 fn push_each(out: &mut Vec<u8>, numbers: &[u64]) -> Result<(), AllocError>
-    ensures { OnOk result (out.new.items ≡ out.old.items ++ flat_map (λ n. 32 ∷ decimal n) numbers.now) }
+    ensures ok { OnOk result (out.new.items ≡ out.old.items ++ flat_map (λ n. 32 ∷ decimal n) numbers.now) }
+    ensures kept { KeepsFronts out.old.items out.new.items }
 {
     for number in numbers {
         push_behind(out, *number)?;
@@ -27,39 +48,45 @@ fn push_each(out: &mut Vec<u8>, numbers: &[u64]) -> Result<(), AllocError>
 /// Adds a word, and numbers behind it.
 #[tactic(auto, using(crate::proofs::LineLaws::numbers))]
 pub(crate) fn push_counted(out: &mut Vec<u8>, word: &str, numbers: &[u64]) -> Result<(), AllocError>
-    ensures { OnOk result (out.new.items ≡ out.old.items ++ counted word.now numbers.now) }
+    ensures ok { OnOk result (out.new.items ≡ out.old.items ++ counted word.now numbers.now) }
+    ensures kept { KeepsFronts out.old.items out.new.items }
 {
-    out.extend_from_slice(word.as_bytes())?;
+    push_text(out, word.as_bytes())?;
     push_each(out, numbers)
 }
 
 /// Adds a word behind a space.
 pub(crate) fn push_word(out: &mut Vec<u8>, word: &[u8]) -> Result<(), AllocError>
-    ensures { OnOk result (out.new.items ≡ out.old.items ++ 32 ∷ word.now) }
+    ensures ok { OnOk result (out.new.items ≡ out.old.items ++ 32 ∷ word.now) }
+    ensures kept { KeepsFronts out.old.items out.new.items }
 {
-    out.push(b' ')?;
-    out.extend_from_slice(word)
+    push_byte(out, b' ')?;
+    push_text(out, word)
 }
 
 /// Adds a part of a word behind a colon.
 pub(crate) fn push_part(out: &mut Vec<u8>, part: &[u8]) -> Result<(), AllocError>
-    ensures { OnOk result (out.new.items ≡ out.old.items ++ 58 ∷ part.now) }
+    ensures ok { OnOk result (out.new.items ≡ out.old.items ++ 58 ∷ part.now) }
+    ensures kept { KeepsFronts out.old.items out.new.items }
 {
-    out.push(b':')?;
-    out.extend_from_slice(part)
+    push_byte(out, b':')?;
+    push_text(out, part)
 }
 
 /// Adds a number behind a colon.
 pub(crate) fn push_number_part(out: &mut Vec<u8>, number: u64) -> Result<(), AllocError>
-    ensures { OnOk result (out.new.items ≡ out.old.items ++ 58 ∷ decimal number) }
+    ensures ok { OnOk result (out.new.items ≡ out.old.items ++ 58 ∷ decimal number) }
+    ensures kept { KeepsFronts out.old.items out.new.items }
 {
-    out.push(b':')?;
-    push_number(out, number)
+    push_byte(out, b':')?;
+    push_decimal(out, number)
 }
 
 /// Adds a text.
+#[tactic(auto, using(crate::proofs::LineLaws::front_stays))]
 pub(crate) fn push_text(out: &mut Vec<u8>, text: &[u8]) -> Result<(), AllocError>
-    ensures { OnOk result (out.new.items ≡ out.old.items ++ text.now) }
+    ensures ok { OnOk result (out.new.items ≡ out.old.items ++ text.now) }
+    ensures kept { KeepsFronts out.old.items out.new.items }
 {
     out.extend_from_slice(text)
 }

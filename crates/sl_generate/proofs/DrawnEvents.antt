@@ -2,7 +2,9 @@
 use Rattle.sl_world_state.specs.Daemons.{program_of}
 use Rattle.sl_generate.specs.Candidates.{first_allowed}
 use Rattle.sl_generate.specs.DrawnRuns.{IsDrawn, state_behind}
-use Rattle.sl_generate.specs.GeneratorPlay.{DrawsAll, DrawsIn, HasTaken, HaveDrawn, IsDrawing, MadeOf, TakesDrawn}
+use Rattle.sl_generate.specs.GeneratorPlay.{DrawsAll, DrawsIn, HasTaken, HaveDrawn, IsDrawing, MadeOf, TakesDrawn, TakesFirst}
+use Rattle.sl_world_state.specs.KeptWorld.{KeptState}
+use Rattle.sl_world_state.specs.Refusals.{refusal_in}
 use Rattle.sl_world_state.specs.SaneWorlds.{WorldStands}
 use Rattle.sl_play.specs.PlayIsOwed.{EachStood}
 use Rattle.sl_play.specs.Plays.{Begins, HasHappened, IsBarred, PlayState, StaysAs}
@@ -26,6 +28,7 @@ use Rattle.sl_trace.specs.declared.effects.Effects.{Effects}
 use Rattle.sl_words.proofs.Lists.{head_is, tail_is}
 use Rattle.sl_words.proofs.CaseLaws.{false_is_true}
 use Rattle.sl_world_law.proofs.DrawsAreKept.{draws_are_kept}
+use Rattle.sl_world_law.proofs.EventsStand.{refusals_stand}
 use Rattle.sl_world_law.proofs.FirstStanding.{each_stood}
 use Rattle.sl_world_law.specs.DrawnCandidates.{candidates_in}
 use Rattle.std.proofs.Common.{Bool, List, None, Some, [], ap, arith, cond, length, refl, subst, suc, sym, true, ℕ, ◌++◌, ◌+◌, ◌-◌, ◌<◌, ◌≤◌, ◌∙◌, ◌∷◌, ◌≡◌}
@@ -33,20 +36,7 @@ use Rattle.std.specs.Prelude.{false, find, is_none, unwrap_or}
 
 -- ---- the event that is drawn
 
--- The first that passes does, if what stands for none does.
-passes_found : {A : Type 0} (p : A → Bool) (xs : List A) (d : A) → p d ≡ true → p (unwrap_or (find p xs) d) ≡ true
-passes_found p [] d h = h
-passes_found p (x ∷ xs) d h = go (p x) refl (passes_found p xs d h)
-  where
-    go : (b : Bool) → p x ≡ b → p (unwrap_or (find p xs) d) ≡ true → p (unwrap_or (cond b (Some x) (find p xs)) d) ≡ true
-    go true is rest = is
-    go false is rest = rest
-
 module _ {D : Type 0} (commands : Header → List (Form Command)) (stands : D → Setting → Trace → Type 0) where
-  -- The event that is drawn may happen.
-  may_drawn : (p : PlayState D) (w : World) → DrawsIn commands stands p w → (hosts a b c number : ℕ) → may_happen w (gen_event w hosts a b c number) ≡ true
-  may_drawn p w d hosts a b c number = passes_found (may_happen w) (candidates w hosts a b c number) (Pass 0 None) (time_may_stand_still commands w d.stands_for.sane d.timely)
-
   -- It is the first that what is kept allows.
   is_drawn : (p : PlayState D) (w : World) → DrawsIn commands stands p w → (a b c number : ℕ)
       → first_allowed commands p.kept (candidates_in p.kept p.kept.header.machines a b c number) ≡ gen_event w w.header.machines a b c number
@@ -58,34 +48,63 @@ module _ {D : Type 0} (commands : Header → List (Form Command)) (stands : D �
   stands_still p q w same s =
       subst (λ hs. WorldStands commands stands q.kept hs w) (sym same.hosts) (subst (λ k. WorldStands commands stands k p.hosts w) (sym same.kept) s)
 
-  module _ (p q n : PlayState D) (a b c number : ℕ) (event : Event) (out now : List ℕ) (same : StaysAs p q)
-      (drawn : event ≡ first_allowed commands p.kept (candidates_in p.kept p.kept.header.machines a b c number)) where
-    -- It has come to pass.
-    pub takes_drawn : HasHappened commands stands q event out n now → TakesDrawn commands stands p a b c number n
-    takes_drawn happened w d =
-        let x = happened.in_each w (stands_still p q w same d.stands_for) in
-        let taken : HasTaken commands stands w p event n = record {
-          effects = happened.effects;
-          may = x.comes.may;
-          steps = x.comes.steps;
-          draws = record { stands_for = x.comes.stays; timely = events_stay_timely w event happened.effects x.comes.may d.timely };
-          counts = x.counts ∙ ap (count_event w event (happened.effects ∷ [])) same.counts;
-        } in
-        subst (λ e. HasTaken commands stands w p e n) (drawn ∙ is_drawn p w d a b c number) taken
+  -- It has come to pass.
+  pub takes_drawn : (p n : PlayState D) (a b c number : ℕ) (events : List Event) → events ≡ candidates_in p.kept p.kept.header.machines a b c number → TakesFirst commands stands p events n
+      → TakesDrawn commands stands p a b c number n
+  takes_drawn p n a b c number events drawn first w d =
+      let x = first.happened.in_each w (stands_still p first.still w first.same d.stands_for) in
+      let taken : HasTaken commands stands w p (first_allowed commands p.kept events) n = record {
+        effects = first.happened.effects;
+        may = x.comes.may;
+        steps = x.comes.steps;
+        draws = record { stands_for = x.comes.stays; timely = events_stay_timely w (first_allowed commands p.kept events) first.happened.effects x.comes.may d.timely };
+        counts = x.counts ∙ ap (count_event w (first_allowed commands p.kept events) (first.happened.effects ∷ [])) first.same.counts;
+      } in
+      subst (λ e. HasTaken commands stands w p e n) (ap (first_allowed commands p.kept) drawn ∙ is_drawn p w d a b c number) taken
 
-    -- It is never refused.
-    pub never_barred : (why : Refusal) → IsDrawing commands stands p → IsBarred commands stands q event out n now why → ⊥
-    never_barred why drawing barred =
+  -- ---- candidates, one after another
+
+  pub same_still : (p q n : PlayState D) → StaysAs p q → StaysAs q n → StaysAs p n
+  same_still p q n first then = record { kept = then.kept ∙ first.kept; hosts = then.hosts ∙ first.hosts; counts = then.counts ∙ first.counts }
+
+  -- Whether the first of these is allowed says which is the first that is.
+  found_by : (k : KeptState) (event : Event) (rest : List Event) (b : Bool) → is_none (refusal_in commands k event) ≡ b
+      → first_allowed commands k (event ∷ rest) ≡ unwrap_or (cond b (Some event) (find (λ e. is_none (refusal_in commands k e)) rest)) (Pass 0 None)
+  found_by k event rest b is = ap (λ t. unwrap_or (cond t (Some event) (find (λ e. is_none (refusal_in commands k e)) rest)) (Pass 0 None)) is
+
+  module _ (p q n : PlayState D) (event : Event) (out now : List ℕ) (same : StaysAs p q) (drawing : IsDrawing commands stands p) where
+    -- One that is refused is passed over.
+    pub passed_over : (why : Refusal) (rest : List Event) → IsBarred commands stands q event out n now why
+        → first_allowed commands p.kept (event ∷ rest) ≡ first_allowed commands p.kept rest
+    passed_over why rest barred =
         let w : World = drawing.world in
-        let d = drawing.draws in
-        let none : may_happen w event ≡ true =
-        subst (λ e. may_happen w e ≡ true) (sym (drawn ∙ is_drawn p w d a b c number)) (may_drawn p w d w.header.machines a b c number) in
-        let some = barred.barred w (stands_still p q w same d.stands_for) in
-        absurd (false_is_true (sym (ap is_none some) ∙ none))
+        let s = drawing.draws.stands_for in
+        found_by p.kept event rest false
+        (ap is_none (sym (refusals_stand commands stands p.kept p.hosts w s event) ∙ barred.barred w (stands_still p q w same s)))
 
-  pub drawing_still : (p q : PlayState D) → StaysAs p q → IsDrawing commands stands p → IsDrawing commands stands q
-  drawing_still p q same drawing =
-      record { world = drawing.world; draws = record { stands_for = stands_still p q drawing.world same drawing.draws.stands_for; timely = drawing.draws.timely } }
+    -- One that comes to pass is the first that is allowed.
+    pub first_taken : (events rest : List Event) → first_allowed commands p.kept events ≡ first_allowed commands p.kept (event ∷ rest) → HasHappened commands stands q event out n now
+        → TakesFirst commands stands p events n
+    first_taken events rest found happened =
+        let w : World = drawing.world in
+        let s = drawing.draws.stands_for in
+        let may : is_none (refusal_in commands p.kept event) ≡ true =
+        ap is_none (sym (refusals_stand commands stands p.kept p.hosts w s event)) ∙ (happened.in_each w (stands_still p q w same s)).comes.may in
+        record {
+          still = q;
+          same = same;
+          before = out;
+          after = now;
+          happened = subst (λ e. HasHappened commands stands q e out n now) (sym (found ∙ found_by p.kept event rest true may)) happened;
+        }
+
+  -- Where each is refused, time may stand still.
+  pub never_barred : (p q n : PlayState D) (out now : List ℕ) (why : Refusal) → StaysAs p q → IsDrawing commands stands p → IsBarred commands stands q (Pass 0 None) out n now why → ⊥
+  never_barred p q n out now why same drawing barred =
+      let w : World = drawing.world in
+      let d = drawing.draws in
+      let some = barred.barred w (stands_still p q w same d.stands_for) in
+      absurd (false_is_true (sym (ap is_none some) ∙ time_may_stand_still commands w d.stands_for.sane d.timely))
 
   pub drawing_then : (p n : PlayState D) (a b c number : ℕ) → IsDrawing commands stands p → TakesDrawn commands stands p a b c number n → IsDrawing commands stands n
   drawing_then p n a b c number drawing takes =

@@ -1,11 +1,12 @@
 -- A play while it draws, and what is owed of it.
 use Rattle.sl_world_state.specs.Daemons.{program_of}
+use Rattle.sl_generate.specs.Candidates.{first_allowed}
 use Rattle.sl_generate.specs.DrawnRuns.{DrawsBack, IsDrawn}
 use Rattle.sl_generate.specs.declared.generator.Generated.TheVariants.{Done, NoMemory, WriteFault}
 use Rattle.sl_generate.specs.declared.generator.Generated.{Generated}
 use Rattle.sl_world_state.specs.SaneWorlds.{ReadsCommands, WorldStands}
 use Rattle.sl_play.specs.PlayIsOwed.{EachStood}
-use Rattle.sl_play.specs.Plays.{PlayState}
+use Rattle.sl_play.specs.Plays.{HasHappened, PlayState, StaysAs}
 use Rattle.sl_report.specs.GeneratedSchedules.{IsGenerated, gen_event, gen_header, gen_line}
 use Rattle.sl_report.specs.OwedReports.{IsFrontOf, Promise}
 use Rattle.sl_report.specs.Reports.{count_event, end_line, no_counts, run_counts}
@@ -54,6 +55,14 @@ pub record HasTaken {D : Type 0} (commands : Header → List (Form Command)) (st
   pub steps : HasSteps w e (effects ∷ [])
   pub draws : DrawsIn commands stands n (happens w e (effects ∷ []))
   pub counts : n.counts ≡ count_event w e (effects ∷ []) p.counts
+
+-- The first of these events that what is kept allows has: the play had stayed as it was until then.
+pub record TakesFirst {D : Type 0} (commands : Header → List (Form Command)) (stands : D → Setting → Trace → Type 0) (p : PlayState D) (events : List Event) (n : PlayState D) : Type 0 where
+  pub still : PlayState D
+  pub same : StaysAs p still
+  pub before : List ℕ
+  pub after : List ℕ
+  pub happened : HasHappened commands stands still (first_allowed commands p.kept events) before n after
 
 -- The event that is drawn has.
 abbrev pub TakesDrawn : {D : Type 0} → (Header → List (Form Command)) → (D → Setting → Trace → Type 0) → PlayState D → ℕ → ℕ → ℕ → ℕ → PlayState D → Type 0

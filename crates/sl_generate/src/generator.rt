@@ -1,11 +1,10 @@
 //! The schedule of a seed, played as it is drawn.
 
 ghost use Rattle.sl_world_state.specs.Daemons.{program_of};
-ghost use Rattle.sl_generate.specs.Candidates.{first_allowed};
 ghost use Rattle.sl_generate.specs.DrawnRuns.{IsDrawn};
-ghost use Rattle.sl_generate.specs.GeneratorPlay.{DrawsAll, Generates, IsDrawing, MayGenerate, TakesDrawn};
+ghost use Rattle.sl_generate.specs.GeneratorPlay.{DrawsAll, Generates, IsDrawing, MayGenerate, TakesDrawn, TakesFirst};
 ghost use Rattle.sl_play.specs.PlayIsOwed.{EachStood};
-ghost use Rattle.sl_play.specs.Plays.{StaysAs, state_of};
+ghost use Rattle.sl_play.specs.Plays.{state_of};
 ghost use Rattle.sl_report.specs.GeneratedSchedules.{gen_header, gen_line};
 ghost use Rattle.sl_report.specs.Reports as reports;
 ghost use Rattle.sl_run.specs.Worlds.{world_with};
@@ -35,24 +34,31 @@ pub enum Generated {
     NoMemory,
 }
 
-/// The first of the candidates that nothing refuses; where each is refused, time that does not pass. An `Err` is want of memory.
-fn first_allowed<D: Daemon, L: LockTable>(
+/// The first of the candidates that nothing refuses comes to pass; where each is refused, time that does not pass. Its lines are written behind
+/// `out`. A candidate that is refused changes nothing, so each is tried by letting it happen.
+fn take_first<D: Daemon, L: LockTable>(
     play: &mut Play<D, L>,
+    out: &mut Vec<u8>,
     candidates: VecDeque<Event>,
-) -> Result<Event, AllocError>
-    ensures exact { IfOk result (λ event. event ≡ first_allowed D.commands (state_of L.locks play.old).kept candidates.items) }
-    ensures same { StaysAs (state_of L.locks play.old) (state_of L.locks play.new) }
+) -> Result<(), PlayError>
+    requires { IsDrawing D.commands D.stands (state_of L.locks play.old) }
+    ensures { OnOk result (TakesFirst D.commands D.stands (state_of L.locks play.old) candidates.items (state_of L.locks play.new)) }
 {
     let mut candidates = candidates;
     while let Some(event) = candidates.pop_front() {
-        if play.allows(&event)? {
-            return Ok(event);
+        match play.happen(out, event)? {
+            None => return Ok(()),
+            Some(_) => {}
         }
     }
-    Ok(Event::Pass {
+    let still = Event::Pass {
         time: 0,
         growths: None,
-    })
+    };
+    match play.happen(out, still)? {
+        None => Ok(()),
+        Some(_) => unreachable!(),
+    }
 }
 
 /// The event of these draws comes to pass; its lines are written into `out`.
@@ -67,12 +73,8 @@ fn take_event<D: Daemon, L: LockTable>(
     ensures { OnOk result (TakesDrawn D.commands D.stands (state_of L.locks play.old) draw.a draw.b draw.c number (state_of L.locks play.new)) }
 {
     let candidates = candidates(alloc, play, draw, number)?;
-    let event = first_allowed(play, candidates)?;
     out.clear();
-    match play.happen(out, event)? {
-        None => Ok(()),
-        Some(_) => unreachable!(),
-    }
+    take_first(play, out, candidates)
 }
 
 /// So many events of a seed come to pass, one after another.

@@ -9,7 +9,7 @@ use Rattle.sl_host_state.specs.declared.kept_parts.ValuePair.{ValuePair}
 use Rattle.sl_sector.specs.declared.sector.Rec.TheVariants.{BlockIs, LeaderIs, PairIs, PairLeaderIs, ValueIs}
 use Rattle.sl_tables.specs.declared.holdings.Holder.TheVariants.{Is}
 use Rattle.sl_tables.specs.declared.holdings.Sought.{Sought}
-use Rattle.sl_trace.specs.Traces.{Child, Submitted, job_of, new_call, new_child, same_place}
+use Rattle.sl_trace.specs.Traces.{Child, Submitted, job_of, new_call, new_child, no_effects, same_place}
 use Rattle.sl_trace.specs.KillPrograms.{KillProgram, with_program, without_program}
 use Rattle.sl_trace.specs.declared.command.Command.{Command}
 use Rattle.sl_trace.specs.declared.effects.Call.{Call}
@@ -34,6 +34,10 @@ pub record BuffersState : Type 0 where
   pub calls : ℕ
   pub most : ℕ
   pub most_calls : ℕ
+
+-- No effects, and none that may be made.
+abbrev pub no_buffers : BuffersState
+no_buffers = record { made = no_effects; left = 0; calls = 0; most = 0; most_calls = 0 }
 
 -- No class of these effects but calls has more than so many, and calls no more than so many.
 pub record AreFew (most most_calls : ℕ) (fx : Effects) : Type 0 where

@@ -395,13 +395,13 @@ impl Books {
     }
 
     /// A line that is carried out: it is a job from here on.
-    pub fn line(&mut self, command: Command)
+    pub fn line(&mut self, command: &Command)
         requires { 0 < self.old.left }
-        ensures { self.new ≡ books_lining command self.old }
+        ensures { self.new ≡ books_lining command.now self.old }
     {
         self.jobs.put(JobState {
             number: self.next_job,
-            command: Some(command),
+            command: Some(*command),
             child: None,
             waits: None,
         });

@@ -2,9 +2,9 @@
 //! keep their memory for the next step.
 
 ghost use Rattle.sl_trace.specs.Traces.{no_effects};
-ghost use Rattle.sl_host.specs.Books.{AreFew, BuffersState};
+ghost use Rattle.sl_host.specs.Books.{AreFew, BuffersState, no_buffers};
 ghost use Rattle.std.specs.List.{list_any};
-ghost use Rattle.std.specs.Prelude.{IfOk, OnErr, OnOk, length, [], ◌+◌, ◌++◌, ◌-◌, ◌<◌, ◌==◌, ◌^◌, ◌∷◌, ◌≡◌, ◌≤◌};
+ghost use Rattle.std.specs.Prelude.{OnErr, OnOk, length, [], ◌+◌, ◌++◌, ◌-◌, ◌<◌, ◌==◌, ◌^◌, ◌∷◌, ◌≡◌, ◌≤◌};
 
 use sl_sector::{Block, DeltaRec, DeltaState, Leader, PairBlock, Rec, Request, ValueRec};
 use sl_text::{Data, FilePath, Name, Seq};
@@ -86,31 +86,28 @@ fn is_of(start: &Start, process: u32) -> bool
     start.process == process
 }
 
-/// The elements of a list, which then has none: its memory stays where there were none.
-fn taken<T>(list: &mut Room<T>, none: Room<T>) -> Vec<T>
-    requires { none.items ≡ [] }
+/// The elements of a list, which then has none: its memory stays where there were none, else it has that of `spare` from here on.
+fn taken<T>(alloc: Global, list: &mut Room<T>, spare: &mut Room<T>) -> Vec<T>
+    requires { spare.old.items ≡ [] }
     ensures all { result.items ≡ list.old.items }
     ensures left { list.new.items ≡ [] }
+    ensures spare { spare.new.items ≡ [] }
 {
     if list.as_slice().is_empty() {
-        return none.into_vec();
+        return Vec::new(alloc);
     }
-    mem::replace(list, none).into_vec()
+    mem::swap(list, spare);
+    mem::replace(spare, Room::empty(alloc)).into_vec()
 }
 
-/// Three lists of nothing, each with memory for so many. An `Err` is want of memory.
-fn three_lists<A: Drop, B: Drop, C: Drop>(
-    alloc: Global,
-    room: usize,
-) -> Result<(Room<A>, Room<B>, Room<C>), AllocError>
-    requires { room < 2 ^ 32 }
-    ensures { IfOk result (λ lists. (lists.0 ≡ record { items = []; room = room }) × (lists.1 ≡ record { items = []; room = room })
-        × (lists.2 ≡ record { items = []; room = room })) }
+/// Of a list of nothing and one whose elements go, the memory of that with more.
+fn keep<T: Drop>(list: &mut Room<T>, used: Vec<T>)
+    requires { list.old.items ≡ [] }
+    ensures { list.new.items ≡ [] }
 {
-    let first = Room::new(alloc, room)?;
-    let second = Room::new(alloc, room)?;
-    let third = Room::new(alloc, room)?;
-    Ok((first, second, third))
+    if used.capacity() > list.room() {
+        *list = Room::again(used);
+    }
 }
 
 /// Sees that each of three lists has memory for so many more. An `Err` is want of memory; then too each has what it had, and no less room.
@@ -133,27 +130,23 @@ fn reserve_three<A, B, C>(
 }
 
 impl Buffers {
-    /// No effects, with memory for so many calls, and so many of each other class. An `Err` is want of memory.
-    pub fn new(alloc: Global, room: usize, more_calls: usize) -> Result<Buffers, AllocError>
-        requires { (room < 2 ^ 32) × (more_calls < 2 ^ 32) }
-        ensures { IfOk result (λ b. b ≡ record { made = no_effects; left = room; calls = more_calls; most = room; most_calls = more_calls }) }
+    /// No effects, and no memory.
+    pub fn none(alloc: Global) -> Buffers
+        ensures { result ≡ no_buffers }
     {
-        let calls = Room::new(alloc, more_calls)?;
-        let (ends, signals, moves) = three_lists(alloc, room)?;
-        let (grants, starts, replies) = three_lists(alloc, room)?;
-        Ok(Buffers {
-            ends,
-            signals,
-            moves,
-            grants,
-            starts,
-            replies,
-            calls,
-            left: room,
-            more_calls,
-            most: room,
-            most_calls: more_calls,
-        })
+        Buffers {
+            ends: Room::empty(alloc),
+            signals: Room::empty(alloc),
+            moves: Room::empty(alloc),
+            grants: Room::empty(alloc),
+            starts: Room::empty(alloc),
+            replies: Room::empty(alloc),
+            calls: Room::empty(alloc),
+            left: 0,
+            more_calls: 0,
+            most: 0,
+            most_calls: 0,
+        }
     }
 
     /// For how many more effects there is memory that are no calls.
@@ -291,15 +284,12 @@ impl Buffers {
         Ok(())
     }
 
-    /// The effects are taken out, and nothing is left to be made until memory is taken anew. A class of which none was made keeps its memory; in
-    /// the place of the other lists stand those of `none`.
-    pub fn take(&mut self, none: Buffers) -> Effects
-        requires { none.made ≡ no_effects }
-        ensures exact { result ≡ self.old.made }
-        ensures few { AreFew self.old.most self.old.most_calls result }
-        ensures left { self.new ≡ record { made = no_effects; left = 0; calls = 0; most = 0; most_calls = 0 } }
+    /// The memory of effects that were told may serve a later step.
+    pub fn give_back(&mut self, told: Effects)
+        requires { self.old ≡ no_buffers }
+        ensures { self.new ≡ self.old }
     {
-        let Buffers {
+        let Effects {
             ends,
             signals,
             moves,
@@ -307,19 +297,33 @@ impl Buffers {
             starts,
             replies,
             calls,
-            left: _,
-            more_calls: _,
-            most: _,
-            most_calls: _,
-        } = none;
+        } = told;
+        keep(&mut self.ends, ends.into_vec());
+        keep(&mut self.signals, signals.into_vec());
+        keep(&mut self.moves, moves.into_vec());
+        keep(&mut self.grants, grants.into_vec());
+        keep(&mut self.starts, starts.into_vec());
+        keep(&mut self.replies, replies.into_vec());
+        keep(&mut self.calls, calls.into_vec());
+    }
+
+    /// The effects are taken out, and nothing is left to be made until memory is taken anew. A class of which none was made keeps its memory; the
+    /// other lists have that of `spare`.
+    pub fn take(&mut self, alloc: Global, spare: &mut Buffers) -> Effects
+        requires { spare.old ≡ no_buffers }
+        ensures exact { result ≡ self.old.made }
+        ensures few { AreFew self.old.most self.old.most_calls result }
+        ensures left { self.new ≡ no_buffers }
+        ensures spare { spare.new ≡ spare.old }
+    {
         let made = Effects {
-            ends: Seq::new(taken(&mut self.ends, ends)),
-            signals: Seq::new(taken(&mut self.signals, signals)),
-            moves: Seq::new(taken(&mut self.moves, moves)),
-            grants: Seq::new(taken(&mut self.grants, grants)),
-            starts: Seq::new(taken(&mut self.starts, starts)),
-            replies: Seq::new(taken(&mut self.replies, replies)),
-            calls: Seq::new(taken(&mut self.calls, calls)),
+            ends: Seq::new(taken(alloc, &mut self.ends, &mut spare.ends)),
+            signals: Seq::new(taken(alloc, &mut self.signals, &mut spare.signals)),
+            moves: Seq::new(taken(alloc, &mut self.moves, &mut spare.moves)),
+            grants: Seq::new(taken(alloc, &mut self.grants, &mut spare.grants)),
+            starts: Seq::new(taken(alloc, &mut self.starts, &mut spare.starts)),
+            replies: Seq::new(taken(alloc, &mut self.replies, &mut spare.replies)),
+            calls: Seq::new(taken(alloc, &mut self.calls, &mut spare.calls)),
         };
         self.left = 0;
         self.more_calls = 0;

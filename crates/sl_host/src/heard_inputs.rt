@@ -1,14 +1,14 @@
 //! Exits and starts, heard; a step begins, and is over.
 
 ghost use Rattle.sl_host_state.specs.HeardInputs.{begun, heard_exit, heard_start, quiet_to, rested};
-ghost use Rattle.sl_trace.specs.Traces.{no_effects};
-ghost use Rattle.sl_host.specs.Books.{AreFew};
+ghost use Rattle.sl_host.specs.Books.{AreFew, no_buffers};
 ghost use Rattle.sl_host.specs.Host.{Becomes, SameMost, SameRun};
 ghost use Rattle.std.specs.Prelude.{◌+◌, ◌<◌, ◌^◌, ◌≡◌};
 
 use crate::buffers::Buffers;
 use crate::host::Host;
 use sl_trace::Effects;
+use std::alloc::Global;
 
 impl Host {
     /// A process has exited: a child of this number has, unless the step starts it, and its kill program goes.
@@ -57,17 +57,18 @@ impl Host {
     }
 
     /// A step is over: its effects are taken out, and the next call is the first of the next step. Nothing is left to be made until memory
-    /// is taken anew; `none` stands in the place of the lists that are taken out.
-    pub fn rest(&mut self, none: Buffers) -> Effects
-        requires { none ≡ record { made = no_effects; left = 0; calls = 0; most = 0; most_calls = 0 } }
+    /// is taken anew; the lists in which effects were have the memory of `spare`.
+    pub fn rest(&mut self, alloc: Global, spare: &mut Buffers) -> Effects
+        requires { spare.old ≡ no_buffers }
         ensures effects { result ≡ self.old.kept.made }
         ensures few { AreFew self.old.most self.old.most_calls result }
         ensures state { Becomes self.old self.new rested }
         ensures left { (self.new.left ≡ 0) × (self.new.calls ≡ 0) }
         ensures run { (self.new.kept.config ≡ self.old.kept.config) × (self.new.kept.reading ≡ self.old.kept.reading) }
         ensures most { (self.new.most ≡ 0) × (self.new.most_calls ≡ 0) × (self.new.seats ≡ self.old.seats) }
+        ensures spare { spare.new ≡ spare.old }
     {
         self.books.first_call = self.books.next_call();
-        self.books.made.take(none)
+        self.books.made.take(alloc, spare)
     }
 }

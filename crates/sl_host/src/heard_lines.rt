@@ -134,9 +134,9 @@ impl Host {
     }
 
     /// A line is a job from here on.
-    fn begin_line(&mut self, command: Command)
+    fn begin_line(&mut self, command: &Command)
         requires { 0 < self.old.left }
-        ensures state { Becomes self.old self.new (line_begun command) }
+        ensures state { Becomes self.old self.new (line_begun command.now) }
         ensures left { (self.new.left ≡ self.old.left - 1) × (self.new.calls ≡ self.old.calls) }
         ensures run { SameRun self.old self.new }
     {
@@ -164,15 +164,15 @@ impl Host {
     }
 
     /// A line whose command is carried out: it is a job from here on, and a `rem_lockspace` begins its leaving.
-    pub fn hear_line(&mut self, command: Command)
+    pub fn hear_line(&mut self, command: &Command)
         requires left { 0 < self.old.left }
         requires moment { self.old.kept.reading + self.old.kept.config.grace < 2 ^ 64 }
-        ensures state { Becomes self.old self.new (heard_line command) }
+        ensures state { Becomes self.old self.new (heard_line command.now) }
         ensures left { (self.new.left ≡ self.old.left - 1) × (self.new.calls ≡ self.old.calls) }
         ensures run { SameRun self.old self.new }
     {
         let job = self.next_job();
-        let left = lockspace_left(&command);
+        let left = lockspace_left(command);
         self.begin_line(command);
         match left {
             Some(lockspace) => self.begin_leaving(&lockspace, job),

@@ -146,7 +146,6 @@ fn begin_books(
     let last = last_renewal(given);
     let area = config.geometry.area();
     let connected = connect(alloc, given)?;
-    let made = Buffers::new(alloc, 0, 0)?;
     Ok(Books {
         config,
         reading: last,
@@ -164,7 +163,7 @@ fn begin_books(
         holdings: Holdings::new(alloc),
         children: Children::new(alloc),
         programs: Programs::new(alloc),
-        made,
+        made: Buffers::none(alloc),
     })
 }
 

@@ -8,7 +8,7 @@ ghost use Rattle.sl_host.specs.BookQuestions.{state_in};
 ghost use Rattle.std.specs.List.{list_any};
 ghost use Rattle.std.specs.Prelude.{[], cond, is_none, length, nat_le, option_and_then, ◌%◌, ◌-◌, ◌∷◌, ◌≡◌};
 
-use crate::command_refusals::{asker_refused, member_named, member_refusal, refused_or, spot_of};
+use crate::command_refusals::{asker_refused, member_named, member_refusal, spot_of};
 use crate::held_on_area::shared_holding;
 use sl_due::Decision;
 use sl_host::Host;
@@ -154,6 +154,8 @@ pub(crate) fn decide_acquire(
     let Some(member) = member_named(host, &resource.lockspace) else {
         return Decision::Replies(Reply::NoSession);
     };
-    let refusal = acquire_refused(host, member, &spot_of(resource), asking, shared);
-    refused_or(refusal, begins(host, member, resource, shared))
+    if let Some(reply) = acquire_refused(host, member, &spot_of(resource), asking, shared) {
+        return Decision::Replies(reply);
+    }
+    begins(host, member, resource, shared)
 }

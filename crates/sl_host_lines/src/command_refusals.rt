@@ -1,14 +1,13 @@
 //! What several commands are refused for, and the member that a command names.
 
 ghost use Rattle.sl_host_law.specs.Decisions.CommandDecisions.{member_named, member_refusal, pending_refused, process_refused};
-ghost use Rattle.sl_host_lines.specs.CommandRefusals.{first_refusal, refused_or};
+ghost use Rattle.sl_host_lines.specs.CommandRefusals.{first_refusal};
 ghost use Rattle.sl_trace.specs.Leases.{spot_of};
 ghost use Rattle.sl_trace.specs.declared.reply.Reply.TheVariants.{NotHeld};
 ghost use Rattle.sl_host.specs.BookQuestions.{state_in};
 ghost use Rattle.sl_words.specs.Words.{choose};
 ghost use Rattle.std.specs.Prelude.{IfSome, [], not, option_and_then, option_map, ◌%◌, ◌∷◌, ◌≡◌};
 
-use sl_due::Decision;
 use sl_host::Host;
 use sl_member::Member;
 use sl_text::Name;
@@ -44,16 +43,6 @@ pub(crate) fn member_refusal(member: &Member) -> Option<Reply>
         Some(Reply::Recovering {
             renewed: member.renewing().last,
         })
-    }
-}
-
-/// A refusal, or else what is begun.
-pub(crate) fn refused_or(refusal: Option<Reply>, decision: Decision) -> Decision
-    ensures { result ≡ refused_or refusal decision }
-{
-    match refusal {
-        Some(reply) => Decision::Replies(reply),
-        None => decision,
     }
 }
 

@@ -1,6 +1,6 @@
 //! What a command of a holder comes to: a release, a conversion; and a request, which nobody need hold for.
 
-ghost use Rattle.sl_host_lines.specs.CommandRefusals.{convert_in, converting, first_refusal, giving_up, refused_or, release_in, request_in};
+ghost use Rattle.sl_host_lines.specs.CommandRefusals.{convert_in, converting, first_refusal, giving_up, release_in, request_in};
 ghost use Rattle.sl_host_law.specs.Decisions.CommandDecisions.{member_named, member_refusal, other_at, pending_refused, process_refused, with_member};
 ghost use Rattle.sl_trace.specs.Traces.{is_shared};
 ghost use Rattle.sl_trace.specs.declared.reply.Reply.TheVariants.{Busy, NotHeld};
@@ -8,7 +8,7 @@ ghost use Rattle.sl_host.specs.BookQuestions.{state_in};
 ghost use Rattle.sl_words.specs.Words.{choose};
 ghost use Rattle.std.specs.Prelude.{[], not, option_and_then, ◌%◌, ◌∷◌, ◌≡◌};
 
-use crate::command_refusals::{holder_refused, member_named, member_refusal, refused_or, spot_of};
+use crate::command_refusals::{holder_refused, member_named, member_refusal, spot_of};
 use crate::held_on_area::holding;
 use sl_due::Decision;
 use sl_host::Host;
@@ -38,8 +38,10 @@ pub(crate) fn decide_release(host: &Host, resource: &ResourceArg, process: u32) 
     };
     let at = spot_of(resource);
     let held = holding(host, member, &at, process);
-    let refusal = holder_refused(host, member, &at, process, held.is_some());
-    refused_or(refusal, gives_up(member, held))
+    if let Some(reply) = holder_refused(host, member, &at, process, held.is_some()) {
+        return Decision::Replies(reply);
+    }
+    gives_up(member, held)
 }
 
 /// A holding that has the mode already is answered at once.
@@ -113,8 +115,10 @@ pub(crate) fn decide_convert(
     };
     let at = spot_of(resource);
     let held = holding(host, member, &at, process);
-    let refusal = convert_refused(host, member, &at, process, mode, held.is_some());
-    refused_or(refusal, converts_to(member, resource, mode, held))
+    if let Some(reply) = convert_refused(host, member, &at, process, mode, held.is_some()) {
+        return Decision::Replies(reply);
+    }
+    converts_to(member, resource, mode, held)
 }
 
 /// What refuses a request: the member's state, an open call.
@@ -136,9 +140,11 @@ pub(crate) fn decide_request(host: &Host, resource: &ResourceArg) -> Decision
     let Some(member) = member_named(host, &resource.lockspace) else {
         return Decision::Replies(Reply::NoSession);
     };
-    let request = Decision::Requests {
+    if let Some(reply) = request_refused(host, member, &spot_of(resource)) {
+        return Decision::Replies(reply);
+    }
+    Decision::Requests {
         session: *member.who(),
         resource: *resource,
-    };
-    refused_or(request_refused(host, member, &spot_of(resource)), request)
+    }
 }

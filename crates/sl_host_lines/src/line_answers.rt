@@ -44,7 +44,7 @@ pub(crate) fn begin(host: &mut Host, command: &Command) -> u64
     ensures run { SameRun host.old host.new }
 {
     let job = host.next_job();
-    host.hear_line(*command);
+    host.hear_line(command);
     job
 }
 

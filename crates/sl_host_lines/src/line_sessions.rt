@@ -106,12 +106,12 @@ fn join(host: &mut Host, command: &Command, lockspace: &LockspaceArg, seat: Memb
     host.join(seat, lockspace, job, offset, Op::ReadSectors { sectors: 1 });
 }
 
-/// The same, with the member that was made for it.
+/// The same, with the member that was made for it, which is taken out of its place.
 pub(crate) fn join_with(
     host: &mut Host,
     command: &Command,
     lockspace: &LockspaceArg,
-    seat: Option<Member>,
+    seat: &mut Option<Member>,
 )
     requires left { 1 ≤ host.old.left }
     requires calls { 1 ≤ host.old.calls }
@@ -119,13 +119,13 @@ pub(crate) fn join_with(
     requires named { IsLockspaceArg (layout_of host.old.kept.config.sizes) lockspace.now }
     requires new { member_with host.old.kept.born host.old.kept.members ≡ None }
     requires few { length host.old.kept.members < most_lockspaces }
-    requires seat { HasSeat host.old (AddLockspace lockspace.now) seat }
+    requires seat { HasSeat host.old (AddLockspace lockspace.now) seat.old }
     ensures state { (n : ℕ) → Becomes host.old host.new (deciding command.now (Joins n lockspace.now)) }
     ensures left { Spends host.old host.new 1 1 }
     ensures run { SameRun host.old host.new }
 {
-    match seat {
-        Some(seat) => join(host, command, lockspace, seat),
+    match seat.take() {
+        Some(member) => join(host, command, lockspace, member),
         None => {}
     }
 }

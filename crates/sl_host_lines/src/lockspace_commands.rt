@@ -11,7 +11,7 @@ ghost use Rattle.sl_words.specs.Words.{choose};
 ghost use Rattle.std.specs.List.{list_any};
 ghost use Rattle.std.specs.Prelude.{IfSome, Some, [], not, option_map, ◌+◌, ◌∷◌, ◌≡◌};
 
-use crate::command_refusals::{member_named, member_refusal, refused_or};
+use crate::command_refusals::{member_named, member_refusal};
 use sl_due::Decision;
 use sl_host::Host;
 use sl_member::{Member, is_session_arg};
@@ -100,7 +100,10 @@ fn leave_refused(host: &Host, member: &Member) -> Option<Reply>
 fn leaves(host: &Host, member: &Member) -> Decision
     ensures { result ≡ leave_in (state_in host.now.kept) member.now.state }
 {
-    refused_or(leave_refused(host, member), Decision::Leaves(*member.who()))
+    if let Some(reply) = leave_refused(host, member) {
+        return Decision::Replies(reply);
+    }
+    Decision::Leaves(*member.who())
 }
 
 /// What a `rem_lockspace` comes to.
@@ -117,10 +120,12 @@ pub(crate) fn decide_leave(host: &Host, lockspace: &LockspaceArg) -> Decision
 fn tells_generation(member: &Member) -> Decision
     ensures { result ≡ report_in member.now.state (Generation member.now.state.known.generation) }
 {
-    let reply = Reply::Generation {
+    if let Some(reply) = member_refusal(member) {
+        return Decision::Replies(reply);
+    }
+    Decision::Replies(Reply::Generation {
         generation: member.known().generation,
-    };
-    refused_or(member_refusal(member), Decision::Replies(reply))
+    })
 }
 
 /// What an `inq_lockspace` comes to.

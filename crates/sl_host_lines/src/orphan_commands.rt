@@ -8,7 +8,7 @@ ghost use Rattle.sl_host.specs.BookQuestions.{state_in};
 ghost use Rattle.sl_words.specs.Words.{choose, same_truth};
 ghost use Rattle.std.specs.Prelude.{[], not, option_and_then, option_map, true, ◌%◌, ◌∷◌, ◌≡◌};
 
-use crate::command_refusals::{member_named, member_refusal, refused_or, spot_of};
+use crate::command_refusals::{member_named, member_refusal, spot_of};
 use crate::held_on_area::orphan;
 use sl_due::Decision;
 use sl_host::Host;
@@ -113,8 +113,10 @@ pub(crate) fn decide_take_over(
     };
     let at = spot_of(resource);
     let held = orphan_in_mode(host, member, &at, shared);
-    let refusal = take_over_refused(host, member, &at, process, held.is_some());
-    refused_or(refusal, passes_on(member, held))
+    if let Some(reply) = take_over_refused(host, member, &at, process, held.is_some()) {
+        return Decision::Replies(reply);
+    }
+    passes_on(member, held)
 }
 
 /// What refuses the release of an orphan: the member's state, that there is none, an open call.
@@ -154,6 +156,8 @@ pub(crate) fn decide_release_orphan(host: &Host, resource: &ResourceArg) -> Deci
     };
     let at = spot_of(resource);
     let held = orphan(host, member, &at);
-    let refusal = release_refused(host, member, &at, held.is_some());
-    refused_or(refusal, gives_up(member, held))
+    if let Some(reply) = release_refused(host, member, &at, held.is_some()) {
+        return Decision::Replies(reply);
+    }
+    gives_up(member, held)
 }

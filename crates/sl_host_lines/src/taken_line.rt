@@ -13,9 +13,9 @@ ghost use Rattle.sl_trace.specs.declared.command.LockspaceArg.{LockspaceArg};
 ghost use Rattle.sl_host.specs.BookQuestions.{state_in};
 ghost use Rattle.sl_host.specs.Host.{Becomes, SameRun, Spends};
 ghost use Rattle.sl_host.specs.Notes.{NotesState};
-ghost use Rattle.std.specs.Prelude.{IfOk, Ok, length, ℕ, ◌<◌, ◌≡◌, ◌≤◌};
+ghost use Rattle.std.specs.Prelude.{Ok, length, ℕ, ◌<◌, ◌≡◌, ◌≤◌};
 
-use crate::line_answers::{answer, get_value, misread, read_area, request, set_value};
+use crate::line_answers::{answer, get_value, read_area, request, set_value};
 use crate::line_ends::{convert, give_up};
 use crate::line_grants::{share, take_over};
 use crate::line_sessions::{join_with, leave};
@@ -65,7 +65,7 @@ fn carry_on(host: &mut Host, numbers: &mut Notes<u64>, command: &Command, decisi
 fn carry_out(
     host: &mut Host,
     numbers: &mut Notes<u64>,
-    seat: Option<Member>,
+    seat: &mut Option<Member>,
     command: &Command,
     decision: Decision,
 )
@@ -76,7 +76,7 @@ fn carry_out(
     requires command { IsCommand (layout_of host.old.kept.config.sizes) command.now }
     requires decided { decision ≡ decision_of (state_in host.old.kept) command.now }
     requires known { DecisionKnown host.old.kept command.now decision }
-    requires seat { HasSeat host.old command.now seat }
+    requires seat { HasSeat host.old command.now seat.old }
     ensures state { Becomes host.old host.new (deciding command.now decision) }
     ensures left { Spends host.old host.new (line_cost host.old.kept (Ok command.now)) 1 }
     ensures run { SameRun host.old host.new }
@@ -88,11 +88,13 @@ fn carry_out(
     }
 }
 
-/// A command that was read is decided and carried out.
-fn take_command(
+/// A command that was read is taken: it is decided, then answered at once, or it is a job from here on, and what it asks for begins or is done. There is
+/// memory for the list that it is answered by, if it is, for the member that it joins with, and for the numbers of all jobs. What is left in the
+/// member's place is nobody's.
+pub fn take_line(
     host: &mut Host,
     numbers: &mut Notes<u64>,
-    seat: Option<Member>,
+    seat: &mut Option<Member>,
     lists: Lists,
     command: &Command,
 )
@@ -101,7 +103,7 @@ fn take_command(
     requires calls { 1 ≤ host.old.calls }
     requires known { LineKnown host.old.kept command.now }
     requires lists { FitsLists host.old.kept.config.sizes host.old.seats command.now lists }
-    requires seat { HasSeat host.old command.now seat }
+    requires seat { HasSeat host.old command.now seat.old }
     ensures state { Becomes host.old host.new (lining (Ok command.now)) }
     ensures left { Spends host.old host.new (line_cost host.old.kept (Ok command.now)) 1 }
     ensures run { SameRun host.old host.new }
@@ -109,30 +111,4 @@ fn take_command(
 {
     let decision = decide(host, command, lists);
     carry_out(host, numbers, seat, command, decision);
-}
-
-/// A line that was read so is taken: it is answered at once, or it is a job from here on, and what it asks for begins or is done. There is memory
-/// for the list that it is answered by, if it is, for the member that it joins with, and for the numbers of all jobs.
-pub fn take_line(
-    host: &mut Host,
-    numbers: &mut Notes<u64>,
-    seat: Option<Member>,
-    lists: Lists,
-    read: Result<Command, u64>,
-)
-    requires room { length host.old.kept.jobs < numbers.old.most }
-    requires left { line_cost host.old.kept read ≤ host.old.left }
-    requires calls { 1 ≤ host.old.calls }
-    requires known { IfOk read (LineKnown host.old.kept) }
-    requires lists { IfOk read (λ c. FitsLists host.old.kept.config.sizes host.old.seats c lists) }
-    requires seat { IfOk read (λ c. HasSeat host.old c seat) }
-    ensures state { Becomes host.old host.new (lining read) }
-    ensures left { Spends host.old host.new (line_cost host.old.kept read) 1 }
-    ensures run { SameRun host.old host.new }
-    ensures notes { numbers.new.most ≡ numbers.old.most }
-{
-    match read {
-        Err(column) => misread(host, column),
-        Ok(command) => take_command(host, numbers, seat, lists, &command),
-    }
 }

@@ -9,7 +9,7 @@ ghost use Rattle.sl_trace.specs.declared.reply.Reply.TheVariants.{Hosts, Session
 ghost use Rattle.sl_host.specs.BookQuestions.{state_in};
 ghost use Rattle.std.specs.Prelude.{[], cond, length, vec_capacity, ◌++◌, ◌+◌, ◌<◌, ◌∷◌, ◌≡◌, ◌≤◌};
 
-use crate::command_refusals::{member_refusal, refused_or};
+use crate::command_refusals::member_refusal;
 use crate::list_memory::Lists;
 use crate::lockspace_commands::member_of;
 use sl_due::Decision;
@@ -102,14 +102,16 @@ fn tells_states(host: &Host, member: &Member, lists: Lists) -> Decision
     requires room { host.now.kept.config.sizes.hosts ≤ lists.states }
     ensures { result ≡ report_in member.now.state (Hosts (states_told (state_in host.now.kept) member.now.state)) }
 {
+    if let Some(reply) = member_refusal(member) {
+        return Decision::Replies(reply);
+    }
     let Lists {
         states,
         sessions: _,
     } = lists;
     let hosts = host.config().geometry.hosts();
     let states = states_of(member, host.reading(), hosts, states);
-    let reply = Reply::Hosts(Seq::new(states));
-    refused_or(member_refusal(member), Decision::Replies(reply))
+    Decision::Replies(Reply::Hosts(Seq::new(states)))
 }
 
 /// What a `host_status` comes to.

@@ -8,7 +8,7 @@ ghost use Rattle.sl_words.specs.Words.{choose};
 ghost use Rattle.std.specs.Option.{option_map_or};
 ghost use Rattle.std.specs.Prelude.{find, option_and_then, ◌%◌, ◌==◌, ◌≡◌};
 
-use crate::command_refusals::{holder_refused, member_named, refused_or, spot_of};
+use crate::command_refusals::{holder_refused, member_named, spot_of};
 use crate::held_on_area::{exclusive_holding, holding};
 use sl_due::Decision;
 use sl_host::Host;
@@ -41,8 +41,10 @@ pub(crate) fn decide_get(host: &Host, resource: &ResourceArg, process: u32) -> D
     };
     let at = spot_of(resource);
     let held = holding(host, member, &at, process);
-    let refusal = holder_refused(host, member, &at, process, held.is_some());
-    refused_or(refusal, gets_value(member, at, held))
+    if let Some(reply) = holder_refused(host, member, &at, process, held.is_some()) {
+        return Decision::Replies(reply);
+    }
+    gets_value(member, at, held)
 }
 
 /// Version and seq of the value that the member submitted last on an area.
@@ -108,6 +110,8 @@ pub(crate) fn decide_set(host: &Host, resource: &ResourceArg, process: u32, byte
     };
     let at = spot_of(resource);
     let held = exclusive_holding(host, member, &at, process);
-    let refusal = holder_refused(host, member, &at, process, held.is_some());
-    refused_or(refusal, sets_value(member, &at, held, bytes))
+    if let Some(reply) = holder_refused(host, member, &at, process, held.is_some()) {
+        return Decision::Replies(reply);
+    }
+    sets_value(member, &at, held, bytes)
 }

@@ -8,7 +8,7 @@ use Rattle.sl_host_law.specs.StepParts.Wakes.{delta_in}
 use Rattle.sl_host_law.specs.Questions.Members.{has_call_open}
 use Rattle.sl_host_law.specs.Steps.Passes.{at_member, member_numbered}
 use Rattle.sl_host_passes.proofs.RunsStay.{same_config, same_reading}
-use Rattle.sl_host_passes.specs.SessionFinish.{IsLast, ending_next, freeing_next, last_next, last_of, lasting_on}
+use Rattle.sl_host_passes.specs.SessionFinish.{IsLast, ending_next, freeing_next, last_next, last_of, lasting_on, may_end_at}
 use Rattle.sl_host_passes.specs.PassPremises.{FinishKnown}
 use Rattle.sl_host_state.specs.KeptState.{HostKept, HostState, MemberState}
 use Rattle.sl_host_state.specs.MadeEffects.{has_write_open, is_ended_by_move, joining_calling, known_calling, leases_calling, member_calling, next_submitted, with_call, with_move}
@@ -171,6 +171,21 @@ finishes_on h n = by (member_numbered h n) where
   by : (o : Option MemberState) → lasting_on (last_of h o) h ≡ elim o as (λ z. HostState) [ None ↦ h | Some m ↦ finishing m h ]
   by None = refl
   by (Some m) = finishes m h
+
+-- Of a member that is neither in recovery nor left nothing comes last.
+pub nothing_last : (h : HostState) (n : ℕ) → may_end_at (member_numbered h n) ≡ false → h ≡ at_member n finishing h
+nothing_last h n is = at (member_numbered h n) is where
+  by : (m : MemberState) (joined recovers free : Bool) (o : Option ℕ) → (joined && (recovers || is_some o)) ≡ false
+      → h ≡ cond joined (cond recovers (ending_in m h) (cond free (freeing_for m o h) h)) h
+  by m false recovers free o is = refl
+  by m true true free o is = absurd (true_is_false is)
+  by m true false free (Some j) is = absurd (true_is_false is)
+  by m true false true None is = refl
+  by m true false false None is = refl
+
+  at : (o : Option MemberState) → may_end_at o ≡ false → h ≡ elim o as (λ z. HostState) [ None ↦ h | Some m ↦ finishing m h ]
+  at None is = refl
+  at (Some m) is = by m m.joined (is_some m.renewing.recovery) (is_empty (held_of h m) && not (has_call_open h m.who.number)) m.known.leaving is
 
 -- ---- what is known stays
 

@@ -10,7 +10,7 @@ use Rattle.sl_trace.specs.declared.delta.DeltaNext.TheVariants.{Disconnect, Noth
 use Rattle.sl_trace.specs.declared.delta.DeltaNext.{DeltaNext}
 use Rattle.sl_trace.specs.declared.session.Session.{Session}
 use Rattle.sl_words.specs.Words.{is_empty}
-use Rattle.std.specs.Prelude.{None, Option, Some, cond, is_some, not, ◌&&◌}
+use Rattle.std.specs.Prelude.{Bool, None, Option, Some, cond, false, is_some, not, ◌&&◌, ◌||◌}
 
 -- In recovery: its connection goes, once it holds nothing and no write of it is unanswered.
 abbrev pub ending_next : HostState → MemberState → DeltaNext
@@ -19,6 +19,14 @@ ending_next h m = cond (is_empty (held_of h m) && not (has_write_open h m.who.nu
 -- Leaving: its free is written, once it holds nothing and no call of it is unanswered.
 abbrev pub freeing_next : HostState → MemberState → DeltaNext
 freeing_next h m = cond (is_empty (held_of h m) && not (has_call_open h m.who.number)) (next_free (delta_in h m) h.reading m.known) Nothing
+
+-- Whether anything may come last of a member: it is in recovery, or it is left.
+abbrev pub may_end : MemberState → Bool
+may_end m = m.joined && (is_some m.renewing.recovery || is_some m.known.leaving)
+
+abbrev pub may_end_at : Option MemberState → Bool
+may_end_at None = false
+may_end_at (Some m) = may_end m
 
 abbrev pub last_next : HostState → MemberState → DeltaNext
 last_next h m = cond m.joined (cond (is_some m.renewing.recovery) (ending_next h m) (freeing_next h m)) Nothing

@@ -6,7 +6,7 @@ ghost use Rattle.sl_host_law.specs.StepParts.Ends.{finishing};
 ghost use Rattle.sl_host_law.specs.StepParts.Signals.{over};
 ghost use Rattle.sl_host_law.specs.StepParts.Wakes.{delta_in};
 ghost use Rattle.sl_host_law.specs.Steps.Passes.{at_member, for_members, member_numbered};
-ghost use Rattle.sl_host_passes.specs.SessionFinish.{IsLast, ending_next, freeing_next, last_next, last_of};
+ghost use Rattle.sl_host_passes.specs.SessionFinish.{IsLast, ending_next, freeing_next, last_next, last_of, may_end, may_end_at};
 ghost use Rattle.sl_host_passes.specs.PassPremises.{FinishKnown};
 ghost use Rattle.sl_host_work.specs.SectorPlaces.{IsPlaced};
 ghost use Rattle.sl_sector.specs.Records.{Fits};
@@ -114,8 +114,25 @@ fn last_of(host: &Host, number: u64) -> Option<(Session, DeltaNext)>
     }
 }
 
-/// What comes last of the member of this number is done.
-fn finish_member(host: &mut Host, number: u64)
+/// Whether anything may come last of a member: it is in recovery, or it is left.
+fn may_end(member: &Member) -> bool
+    ensures { result ≡ may_end member.now.state }
+{
+    member.is_joined() && (member.renewing().recovery.is_some() || member.known().leaving.is_some())
+}
+
+/// The same of the member of this number, if it is there.
+fn may_end_at(host: &Host, number: u64) -> bool
+    ensures { result ≡ may_end_at (member_numbered (state_in host.now.kept) number) }
+{
+    match host.members().numbered(number) {
+        Some(member) => may_end(member),
+        None => false,
+    }
+}
+
+/// What comes last of the member of this number, of which something may, is done.
+fn end_member(host: &mut Host, number: u64)
     requires known { FinishKnown host.old.kept }
     requires left { 2 ≤ host.old.left }
     requires calls { 1 ≤ host.old.calls }
@@ -125,6 +142,20 @@ fn finish_member(host: &mut Host, number: u64)
 {
     if let Some((who, next)) = last_of(host, number) {
         carry(host, &who, next);
+    }
+}
+
+/// What comes last of the member of this number is done. Of most nothing does: they are passed over here, where nothing of a session is copied.
+fn finish_member(host: &mut Host, number: u64)
+    requires known { FinishKnown host.old.kept }
+    requires left { 2 ≤ host.old.left }
+    requires calls { 1 ≤ host.old.calls }
+    ensures state { Becomes host.old host.new (at_member number finishing) }
+    ensures left { Spends host.old host.new 2 1 }
+    ensures run { SameRun host.old host.new }
+{
+    if may_end_at(host, number) {
+        end_member(host, number);
     }
 }
 

@@ -105,9 +105,9 @@ fn step_heard<S: Sectors>(
     ensures sizes { scratch.new.sizes ≡ scratch.old.sizes }
 {
     let reach = reach_at(host, number);
-    let begun = start(alloc, host, scratch, now, reach)?;
+    let is_loud = start(alloc, host, scratch, now, reach)?;
     take_answer(host, scratch, number, heard);
-    Ok(conclude(host, scratch, begun.none, begun.is_loud))
+    Ok(conclude(alloc, host, scratch, is_loud))
 }
 
 /// A step at the answer ok of a read, whose bytes are these.

@@ -168,7 +168,9 @@ impl Daemon for HostDaemon {
         step_at(self.alloc, &mut self.host, &mut self.scratch, now, input)
     }
 
-    fn take_back(&mut self, told: Effects) {}
+    fn take_back(&mut self, told: Effects) {
+        self.scratch.take_back(told);
+    }
 
     #[tactic(auto, using(crate::proofs::HostDaemons::comes_so, crate::proofs::HostDaemons::steps_so, crate::proofs::HostDaemons::is_step_so, crate::proofs::HostDaemons::sizes_so, crate::proofs::SpareRoom::is_standing, crate::proofs::SpareRoom::rests_on, crate::proofs::SpareRoom::spent))]
     fn read(&mut self, now: u64, call: u64, sectors: &Images) -> Result<Effects, AllocError>

@@ -12,6 +12,7 @@ ghost use Rattle.sl_host_step.specs.declared.step_memory.Reach.TheVariants.{Few}
 ghost use Rattle.sl_host_step.specs.JoiningSeats.{HasPlace, MayBeSeated};
 ghost use Rattle.sl_host_step.specs.SpareRoom.{Rests};
 ghost use Rattle.sl_trace.specs.CommandForms.{command_in, forms};
+ghost use Rattle.sl_trace.specs.declared.command.Command.TheVariants.{AddLockspace};
 ghost use Rattle.sl_trace.specs.declared.input.Input.TheVariants.{Line as LineOf};
 ghost use Rattle.sl_host.specs.Host.{HostView};
 ghost use Rattle.std.specs.Prelude.{Err, IfOk, List, Ok, OnErr, OnOk, false, ℕ, ◌≡◌, ◌≤◌};
@@ -22,7 +23,7 @@ use sl_command::parse_command;
 use sl_host::Host;
 use sl_host_lines::{Lists, misread, take_line};
 use sl_member::Member;
-use sl_trace::{Command, Effects};
+use sl_trace::{Command, Effects, LockspaceArg};
 use std::alloc::{AllocError, Global};
 
 /// A line that says no command is taken.
@@ -52,37 +53,54 @@ fn reach_of(command: &Command) -> Reach
 fn take_command(
     host: &mut Host,
     scratch: &mut Scratch,
-    seat: Option<Member>,
+    seat: &mut Option<Member>,
     lists: Lists,
-    command: Command,
+    command: &Command,
 )
-    requires at { (now : ℕ) × (text : List ℕ) × (first : HostKept) × (command_in (forms (layout_of first.config.sizes)) text ≡ Ok command) × AtInput now (LineOf text) first host.old.kept }
-    requires left { (first : HostView) × HasLeft (reach_of command) first host.old }
+    requires at { (now : ℕ) × (text : List ℕ) × (first : HostKept) × (command_in (forms (layout_of first.config.sizes)) text ≡ Ok command.now) × AtInput now (LineOf text) first host.old.kept }
+    requires left { (first : HostView) × HasLeft (reach_of command.now) first host.old }
     requires scratch { Suffices scratch.old host.old }
-    requires lists { FitsLists host.old.kept.config.sizes host.old.seats command lists }
-    requires seat { HasSeat host.old command seat }
-    ensures at { (now : ℕ) (text : List ℕ) (first : HostKept) → command_in (forms (layout_of first.config.sizes)) text ≡ Ok command → AtInput now (LineOf text) first host.old.kept
+    requires lists { FitsLists host.old.kept.config.sizes host.old.seats command.now lists }
+    requires seat { HasSeat host.old command.now seat.old }
+    ensures at { (now : ℕ) (text : List ℕ) (first : HostKept) → command_in (forms (layout_of first.config.sizes)) text ≡ Ok command.now → AtInput now (LineOf text) first host.old.kept
         → AtEnd now (LineOf text) first host.new.kept }
-    ensures left { (first : HostView) → HasLeft (reach_of command) first host.old → EndsWith first host.new }
+    ensures left { (first : HostView) → HasLeft (reach_of command.now) first host.old → EndsWith first host.new }
     ensures lists { host.new.seats ≤ scratch.new.members }
     ensures sizes { scratch.new.sizes ≡ scratch.old.sizes }
     ensures spare { scratch.new.spare ≡ scratch.old.spare }
 {
-    take_line(host, &mut scratch.jobs, seat, lists, Ok(command));
+    take_line(host, &mut scratch.jobs, seat, lists, command);
 }
 
-/// The member that a command joins with, if it does, with memory for as many leases as the step may make calls. An `Err` is want of memory.
-fn seat_for(alloc: Global, host: &Host, command: &Command) -> Result<Option<Member>, AllocError>
+/// The member that joins by these words takes its place, with memory for as many leases as the step may make calls. An `Err` is want of memory.
+fn seat(
+    alloc: Global,
+    host: &Host,
+    lockspace: &LockspaceArg,
+    place: &mut Option<Member>,
+) -> Result<(), AllocError>
+    requires { MayBeSeated host.now.kept (AddLockspace lockspace.now) }
+    ensures { OnOk result (HasPlace host.now (AddLockspace lockspace.now) place.new) }
+{
+    let leases = calls_for(host);
+    let member = host.seat(alloc, lockspace, host.next_job(), leases)?;
+    *place = Some(member);
+    Ok(())
+}
+
+/// The member that a command joins with, if it does, takes its place. An `Err` is want of memory.
+fn seat_for(
+    alloc: Global,
+    host: &Host,
+    command: &Command,
+    place: &mut Option<Member>,
+) -> Result<(), AllocError>
     requires { MayBeSeated host.now.kept command.now }
-    ensures { IfOk result (HasPlace host.now command.now) }
+    ensures { OnOk result (HasPlace host.now command.now place.new) }
 {
     match command {
-        Command::AddLockspace(lockspace) => {
-            let leases = calls_for(host);
-            let member = host.seat(alloc, lockspace, host.next_job(), leases)?;
-            Ok(Some(member))
-        }
-        _ => Ok(None),
+        Command::AddLockspace(lockspace) => seat(alloc, host, lockspace, place),
+        _ => Ok(()),
     }
 }
 
@@ -103,9 +121,9 @@ fn step_misread(
     ensures used { OnOk result (scratch.new.spare ≡ false) }
     ensures sizes { scratch.new.sizes ≡ scratch.old.sizes }
 {
-    let begun = start(alloc, host, scratch, now, Reach::Few)?;
+    let is_loud = start(alloc, host, scratch, now, Reach::Few)?;
     take_misread(host, column);
-    Ok(conclude(host, scratch, begun.none, begun.is_loud))
+    Ok(conclude(alloc, host, scratch, is_loud))
 }
 
 /// A step at a command whose lists and member are made.
@@ -115,25 +133,25 @@ fn step_prepared(
     host: &mut Host,
     scratch: &mut Scratch,
     now: u64,
-    seat: Option<Member>,
+    seat: &mut Option<Member>,
     lists: Lists,
-    command: Command,
+    command: &Command,
 ) -> Result<Effects, AllocError>
-    requires comes { (text : List ℕ) × StepComes now (LineOf text) host.old.kept × (command_in (forms (layout_of host.old.kept.config.sizes)) text ≡ Ok command) }
+    requires comes { (text : List ℕ) × StepComes now (LineOf text) host.old.kept × (command_in (forms (layout_of host.old.kept.config.sizes)) text ≡ Ok command.now) }
     requires rests { Rests scratch.old host.old }
-    requires lists { FitsLists host.old.kept.config.sizes host.old.seats command lists }
-    requires seat { HasPlace host.old command seat }
-    ensures ok { (text : List ℕ) → StepComes now (LineOf text) host.old.kept → command_in (forms (layout_of host.old.kept.config.sizes)) text ≡ Ok command
+    requires lists { FitsLists host.old.kept.config.sizes host.old.seats command.now lists }
+    requires seat { HasPlace host.old command.now seat.old }
+    ensures ok { (text : List ℕ) → StepComes now (LineOf text) host.old.kept → command_in (forms (layout_of host.old.kept.config.sizes)) text ≡ Ok command.now
         → IfOk result (λ fx. HasStepped now (LineOf text) host.old host.new fx) }
     ensures err { OnErr result (host.new ≡ host.old) }
     ensures rests { OnErr result (Rests scratch.new host.new) }
     ensures used { OnOk result (scratch.new.spare ≡ false) }
     ensures sizes { scratch.new.sizes ≡ scratch.old.sizes }
 {
-    let reach = reach_of(&command);
-    let begun = start(alloc, host, scratch, now, reach)?;
+    let reach = reach_of(command);
+    let is_loud = start(alloc, host, scratch, now, reach)?;
     take_command(host, scratch, seat, lists, command);
-    Ok(conclude(host, scratch, begun.none, begun.is_loud))
+    Ok(conclude(alloc, host, scratch, is_loud))
 }
 
 /// A step at a command.
@@ -143,20 +161,21 @@ fn step_command(
     host: &mut Host,
     scratch: &mut Scratch,
     now: u64,
-    command: Command,
+    command: &Command,
 ) -> Result<Effects, AllocError>
-    requires comes { (text : List ℕ) × StepComes now (LineOf text) host.old.kept × (command_in (forms (layout_of host.old.kept.config.sizes)) text ≡ Ok command) }
+    requires comes { (text : List ℕ) × StepComes now (LineOf text) host.old.kept × (command_in (forms (layout_of host.old.kept.config.sizes)) text ≡ Ok command.now) }
     requires rests { Rests scratch.old host.old }
-    ensures ok { (text : List ℕ) → StepComes now (LineOf text) host.old.kept → command_in (forms (layout_of host.old.kept.config.sizes)) text ≡ Ok command
+    ensures ok { (text : List ℕ) → StepComes now (LineOf text) host.old.kept → command_in (forms (layout_of host.old.kept.config.sizes)) text ≡ Ok command.now
         → IfOk result (λ fx. HasStepped now (LineOf text) host.old host.new fx) }
     ensures err { OnErr result (host.new ≡ host.old) }
     ensures rests { OnErr result (Rests scratch.new host.new) }
     ensures used { OnOk result (scratch.new.spare ≡ false) }
     ensures sizes { scratch.new.sizes ≡ scratch.old.sizes }
 {
-    let lists = Lists::of(alloc, &host.config().geometry, host.seats(), &command)?;
-    let seat = seat_for(alloc, host, &command)?;
-    step_prepared(alloc, host, scratch, now, seat, lists, command)
+    let lists = Lists::of(alloc, &host.config().geometry, host.seats(), command)?;
+    let mut seat = None;
+    seat_for(alloc, host, command, &mut seat)?;
+    step_prepared(alloc, host, scratch, now, &mut seat, lists, command)
 }
 
 /// A step at a line.
@@ -176,7 +195,8 @@ pub(crate) fn step_line(
     ensures used { OnOk result (scratch.new.spare ≡ false) }
     ensures sizes { scratch.new.sizes ≡ scratch.old.sizes }
 {
-    match parse_command(text, &host.config().geometry) {
+    let read = parse_command(text, &host.config().geometry);
+    match &read {
         Err(bad) => step_misread(alloc, host, scratch, now, bad.column),
         Ok(command) => step_command(alloc, host, scratch, now, command),
     }

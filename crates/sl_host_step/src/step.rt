@@ -14,15 +14,14 @@ ghost use Rattle.sl_host_step.specs.declared.step_memory.Reach.TheVariants.{All,
 ghost use Rattle.sl_host_step.specs.declared.step_memory.Reach.{Reach as ReachOf};
 ghost use Rattle.sl_host_step.specs.SpareRoom.{Rests};
 ghost use Rattle.sl_host_step.specs.HostServes.{IsIdle};
-ghost use Rattle.sl_trace.specs.Traces.{no_effects};
 ghost use Rattle.sl_trace.specs.declared.input.Input.TheVariants.{Exit as ExitOf, Number as NumberOf, Spawned as SpawnedOf, Wake as WakeOf};
 ghost use Rattle.sl_trace.specs.declared.input.Input.{Input as InputOf};
 ghost use Rattle.sl_host.specs.Books.{AreFew};
 ghost use Rattle.sl_host.specs.Host.{HostView, SameRun};
-ghost use Rattle.std.specs.Prelude.{IfOk, IsOk, List, OnErr, OnOk, false, length, true, ℕ, ◌*◌, ◌<◌, ◌^◌, ◌≡◌, ◌≤◌};
+ghost use Rattle.std.specs.Prelude.{IfOk, IsOk, List, OnErr, OnOk, false, length, nat_le, true, ℕ, ◌*◌, ◌<◌, ◌^◌, ◌≡◌, ◌≤◌};
 
 use crate::step_memory::{Reach, Scratch, room};
-use sl_host::{Buffers, Host};
+use sl_host::Host;
 use sl_host_passes::{begin_step, calm, exit, finish, spawned, wake};
 use sl_trace::Effects;
 use std::alloc::{AllocError, Global};
@@ -132,57 +131,50 @@ fn grow_calm(host: &mut Host, scratch: &mut Scratch, is_loud: bool)
 
 /// The effects are taken out.
 #[tactic(auto, using(crate::proofs::MomentsFollow::rests))]
-fn rest(host: &mut Host, none: Buffers) -> Effects
+fn rest(alloc: Global, host: &mut Host, scratch: &mut Scratch) -> Effects
     requires done { (now : ℕ) × (i : InputOf) × (first : HostKept) × (k : HostKept) × AllDone now i first k × IsCalmed k host.old.kept }
-    requires none { none ≡ record { made = no_effects; left = 0; calls = 0; most = 0; most_calls = 0 } }
     ensures over { (now : ℕ) (i : InputOf) (first k : HostKept) → AllDone now i first k → IsCalmed k host.old.kept → IsOver now i first host.new.kept result }
     ensures few { AreFew host.old.most host.old.most_calls result }
     ensures idle { IsIdle host.new }
     ensures seats { host.new.seats ≡ host.old.seats }
+    ensures lists { scratch.new ≡ scratch.old }
 {
-    host.rest(none)
+    host.rest(alloc, &mut scratch.none)
 }
 
 /// What comes behind an input, to the step's end.
 pub(crate) fn conclude(
+    alloc: Global,
     host: &mut Host,
     scratch: &mut Scratch,
-    none: Buffers,
     is_loud: bool,
 ) -> Effects
     requires at { (now : ℕ) × (i : InputOf) × (first : HostKept) × AtEnd now i first host.old.kept }
     requires left { (first : HostView) × EndsWith first host.old }
     requires lists { host.old.seats ≤ scratch.old.members }
-    requires none { none ≡ record { made = no_effects; left = 0; calls = 0; most = 0; most_calls = 0 } }
     ensures stepped { (now : ℕ) (i : InputOf) (first : HostView) → AtEnd now i first.kept host.old.kept → EndsWith first host.old → HasStepped now i first host.new result }
     ensures sizes { scratch.new.sizes ≡ scratch.old.sizes }
     ensures spare { scratch.new.spare ≡ scratch.old.spare }
 {
     end(host, scratch);
     grow_calm(host, scratch, is_loud);
-    rest(host, none)
+    rest(alloc, host, scratch)
 }
 
-/// What stands in the place of a step's effects once they are taken out, and whether something may be due by time in it.
-#[derive(Drop)]
-pub(crate) struct Begun {
-    pub(crate) none: Buffers,
-    pub(crate) is_loud: bool,
-}
-
-/// Takes the memory of a step whose input reaches so far, and brings it to its input. An `Err` is want of memory or of numbers, and changes nothing.
+/// Takes the memory of a step whose input reaches so far, and brings it to its input. It tells whether something may be due by time in the step.
+/// An `Err` is want of memory or of numbers, and changes nothing.
 pub(crate) fn start(
     alloc: Global,
     host: &mut Host,
     scratch: &mut Scratch,
     now: u64,
     reach: Reach,
-) -> Result<Begun, AllocError>
+) -> Result<bool, AllocError>
     requires comes { (i : InputOf) × StepComes now i host.old.kept }
     requires rests { Rests scratch.old host.old }
-    ensures none { IfOk result (λ b. b.none ≡ record { made = no_effects; left = 0; calls = 0; most = 0; most_calls = 0 }) }
-    ensures at { (i : InputOf) → StepComes now i host.old.kept → IfOk result (λ b. AtInput now i host.old.kept host.new.kept) }
-    ensures left { IfOk result (λ b. HasLeft reach host.old host.new × Suffices scratch.new host.new) }
+    ensures loud { IfOk result (λ is_loud. is_loud ≡ nat_le host.old.kept.quiet_until now) }
+    ensures at { (i : InputOf) → StepComes now i host.old.kept → OnOk result (AtInput now i host.old.kept host.new.kept) }
+    ensures left { OnOk result (HasLeft reach host.old host.new × Suffices scratch.new host.new) }
     ensures err { OnErr result (host.new ≡ host.old) }
     ensures rests { OnErr result (Rests scratch.new host.new) }
     ensures used { OnOk result (scratch.new.spare ≡ false) }
@@ -190,9 +182,9 @@ pub(crate) fn start(
     ensures sizes { scratch.new.sizes ≡ scratch.old.sizes }
 {
     let is_loud = host.quiet_until() <= now;
-    let none = room(alloc, host, scratch, reach.at(is_loud))?;
+    room(alloc, host, scratch, reach.at(is_loud))?;
     begin(host, scratch, now);
-    Ok(Begun { none, is_loud })
+    Ok(is_loud)
 }
 
 /// A wake.
@@ -211,9 +203,9 @@ pub(crate) fn step_wake(
     ensures spared { scratch.old.spare ≡ true → IsOk result }
     ensures sizes { scratch.new.sizes ≡ scratch.old.sizes }
 {
-    let begun = start(alloc, host, scratch, now, Reach::All)?;
+    let is_loud = start(alloc, host, scratch, now, Reach::All)?;
     take_wake(host, scratch);
-    Ok(conclude(host, scratch, begun.none, begun.is_loud))
+    Ok(conclude(alloc, host, scratch, is_loud))
 }
 
 /// An exit.
@@ -233,9 +225,9 @@ pub(crate) fn step_exit(
     ensures spared { scratch.old.spare ≡ true → IsOk result }
     ensures sizes { scratch.new.sizes ≡ scratch.old.sizes }
 {
-    let begun = start(alloc, host, scratch, now, Reach::All)?;
+    let is_loud = start(alloc, host, scratch, now, Reach::All)?;
     take_exit(host, scratch, process);
-    Ok(conclude(host, scratch, begun.none, begun.is_loud))
+    Ok(conclude(alloc, host, scratch, is_loud))
 }
 
 /// The answer to a start.
@@ -256,9 +248,9 @@ pub(crate) fn step_start(
     ensures spared { scratch.old.spare ≡ true → IsOk result }
     ensures sizes { scratch.new.sizes ≡ scratch.old.sizes }
 {
-    let begun = start(alloc, host, scratch, now, Reach::All)?;
+    let is_loud = start(alloc, host, scratch, now, Reach::All)?;
     take_start(host, scratch, process, ok);
-    Ok(conclude(host, scratch, begun.none, begun.is_loud))
+    Ok(conclude(alloc, host, scratch, is_loud))
 }
 
 /// A line that takes a number alone.
@@ -277,7 +269,7 @@ pub(crate) fn step_number(
     ensures spared { scratch.old.spare ≡ true → IsOk result }
     ensures sizes { scratch.new.sizes ≡ scratch.old.sizes }
 {
-    let begun = start(alloc, host, scratch, now, Reach::Few)?;
+    let is_loud = start(alloc, host, scratch, now, Reach::Few)?;
     take_number(host);
-    Ok(conclude(host, scratch, begun.none, begun.is_loud))
+    Ok(conclude(alloc, host, scratch, is_loud))
 }

@@ -2,7 +2,8 @@
 //!
 //! A step may have to do with each job, holding, lease and session: so much it then has room for, of effects and of calls. Where nothing is due by
 //! time, most inputs have to do with a few of them: a step at such an input has room for these and for what comes last of each session, however
-//! much the host holds. That is the step's `Reach`. The lists that it goes by keep their memory from step to step.
+//! much the host holds. That is the step's `Reach`. The lists that it goes by keep their memory from step to step, and the memory of effects that were
+//! told serves those of a later step.
 //!
 //! The room of one step more can be taken ahead, whatever its input. It then stands by, so that a recovery still kills whom it must where no memory
 //! is left.
@@ -18,7 +19,7 @@ ghost use Rattle.std.specs.Prelude.{IfOk, IsOk, OnErr, OnOk, false, length, min,
 use sl_area::Geometry;
 use sl_host::{Buffers, Host, Notes};
 use sl_lease::Blocks;
-use sl_trace::{Grant, Spot};
+use sl_trace::{Effects, Grant, Spot};
 use std::alloc::{AllocError, Global};
 use std::marker::Model;
 
@@ -28,8 +29,8 @@ const ROOM_END: usize = 0x8000_0000;
 /// A host counts no more steps.
 const LAST_ENTRY: u64 = 0x8000_0000_0000_0000;
 
-/// Lists that a step goes by: numbers of members and jobs, areas, orphans, and the blocks of a read in areas of these sizes. Where the host has the room of a step
-/// already, `spare` is what is to stand in the place of that step's effects.
+/// Lists that a step goes by: numbers of members and jobs, areas, orphans, and the blocks of a read in areas of these sizes. `none` holds no effects,
+/// but memory of such that were told; `spare` is whether the host has the room of a step already.
 #[derive(Drop)]
 pub(crate) struct Scratch {
     pub(crate) members: Notes<u64>,
@@ -39,20 +40,21 @@ pub(crate) struct Scratch {
     geometry: Geometry,
     pub(crate) blocks: Blocks,
     job_room: usize,
-    spare: Option<Buffers>,
+    pub(crate) none: Buffers,
+    spare: bool,
 }
 
 impl Model for Scratch {
     ghost use Rattle.sl_host_step.specs.StepMemory.{ScratchState};
     ghost use Rattle.sl_lease.specs.Reads.{HasPlaces};
-    ghost use Rattle.sl_trace.specs.Traces.{no_effects};
-    ghost use Rattle.std.specs.Prelude.{IfSome, is_some, ◌≡◌, ◌≤◌};
+    ghost use Rattle.sl_host.specs.Books.{no_buffers};
+    ghost use Rattle.std.specs.Prelude.{is_some, ◌≡◌, ◌≤◌};
 
     ghost Value = { ScratchState };
 
-    ghost view = { λ s. record { members = s.members.most; jobs = s.jobs.most; spots = s.spots.most; orphans = s.orphans.most; sizes = s.geometry; kept = is_some s.blocks.kept; spare = is_some s.spare } };
+    ghost view = { λ s. record { members = s.members.most; jobs = s.jobs.most; spots = s.spots.most; orphans = s.orphans.most; sizes = s.geometry; kept = is_some s.blocks.kept; spare = s.spare } };
 
-    ghost invariant = { λ s. (s.job_room ≤ s.jobs.most) × HasPlaces s.geometry s.blocks × IfSome s.spare (λ none. none ≡ record { made = no_effects; left = 0; calls = 0; most = 0; most_calls = 0 }) };
+    ghost invariant = { λ s. (s.job_room ≤ s.jobs.most) × HasPlaces s.geometry s.blocks × (s.none ≡ no_buffers) };
 }
 
 impl Scratch {
@@ -70,7 +72,8 @@ impl Scratch {
             geometry: *geometry,
             blocks,
             job_room: 0,
-            spare: None,
+            none: Buffers::none(alloc),
+            spare: false,
         }
     }
 
@@ -89,6 +92,13 @@ impl Scratch {
         self.job_room = jobs;
         self.spots.reserve(leases)?;
         self.orphans.reserve(host.holding_count())
+    }
+
+    /// The memory of effects that were told may serve a later step.
+    pub(crate) fn take_back(&mut self, told: Effects)
+        ensures { self.new ≡ self.old }
+    {
+        self.none.give_back(told);
     }
 
     /// For how many jobs there is memory.
@@ -198,17 +208,15 @@ pub(crate) fn calls_for(host: &Host) -> usize
     Counts::of(host).calls()
 }
 
-/// Takes the memory of a step with this reach, and makes what stands in the place of its effects once they are taken out. An `Err` is want of
-/// memory, or of numbers of calls, jobs, children or steps, and changes nothing.
+/// Takes the memory of a step with this reach. An `Err` is want of memory, or of numbers of calls, jobs, children or steps, and changes nothing.
 fn take_room(
     alloc: Global,
     host: &mut Host,
     scratch: &mut Scratch,
     reach: Reach,
-) -> Result<Buffers, AllocError>
+) -> Result<(), AllocError>
     requires idle { IsIdle host.old }
     requires made { host.old.kept.made ≡ no_effects }
-    ensures none { IfOk result (λ none. none ≡ record { made = no_effects; left = 0; calls = 0; most = 0; most_calls = 0 }) }
     ensures ok { OnOk result (HasRoom reach host.old host.new × Suffices scratch.new host.old) }
     ensures err { OnErr result (host.new ≡ host.old) }
     ensures sizes { scratch.new.sizes ≡ scratch.old.sizes }
@@ -220,9 +228,8 @@ fn take_room(
     }
     let near = counts.within(reach);
     scratch.reserve(alloc, host, counts.leases)?;
-    let none = Buffers::new(alloc, 0, 0)?;
     host.reserve(near.effects(), near.calls())?;
-    Ok(none)
+    Ok(())
 }
 
 /// The room of a step with this reach: what stands by, or memory that is taken now. An `Err` is as above, and never comes where room stands by.
@@ -232,10 +239,9 @@ pub(crate) fn room(
     host: &mut Host,
     scratch: &mut Scratch,
     reach: Reach,
-) -> Result<Buffers, AllocError>
+) -> Result<(), AllocError>
     requires rests { Rests scratch.old host.old }
     requires made { host.old.kept.made ≡ no_effects }
-    ensures none { IfOk result (λ none. none ≡ record { made = no_effects; left = 0; calls = 0; most = 0; most_calls = 0 }) }
     ensures ok { OnOk result (HasRoom reach host.old host.new × Suffices scratch.new host.old) }
     ensures used { OnOk result (scratch.new.spare ≡ false) }
     ensures err { OnErr result (host.new ≡ host.old) }
@@ -243,10 +249,11 @@ pub(crate) fn room(
     ensures sizes { scratch.new.sizes ≡ scratch.old.sizes }
     ensures spared { scratch.old.spare ≡ true → IsOk result }
 {
-    match scratch.spare.take() {
-        Some(none) => Ok(none),
-        None => take_room(alloc, host, scratch, reach),
+    if scratch.spare {
+        scratch.spare = false;
+        return Ok(());
     }
+    take_room(alloc, host, scratch, reach)
 }
 
 /// Sees that the room of one step stands by, whatever its input. An `Err` is as above.
@@ -264,10 +271,10 @@ pub(crate) fn stand_by(
     ensures err { OnErr result (host.new ≡ host.old) }
     ensures sizes { scratch.new.sizes ≡ scratch.old.sizes }
 {
-    if scratch.spare.is_some() {
+    if scratch.spare {
         return Ok(());
     }
-    let none = take_room(alloc, host, scratch, Reach::All)?;
-    scratch.spare = Some(none);
+    take_room(alloc, host, scratch, Reach::All)?;
+    scratch.spare = true;
     Ok(())
 }

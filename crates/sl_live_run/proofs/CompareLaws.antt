@@ -25,12 +25,13 @@ pub line_differs : (a : AlongState) (h : List Entry) (due : List GivenLine) (num
     → LineDiffers a h due number asked expected → HistoryDiffers a h due d
 line_differs a h due number asked expected d is so = subst (HistoryDiffers a h due) (sym is) so
 
-left_differs_so : (a : AlongState) (h : List Entry) (due : List GivenLine) (u : Unanswered) → IsUnanswered h u → HistoryDiffers a h due (left_case u)
-left_differs_so a h due (CallLeft number call) so = so
-left_differs_so a h due (StartLeft number process) so = so
+left_differs_so : (a : AlongState) (h : List Entry) (due : List GivenLine) (u : Unanswered) → AreLines a h due → IsUnanswered h u → HistoryDiffers a h due (left_case u)
+left_differs_so a h due (CallLeft number call) lines so = (lines, so)
+left_differs_so a h due (StartLeft number process) lines so = (lines, so)
 
-pub left_differs : (a : AlongState) (h : List Entry) (due : List GivenLine) (u : Unanswered) (d : LiveDiffer) → d ≡ left_case u → IsUnanswered h u → HistoryDiffers a h due d
-left_differs a h due u d is so = subst (HistoryDiffers a h due) (sym is) (left_differs_so a h due u so)
+pub left_differs : (a : AlongState) (h : List Entry) (due : List GivenLine) (u : Unanswered) (d : LiveDiffer) → d ≡ left_case u → AreLines a h due → IsUnanswered h u
+    → HistoryDiffers a h due d
+left_differs a h due u d is lines so = subst (HistoryDiffers a h due) (sym is) (left_differs_so a h due u lines so)
 
 no_history_so : (machine : ℕ) (a : AlongState) (due : List GivenLine) (e : CloseError) → IsStopOf machine a (Err e) due (stop_of machine e)
 no_history_so machine a due (Differs d) = (refl, (d, refl, refl))

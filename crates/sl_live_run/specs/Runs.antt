@@ -115,12 +115,12 @@ abbrev pub left_case : Unanswered → LiveDiffer
 left_case (CallLeft number call) = Left number call
 left_case (StartLeft number process) = Untold number process
 
--- The history's lines are not those due, or something of it is not answered.
+-- The history's lines are not those due; or they are, and something of it is not answered.
 abbrev pub HistoryDiffers : AlongState → List Entry → List GivenLine → LiveDiffer → Type 0
 HistoryDiffers a h due (Cell d) = ⊥
 HistoryDiffers a h due (Line number asked expected) = LineDiffers a h due number asked expected
-HistoryDiffers a h due (Left number call) = IsUnanswered h (CallLeft number call)
-HistoryDiffers a h due (Untold number process) = IsUnanswered h (StartLeft number process)
+HistoryDiffers a h due (Left number call) = AreLines a h due × IsUnanswered h (CallLeft number call)
+HistoryDiffers a h due (Untold number process) = AreLines a h due × IsUnanswered h (StartLeft number process)
 
 -- Why there are no histories, where a machine's cell gave none.
 abbrev pub stop_of : ℕ → CloseError → LiveStop
@@ -173,12 +173,15 @@ pub record AreLiveHistories {D : Type 0} (stands : D → Setting → Trace → T
   pub each : (place : ℕ) (site : Site) (h : List Entry) → slice_get sites place ≡ Some site → slice_get hs place ≡ Some h
       → IsLiveHistory stands (begun_with commands header site) (begun_on header site) (lines_for (place + 1) lines) h
 
--- A case holds of a machine of this setting, to which the script gave these lines.
+-- A case holds of a machine of this setting, to which the script gave these lines. Where a call or a start is left unanswered, its history has just
+-- these lines.
 abbrev pub IsLiveCase : {D : Type 0} → (D → Setting → Trace → Type 0) → Setting → AlongState → List GivenLine → LiveDiffer → Type 0
 IsLiveCase stands st a given (Cell d) = IsCaseOfRun st d
 IsLiveCase stands st a given (Line number asked due) = (h : List Entry) × Stood stands st (reverse h) × IsRun st h × LineDiffers a h given number asked due
-IsLiveCase stands st a given (Left number call) = (h : List Entry) × Stood stands st (reverse h) × IsRun st h × IsUnanswered h (CallLeft number call)
-IsLiveCase stands st a given (Untold number process) = (h : List Entry) × Stood stands st (reverse h) × IsRun st h × IsUnanswered h (StartLeft number process)
+IsLiveCase stands st a given (Left number call) =
+    (h : List Entry) × Stood stands st (reverse h) × IsRun st h × AreLines a h given × IsUnanswered h (CallLeft number call)
+IsLiveCase stands st a given (Untold number process) =
+    (h : List Entry) × Stood stands st (reverse h) × IsRun st h × AreLines a h given × IsUnanswered h (StartLeft number process)
 
 -- .. of the machine of this number, counted from 1, which the stop names.
 pub record LiveCaseOf {D : Type 0} (stands : D → Setting → Trace → Type 0) (commands : Header → List (Form Command)) (header : Header) (sites : List Site)

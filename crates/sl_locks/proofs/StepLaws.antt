@@ -1,5 +1,6 @@
 -- The parts of a step are those of the definition.
-use Rattle.sl_locks.specs.Steps.{ask_numbered, given_number, heard_by, is_asked, lock_input, turned_by}
+use Rattle.sl_locks.specs.Replies.{told_as}
+use Rattle.sl_locks.specs.Steps.{IsTurned, ask_numbered, given_number, heard_by, is_asked, is_quiet, lock_input, turned_by}
 use Rattle.sl_locks.specs.Tables.{locks_of}
 use Rattle.sl_locks.specs.declared.ask.Ask.{Ask}
 use Rattle.sl_locks.specs.declared.line_steps.LockInput.TheVariants.{Exit as LockExit, Line as LockLine, Nothing, Number as LockNumber}
@@ -8,10 +9,11 @@ use Rattle.sl_locks.specs.declared.table.LvmLocks.{LvmLocks}
 use Rattle.sl_run.specs.Locks.{Locks, Told, ended_locks, left_locks, locks_after, numbered_locks, replied_locks, told_effects, turned_locks}
 use Rattle.sl_trace.specs.declared.effects.Effects.{Effects}
 use Rattle.sl_trace.specs.declared.effects.JobReply.{JobReply}
+use Rattle.sl_words.proofs.CaseLaws.{false_is_true}
 use Rattle.std.proofs.Common.{List, None, Option, Some, [], ap, arith, cond, eqb, refl, sym, ℕ, ◌≡◌, ◌∙◌, ◌∷◌}
 use Rattle.std.proofs.lemmas.Bool.Decides.{nat_tests}
 use Rattle.std.specs.List.{find}
-use Rattle.std.specs.Prelude.{filter, is_some, not, option_and_then, option_map, ◌==◌}
+use Rattle.std.specs.Prelude.{filter, is_some, not, option_and_then, option_map, true, ◌==◌}
 
 -- ---- numbers
 
@@ -50,6 +52,39 @@ turns_are LockLine fx k = replied fx k
 turns_are (LockNumber text) fx k = refl
 turns_are (LockExit p) fx k = replied fx k
 turns_are Nothing fx k = replied fx k
+
+-- ---- a step that brings no turn
+
+-- With no ask noted nothing is a reply to it.
+all_told : (rs : List JobReply) → filter (λ a. not (is_asked None a)) rs ≡ rs
+all_told [] = refl
+all_told (r ∷ rs) = ap (λ (ys : List JobReply). r ∷ ys) (all_told rs)
+
+quiet_turn : (i : LockInput) (asked : Option ℕ) (rs : List JobReply) (k : Locks) → is_quiet i asked ≡ true → turned_by i (find (is_asked asked) rs) k ≡ (k, None)
+quiet_turn (LockNumber text) asked rs k quiet = absurd (false_is_true quiet)
+quiet_turn LockLine None rs k quiet = ap (λ o. heard_by o k) (nothing_asked rs)
+quiet_turn LockLine (Some n) rs k quiet = absurd (false_is_true quiet)
+quiet_turn (LockExit p) None rs k quiet = ap (λ o. heard_by o k) (nothing_asked rs)
+quiet_turn (LockExit p) (Some n) rs k quiet = absurd (false_is_true quiet)
+quiet_turn Nothing None rs k quiet = ap (λ o. heard_by o k) (nothing_asked rs)
+quiet_turn Nothing (Some n) rs k quiet = absurd (false_is_true quiet)
+
+quiet_replies : (i : LockInput) (asked : Option ℕ) (rs : List JobReply) → is_quiet i asked ≡ true → filter (λ a. not (is_asked asked a)) rs ≡ rs
+quiet_replies (LockNumber text) asked rs quiet = absurd (false_is_true quiet)
+quiet_replies LockLine None rs quiet = all_told rs
+quiet_replies LockLine (Some n) rs quiet = absurd (false_is_true quiet)
+quiet_replies (LockExit p) None rs quiet = all_told rs
+quiet_replies (LockExit p) (Some n) rs quiet = absurd (false_is_true quiet)
+quiet_replies Nothing None rs quiet = all_told rs
+quiet_replies Nothing (Some n) rs quiet = absurd (false_is_true quiet)
+
+pub quiet_step : (i : LockInput) (fx : Effects) (t new : LvmLocks) → is_quiet i t.asked ≡ true → (locks_of new, told_as None) ≡ ended_locks (lock_input i) (locks_of t, told_as None)
+    → IsTurned i fx t new (record { effects = fx; line = None })
+quiet_step i fx t new quiet ends =
+    record {
+      left = ends ∙ ap (ended_locks (lock_input i)) (sym (quiet_turn i t.asked fx.replies (locks_of t) quiet));
+      effects = ap (λ (rs : List JobReply). record fx { replies = rs }) (sym (quiet_replies i t.asked fx.replies quiet));
+    }
 
 -- ---- the whole step
 

@@ -1,7 +1,7 @@
 //! The place of the locks in a daemon's steps: which number a line or an ask takes, which reply is that to an ask, and what is told of a step.
 
 ghost use Rattle.sl_locks.specs.Replies.{told_as};
-ghost use Rattle.sl_locks.specs.Steps.{given_number, heard_by, is_asked, lock_input, turned_by};
+ghost use Rattle.sl_locks.specs.Steps.{IsTurned, given_number, heard_by, is_asked, is_quiet, lock_input, turned_by};
 ghost use Rattle.sl_locks.specs.Tables.{has_room, left_by, locks_of};
 ghost use Rattle.sl_run.specs.Locks.{Told, ended_locks, is_lock_exit, locks_after, told_effects};
 ghost use Rattle.std.specs.List.{position};
@@ -38,6 +38,18 @@ fn is_lock_exit(input: &LockInput) -> bool
         LockInput::Line => false,
         LockInput::Number(_) => false,
         LockInput::Nothing => false,
+    }
+}
+
+/// Whether a step brings no turn: no ask waits for a reply, and no line comes.
+fn is_quiet(input: &LockInput, asked: Option<u64>) -> bool
+    ensures { result ≡ is_quiet input.now asked }
+{
+    match input {
+        LockInput::Number(_) => false,
+        LockInput::Line => asked.is_none(),
+        LockInput::Exit(_) => asked.is_none(),
+        LockInput::Nothing => asked.is_none(),
     }
 }
 
@@ -158,6 +170,34 @@ impl LvmLocks {
         }
     }
 
+    /// What a step brings that may bring a turn: its replies are looked through for that to the ask.
+    fn turn_by(&mut self, input: &LockInput, effects: Effects) -> StepTold
+        requires { has_room self.old ≡ true }
+        ensures { IsTurned input.now effects self.old self.new result }
+    {
+        let asked = self.asked;
+        let (effects, reply) = split_reply(effects, asked);
+        let line = self.hear(input, reply);
+        self.end_by(input);
+        StepTold { effects, line }
+    }
+
+    /// What a step brings. Few bring a turn, and what a turn keeps of a reply is large: so it stands in a function of its own, and a step without
+    /// one sets and moves nothing of it.
+    fn turn_numbered(&mut self, input: &LockInput, effects: Effects) -> StepTold
+        requires { has_room self.old ≡ true }
+        ensures { IsTurned input.now effects self.old self.new result }
+    {
+        if is_quiet(input, self.asked) {
+            self.end_by(input);
+            return StepTold {
+                effects,
+                line: None,
+            };
+        }
+        self.turn_by(input, effects)
+    }
+
     /// The step with this number, input and effects; the answer is what is told of it. It takes no memory.
     pub fn turn(&mut self, number: u64, input: LockInput, effects: Effects) -> StepTold
         requires { has_room self.old ≡ true }
@@ -167,10 +207,6 @@ impl LvmLocks {
     {
         self.leave(&effects);
         self.take_number(number, &input);
-        let asked = self.asked;
-        let (effects, reply) = split_reply(effects, asked);
-        let line = self.hear(&input, reply);
-        self.end_by(&input);
-        StepTold { effects, line }
+        self.turn_numbered(&input, effects)
     }
 }

@@ -147,8 +147,8 @@ impl<L: LockTable> Kept<L> {
         }
     }
 
-    /// What a write leaves that takes effect in part, or why it may not. What it leaves is read here, once. An `Err` is want of memory.
-    /// Nothing that is seen changes.
+    /// What a write leaves that takes effect in part, or why it may not: its bytes may spell no record, so they are made and read. That is done anew at
+    /// each call: for whether the event may happen, and when it happens. An `Err` is want of memory. Nothing that is seen changes.
     pub fn tearing(
         &mut self,
         machine: u32,

@@ -243,6 +243,13 @@ fn cut_all(items: &mut VecDeque<Flight>, moment: u64)
     }
 }
 
+/// Whether there is room for so many calls more.
+fn has_room(items: &VecDeque<Flight>, more: usize) -> bool
+    ensures { result ≡ true → deque_len items.now + more ≤ deque_capacity items.now }
+{
+    more <= items.capacity() - items.len()
+}
+
 impl Flights {
     /// No calls; the next has this number.
     pub fn new(alloc: Global, next: u64) -> Flights
@@ -327,11 +334,17 @@ impl Flights {
     }
 
     /// Takes the memory that so many calls more need. An `Err` is want of it.
+    ///
+    /// Calls are put in front, so a block that gets too small is not enlarged: all are copied to a new one, which has room for what was asked and
+    /// no more. A step may make one call more with each lease that its daemon has, so twice as much is asked for: else each acquire would copy all.
     pub fn reserve(&mut self, more: usize) -> Result<(), AllocError>
         ensures room { OnOk result (deque_len self.new.items + more ≤ deque_capacity self.new.items) }
         ensures same { (self.new.items.items ≡ self.old.items.items) × (self.new.next ≡ self.old.next) }
     {
-        self.items.reserve(more)
+        if has_room(&self.items, more) {
+            return Ok(());
+        }
+        self.items.reserve(more.saturating_add(more))
     }
 
     /// The way of a write ends so.

@@ -4,7 +4,7 @@ use Rattle.sl_world_state.specs.KeptWorld.{KeptState, MachineState, machine_in}
 use Rattle.sl_world_state.specs.SaneWorlds.{WorldStands}
 use Rattle.sl_locks.specs.declared.line_steps.StepTold.{StepTold}
 use Rattle.sl_machine.specs.KeptParts.{kept_state}
-use Rattle.sl_play.specs.Plays.{Answers, AnswersStep, HasStepped, PassesCounts, PlayState, StandsFor, after_error, test_told, untold}
+use Rattle.sl_play.specs.Plays.{Answers, HasHappened, PassesCounts, PlayState, StandsFor, after_error, test_told}
 use Rattle.sl_play.specs.ToldSteps.{AreCounted, counts_with, told_view, tests_told}
 use Rattle.sl_play.specs.declared.step_counts.PlayError.TheVariants.{NoMemory, TooMany}
 use Rattle.sl_play.specs.declared.step_counts.PlayError.{PlayError}
@@ -41,7 +41,7 @@ use Rattle.std.proofs.Common.{Bool, List, false, not, ◌==◌, None, Option, So
 use Rattle.std.proofs.lemmas.List.{append-nil}
 use Rattle.std.specs.List.{flat_map}
 use Rattle.std.specs.Option.{option_map_or}
-use Rattle.std.specs.Prelude.{Err, IfOk, Ok, OnErr, Result, if◌then◌else◌, sum_by, ◌⊎◌}
+use Rattle.std.specs.Prelude.{Err, IfOk, Ok, Result, if◌then◌else◌, sum_by, ◌⊎◌}
 use Rattle.std.specs.Result.{IsErrAnd}
 
 -- ---- what is told
@@ -124,11 +124,11 @@ text_told commands stands k hosts w e fx told test s may is tests =
     ∙ ap (λ ls. step_lines (machine_of e) (told_in k e fx) ++ ls) (tests_so k e)
     ∙ lines_so w e fx (told_in k e fx) (tested_lines e (tested_in k e)) t.step t.tests
 
-pub has_stepped : {D : Type 0} (commands : Header → List (Form Command)) (stands : D → Setting → Trace → Type 0) (p n : PlayState D) (e : Event) (m : ℕ) (ask : Bool) (test : Option Bool)
+pub has_happened : {D : Type 0} (commands : Header → List (Form Command)) (stands : D → Setting → Trace → Type 0) (p n : PlayState D) (e : Event) (m : ℕ) (ask : Bool) (test : Option Bool)
     (told : StepTold) (out now : List ℕ) → ComesTold commands stands p.kept p.hosts e n.kept n.hosts told → m ≡ machine_of e → ask ≡ is_ask e → test ≡ test_told p.kept e
     → n.counts ≡ counts_with ask told (conflicts_left n.kept m (length told.effects.grants)) p.counts
-    → now ≡ out ++ as_bytes (step_lines m (told_view told) ++ tests_told m test) → HasStepped commands stands p e out n now told
-has_stepped commands stands p n e m ask test told out now comes machine asks tests counts text =
+    → now ≡ out ++ as_bytes (step_lines m (told_view told) ++ tests_told m test) → HasHappened commands stands p e out n now
+has_happened commands stands p n e m ask test told out now comes machine asks tests counts text =
     record {
       effects = comes.effects;
       in_each = λ w s.
@@ -141,7 +141,6 @@ has_stepped commands stands p n e m ask test told out now comes machine asks tes
             text = text ∙ ap (λ k. out ++ as_bytes (step_lines k (told_view told) ++ tests_told k test)) machine
                 ∙ ap (λ ls. out ++ as_bytes ls) (text_told commands stands p.kept p.hosts w e comes.effects told test s c.may comes.told_is tests);
           };
-      told_is = λ w s. let t = telling_is_kept commands p.kept w s.tells s.sane e (comes.comes w s).may comes.effects in t.step ∙ ap (λ x. x ∷ []) (sym comes.told_is);
     }
 
 -- Where a count would be too great.
@@ -175,10 +174,10 @@ pub told_so : {D L : Type 0} (locks : L → Locks) (commands : Header → List (
     → ComesTold commands stands p.kept p.hosts e (kept_state locks x.kept) x.hosts told → m ≡ machine_of e → ask ≡ is_ask e → test ≡ test_told p.kept e
     → counts ≡ counts_with ask told (conflicts_left (kept_state locks x.kept) m (length told.effects.grants)) p.counts
     → now ≡ out ++ as_bytes (step_lines m (told_view told) ++ tests_told m test)
-    → HasStepped commands stands p e out (record { kept = kept_state locks y.kept; hosts = y.hosts; counts = counts }) now told
+    → HasHappened commands stands p e out (record { kept = kept_state locks y.kept; hosts = y.hosts; counts = counts }) now
 told_so {D} {L} locks commands stands p x y counts e m ask test told out now same comes machine asks tests counted text =
-    subst (λ (z : KeptWorld D L). HasStepped commands stands p e out (record { kept = kept_state locks z.kept; hosts = z.hosts; counts = counts }) now told) (sym same)
-    (has_stepped commands stands p (record { kept = kept_state locks x.kept; hosts = x.hosts; counts = counts }) e m ask test told out now comes machine asks tests counted text)
+    subst (λ (z : KeptWorld D L). HasHappened commands stands p e out (record { kept = kept_state locks z.kept; hosts = z.hosts; counts = counts }) now) (sym same)
+    (has_happened commands stands p (record { kept = kept_state locks x.kept; hosts = x.hosts; counts = counts }) e m ask test told out now comes machine asks tests counted text)
 
 pub stands_so : {D L : Type 0} (locks : L → Locks) (commands : Header → List (Form Command)) (stands : D → Setting → Trace → Type 0) (p : PlayState D) (x y : KeptWorld D L) (e : Event)
     (told : StepTold) → y ≡ x → StandsFor commands stands p → ComesTold commands stands p.kept p.hosts e (kept_state locks x.kept) x.hosts told
@@ -224,87 +223,46 @@ calm_still locks y x calm same known = λ is.
 -- ---- an event that isn't applied
 
 -- An error of an event.
-abbrev err_told : ApplyError → Result StepTold ApplyError
-err_told e = Err e
+abbrev err_of : (A : Type 0) → ApplyError → Result A ApplyError
+err_of A e = Err e
 
-pub refused_ok : {D : Type 0} (commands : Header → List (Form Command)) (stands : D → Setting → Trace → Type 0) (p : PlayState D) (e : Event) (out : List ℕ) (after : KeptState) (running : List (Option D))
-    (error : ApplyError) (r : Result (Result StepTold Refusal) PlayError) → r ≡ after_error error → IsSame p.kept p.hosts after running
-    → ((w : World) → WorldStands commands stands p.kept p.hosts w → (why : Refusal) → err_told error ≡ Err (Refused why) → refusal_of w e ≡ Some why)
-    → IfOk r (AnswersStep commands stands p e out (record { kept = after; hosts = running; counts = p.counts }) out)
+pub refused_ok : {A D : Type 0} (commands : Header → List (Form Command)) (stands : D → Setting → Trace → Type 0) (p : PlayState D) (e : Event) (out : List ℕ) (after : KeptState) (running : List (Option D))
+    (error : ApplyError) (r : Result (Option Refusal) PlayError) → r ≡ after_error error → IsSame p.kept p.hosts after running
+    → ((w : World) → WorldStands commands stands p.kept p.hosts w → (why : Refusal) → err_of A error ≡ Err (Refused why) → refusal_of w e ≡ Some why)
+    → IfOk r (Answers commands stands p e out (record { kept = after; hosts = running; counts = p.counts }) out)
 refused_ok commands stands p e out after running (Refused why) r is same only =
-    subst (λ x. IfOk x (AnswersStep commands stands p e out (record { kept = after; hosts = running; counts = p.counts }) out)) (sym is)
+    subst (λ x. IfOk x (Answers commands stands p e out (record { kept = after; hosts = running; counts = p.counts }) out)) (sym is)
     (record { same = record { kept = same.kept; hosts = same.hosts_are; counts = refl }; text = refl; barred = λ w s. only w s why refl })
 refused_ok commands stands p e out after running OutOfMemory r is same only =
-    subst (λ x. IfOk x (AnswersStep commands stands p e out (record { kept = after; hosts = running; counts = p.counts }) out)) (sym is) tt
+    subst (λ x. IfOk x (Answers commands stands p e out (record { kept = after; hosts = running; counts = p.counts }) out)) (sym is) tt
 
-pub refused_so : (error : ApplyError) (r : Result (Result StepTold Refusal) PlayError) (why : Refusal) (tear : Type 0) → r ≡ after_error error
-    → (err_told error ≡ Err (Refused why)) ⊎ (tear × (err_told error ≡ Err OutOfMemory)) → (r ≡ Ok (Err why)) ⊎ (tear × (r ≡ Err NoMemory))
-refused_so (Refused other) r why tear is (inl same) = inl (is ∙ ap (λ x. Ok (Err x)) (same_why other why same))
+pub refused_so : {A : Type 0} (error : ApplyError) (r : Result (Option Refusal) PlayError) (why : Refusal) (tear : Type 0) → r ≡ after_error error
+    → (err_of A error ≡ Err (Refused why)) ⊎ (tear × (err_of A error ≡ Err OutOfMemory)) → (r ≡ Ok (Some why)) ⊎ (tear × (r ≡ Err NoMemory))
+refused_so {A} (Refused other) r why tear is (inl same) = inl (is ∙ ap (λ x. Ok (Some x)) (same_why other why same))
   where
-    same_why : (a b : Refusal) → err_told (Refused a) ≡ Err (Refused b) → a ≡ b
+    same_why : (a b : Refusal) → err_of A (Refused a) ≡ Err (Refused b) → a ≡ b
     same_why a b e = cc
-refused_so (Refused other) r why tear is (inr memory) = absurd (never other memory.1)
+refused_so {A} (Refused other) r why tear is (inr memory) = absurd (never other memory.1)
   where
-    never : (a : Refusal) → err_told (Refused a) ≡ Err OutOfMemory → ⊥
+    never : (a : Refusal) → err_of A (Refused a) ≡ Err OutOfMemory → ⊥
     never a e = absurd cc
-refused_so OutOfMemory r why tear is (inl same) = absurd (never why same)
+refused_so {A} OutOfMemory r why tear is (inl same) = absurd (never why same)
   where
-    never : (a : Refusal) → err_told OutOfMemory ≡ Err (Refused a) → ⊥
+    never : (a : Refusal) → err_of A OutOfMemory ≡ Err (Refused a) → ⊥
     never a e = absurd cc
-refused_so OutOfMemory r why tear is (inr memory) = inr (memory.0, is)
+refused_so {A} OutOfMemory r why tear is (inr memory) = inr (memory.0, is)
 
-pub never_many : {A : Type 0} (error : ApplyError) (r : Result (Result StepTold Refusal) PlayError) → r ≡ after_error error → r ≡ Err TooMany → A
+pub never_many : {A : Type 0} (error : ApplyError) (r : Result (Option Refusal) PlayError) → r ≡ after_error error → r ≡ Err TooMany → A
 never_many (Refused why) r is many = absurd (never r why is many)
   where
-    never : (r : Result (Result StepTold Refusal) PlayError) (a : Refusal) → r ≡ Ok (Err a) → r ≡ Err TooMany → ⊥
+    never : (r : Result (Option Refusal) PlayError) (a : Refusal) → r ≡ Ok (Some a) → r ≡ Err TooMany → ⊥
     never r a p q = absurd cc
 never_many OutOfMemory r is many = absurd (never r is many)
   where
-    never : (r : Result (Result StepTold Refusal) PlayError) → r ≡ Err NoMemory → r ≡ Err TooMany → ⊥
+    never : (r : Result (Option Refusal) PlayError) → r ≡ Err NoMemory → r ≡ Err TooMany → ⊥
     never r p q = absurd cc
 
 -- What is handed on is what was answered.
 pub handed_on : {A E : Type 0} (r : Result A E) (e f : E) → IsErrAnd r (λ x. x ≡ e) → r ≡ Err f → e ≡ f
 handed_on (Ok x) e f h is = absurd cc
 handed_on (Err x) e f h is = cc
-
--- ---- an event without what is told of it
-
-pub untold_ok : {D : Type 0} (commands : Header → List (Form Command)) (stands : D → Setting → Trace → Type 0) (p : PlayState D) (e : Event) (out : List ℕ) (n : PlayState D) (now : List ℕ)
-    (r : Result (Result StepTold Refusal) PlayError) (q : Result (Option Refusal) PlayError) → q ≡ untold r → IfOk r (AnswersStep commands stands p e out n now)
-    → IfOk q (Answers commands stands p e out n now)
-untold_ok commands stands p e out n now (Ok (Ok told)) q is a =
-    subst (λ x. IfOk x (Answers commands stands p e out n now)) (sym is) (record { effects = a.effects; in_each = a.in_each })
-untold_ok commands stands p e out n now (Ok (Err why)) q is a = subst (λ x. IfOk x (Answers commands stands p e out n now)) (sym is) a
-untold_ok commands stands p e out n now (Err error) q is a = subst (λ x. IfOk x (Answers commands stands p e out n now)) (sym is) tt
-
-pub untold_refused : (r : Result (Result StepTold Refusal) PlayError) (q : Result (Option Refusal) PlayError) (why : Refusal) (tear : Type 0) → q ≡ untold r
-    → (r ≡ Ok (Err why)) ⊎ (tear × (r ≡ Err NoMemory)) → (q ≡ Ok (Some why)) ⊎ (tear × (q ≡ Err NoMemory))
-untold_refused r q why tear is (inl same) = inl (is ∙ ap untold same)
-untold_refused r q why tear is (inr memory) = inr (memory.0, is ∙ ap untold memory.1)
-
--- Answers, with their types.
-abbrev the_option : Result (Option Refusal) PlayError → Result (Option Refusal) PlayError
-the_option r = r
-
-abbrev the_told : Result (Result StepTold Refusal) PlayError → Result (Result StepTold Refusal) PlayError
-the_told r = r
-
-pub untold_many : {A : Type 0} (r : Result (Result StepTold Refusal) PlayError) (q : Result (Option Refusal) PlayError) → q ≡ untold r → (r ≡ Err TooMany → A) → q ≡ Err TooMany → A
-untold_many (Ok (Ok told)) q is given many = absurd (never (sym is ∙ many))
-  where
-    never : the_option (Ok None) ≡ Err TooMany → ⊥
-    never e = absurd cc
-untold_many (Ok (Err why)) q is given many = absurd (never why (sym is ∙ many))
-  where
-    never : (a : Refusal) → the_option (Ok (Some a)) ≡ Err TooMany → ⊥
-    never a e = absurd cc
-untold_many (Err error) q is given many = given (same error (sym is ∙ many))
-  where
-    same : (a : PlayError) → the_option (Err a) ≡ Err TooMany → the_told (Err a) ≡ Err TooMany
-    same a e = cc
-
-pub untold_err : (r : Result (Result StepTold Refusal) PlayError) (q : Result (Option Refusal) PlayError) (P : Type 0) → q ≡ untold r → OnErr r P → OnErr q P
-untold_err (Ok (Ok told)) q P is a = subst (λ x. OnErr x P) (sym is) tt
-untold_err (Ok (Err why)) q P is a = subst (λ x. OnErr x P) (sym is) tt
-untold_err (Err error) q P is a = subst (λ x. OnErr x P) (sym is) a

@@ -1,6 +1,7 @@
 pub mod EndsFinish
 pub mod EventsHappen
 pub mod PlayIsOwed
+mod UntoldEvents
 mod LinesAndAsks
 mod Texts
 pub mod ReplaysAreOwed

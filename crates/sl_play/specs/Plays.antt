@@ -5,13 +5,12 @@ use Rattle.sl_world_state.specs.SaneWorlds.{WorldStands}
 use Rattle.sl_machine.specs.KeptParts.{kept_state}
 use Rattle.sl_play.specs.RunEndings.{Finishes, LeadsBack}
 use Rattle.sl_play.specs.PlayIsOwed.{EachStood}
-use Rattle.sl_locks.specs.declared.line_steps.StepTold.{StepTold}
-use Rattle.sl_play.specs.ToldSteps.{AreCounted, told_view}
+use Rattle.sl_play.specs.ToldSteps.{AreCounted}
 use Rattle.sl_play.specs.declared.step_counts.PlayError.TheVariants.{NoMemory}
 use Rattle.sl_play.specs.declared.step_counts.PlayError.{PlayError}
 use Rattle.sl_play.specs.declared.play.Play.{Play}
 use Rattle.sl_report.specs.Languages.{Language}
-use Rattle.sl_report.specs.Reports.{Counts, count_event, event_lines, event_told, no_counts}
+use Rattle.sl_report.specs.Reports.{Counts, count_event, event_lines, no_counts}
 use Rattle.sl_report.specs.Schedules.{At_line, EventLine, NoAsk, last_lines}
 use Rattle.sl_run.specs.Refusals.{may_happen, refusal_of}
 use Rattle.sl_run.specs.Locks.{Locks}
@@ -54,15 +53,9 @@ pub record StaysAs {D : Type 0} (p n : PlayState D) : Type 0 where
 -- ---- an event
 
 -- What is answered where the world doesn't apply it.
-abbrev pub after_error : ApplyError → Result (Result StepTold Refusal) PlayError
-after_error (Refused why) = Ok (Err why)
+abbrev pub after_error : ApplyError → Result (Option Refusal) PlayError
+after_error (Refused why) = Ok (Some why)
 after_error OutOfMemory = Err NoMemory
-
--- What is answered, without what is told of the step.
-abbrev pub untold : Result (Result StepTold Refusal) PlayError → Result (Option Refusal) PlayError
-untold (Ok (Ok told)) = Ok None
-untold (Ok (Err why)) = Ok (Some why)
-untold (Err e) = Err e
 
 -- How a test comes out, where the event is one.
 abbrev pub test_told : KeptState → Event → Option Bool
@@ -81,13 +74,6 @@ pub record HasHappened {D : Type 0} (commands : Header → List (Form Command)) 
   pub effects : Effects
   pub in_each : (w : World) → WorldStands commands stands p.kept p.hosts w → Happened commands stands w p e effects out n now
 
--- .. and this is told of it.
-pub record HasStepped {D : Type 0} (commands : Header → List (Form Command)) (stands : D → Setting → Trace → Type 0) (p : PlayState D) (e : Event) (out : List ℕ) (n : PlayState D)
-    (now : List ℕ) (told : StepTold) : Type 0 where
-  pub effects : Effects
-  pub in_each : (w : World) → WorldStands commands stands p.kept p.hosts w → Happened commands stands w p e effects out n now
-  pub told_is : (w : World) → WorldStands commands stands p.kept p.hosts w → event_told w e (effects ∷ []) ≡ told_view told ∷ []
-
 -- The event is refused for this in each of these worlds, and nothing has changed.
 pub record IsBarred {D : Type 0} (commands : Header → List (Form Command)) (stands : D → Setting → Trace → Type 0) (p : PlayState D) (e : Event) (out : List ℕ) (n : PlayState D)
     (now : List ℕ) (why : Refusal) : Type 0 where
@@ -98,10 +84,6 @@ pub record IsBarred {D : Type 0} (commands : Header → List (Form Command)) (st
 abbrev pub Answers : {D : Type 0} → (Header → List (Form Command)) → (D → Setting → Trace → Type 0) → PlayState D → Event → List ℕ → PlayState D → List ℕ → Option Refusal → Type 0
 Answers commands stands p e out n now None = HasHappened commands stands p e out n now
 Answers commands stands p e out n now (Some why) = IsBarred commands stands p e out n now why
-
-abbrev pub AnswersStep : {D : Type 0} → (Header → List (Form Command)) → (D → Setting → Trace → Type 0) → PlayState D → Event → List ℕ → PlayState D → List ℕ → Result StepTold Refusal → Type 0
-AnswersStep commands stands p e out n now (Ok told) = HasStepped commands stands p e out n now told
-AnswersStep commands stands p e out n now (Err why) = IsBarred commands stands p e out n now why
 
 -- The event may happen, with effects that make a count too great.
 pub record PassesCounts {D : Type 0} (commands : Header → List (Form Command)) (stands : D → Setting → Trace → Type 0) (p : PlayState D) (e : Event) : Type 0 where

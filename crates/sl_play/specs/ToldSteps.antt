@@ -25,6 +25,10 @@ counts_with ask t conflicts k =
       conflicts = k.conflicts + conflicts;
     }
 
+-- The counts with an event of which nothing is told.
+abbrev pub one_more : Counts → Counts
+one_more k = record k { events = k.events + 1 }
+
 -- Each count is one of 64 bits.
 pub record AreCounted (k : Counts) : Type 0 where
   pub events : k.events < 2 ^ 64

@@ -1,11 +1,10 @@
 //! What an event is to a play: whether it is an ask, and what is answered where the world doesn't apply it.
 
-ghost use Rattle.sl_play.specs.Plays.{after_error, untold};
+ghost use Rattle.sl_play.specs.Plays.{after_error};
 ghost use Rattle.sl_run.specs.Inputs as inputs;
 ghost use Rattle.std.specs.Prelude.{◌≡◌};
 
 use crate::step_counts::PlayError;
-use sl_locks::StepTold;
 use sl_run::{Event, Refusal};
 use sl_world::ApplyError;
 
@@ -20,24 +19,11 @@ pub(crate) fn is_ask(event: &Event) -> bool
 }
 
 /// What is answered where the world doesn't apply an event.
-pub(crate) fn after_error(error: ApplyError) -> Result<Result<StepTold, Refusal>, PlayError>
+pub(crate) fn after_error(error: ApplyError) -> Result<Option<Refusal>, PlayError>
     ensures { result ≡ after_error error }
 {
     match error {
-        ApplyError::Refused(why) => Ok(Err(why)),
+        ApplyError::Refused(why) => Ok(Some(why)),
         ApplyError::OutOfMemory => Err(PlayError::NoMemory),
-    }
-}
-
-/// What was answered, without what is told of the step.
-pub(crate) fn untold(
-    stepped: Result<Result<StepTold, Refusal>, PlayError>,
-) -> Result<Option<Refusal>, PlayError>
-    ensures { result ≡ untold stepped }
-{
-    match stepped {
-        Ok(Ok(_)) => Ok(None),
-        Ok(Err(why)) => Ok(Some(why)),
-        Err(error) => Err(error),
     }
 }

@@ -3,7 +3,7 @@
 //! Each count is added with a test: one that is too great for 64 bits ends the play, and never wraps.
 
 ghost use Rattle.sl_locks.specs.Replies.{line_text};
-ghost use Rattle.sl_play.specs.ToldSteps.{AreCounted, counts_with, told_view};
+ghost use Rattle.sl_play.specs.ToldSteps.{AreCounted, counts_with, one_more, told_view};
 ghost use Rattle.sl_play.specs.declared.step_counts.PlayError.TheVariants.{TooMany};
 ghost use Rattle.sl_report.specs.Reports as reports;
 ghost use Rattle.sl_report.specs.Reports.{is_ok_text, refusals_told};
@@ -122,6 +122,17 @@ pub(crate) fn granted(told: &StepTold) -> usize
     ensures { result ≡ length told.now.effects.grants }
 {
     told.effects.grants.len()
+}
+
+/// The counts with an event of which nothing is told.
+pub(crate) fn one_more(counts: &Counts) -> Result<Counts, PlayError>
+    ensures exact { IfOk result (λ k. k ≡ one_more counts.now) }
+    ensures many { result ≡ Err TooMany → AreCounted (one_more counts.now) → ⊥ }
+{
+    match counts.events.checked_add(1) {
+        Some(events) => Ok(Counts { events, ..*counts }),
+        None => Err(PlayError::TooMany),
+    }
 }
 
 /// The counts with these; None where one is too great.

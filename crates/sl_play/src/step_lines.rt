@@ -42,7 +42,11 @@ fn push_line(
 }
 
 /// Adds the line of a test of the watchdog daemon, if there was one. An `Err` is want of memory, and `out` stays as it was.
-fn push_test(out: &mut Vec<u8>, machine: u32, test: Option<bool>) -> Result<(), AllocError>
+pub(crate) fn push_test(
+    out: &mut Vec<u8>,
+    machine: u32,
+    test: Option<bool>,
+) -> Result<(), AllocError>
     ensures ok { OnOk result (out.new.items ≡ out.old.items ++ as_bytes (tests_told machine test)) }
     ensures err { OnErr result (out.new.items ≡ out.old.items) }
 {

@@ -1,7 +1,8 @@
 //! Events: each is refused, or comes to pass.
 //!
 //! `apply` asks first why the event may not happen, and then matches it: one method an event, each of which is shown to make the world that the
-//! definitions make of it, with the effects that it answers. A refusal or want of memory leaves the world for which it stood.
+//! definitions make of it, with the effects that it answers. A refusal or want of memory leaves the world for which it stood. `apply_untold` does
+//! the same with the events of which nothing is told.
 
 ghost use Rattle.sl_world_state.specs.Refusals.{refusal_in};
 ghost use Rattle.sl_world_state.specs.SaneWorlds.{WorldStands};
@@ -9,19 +10,16 @@ ghost use Rattle.sl_machine.specs.KeptParts.{kept_state};
 ghost use Rattle.sl_machine.specs.EventTests.{bars_locks, is_tear};
 ghost use Rattle.sl_world.specs.AllowedEvents.{IsAllowed, StandsForSome};
 ghost use Rattle.sl_world.specs.GivenSteps.{IsSame};
-ghost use Rattle.sl_world.specs.ToldEvents.{ComesTold};
+ghost use Rattle.sl_world.specs.ToldEvents.{ComesTold, is_untold};
 ghost use Rattle.sl_run.specs.Refusals as refusals;
 ghost use Rattle.sl_run.specs.Worlds as worlds;
-ghost use Rattle.sl_run.specs.declared.event.Event.TheVariants.{Tear};
 ghost use Rattle.sl_run.specs.declared.event.Refusal.{Refusal as RefusalOf};
-ghost use Rattle.std.specs.Prelude.{Err, IfOk, OnErr, Some, true, ◌≡◌, ◌⊎◌};
+ghost use Rattle.std.specs.Prelude.{Err, IfOk, OnErr, Some, false, true, ◌≡◌, ◌⊎◌};
 
-use crate::ends::told_nothing;
 use crate::world::World;
 use sl_locks::StepTold;
 use sl_machine::LockTable;
 use sl_run::{Event, Refusal};
-use sl_text::Bytes;
 use sl_world_state::Daemon;
 use std::alloc::AllocError;
 
@@ -56,70 +54,37 @@ impl<D: Daemon, L: LockTable> World<D, L> {
         self.kept.refusal(event, locks)
     }
 
-    /// A write takes effect in part, which nothing refuses. An `Err` is want of memory.
-    fn tear_allowed(
-        &mut self,
-        machine: u32,
-        call: u64,
-        kept: u32,
-        bytes: &Bytes,
-    ) -> Result<StepTold, AllocError>
-        requires { IsAllowed D.commands D.stands (kept_state L.locks self.old.kept) self.old.hosts (Tear machine call kept bytes.now) }
-        ensures ok { IfOk result (ComesTold D.commands D.stands (kept_state L.locks self.old.kept) self.old.hosts (Tear machine call kept bytes.now) (kept_state L.locks self.new.kept) self.new.hosts) }
-        ensures err { OnErr result (IsSame (kept_state L.locks self.old.kept) self.old.hosts (kept_state L.locks self.new.kept) self.new.hosts) }
-    {
-        match self.tear(machine, call, kept, bytes)? {
-            Ok(()) => Ok(told_nothing(*self.kept.machines.allocator())),
-            Err(_) => unreachable!(),
-        }
-    }
-
-    /// The event comes to pass; the answer is what is told of it. An `Err` is want of memory or of numbers.
-    fn happen(&mut self, event: Event) -> Result<StepTold, AllocError>
-        requires { IsAllowed D.commands D.stands (kept_state L.locks self.old.kept) self.old.hosts event }
+    /// An event of which something is told comes to pass; the answer is what is told of it. An `Err` is want of memory or of numbers.
+    fn happen_told(&mut self, event: Event) -> Result<StepTold, AllocError>
+        requires allowed { IsAllowed D.commands D.stands (kept_state L.locks self.old.kept) self.old.hosts event }
+        requires told { is_untold event ≡ false }
         ensures ok { IfOk result (ComesTold D.commands D.stands (kept_state L.locks self.old.kept) self.old.hosts event (kept_state L.locks self.new.kept) self.new.hosts) }
         ensures err { OnErr result (IsSame (kept_state L.locks self.old.kept) self.old.hosts (kept_state L.locks self.new.kept) self.new.hosts) }
     {
         match event {
-            Event::Pass { time, growths } => self.pass(time, &growths),
             Event::WakeUp { machine } => self.wake(machine),
             Event::GiveCommand { machine, text } => self.command(machine, text),
             Event::GiveLvm { machine, line } => self.lvm_line(machine, line),
             Event::GiveAsk { machine } => self.ask(machine),
-            Event::Sample {
-                machine,
-                call,
-                sectors,
-            } => self.sample(machine, call, sectors),
-            Event::Land { machine, call } => self.land(machine, call),
-            Event::Tear {
-                machine,
-                call,
-                kept,
-                bytes,
-            } => self.tear_allowed(machine, call, kept, &bytes),
             Event::AnswerCall { machine, call, ok } => self.answer(machine, call, ok),
             Event::Do { machine, call } => self.do_call(machine, call),
-            Event::DropWrite { machine, call } => self.drop_write(machine, call),
-            Event::Test { machine } => self.test(machine),
             Event::ExitOf { machine, process } => self.exit(machine, process),
             Event::SpawnedOf {
                 machine,
                 process,
                 ok,
             } => self.spawned(machine, process, ok),
-            Event::StartDaemon { machine, name } => self.start(machine, name),
-            Event::Crash { machine } => self.crash(machine),
             Event::Reset { machine } => self.reset(machine),
-            Event::Restart { machine } => self.restart(machine),
+            _ => unreachable!(),
         }
     }
 
-    /// An event comes to pass, unless something refuses it; the answer is what is told of it: the effects of its daemon or of the
-    /// machine itself, without the reply to an ask, and the reply to lvmlockd's line, if it has come. After an `Err`
+    /// An event of which something is told comes to pass, unless something refuses it; the answer is what is told of it: the effects of its
+    /// daemon or of the machine itself, without the reply to an ask, and the reply to lvmlockd's line, if it has come. After an `Err`
     /// nothing has changed that is seen.
     pub fn apply(&mut self, event: Event) -> Result<StepTold, ApplyError>
-        requires { StandsForSome D.commands D.stands (kept_state L.locks self.old.kept) self.old.hosts }
+        requires stands { StandsForSome D.commands D.stands (kept_state L.locks self.old.kept) self.old.hosts }
+        requires told { is_untold event ≡ false }
         ensures refused { (w : worlds.World) → WorldStands D.commands D.stands (kept_state L.locks self.old.kept) self.old.hosts w → (r : RefusalOf)
             → refusals.refusal_of w event ≡ Some r → (result ≡ Err (ApplyError.Refused r)) ⊎ ((is_tear event ≡ true) × (result ≡ Err ApplyError.OutOfMemory)) }
         ensures only { (w : worlds.World) → WorldStands D.commands D.stands (kept_state L.locks self.old.kept) self.old.hosts w → (r : RefusalOf)
@@ -130,7 +95,7 @@ impl<D: Daemon, L: LockTable> World<D, L> {
         match self.refusal(&event) {
             Err(_) => Err(ApplyError::OutOfMemory),
             Ok(Some(why)) => Err(ApplyError::Refused(why)),
-            Ok(None) => match self.happen(event) {
+            Ok(None) => match self.happen_told(event) {
                 Ok(told) => Ok(told),
                 Err(_) => Err(ApplyError::OutOfMemory),
             },

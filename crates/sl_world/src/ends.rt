@@ -5,7 +5,6 @@ ghost use Rattle.sl_world_state.specs.KeptWorld.{MachineState, machine_in};
 ghost use Rattle.sl_world_state.specs.Steps.{taken_kept};
 ghost use Rattle.sl_machine.specs.KeptParts.{kept_state};
 ghost use Rattle.sl_run.specs.declared.event.Event.TheVariants.{ExitOf, Reset};
-ghost use Rattle.sl_trace.specs.Traces as traces;
 ghost use Rattle.sl_world.specs.AllowedEvents.{IsAllowed};
 ghost use Rattle.sl_world.specs.GivenSteps.{IsSame};
 ghost use Rattle.sl_world.specs.ToldEvents.{ComesTold, told_view};
@@ -13,10 +12,10 @@ ghost use Rattle.std.specs.Prelude.{IfOk, None, OnErr, Some, false, ◌≡◌};
 
 use crate::world::World;
 use sl_locks::StepTold;
-use sl_machine::{Kept, LockTable, no_effects};
+use sl_machine::{Kept, LockTable};
 use sl_trace::{Effects, Input};
 use sl_world_state::Daemon;
-use std::alloc::{AllocError, Global};
+use std::alloc::AllocError;
 
 /// Whether a daemon runs on a machine; where there is none, none does.
 fn runs_on<L: LockTable>(kept: &Kept<L>, machine: u32) -> bool
@@ -53,13 +52,6 @@ pub(crate) fn told_alone(effects: Effects) -> StepTold
         effects,
         line: None,
     }
-}
-
-/// What is told where nothing is. It takes no memory.
-pub(crate) fn told_nothing(alloc: Global) -> StepTold
-    ensures { told_view result ≡ record { effects = traces.no_effects; line = None } }
-{
-    told_alone(no_effects(alloc))
 }
 
 impl<D: Daemon, L: LockTable> World<D, L> {

@@ -53,7 +53,11 @@ fn begin_first<D: Daemon>(
 }
 
 /// One step of the daemon, if one runs; an `Err` where none does.
-fn step_host<D: Daemon>(host: &mut Option<D>, now: u64, input: &Input) -> Result<Effects, AllocError>
+fn step_host<D: Daemon>(
+    host: &mut Option<D>,
+    now: u64,
+    input: &Input,
+) -> Result<Effects, AllocError>
     requires { MayStepAt D.stands (host.old ∷ []) 0 now input.now }
     ensures ok { IfOk result (HostStepped D.stands D.makes (host.old ∷ []) 0 now input.now (host.new ∷ [])) }
     ensures err { OnErr result (host.new ≡ host.old) }
@@ -99,6 +103,16 @@ fn read_host<D: Daemon>(
     }
 }
 
+/// The effects of a step of the daemon were told, if one runs. Nothing that is seen changes.
+fn take_back_host<D: Daemon>(host: &mut Option<D>, told: Effects)
+    ensures { host.new ≡ host.old }
+{
+    match host {
+        Some(host) => host.take_back(told),
+        None => {}
+    }
+}
+
 impl<D: Daemon> Hosts<D> {
     /// The daemons of a header's session lines. An `Err` is want of memory.
     pub fn begin(alloc: Global, header: &Header) -> Result<Hosts<D>, AllocError>
@@ -134,6 +148,15 @@ impl<D: Daemon> Hosts<D> {
         ensures err { OnErr result (self.new ≡ self.old) }
     {
         step_host(&mut self.items[index], now, input)
+    }
+
+    /// The effects of a step of the daemon at this place were told: their memory may serve a later step. Nothing that is seen changes.
+    pub fn take_back(&mut self, index: usize, told: Effects)
+        ensures { self.new ≡ self.old }
+    {
+        if index < self.items.len() {
+            take_back_host(&mut self.items[index], told);
+        }
     }
 
     /// One step of the daemon at this place, at the answer ok of a read. An `Err` is want of memory, and changes nothing.

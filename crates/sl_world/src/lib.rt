@@ -36,10 +36,12 @@ mod questions;
 mod sites;
 mod start;
 mod torn_writes;
+mod untold;
 mod world;
 
 pub use apply::ApplyError;
 pub use conflicts::Conflicts;
 pub use hosts::Hosts;
 pub use sites::{first_site, session_of};
+pub use untold::is_untold;
 pub use world::World;

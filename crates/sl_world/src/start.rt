@@ -5,13 +5,11 @@ ghost use Rattle.sl_machine.specs.KeptParts.{kept_state};
 ghost use Rattle.sl_run.specs.declared.event.Event.TheVariants.{StartDaemon};
 ghost use Rattle.sl_world.specs.AllowedEvents.{IsAllowed};
 ghost use Rattle.sl_world.specs.GivenSteps.{IsSame};
-ghost use Rattle.sl_world.specs.ToldEvents.{ComesTold};
+ghost use Rattle.sl_world.specs.ToldEvents.{ComesTold, nothing_told};
 ghost use Rattle.sl_world_law.specs.WorldsStand.{new_site};
-ghost use Rattle.std.specs.Prelude.{IfOk, None, OnErr, Some, ◌≡◌};
+ghost use Rattle.std.specs.Prelude.{IfOk, None, OnErr, OnOk, Some, ◌≡◌};
 
-use crate::ends::told_nothing;
 use crate::world::World;
-use sl_locks::StepTold;
 use sl_machine::{Kept, LockTable};
 use sl_text::{Name, Seq};
 use sl_trace::Numbers;
@@ -40,9 +38,9 @@ fn site_of<L: LockTable>(kept: &Kept<L>, machine: u32, name: Name) -> Result<Sit
 
 impl<D: Daemon, L: LockTable> World<D, L> {
     /// A daemon begins. An `Err` is want of memory.
-    pub(crate) fn start(&mut self, machine: u32, name: Name) -> Result<StepTold, AllocError>
+    pub(crate) fn start(&mut self, machine: u32, name: Name) -> Result<(), AllocError>
         requires { IsAllowed D.commands D.stands (kept_state L.locks self.old.kept) self.old.hosts (StartDaemon machine name) }
-        ensures ok { IfOk result (ComesTold D.commands D.stands (kept_state L.locks self.old.kept) self.old.hosts (StartDaemon machine name) (kept_state L.locks self.new.kept) self.new.hosts) }
+        ensures ok { OnOk result (ComesTold D.commands D.stands (kept_state L.locks self.old.kept) self.old.hosts (StartDaemon machine name) (kept_state L.locks self.new.kept) self.new.hosts nothing_told) }
         ensures err { OnErr result (IsSame (kept_state L.locks self.old.kept) self.old.hosts (kept_state L.locks self.new.kept) self.new.hosts) }
     {
         let alloc = *self.kept.machines.allocator();
@@ -54,7 +52,7 @@ impl<D: Daemon, L: LockTable> World<D, L> {
                 self.hosts
                     .start(alloc, self.kept.header(), machine as usize - 1, site)?;
                 self.kept.start(machine, name);
-                Ok(told_nothing(alloc))
+                Ok(())
             }
         }
     }

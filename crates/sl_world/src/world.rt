@@ -53,6 +53,15 @@ pub(crate) fn has_numbers<L: LockTable>(kept: &Kept<L>, machine: u32) -> bool
 }
 
 impl<D: Daemon, L: LockTable> World<D, L> {
+    /// What was told of a step of a machine is written: its memory may serve a later step. Nothing that is seen changes.
+    pub fn take_back(&mut self, machine: u32, told: StepTold)
+        ensures { self.new ≡ self.old }
+    {
+        if machine > 0 {
+            self.hosts.take_back(machine as usize - 1, told.effects);
+        }
+    }
+
     /// The daemon of a machine takes a step at this input. An `Err` is want of memory or of numbers, and changes nothing that is seen.
     pub(crate) fn give(&mut self, machine: u32, input: Input) -> Result<StepTold, AllocError>
         requires { MayGive D.stands (kept_state L.locks self.old.kept) self.old.hosts machine input }

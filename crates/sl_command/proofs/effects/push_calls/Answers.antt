@@ -5,5 +5,8 @@ use Rattle.sl_trace.specs.EffectTexts.{call_words}
 
 pub loop-call-preserved : goal.loop-call-preserved
 loop-call-preserved c =
-    one_more (λ x. line_text c.args.machine (call_words x)) c.args.calls.now c.loop-call.call-index c.call-item.result _ _ _
-    c.loop-call-test.true c.call-item.is c.loop-call.invariant c.in_ok-push_call.ensures
+    record {
+      written = one_more (λ x. line_text c.args.machine (call_words x)) c.args.calls.now c.loop-call.call-index c.call-item.result _ _ _
+          c.loop-call-test.true c.call-item.is c.loop-call.invariant.written c.in_ok-push_call.ensures.ok;
+      kept = λ front is. c.push_call.ensures.kept front (c.loop-call.invariant.kept front is);
+    }

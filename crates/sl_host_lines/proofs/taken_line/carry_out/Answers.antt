@@ -31,7 +31,7 @@ join_with-requires-clause-few c =
 pub join_with-requires-clause-seat : goal.join_with-requires-clause-seat
 join_with-requires-clause-seat c =
     let known = subst (λ (d : Decision). DecisionKnown c.args.host.now.kept c.args.command.now d) c.in-Joins.is c.requires.known in
-    subst (λ (z : Command). HasSeat c.args.host.now z c.args.seat) known.0 c.requires.seat
+    subst (λ (z : Command). HasSeat c.args.host.now z c.args.seat.now) known.0 c.requires.seat
 
 pub returns-in-Joins-clause-state : goal.returns-in-Joins-clause-state
 returns-in-Joins-clause-state c read =

@@ -9,8 +9,8 @@ returns-in-Some-clause-state c read =
     let h = state_of read c.args.self.now.kept in
     c.begin_leaving.ensures.state read
     ∙ (ap (leaving_begins c.in-Some.lockspace c.next_job-job.result) (c.begin_line.ensures.state read)
-    ∙ (ap (λ j. leaving_begins c.in-Some.lockspace j (line_begun c.args.command h)) c.next_job-job.ensures
-    ∙ leaving_heard c.args.command c.in-Some.lockspace h c.in-Some.ensures))
+    ∙ (ap (λ j. leaving_begins c.in-Some.lockspace j (line_begun c.args.command.now h)) c.next_job-job.ensures
+    ∙ leaving_heard c.args.command.now c.in-Some.lockspace h c.in-Some.ensures))
 
 pub returns-in-None-clause-state : goal.returns-in-None-clause-state
-returns-in-None-clause-state c read = c.begin_line.ensures.state read ∙ staying_heard c.args.command (state_of read c.args.self.now.kept) c.in-None.ensures
+returns-in-None-clause-state c read = c.begin_line.ensures.state read ∙ staying_heard c.args.command.now (state_of read c.args.self.now.kept) c.in-None.ensures

@@ -9,17 +9,17 @@ use Rattle.std.proofs.Common.{sym, ◌∙◌}
 pub returns-in-Ok-Some-clause-refused : goal.returns-in-Ok-Some-clause-refused
 returns-in-Ok-Some-clause-refused g c w t r there =
     let k = kept_state g.L.LockTable.locks c.args.self.now.kept in
-    is_refused c.in-Ok-Some.why r (refusal_in g.D.Daemon.commands k c.args.event) (refusal_of w c.args.event) (sym c.in-Ok-Some.ensures.exact ∙ c.in-Ok-Some.field-0-is)
+    is_refused _ c.in-Ok-Some.why r (refusal_in g.D.Daemon.commands k c.args.event) (refusal_of w c.args.event) (sym c.in-Ok-Some.ensures.exact ∙ c.in-Ok-Some.field-0-is)
     (refusals_stand g.D.Daemon.commands g.D.Daemon.stands k c.args.self.now.hosts w t c.args.event) there
 
 pub returns-in-Ok-Some-clause-only : goal.returns-in-Ok-Some-clause-only
 returns-in-Ok-Some-clause-only g c w t r is =
     let k = kept_state g.L.LockTable.locks c.args.self.now.kept in
-    refuses c.in-Ok-Some.why r (refusal_in g.D.Daemon.commands k c.args.event) (refusal_of w c.args.event) (sym c.in-Ok-Some.ensures.exact ∙ c.in-Ok-Some.field-0-is)
+    refuses _ c.in-Ok-Some.why r (refusal_in g.D.Daemon.commands k c.args.event) (refusal_of w c.args.event) (sym c.in-Ok-Some.ensures.exact ∙ c.in-Ok-Some.field-0-is)
     (refusals_stand g.D.Daemon.commands g.D.Daemon.stands k c.args.self.now.hosts w t c.args.event) is
 
-pub returns-in-Err-happen-clause-refused : goal.returns-in-Err-happen-clause-refused
-returns-in-Err-happen-clause-refused g c w t r there =
+pub returns-in-Err-happen_told-clause-refused : goal.returns-in-Err-happen_told-clause-refused
+returns-in-Err-happen_told-clause-refused g c w t r there =
     let k = kept_state g.L.LockTable.locks c.args.self.now.kept in
     absurd (nothing_refuses r (refusal_in g.D.Daemon.commands k c.args.event) (refusal_of w c.args.event) (sym c.in-Ok-None.ensures.exact ∙ c.in-Ok-None.field-0-is)
     (refusals_stand g.D.Daemon.commands g.D.Daemon.stands k c.args.self.now.hosts w t c.args.event) there)

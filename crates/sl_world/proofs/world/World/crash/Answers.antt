@@ -5,6 +5,8 @@ use Rattle.sl_trace.specs.Traces.{no_effects}
 use Rattle.sl_world.proofs.AllowedEvents.{crash_there, ended_comes, no_input, seat_there}
 use Rattle.sl_world.proofs.ToldSteps.{own_told}
 use Rattle.sl_world.proofs.world.World.crash.Goals as goal
+use Rattle.sl_world.specs.ToldEvents.{nothing_told}
+use Rattle.std.proofs.Common.{refl}
 
 pub overflow_sub-machine : goal.overflow_sub-machine
 overflow_sub-machine g c =
@@ -20,7 +22,7 @@ end-requires g c =
 
 pub returns-clause-ok : goal.returns-clause-ok
 returns-clause-ok g c =
-    own_told g.D.Daemon.commands g.D.Daemon.stands (kept_state g.L.LockTable.locks c.args.self.now.kept) c.args.self.now.hosts (Crash c.args.machine) no_effects (kept_state g.L.LockTable.locks c.crash.new.self) c.end.new.self c.told_nothing.result
+    own_told g.D.Daemon.commands g.D.Daemon.stands (kept_state g.L.LockTable.locks c.args.self.now.kept) c.args.self.now.hosts (Crash c.args.machine) no_effects (kept_state g.L.LockTable.locks c.crash.new.self) c.end.new.self nothing_told
     (ended_comes g.D.Daemon.commands g.D.Daemon.stands (kept_state g.L.LockTable.locks c.args.self.now.kept) c.args.self.now.hosts c.end.new.self c.args.machine
     (kept_state g.L.LockTable.locks c.crash.new.self) c.requires c.crash.ensures c.end.ensures)
-    (no_input (machine_in (kept_state g.L.LockTable.locks c.args.self.now.kept) c.args.machine)) c.told_nothing.ensures
+    (no_input (machine_in (kept_state g.L.LockTable.locks c.args.self.now.kept) c.args.machine)) refl

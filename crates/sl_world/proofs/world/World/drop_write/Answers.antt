@@ -5,11 +5,12 @@ use Rattle.sl_trace.specs.Traces.{no_effects}
 use Rattle.sl_world.proofs.AllowedEvents.{first_drop, no_input, no_own, quietly_comes}
 use Rattle.sl_world.proofs.ToldSteps.{own_told}
 use Rattle.sl_world.proofs.world.World.drop_write.Goals as goal
+use Rattle.sl_world.specs.ToldEvents.{nothing_told}
 use Rattle.std.proofs.Common.{refl, sym, ◌∙◌}
 
 pub returns-clause-ok : goal.returns-clause-ok
 returns-clause-ok g c =
-    own_told g.D.Daemon.commands g.D.Daemon.stands (kept_state g.L.LockTable.locks c.args.self.now.kept) c.args.self.now.hosts (DropWrite c.args.machine c.args.call) no_effects (kept_state g.L.LockTable.locks c.end_call.new.self) c.args.self.now.hosts c.told_nothing.result
+    own_told g.D.Daemon.commands g.D.Daemon.stands (kept_state g.L.LockTable.locks c.args.self.now.kept) c.args.self.now.hosts (DropWrite c.args.machine c.args.call) no_effects (kept_state g.L.LockTable.locks c.end_call.new.self) c.args.self.now.hosts nothing_told
     (quietly_comes g.D.Daemon.commands g.D.Daemon.stands (kept_state g.L.LockTable.locks c.args.self.now.kept) c.args.self.now.hosts (DropWrite c.args.machine c.args.call) (kept_state g.L.LockTable.locks c.end_call.new.self) c.requires
     (no_input (machine_in (kept_state g.L.LockTable.locks c.args.self.now.kept) c.args.machine)) (no_own (machine_in (kept_state g.L.LockTable.locks c.args.self.now.kept) c.args.machine)) refl (c.end_call.ensures ∙ sym (first_drop (kept_state g.L.LockTable.locks c.args.self.now.kept) c.args.machine c.args.call)))
-    (no_input (machine_in (kept_state g.L.LockTable.locks c.args.self.now.kept) c.args.machine)) c.told_nothing.ensures
+    (no_input (machine_in (kept_state g.L.LockTable.locks c.args.self.now.kept) c.args.machine)) refl

@@ -4,6 +4,7 @@ use Rattle.sl_run.specs.declared.event.Event.TheVariants.{Sample}
 use Rattle.sl_world.proofs.AllowedEvents.{first_sample, no_input, no_own, quietly_comes, sample_allowed}
 use Rattle.sl_world.proofs.ToldSteps.{own_told}
 use Rattle.sl_world.proofs.world.World.sample.Goals as goal
+use Rattle.sl_world.specs.ToldEvents.{nothing_told}
 use Rattle.sl_trace.specs.Traces.{no_effects}
 use Rattle.std.proofs.Common.{refl, sym, ◌∙◌}
 
@@ -12,7 +13,7 @@ sample-requires g c f there = sample_allowed g.D.Daemon.commands (kept_state g.L
 
 pub returns-clause-ok : goal.returns-clause-ok
 returns-clause-ok g c =
-    own_told g.D.Daemon.commands g.D.Daemon.stands (kept_state g.L.LockTable.locks c.args.self.now.kept) c.args.self.now.hosts (Sample c.args.machine c.args.call c.args.sectors) no_effects (kept_state g.L.LockTable.locks c.sample.new.self) c.args.self.now.hosts c.told_nothing.result
+    own_told g.D.Daemon.commands g.D.Daemon.stands (kept_state g.L.LockTable.locks c.args.self.now.kept) c.args.self.now.hosts (Sample c.args.machine c.args.call c.args.sectors) no_effects (kept_state g.L.LockTable.locks c.sample.new.self) c.args.self.now.hosts nothing_told
     (quietly_comes g.D.Daemon.commands g.D.Daemon.stands (kept_state g.L.LockTable.locks c.args.self.now.kept) c.args.self.now.hosts (Sample c.args.machine c.args.call c.args.sectors) (kept_state g.L.LockTable.locks c.sample.new.self) c.requires
     (no_input (machine_in (kept_state g.L.LockTable.locks c.args.self.now.kept) c.args.machine)) (no_own (machine_in (kept_state g.L.LockTable.locks c.args.self.now.kept) c.args.machine)) refl (c.in_ok-sample.ensures.ok ∙ sym (first_sample (kept_state g.L.LockTable.locks c.args.self.now.kept) c.args.machine c.args.call c.args.sectors)))
-    (no_input (machine_in (kept_state g.L.LockTable.locks c.args.self.now.kept) c.args.machine)) c.told_nothing.ensures
+    (no_input (machine_in (kept_state g.L.LockTable.locks c.args.self.now.kept) c.args.machine)) refl

@@ -7,7 +7,8 @@ use Rattle.sl_world.proofs.AllowedEvents.{no_input, seat_there}
 use Rattle.sl_world.proofs.StartedDaemons.{new_name, setting_there, start_there, started_comes, started_kept}
 use Rattle.sl_world.proofs.ToldSteps.{own_told}
 use Rattle.sl_world.proofs.world.World.start.Goals as goal
-use Rattle.std.proofs.Common.{ap, subst, ◌∙◌}
+use Rattle.sl_world.specs.ToldEvents.{nothing_told}
+use Rattle.std.proofs.Common.{ap, refl, subst, ◌∙◌}
 use Rattle.std.specs.Prelude.{IsTrue}
 
 pub overflow_sub-machine : goal.overflow_sub-machine
@@ -32,8 +33,8 @@ start-requires-in-Some-clause-new g c =
 
 pub returns-in_ok-start-in-Some-clause-ok : goal.returns-in_ok-start-in-Some-clause-ok
 returns-in_ok-start-in-Some-clause-ok g c =
-    own_told g.D.Daemon.commands g.D.Daemon.stands (kept_state g.L.LockTable.locks c.args.self.now.kept) c.args.self.now.hosts (StartDaemon c.args.machine c.args.name) no_effects (kept_state g.L.LockTable.locks c.start-in-Some.new.self) c.start.new.self c.told_nothing.result
+    own_told g.D.Daemon.commands g.D.Daemon.stands (kept_state g.L.LockTable.locks c.args.self.now.kept) c.args.self.now.hosts (StartDaemon c.args.machine c.args.name) no_effects (kept_state g.L.LockTable.locks c.start-in-Some.new.self) c.start.new.self nothing_told
     (started_comes g.D.Daemon.commands g.D.Daemon.stands (kept_state g.L.LockTable.locks c.args.self.now.kept) c.args.self.now.hosts c.start.new.self c.args.machine c.args.name c.header.result.now c.in_ok-site-in-Some.site
     (kept_state g.L.LockTable.locks c.start-in-Some.new.self) c.requires (subst (λ n. IsTrue (is_name n)) c.as_slice.ensures c.in-Some.ensures.found.1) (c.header.ensures.exact ∙ ap (λ (z : KeptState). z.header) c.reserve_name.ensures.same) c.in_ok-site-in-Some.ensures.site c.in_ok-start-in-Some.ensures.ok
     (c.start-in-Some.ensures ∙ started_kept g.L.LockTable.locks c.args.self.now.kept c.reserve_name.new.self c.args.machine c.args.name c.reserve_name.ensures.same))
-    (no_input (machine_in (kept_state g.L.LockTable.locks c.args.self.now.kept) c.args.machine)) c.told_nothing.ensures
+    (no_input (machine_in (kept_state g.L.LockTable.locks c.args.self.now.kept) c.args.machine)) refl

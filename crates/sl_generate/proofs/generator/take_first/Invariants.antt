@@ -1,5 +1,5 @@
--- What is found among the candidates that are left is what is found among all.
-use Rattle.sl_generate.proofs.generator.first_allowed.Given as goal
+-- The play stays as it was, and what is found among the candidates that are left is what is found among all.
+use Rattle.sl_generate.proofs.generator.take_first.Given as goal
 use Rattle.sl_generate.specs.Candidates.{first_allowed}
 use Rattle.sl_play.specs.Plays.{StaysAs, state_of}
 use Rattle.std.proofs.Common.{length, ◌≡◌}
