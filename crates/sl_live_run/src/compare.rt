@@ -149,7 +149,7 @@ fn differ_at(outcomes: &[Outcome], place: usize) -> Option<Differ>
 }
 
 /// Why there are no histories, where threads ended too soon: the first case that a cell tells, or want of memory.
-#[tactic(auto, using(crate::proofs::CompareLaws::no_memory_early, crate::proofs::CompareLaws::cell_early))]
+#[tactic(auto, using(crate::proofs::CompareLaws::cell_early))]
 pub(crate) fn stop_early(outcomes: &[Outcome]) -> LiveStop
     ensures { IsEarlyStop outcomes.now result }
 {
