@@ -1,6 +1,6 @@
 //! A daemon with no cell round it.
 
-ghost use Rattle.sl_cell.specs.Cells.{HasNumbers};
+ghost use Rattle.machines.specs.LoneDaemons.{HasNumbers};
 ghost use Rattle.sl_run.specs.Headers.{IsHeader};
 ghost use Rattle.sl_run.specs.Lawful.{IsSetting};
 ghost use Rattle.sl_trace.specs.Traces.{Setting, Trace, is_expected, takes_number};
@@ -31,16 +31,14 @@ pub struct LoneDaemon<D: Daemon> {
 }
 
 impl<D: Daemon> Model for LoneDaemon<D> {
-    ghost use Rattle.sl_cell.specs.Cells.{IsCore};
-    ghost use Rattle.sl_trace.specs.Traces.{Setting};
-    ghost use Rattle.sl_trace.specs.declared.effects.Entry.{Entry};
-    ghost use Rattle.std.specs.Prelude.{List};
+    ghost use Rattle.machines.specs.LoneDaemons.{IsLone};
+    ghost use Rattle.sl_trace.specs.Traces.{Setting, Trace};
 
     ghost Value = { D };
 
     ghost view = { λ l. l.daemon };
 
-    ghost invariant = { λ l. (st : Setting) × (h : List Entry) × IsCore D.stands st l.daemon h l.reading l.next };
+    ghost invariant = { λ l. (st : Setting) × (es : Trace) × IsLone D.stands st l.daemon es l.reading l.next };
 }
 
 /// The greatest of the readings of the last renewals, and 0 where there is none.

@@ -1,4 +1,4 @@
-use Rattle.sl_cell.proofs.KeptLaws.{greatest_more}
+use Rattle.sl_cell.proofs.LeadLaws.{greatest_more}
 use Rattle.machines.proofs.lone_daemon.greatest_renewed.Goals as goal
 
 pub loop-session-preserved : goal.loop-session-preserved
