@@ -77,7 +77,6 @@ impl<D: Teller, J: Station> Kept<D, J> {
 
     /// The input comes to the daemon, at this reading or the last one if that is later. With an answer the seat has given it: its entry is the last
     /// of what the seat has seen now. An input that answers nothing that is open changes nothing here.
-    #[tactic(auto, using(crate::proofs::RestLaws::rest_stepped, crate::proofs::RestLaws::rest_same, crate::proofs::SeatLaws::gave_told))]
     pub(crate) fn step(
         &mut self,
         book: &Book<J>,
@@ -114,7 +113,6 @@ impl<D: Teller, J: Station> Kept<D, J> {
     }
 
     /// The next call of the part, in the order in which they were made, and none exactly where all were taken.
-    #[tactic(auto, using(crate::proofs::RestLaws::rest_goes, crate::proofs::RestLaws::taken_told, crate::proofs::SeatLaws::seen_told))]
     pub(crate) fn take(&mut self, seat: &mut Seat<J>, part: Part) -> Result<Option<Call>, Broken>
         ensures taken { IfOk result (λ o. IsTaken part seat.old seat.new o) }
         ensures history { self.new.history ≡ self.old.history }
@@ -163,7 +161,6 @@ impl<D: Teller, J: Station> Kept<D, J> {
     }
 
     /// Whether all was handed out to this one, the daemon stands for it, and the seats' counts make it up; else what differs.
-    #[tactic(auto, using(crate::proofs::RestLaws::all_out, crate::proofs::Counts::on_ok, crate::proofs::Counts::torn_of, crate::proofs::Counts::case_of))]
     pub(crate) fn close(self, seats: &[Seat<J>], mine: &Front<J>) -> Result<(), Differ>
         requires { length seats.now < 2 ^ 32 }
         ensures stands { OnOk result ((d : D) × D.Daemon.stands d J.setting (trace_of mine.now)) }
