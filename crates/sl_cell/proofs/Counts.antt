@@ -1,6 +1,6 @@
 -- Counts that make up the whole history are each exact.
 use Rattle.sl_cell.specs.Cells.{KeptState}
-use Rattle.sl_cell.specs.Closings.{AreBelow, AreExact, AreSeen, DiffersSo, EntriesDiffer, IsCase, IsCaseOfSome, counts}
+use Rattle.sl_cell.specs.Closings.{AreBelow, AreExact, AreSeen, DiffersSo, EntriesDiffer, IsCase, IsCaseOfSome, IsTorn, counts}
 use Rattle.sl_cell.specs.Seats.{SeatState}
 use Rattle.sl_cell.specs.declared.closing.Differ.TheVariants.{Broken, Entry}
 use Rattle.sl_cell.specs.declared.closing.Differ.{Differ}
@@ -10,7 +10,7 @@ use Rattle.sl_history.specs.declared.signed.Signed.{Signed}
 use Rattle.sl_trace.specs.Traces.{IsTrace, Setting}
 use Rattle.std.proofs.Common.{Bool, List, [], ap, arith, false, length, refl, subst, suc, true, ℕ, ◌+◌, ◌<◌, ◌∷◌, ◌≡◌, ◌≤◌}
 use Rattle.std.proofs.lemmas.Bool.Decides.{Decides-eqb}
-use Rattle.std.specs.Prelude.{Err, IfErr, Ok, Result}
+use Rattle.std.specs.Prelude.{Err, IfErr, Ok, OnOk, Result}
 use borrow.Author.Tests.{ltb-false, ltb-true}
 use lib.Dec.{ltb}
 use mathlib.Core.List.{IsPrefix}
@@ -124,3 +124,12 @@ pub case_of_some : {T : Type 0} (st : Setting) (k : KeptState) (seats : List Sea
     → IfErr r (IsCase k seats mine) → IfErr r (IsCaseOfSome st seats mine)
 case_of_some st k seats mine (Ok x) trace so = tt
 case_of_some st k seats mine (Err d) trace so = (k, trace, so)
+
+pub torn_of : (k : KeptState) (whole : Bool) (all handed mine : List Signed) → whole ≡ k.whole → all ≡ k.history → handed ≡ k.handed → IsTorn whole all handed mine
+    → IsTorn k.whole k.history k.handed mine
+torn_of k whole all handed mine same here there so =
+    subst (λ (b : Bool). IsTorn b k.history k.handed mine) same (subst (λ (xs : List Signed). IsTorn whole xs k.handed mine) here (subst (λ (xs : List Signed). IsTorn whole all xs mine) there so))
+
+pub on_ok : {T E : Type 0} (r : Result T E) (P : Type 0) → P → OnOk r P
+on_ok (Ok x) P p = p
+on_ok (Err e) P p = tt

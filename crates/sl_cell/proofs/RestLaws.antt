@@ -206,3 +206,8 @@ none_waits h handed waiting so same =
     empty : (xs : List Entry) → length xs ≡ 0 → xs ≡ []
     empty [] is = refl
     empty (x ∷ xs) is = absurd (omega (arith, is))
+
+pub all_out : (st : Setting) (h handed mine all : List Signed) (r : Rest) → IsRest st h handed r → all ≡ h → handed ≡ mine → all ≡ mine → (h ≡ mine) × (r.waiting.items ≡ [])
+all_out st h handed mine all r rest here there whole =
+    let is : h ≡ mine = sym here ∙ whole in
+    (is, none_waits h handed r.waiting.items rest.waits (there ∙ sym is))

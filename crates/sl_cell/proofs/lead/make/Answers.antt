@@ -4,8 +4,8 @@ use Rattle.sl_history.specs.Histories.{trace_of}
 use Rattle.sl_world_state.specs.Daemons.{IsStep, entry_of}
 use Rattle.std.proofs.Common.{subst, sym}
 
-pub copy-requires : goal.copy-requires
-copy-requires g c =
+pub copy-copy-requires : goal.copy-copy-requires
+copy-copy-requires g c =
     let st = g.J.Station.setting in
     let es = trace_of c.args.front.now in
     let stands = c.requires.stands in
