@@ -33,6 +33,10 @@ pub made_gave : {P : Type 0} (told : P → Option (List Act)) (faults : P → �
 made_gave told faults running st now (Some fx) i before after s s' so = inl (now, fx, so.0)
 made_gave told faults running st now None i before after s s' so = inr so.0
 
+pub on_ok : {A E M : Type 0} (r : Result A E) → M → OnOk r M
+on_ok (Ok a) m = m
+on_ok (Err e) m = tt
+
 -- ---- threads that only give
 
 gives_seen : (IsInput : Input → Type 0) (s s' : SeatState) → HasSeen s s' → Gives IsInput s → Gives IsInput s'

@@ -63,7 +63,6 @@ fn leave(locks: &mut LvmLocks, turn: &Turn) {
 }
 
 /// Gives a line, in a turn that has begun. An `Err` is want of memory.
-#[tactic(auto, using(crate::proofs::SeatLaws::lines_on))]
 fn give_line<D: Teller, J: Station, R: Wait, C: Clock, P: Spawner>(
     rt: &R,
     room: &Room<D, J, P>,

@@ -79,7 +79,7 @@ fn hand_out<D: Teller, J: Station, R: Wait>(
 }
 
 /// Closes a cell with the seats of all threads. The history has these entries.
-#[tactic(auto, using(crate::proofs::RunLaws::run_whole, crate::proofs::RunLaws::stood_whole, crate::proofs::RunLaws::case_run))]
+#[tactic(auto, using(crate::proofs::RunLaws::stood_whole, crate::proofs::RunLaws::case_run))]
 fn close_with<D: Teller, J: Station>(
     cell: HostCell<D, J>,
     seats: Vec<Seat<J>>,

@@ -26,7 +26,6 @@ fn next<D: Teller, J: Station, R: Wait, P: Spawner>(
 }
 
 /// Takes in what a start came to, and tells it. An `Err` is want of memory.
-#[tactic(auto, using(crate::proofs::SeatLaws::starts_on))]
 fn tell<D: Teller, J: Station, R: Wait, C: Clock, P: Spawner>(
     rt: &R,
     room: &Room<D, J, P>,

@@ -18,7 +18,6 @@ use std::sync::Wait;
 use std::time;
 
 /// Wakes the daemon once. An `Err` is want of memory.
-#[tactic(auto, using(crate::proofs::SeatLaws::wakes_on))]
 fn wake<D: Teller, J: Station, R: Wait, C: Clock, P: Spawner>(
     rt: &R,
     room: &Room<D, J, P>,

@@ -55,7 +55,7 @@ fn answer<D: Teller, J: Station, R: Wait, C: Clock, P: Spawner, A: Area, G: Gate
 }
 
 /// Takes a call, if there is one, makes it, and gives its answer: the turn, if there was one. An `Err` is want of memory.
-#[tactic(auto, using(crate::proofs::SeatLaws::works_on, crate::proofs::SeatLaws::works_idle))]
+#[tactic(auto, using(crate::proofs::SeatLaws::works_idle))]
 fn serve<D: Teller, J: Station, R: Wait, C: Clock, P: Spawner, A: Area, G: Gate>(
     rt: &R,
     room: &Room<D, J, P>,
