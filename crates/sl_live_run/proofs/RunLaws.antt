@@ -7,7 +7,7 @@ use Rattle.sl_reader.specs.declared.live_lines.LiveLine.{LiveLine}
 use Rattle.sl_live_lines.specs.AuditedHistory.{AreLines}
 use Rattle.sl_live_lines.specs.LocksAlong.{AlongState, begun_along}
 use Rattle.sl_live_lines.specs.declared.given_lines.GivenLine.{GivenLine}
-use Rattle.sl_live_machine.specs.ThreadSeats.{IsCaseOfRun}
+use Rattle.sl_live_machine.specs.ThreadSeats.{IsCaseOfRun, Stops}
 use Rattle.sl_live_run.specs.Runs.{AreLiveHistories, AreSettled, AreGiven, CameTo, CanRun, HasRun, HasTold, IsCaseIn, IsEarlyStop, IsLiveCase, IsLiveStop, Runs, StopsSome, outcome_of, begun_at, begun_on, first_at, lines_at, lines_for, site_of}
 use Rattle.sl_live_run.specs.declared.compare.LiveDiffer.TheVariants.{Cell, Left, Line, Untold}
 use Rattle.sl_live_run.specs.declared.compare.LiveDiffer.{LiveDiffer}
@@ -121,8 +121,8 @@ live_case : {D : Type 0} (stands : D → Setting → Trace → Type 0) (st : Set
     → HasRun stands st outcome → IsCaseIn a outcome due d → IsLiveCase stands st a due d
 live_case stands st a due (Ok h) (Cell c) run is = absurd is
 live_case stands st a due (Ok h) (Line number asked expected) run is = (h, run.stood, run.ran, is)
-live_case stands st a due (Ok h) (Left number call) run is = (h, run.stood, run.ran, is)
-live_case stands st a due (Ok h) (Untold number process) run is = (h, run.stood, run.ran, is)
+live_case stands st a due (Ok h) (Left number call) run is = (h, run.stood, run.ran, is.0, is.1)
+live_case stands st a due (Ok h) (Untold number process) run is = (h, run.stood, run.ran, is.0, is.1)
 live_case stands st a due (Err e) d run is =
     subst (IsLiveCase stands st a due) (sym is.2) (subst (Stops (IsCaseOfRun st)) is.1 run.stops)
 
