@@ -1,1 +1,2 @@
 mod BeginLaws
+mod LoneLaws

@@ -2,9 +2,10 @@
 //!
 //! A line of standard input is a case. What comes of it is printed behind it.
 //!
-//! `cell STEPS` makes two cells of one machine's daemon and two seats that the first of them is closed with, `a` and `b`, and one that is left
-//! out, `c`. Steps are divided by `, `; each is `SEAT CELL READING ACT`, and says what its seat does on its cell. Behind what each step gave
-//! stands what came of the close (`cells`).
+//! `cell STEPS` makes a cell of a machine's daemon and two seats that it is closed with, `a` and `b`, and one that is left out, `c`. Steps are
+//! divided by `, `; each is `SEAT READING ACT`, and says what its seat does. Behind what each step gave stands what came of the close (`cells`).
+//!
+//! `host STEPS` makes a daemon with no cell round it, and tells what each step gives, in the lines of a report (`host_steps`).
 //!
 //! Any other line is a live script `NAME.script` that is played, with what is peculiar to the outside told in front of its name (`outside`). How it
 //! ended is printed, then its output; of replies only the machine, the number of the job and the first word.
@@ -12,6 +13,8 @@
 
 mod cell_starts;
 mod cells;
+mod host_steps;
+mod lone_daemon;
 mod outside;
 mod played_scripts;
 mod steps;
@@ -28,8 +31,11 @@ fn told<R: Files + Clock + Wait + Threads + AllocGlobal + Copy + Drop + Send + S
     rt: R,
     line: &str,
 ) -> io::Result<String> {
-    match line.strip_prefix("cell ") {
-        Some(steps) => cells::told(rt, steps),
+    if let Some(steps) = line.strip_prefix("cell ") {
+        return cells::told(rt, steps);
+    }
+    match line.strip_prefix("host ") {
+        Some(steps) => host_steps::told(&rt, steps),
         None => played_scripts::told(rt, &read_case(line)),
     }
 }

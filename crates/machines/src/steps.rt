@@ -1,8 +1,10 @@
-//! What a seat does on a cell, as a step's text tells it: `SEAT CELL READING ACT`.
+//! What a seat does on its cell, as a step's text tells it: `SEAT READING ACT`.
 //!
-//! An act is `wake`, `line TEXT`, `failed N` (an answer of call N), `written N`, `test`, `take delta` or `take resource`.
+//! An act is `wake`, `line TEXT`, `failed N` (an answer of call N), `written N`, `test`, `take delta` or `take resource`; or `hand` or `hand other`:
+//! what waits is handed out to the front that the cell is closed with, or to another one.
 
-use sl_cell::{HostCell, NotApplied, Part, Seat, Station, Teller};
+use sl_cell::{HostCell, NotApplied, Part, Seat, Teller};
+use sl_history::{Front, Station};
 use sl_text::Bytes;
 use sl_trace::{Answer, Input};
 use std::alloc::{AllocError, Global};
@@ -13,8 +15,6 @@ use std::sync::Wait;
 pub struct Step<'a> {
     /// The place of its seat.
     pub seat: usize,
-    /// Whether it is on the first cell.
-    pub first: bool,
     pub reading: u32,
     pub act: &'a str,
 }
@@ -53,11 +53,9 @@ fn place(letter: &str) -> usize {
 /// The step of a text.
 pub fn read_step(text: &str) -> Option<Step<'_>> {
     let (seat, rest) = text.split_once(' ')?;
-    let (cell, rest) = rest.split_once(' ')?;
     let (reading, act) = rest.split_once(' ')?;
     Some(Step {
         seat: place(seat),
-        first: cell == "1",
         reading: reading.parse().ok()?,
         act,
     })
@@ -72,7 +70,7 @@ fn answered(number: &str, answer: Answer) -> Input {
 }
 
 /// What an act gives to a daemon.
-fn input(alloc: Global, act: &str) -> Result<Input, AllocError> {
+pub fn input(alloc: Global, act: &str) -> Result<Input, AllocError> {
     let (word, rest) = act.split_once(' ').unwrap_or((act, ""));
     Ok(match word {
         "line" => Input::Line(Bytes::from_slice(alloc, rest.as_bytes())?),
@@ -87,14 +85,17 @@ fn apply<D: Teller, J: Station, R: Wait>(
     rt: &R,
     alloc: Global,
     cell: &HostCell<D, J>,
-    seat: &mut Seat,
+    seat: &mut Seat<J>,
     step: Step<'_>,
 ) -> Result<Outcome, AllocError> {
     let input = input(alloc, step.act)?;
-    Ok(match cell.apply(rt, seat, u64::from(step.reading), input) {
-        Ok((receipt, _effects)) => Outcome::counted("", receipt.number as u64),
-        Err(NotApplied::Unasked { front }) => Outcome::counted("unasked ", front as u64),
+    let applied = cell.apply(rt, seat, u64::from(step.reading), input);
+    let seen = seat.front().len();
+    Ok(match applied {
+        Ok(_effects) => Outcome::counted("", seen),
+        Err(NotApplied::Unasked) => Outcome::counted("unasked ", seen),
         Err(NotApplied::NoMemory) => Outcome::word("no memory"),
+        Err(NotApplied::Broken) => Outcome::word("broken"),
     })
 }
 
@@ -102,26 +103,47 @@ fn apply<D: Teller, J: Station, R: Wait>(
 fn take<D: Teller, J: Station, R: Wait>(
     rt: &R,
     cell: &HostCell<D, J>,
-    seat: &mut Seat,
+    seat: &mut Seat<J>,
     part: Part,
-) -> Result<Outcome, AllocError> {
-    seat.reserve(1)?;
-    Ok(match cell.take(rt, seat, part) {
-        Some(call) => Outcome::counted("call ", call.number),
-        None => Outcome::word("none"),
-    })
+) -> Outcome {
+    match cell.take(rt, seat, part) {
+        Ok(Some(call)) => Outcome::counted("call ", call.number),
+        Ok(None) => Outcome::word("none"),
+        Err(_) => Outcome::word("broken"),
+    }
 }
 
 /// Whether the test holds.
 fn test<D: Teller, J: Station, R: Wait>(
     rt: &R,
     cell: &HostCell<D, J>,
-    seat: &mut Seat,
+    seat: &mut Seat<J>,
     reading: u32,
-) -> Result<Outcome, AllocError> {
-    seat.reserve(1)?;
-    let holds = cell.test(rt, seat, u64::from(reading));
-    Ok(Outcome::word(if holds { "true" } else { "false" }))
+) -> Outcome {
+    match cell.test(rt, seat, u64::from(reading)) {
+        Ok(true) => Outcome::word("true"),
+        Ok(false) => Outcome::word("false"),
+        Err(_) => Outcome::word("broken"),
+    }
+}
+
+/// The front that a cell is closed with, and another one.
+#[derive(Drop)]
+pub struct Fronts<J: Station> {
+    pub mine: Front<J>,
+    pub other: Front<J>,
+}
+
+/// How many entries are handed out to this front.
+fn hand_out<D: Teller, J: Station, R: Wait>(
+    rt: &R,
+    cell: &HostCell<D, J>,
+    front: &mut Front<J>,
+) -> Outcome {
+    match cell.hand_out(rt, front) {
+        Ok(entries) => Outcome::counted("handed ", entries.len() as u64),
+        Err(_) => Outcome::word("broken"),
+    }
 }
 
 /// What a step gives.
@@ -129,13 +151,16 @@ pub fn act<D: Teller, J: Station, R: Wait>(
     rt: &R,
     alloc: Global,
     cell: &HostCell<D, J>,
-    seat: &mut Seat,
+    seat: &mut Seat<J>,
+    fronts: &mut Fronts<J>,
     step: Step<'_>,
 ) -> Result<Outcome, AllocError> {
     match step.act {
-        "take delta" => take(rt, cell, seat, Part::Delta),
-        "take resource" => take(rt, cell, seat, Part::Resource),
-        "test" => test(rt, cell, seat, step.reading),
+        "take delta" => Ok(take(rt, cell, seat, Part::Delta)),
+        "take resource" => Ok(take(rt, cell, seat, Part::Resource)),
+        "test" => Ok(test(rt, cell, seat, step.reading)),
+        "hand" => Ok(hand_out(rt, cell, &mut fronts.mine)),
+        "hand other" => Ok(hand_out(rt, cell, &mut fronts.other)),
         _ => apply(rt, alloc, cell, seat, step),
     }
 }

@@ -1,8 +1,7 @@
 pub mod ListFronts
 pub mod MappedLists
 pub mod CopyLaws
-pub mod KeptLaws
-pub mod ExpectedLaws
-pub mod AuditLaws
-pub mod CaseLaws
-pub mod IdleLaws
+pub mod LeadLaws
+pub mod RestLaws
+pub mod SeatLaws
+pub mod Counts

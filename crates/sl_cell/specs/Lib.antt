@@ -1,9 +1,8 @@
 pub mod Copies
 pub mod CopyRoom
+pub mod Parts
 pub mod Seats
+pub mod Leads
 pub mod Cells
-pub mod Stations
-pub mod Expected
-pub mod Audits
-pub mod DifferenceCases
-pub mod Idles
+pub mod Told
+pub mod Closings

@@ -1,111 +1,130 @@
 //! The cell: one machine's daemon under its lock, shared by the machine's threads.
 
-ghost use Rattle.sl_cell.specs.Audits.{Agrees, IsOf};
-ghost use Rattle.sl_cell.specs.DifferenceCases.{IsCase, IsCaseOfSome, Stops};
-ghost use Rattle.sl_cell.specs.Cells.{IsTaken, IsTested, IsTold, KeepsIdle};
-ghost use Rattle.sl_cell.specs.declared.audit.Differ.{Differ as DifferOf};
-ghost use Rattle.sl_world_state.specs.Daemons.{begun_with};
-ghost use Rattle.sl_run.specs.Lawful.{IsSetting};
+ghost use Rattle.sl_cell.specs.Closings.{AreBelow, AreExact, IsCaseOfSome};
+ghost use Rattle.sl_cell.specs.Told.{Gave, IsTaken, IsTested, IsUnasked};
+ghost use Rattle.sl_cell.specs.declared.lead.NotApplied.{NotApplied as Why};
+ghost use Rattle.sl_history.specs.Histories.{entries, trace_of};
 ghost use Rattle.sl_run.specs.Headers.{IsHeader};
-ghost use Rattle.sl_trace.specs.WatchdogConnections.{given_connection};
+ghost use Rattle.sl_run.specs.Lawful.{IsSetting};
 ghost use Rattle.sl_trace.specs.Traces.{IsTrace};
 ghost use Rattle.sl_words.specs.Bounds.{moments};
-ghost use Rattle.std.specs.Prelude.{IfErr, IfOk, None, map, reverse, [], ◌<◌, ◌≡◌};
+ghost use Rattle.sl_world_state.specs.Daemons.{begun_with};
+ghost use Rattle.std.specs.Prelude.{Err, IfErr, IfOk, OnErr, OnOk, length, [], ◌++◌, ◌<◌, ◌^◌, ◌≡◌};
+ghost use mathlib.Core.List.{IsPrefix};
 
-use crate::audit::{Basis, CloseError};
-use crate::connections::given_connections;
-use crate::daemon_history::{NotApplied, Receipt, Station};
+use crate::closing::Differ;
 use crate::kept::Kept;
-use crate::seat::{Part, Seat};
+use crate::lead::{Broken, NotApplied};
+use crate::part::Part;
+use crate::seat::Seat;
 use crate::teller::Teller;
+use sl_history::{Book, Front, Opened, Station};
 use sl_run::Header;
-use sl_text::Seq;
 use sl_trace::{Call, Effects, Entry, Input};
 use sl_world_state::{Daemon, Site};
 use std::alloc::{AllocError, Global};
 use std::sync::{Mutex, Wait};
 
-/// One machine's daemon under its lock.
+/// One machine's daemon under its lock, and the book of the machine's history.
 #[derive(Drop)]
 pub struct HostCell<D: Teller, J: Station> {
-    alloc: Global,
-    basis: Basis,
+    book: Book<J>,
     kept: Mutex<Kept<D, J>>,
-    ghost of: { IsOf J.setting basis },
 }
 
 impl<D: Teller, J: Station> HostCell<D, J> {
-    /// A daemon to which nothing came yet. An `Err` is want of memory.
-    #[tactic(auto, using(crate::proofs::KeptLaws::given_below))]
-    pub fn new(alloc: Global, header: &Header, site: Site) -> Result<HostCell<D, J>, AllocError>
+    /// A daemon to which nothing came yet, and the front of one who has seen nothing. An `Err` is want of memory.
+    pub fn new(
+        alloc: Global,
+        header: &Header,
+        site: Site,
+        opened: Opened,
+    ) -> Result<(HostCell<D, J>, Front<J>), AllocError>
         requires header { IsHeader header.now }
         requires setting { IsSetting J.setting }
         requires site { J.setting ≡ begun_with D.Daemon.commands header.now site }
-        ensures sector { IfOk result (λ c. c.basis.sector ≡ header.now.geometry.sector) }
-        ensures first { IfOk result (λ c. c.basis.first.items ≡ map (given_connection header.now.timing) site.given) }
+        requires book { opened.seen.book ≡ J.book }
+        ensures { IfOk result (λ r. r.1 ≡ []) }
     {
-        let basis = Basis {
-            sector: header.geometry.sector(),
-            first: given_connections(alloc, &header.timing, site.given.as_slice())?,
+        let (book, front) = opened.named::<J>();
+        let kept = Kept::new(alloc, header, site, &front)?;
+        let cell = HostCell {
+            book,
+            kept: Mutex::new(kept),
         };
-        Ok(HostCell {
-            alloc,
-            basis,
-            kept: Mutex::new(Kept::new(alloc, header, site)?),
-        })
+        Ok((cell, front))
     }
 
-    /// A seat with no call. It takes no memory.
-    pub fn seat(&self) -> Seat
-        ensures { (result.calls ≡ []) × (result.delta ≡ None) × (result.resource ≡ None) }
+    /// The seat of a thread with this number, which gave nothing and has seen so much. It takes no memory.
+    pub fn seat(&self, by: u32, front: &Front<J>) -> Seat<J>
+        ensures { result ≡ record { by = by; count = 0; taken = 0; front = front.now } }
     {
-        Seat::new(self.alloc)
+        Seat::new(by, front.again())
     }
 
-    /// The input comes to the daemon, at this reading or the last one if that is later. What came of it stands in the seat, and that
-    /// it answers nothing that is open.
+    /// The input comes to the daemon, at this reading or the last one if that is later. With an answer the seat has given it: its entry is the last
+    /// of what the seat has seen now. `Unasked` says that it answers nothing that is open in what the seat has seen now; `NoMemory` is want of
+    /// memory, or of numbers; what `Broken` is says `NotApplied`. With these two the seat is as it was.
     pub fn apply<R: Wait>(
         &self,
         rt: &R,
-        seat: &mut Seat,
+        seat: &mut Seat<J>,
         now: u64,
         input: Input,
-    ) -> Result<(Receipt, Effects), NotApplied>
+    ) -> Result<Effects, NotApplied>
         requires { now < moments }
-        ensures told { IsTold seat.old seat.new now input result }
-        ensures idle { KeepsIdle seat.old seat.new }
+        ensures gave { IfOk result (λ fx. Gave seat.old seat.new now input fx) }
+        ensures unasked { result ≡ Err Why.Unasked → IsUnasked J.setting seat.old seat.new input }
+        ensures memory { result ≡ Err Why.NoMemory → seat.new ≡ seat.old }
+        ensures broken { result ≡ Err Why.Broken → seat.new ≡ seat.old }
     {
-        self.kept.lock(rt).step(seat, now, input)
+        self.kept.lock(rt).step(&self.book, seat, now, input)
     }
 
-    /// The least call of the part that nobody took, if there is one. It stands in the seat; and where there is none, how many entries
-    /// there were. `Seat::reserve` gives the room that it wants.
-    pub fn take<R: Wait>(&self, rt: &R, seat: &mut Seat, part: Part) -> Option<Call>
-        requires { 0 < seat.old.room }
-        ensures { IsTaken part seat.old seat.new result }
+    /// The next call of the part, in the order in which they were made, for a thread that took all before it; and none exactly where all were taken.
+    /// `Broken` says that another thread took some, or that the history is longer than what led to the daemon. The seat is as it was then.
+    pub fn take<R: Wait>(
+        &self,
+        rt: &R,
+        seat: &mut Seat<J>,
+        part: Part,
+    ) -> Result<Option<Call>, Broken>
+        ensures taken { IfOk result (λ o. IsTaken part seat.old seat.new o) }
+        ensures broken { OnErr result (seat.new ≡ seat.old) }
     {
         self.kept.lock(rt).take(seat, part)
     }
 
-    /// The watchdog daemon's test of the machine's connections. It stands in the seat.
-    pub fn test<R: Wait>(&self, rt: &R, seat: &mut Seat, now: u64) -> bool
-        requires { 0 < seat.old.room }
-        ensures { IsTested seat.old seat.new now result }
+    /// The watchdog daemon's test of the machine's connections, which the history leaves that the seat has seen now. With `Broken` it is as it was.
+    pub fn test<R: Wait>(&self, rt: &R, seat: &mut Seat<J>, now: u64) -> Result<bool, Broken>
+        ensures tested { IfOk result (λ answer. IsTested J.setting seat.old seat.new now answer) }
+        ensures broken { OnErr result (seat.new ≡ seat.old) }
     {
         self.kept.lock(rt).test(seat, now)
     }
 
-    /// The history. It is the daemon's, which stood for it; its entries are exactly what these seats applied, each once at its number; all else
-    /// that they say of it is true. Else a case in which these seats differ from a history that the daemon could have, or want of memory.
-    #[tactic(auto, using(crate::proofs::CaseLaws::no_case, crate::proofs::CaseLaws::case_of_some))]
-    pub fn close(self, seats: Vec<Seat>) -> Result<Seq<Entry>, CloseError>
-        ensures stands { IfOk result (λ h. (d : D) × D.Daemon.stands d J.setting (reverse h)) }
-        ensures trace { IfOk result (λ h. IsTrace J.setting (reverse h)) }
-        ensures agrees { IfOk result (λ h. Agrees J.setting h seats.items) }
-        ensures none { IfOk result (λ h. (d : DifferOf) → IsCase J.setting h seats.items d → ⊥) }
-        ensures differ { IfErr result (Stops (IsCaseOfSome J.setting seats.items)) }
+    /// The entries that came since this one was handed some last: it has all of them now. `Broken` says that others were handed out to another
+    /// one. The front is as it was then.
+    pub fn hand_out<R: Wait>(&self, rt: &R, mine: &mut Front<J>) -> Result<Vec<Entry>, Broken>
+        ensures handed { IfOk result (λ v. entries mine.new ≡ entries mine.old ++ v.items) }
+        ensures grows { OnOk result (IsPrefix mine.old mine.new) }
+        ensures broken { OnErr result (mine.new ≡ mine.old) }
     {
-        let HostCell { alloc, basis, kept } = self;
-        kept.into_inner().close(alloc, &basis, &seats)
+        self.kept.lock(rt).hand_out(mine)
+    }
+
+    /// Whether this front is the whole history. Then a daemon stood for it; each of its entries has the number of a seat, and each seat, with its
+    /// place as its number, counted just the entries of its number. Else a case in which these seats and this front differ from a history that the
+    /// daemon could have.
+    pub fn close(self, seats: &[Seat<J>], mine: &Front<J>) -> Result<(), Differ>
+        requires { length seats.now < 2 ^ 32 }
+        ensures stands { OnOk result ((d : D) × D.Daemon.stands d J.setting (trace_of mine.now)) }
+        ensures trace { OnOk result (IsTrace J.setting (trace_of mine.now)) }
+        ensures exact { OnOk result (AreExact 0 seats.now mine.now) }
+        ensures below { OnOk result (AreBelow (length seats.now) mine.now) }
+        ensures differ { IfErr result (IsCaseOfSome J.setting seats.now mine.now) }
+    {
+        let HostCell { book: _, kept } = self;
+        kept.into_inner().close(seats, mine)
     }
 }

@@ -1,269 +1,184 @@
-//! What lies under the lock: the daemon with its history, its connections, and its calls that nobody took.
+//! What lies under the lock: the daemon with the front of its history, and what is kept of the history beside it.
 
-ghost use Rattle.sl_cell.specs.Audits.{Agrees, IsOf};
-ghost use Rattle.sl_cell.specs.DifferenceCases.{IsCase, Stops};
-ghost use Rattle.sl_cell.specs.Cells.{IsAnswered, IsTaken, IsTested, IsTold, KeepsIdle, Stepped, Takes, Tests, calls_in, left_of, made_entry, with_entry, with_left};
-ghost use Rattle.sl_cell.specs.Seats.{is_of};
-ghost use Rattle.sl_cell.specs.declared.seat.Part.TheVariants.{Delta, Resource};
-ghost use Rattle.sl_world_state.specs.Daemons.{begun_with};
-ghost use Rattle.sl_run.specs.Lawful.{IsSetting};
+ghost use Rattle.sl_cell.specs.Closings.{AreBelow, AreExact, IsCase};
+ghost use Rattle.sl_cell.specs.Told.{Gave, IsTaken, IsTested, IsUnasked};
+ghost use Rattle.sl_cell.specs.declared.lead.NotApplied.{NotApplied as Why};
+ghost use Rattle.sl_history.specs.Histories.{entries, trace_of};
 ghost use Rattle.sl_run.specs.Headers.{IsHeader};
+ghost use Rattle.sl_run.specs.Lawful.{IsSetting};
 ghost use Rattle.sl_trace.specs.Traces.{IsTrace};
 ghost use Rattle.sl_words.specs.Bounds.{moments};
-ghost use Rattle.std.specs.Prelude.{IfErr, IfNone, IfOk, IfSome, MatchOption, OnErr, OnOk, Some, filter, length, map, option_map, reverse, [], ◌++◌, ◌+◌, ◌<◌, ◌∷◌, ◌≡◌, ◌≤◌};
-ghost use Rattle.std.specs.Vec.{vec_capacity, vec_len};
-ghost use Rattle.std.specs.VecDeque.{deque_capacity, deque_len};
+ghost use Rattle.sl_world_state.specs.Daemons.{begun_with};
+ghost use Rattle.std.specs.Prelude.{Err, IfErr, IfOk, OnErr, OnOk, length, true, [], ◌++◌, ◌<◌, ◌^◌, ◌≡◌};
+ghost use mathlib.Core.List.{IsPrefix};
 
-use crate::audit::{Basis, CloseError, check_all};
-use crate::connections::{Connection, given_connections, make_moves, test_holds};
-use crate::daemon_history::{Core, NotApplied, Receipt, Station};
-use crate::seat::{Made, Part, Seat, is_of};
+use crate::closing::{Differ, check, is_torn};
+use crate::connections::given_connections;
+use crate::lead::{Broken, Lead, NotApplied};
+use crate::part::Part;
+use crate::rest::Rest;
+use crate::seat::Seat;
 use crate::teller::Teller;
+use sl_history::{Book, Front, Station};
 use sl_run::Header;
-use sl_text::Seq;
 use sl_trace::{Call, Effects, Entry, Input};
-use sl_world_state::{Daemon, Most, Site};
+use sl_world_state::{Daemon, Site};
 use std::alloc::{AllocError, Global};
-use std::collections::VecDeque;
 use std::marker::Model;
 
-/// A call with the number of its entry.
-#[derive(Clone, Copy)]
-struct Numbered {
-    number: usize,
-    call: Call,
-}
-
-impl Model for Numbered {
-    ghost use Rattle.sl_trace.specs.declared.effects.Call.{Call};
-    ghost use Rattle.std.specs.Prelude.{refl, ℕ};
-
-    ghost Value = { ℕ × Call };
-
-    ghost view = { λ n. (n.number, n.call) };
-
-    ghost inverse = { λ p. record { number = p.0; call = p.1 } };
-
-    ghost inverse_ok = { λ n is. refl };
-}
-
-/// Puts the calls of a part behind these. It takes no memory.
-fn queue(calls: &mut VecDeque<Numbered>, part: Part, number: usize, made: &[Call])
-    requires { deque_len calls.old + length made.now ≤ deque_capacity calls.old }
-    ensures { calls.new.items ≡ calls.old.items ++ map (λ c. (number, c)) (filter (is_of part) made.now) }
-{
-    for call in made {
-        if is_of(part, call) {
-            calls.push_back_reserved(Numbered {
-                number,
-                call: *call,
-            });
-        }
-    }
-}
-
-/// Puts the calls of a step behind those of their part that nobody took. It takes no memory.
-fn queue_both(
-    delta: &mut VecDeque<Numbered>,
-    resource: &mut VecDeque<Numbered>,
-    number: usize,
-    effects: &Effects,
-)
-    requires delta { deque_len delta.old + length effects.now.calls ≤ deque_capacity delta.old }
-    requires resource { deque_len resource.old + length effects.now.calls ≤ deque_capacity resource.old }
-    ensures delta { delta.new.items ≡ delta.old.items ++ calls_in Delta number effects.now }
-    ensures resource { resource.new.items ≡ resource.old.items ++ calls_in Resource number effects.now }
-{
-    queue(delta, Part::Delta, number, effects.calls.as_slice());
-    queue(resource, Part::Resource, number, effects.calls.as_slice());
-}
-
-/// Sees that there is memory for what a step leaves: its moves, and its calls in each part. An `Err` is want of memory.
-fn reserve(
-    connections: &mut Vec<Connection>,
-    delta: &mut VecDeque<Numbered>,
-    resource: &mut VecDeque<Numbered>,
-    most: &Most,
-) -> Result<(), AllocError>
-    ensures connections { connections.new.items ≡ connections.old.items }
-    ensures delta { delta.new.items ≡ delta.old.items }
-    ensures resource { resource.new.items ≡ resource.old.items }
-    ensures moves { OnOk result (vec_len connections.new + most.now.moves ≤ vec_capacity connections.new) }
-    ensures deltas { OnOk result (deque_len delta.new + most.now.calls ≤ deque_capacity delta.new) }
-    ensures resources { OnOk result (deque_len resource.new + most.now.calls ≤ deque_capacity resource.new) }
-{
-    connections.reserve(most.moves)?;
-    delta.reserve(most.calls)?;
-    resource.reserve(most.calls)
-}
-
-/// The first of these, which goes.
-fn next(calls: &mut VecDeque<Numbered>) -> Option<Numbered>
-    ensures { MatchOption result ((calls.old.items ≡ []) × (calls.new.items ≡ [])) (λ c. calls.old.items ≡ c ∷ calls.new.items) }
-{
-    calls.pop_front()
-}
-
-/// What a seat keeps of a call that is taken.
-fn took(next: &Numbered) -> Made
-    ensures { result ≡ Made.Took next.now.0 next.now.1 }
-{
-    Made::Took {
-        number: next.number,
-        call: next.call,
-    }
-}
-
-/// What lies under the lock.
+/// What lies under the lock. So much of the history was handed out.
 #[derive(Drop)]
-pub struct Kept<D: Teller, J: Station> {
-    core: Core<D, J>,
-    connections: Vec<Connection>,
-    delta: VecDeque<Numbered>,
-    resource: VecDeque<Numbered>,
+pub(crate) struct Kept<D: Teller, J: Station> {
+    lead: Lead<D, J>,
+    rest: Rest,
+    handed: Front<J>,
 }
 
 impl<D: Teller, J: Station> Model for Kept<D, J> {
-    ghost use Rattle.sl_cell.specs.Cells.{IsLeft, KeptState};
-    ghost use Rattle.sl_trace.specs.WatchdogConnections.{connections as connections_after};
-    ghost use Rattle.std.specs.Prelude.{reverse, ◌≡◌};
+    ghost use Rattle.sl_cell.specs.Cells.{IsRest, KeptState, left_in};
 
     ghost Value = { KeptState };
 
-    ghost view = { λ k. record { history = k.core.history; delta = k.delta.items; resource = k.resource.items } };
+    ghost view = { λ k. record {
+      whole = k.lead.whole;
+      history = k.lead.history;
+      delta = left_in k.rest.delta;
+      resource = left_in k.rest.resource;
+      handed = k.handed;
+      waiting = k.rest.waiting.items;
+    } };
 
-    ghost invariant = { λ k. (k.connections.items ≡ connections_after J.setting (reverse k.core.history)) × IsLeft k.core.history k.delta.items k.resource.items };
+    ghost invariant = { λ k. IsRest J.setting k.lead.history k.handed k.rest };
 }
 
 impl<D: Teller, J: Station> Kept<D, J> {
     /// A daemon to which nothing came yet. An `Err` is want of memory.
-    #[tactic(auto, using(crate::proofs::KeptLaws::given_below))]
-    pub(crate) fn new(alloc: Global, header: &Header, site: Site) -> Result<Kept<D, J>, AllocError>
+    #[tactic(auto, using(crate::proofs::LeadLaws::given_below, crate::proofs::RestLaws::rest_new))]
+    pub(crate) fn new(
+        alloc: Global,
+        header: &Header,
+        site: Site,
+        front: &Front<J>,
+    ) -> Result<Kept<D, J>, AllocError>
         requires header { IsHeader header.now }
         requires setting { IsSetting J.setting }
         requires site { J.setting ≡ begun_with D.Daemon.commands header.now site }
-        ensures { IfOk result (λ k. k ≡ record { history = []; delta = []; resource = [] }) }
+        requires front { front.now ≡ [] }
+        ensures history { IfOk result (λ k. k.history ≡ []) }
+        ensures whole { IfOk result (λ k. k.whole ≡ true) }
     {
         let connections = given_connections(alloc, &header.timing, site.given.as_slice())?;
         Ok(Kept {
-            core: Core::new(alloc, header, site)?,
-            connections,
-            delta: VecDeque::new(alloc),
-            resource: VecDeque::new(alloc),
+            lead: Lead::new(alloc, header, site, front.again())?,
+            rest: Rest::new(alloc, connections),
+            handed: front.again(),
         })
     }
 
-    /// The input comes to the daemon, at this reading or the last one if that is later. Its entry goes into the seat. An input that
-    /// answers nothing that is open goes there too, and changes nothing here.
-    pub fn step(
+    /// The input comes to the daemon, at this reading or the last one if that is later. With an answer the seat has given it: its entry is the last
+    /// of what the seat has seen now. An input that answers nothing that is open changes nothing here.
+    pub(crate) fn step(
         &mut self,
-        seat: &mut Seat,
+        book: &Book<J>,
+        seat: &mut Seat<J>,
         now: u64,
         input: Input,
-    ) -> Result<(Receipt, Effects), NotApplied>
+    ) -> Result<Effects, NotApplied>
         requires { now < moments }
-        ensures ok { IfOk result (λ r. self.new ≡ with_entry (made_entry J.setting self.old.history now input r.1) self.old) }
-        ensures seat { IfOk result (λ r. Stepped J.setting self.old.history seat.old seat.new now input r) }
-        ensures idle { KeepsIdle seat.old seat.new }
-        ensures answered { IsAnswered J.setting self.old.history input result }
-        ensures told { IsTold seat.old seat.new now input result }
-        ensures err { OnErr result (self.new ≡ self.old) }
+        ensures gave { IfOk result (λ fx. Gave seat.old seat.new now input fx) }
+        ensures history { OnOk result (self.new.history ≡ seat.new.front) }
+        ensures unasked { result ≡ Err Why.Unasked → IsUnasked J.setting seat.old seat.new input }
+        ensures memory { result ≡ Err Why.NoMemory → (self.new ≡ self.old) × (seat.new ≡ seat.old) }
+        ensures broken { result ≡ Err Why.Broken → seat.new ≡ seat.old }
+        ensures err { OnErr result (self.new.history ≡ self.old.history) }
     {
-        let most = self.core.most();
-        reserve(
-            &mut self.connections,
-            &mut self.delta,
-            &mut self.resource,
-            &most,
-        )?;
-        let (receipt, effects) = self.core.step(seat, now, input)?;
-        make_moves(&mut self.connections, effects.moves.as_slice());
-        queue_both(
-            &mut self.delta,
-            &mut self.resource,
-            receipt.number,
-            &effects,
-        );
-        Ok((receipt, effects))
-    }
-
-    /// The least call of the part that nobody took goes.
-    #[tactic(auto, using(crate::proofs::KeptLaws::delta_taken, crate::proofs::KeptLaws::resource_taken))]
-    fn next_of(&mut self, part: Part) -> Option<Numbered>
-        ensures some { IfSome result (λ c. left_of part self.old ≡ c ∷ left_of part self.new) }
-        ensures none { IfNone result ((left_of part self.old ≡ []) × (self.new ≡ self.old)) }
-        ensures rest { self.new ≡ with_left part (left_of part self.new) self.old }
-    {
-        match part {
-            Part::Delta => next(&mut self.delta),
-            Part::Resource => next(&mut self.resource),
+        if !seat.is_behind(self.lead.front()) {
+            return Err(NotApplied::Broken);
+        }
+        let most = self.lead.most();
+        self.rest.reserve(&most)?;
+        match self.lead.step(book, seat.by(), now, input) {
+            Ok((signed, effects)) => {
+                seat.gave(self.lead.front(), &signed);
+                self.rest.note(signed.into_entry(), &effects);
+                Ok(effects)
+            }
+            Err(NotApplied::Unasked) => {
+                let taken = seat.taken();
+                seat.see(self.lead.front(), taken);
+                Err(NotApplied::Unasked)
+            }
+            Err(why) => Err(why),
         }
     }
 
-    /// The least call of the part that nobody took, and none exactly where there is none.
-    pub fn take(&mut self, seat: &mut Seat, part: Part) -> Option<Call>
-        requires { 0 < seat.old.room }
-        ensures taken { Takes part self.old self.new seat.old seat.new result }
-        ensures told { IsTaken part seat.old seat.new result }
+    /// The next call of the part, in the order in which they were made, and none exactly where all were taken.
+    pub(crate) fn take(&mut self, seat: &mut Seat<J>, part: Part) -> Result<Option<Call>, Broken>
+        ensures taken { IfOk result (λ o. IsTaken part seat.old seat.new o) }
+        ensures history { self.new.history ≡ self.old.history }
+        ensures broken { OnErr result ((self.new ≡ self.old) × (seat.new ≡ seat.old)) }
     {
-        match self.next_of(part) {
-            Some(next) => {
-                seat.put(took(&next));
-                Some(next.call)
-            }
-            None => {
-                seat.put_idle(part, self.core.len());
-                None
-            }
+        if !seat.is_behind(self.lead.front()) {
+            return Err(Broken);
         }
+        if self.rest.taken(part) != seat.taken() {
+            return Err(Broken);
+        }
+        let _most = self.lead.calls();
+        let call = self.rest.next(part);
+        seat.see(self.lead.front(), self.rest.taken(part));
+        Ok(call)
     }
 
-    /// The watchdog daemon's test of these connections.
-    pub fn test(&self, seat: &mut Seat, now: u64) -> bool
-        requires { 0 < seat.old.room }
-        ensures test { Tests J.setting self.now.history seat.old seat.new now result }
-        ensures told { IsTested seat.old seat.new now result }
+    /// The watchdog daemon's test of the machine's connections.
+    pub(crate) fn test(&self, seat: &mut Seat<J>, now: u64) -> Result<bool, Broken>
+        ensures tested { IfOk result (λ answer. IsTested J.setting seat.old seat.new now answer) }
+        ensures history { OnOk result (self.now.history ≡ seat.new.front) }
+        ensures broken { OnErr result (seat.new ≡ seat.old) }
     {
-        let answer = test_holds(&self.connections, now);
-        seat.put(Made::Tested {
-            now,
-            answer,
-            front: self.core.len(),
-        });
-        answer
+        if !seat.is_behind(self.lead.front()) {
+            return Err(Broken);
+        }
+        let taken = seat.taken();
+        seat.see(self.lead.front(), taken);
+        Ok(self.rest.test(now))
     }
 
-    /// The history, where these seats agree with it; else what differs.
-    pub(crate) fn close(
-        self,
-        alloc: Global,
-        basis: &Basis,
-        seats: &[Seat],
-    ) -> Result<Seq<Entry>, CloseError>
-        requires { IsOf J.setting basis.now }
-        ensures same { IfOk result (λ h. h ≡ self.history) }
-        ensures trace { IsTrace J.setting (reverse self.history) }
-        ensures stands { (d : D) × D.Daemon.stands d J.setting (reverse self.history) }
-        ensures agrees { OnOk result (Agrees J.setting self.history seats.now) }
-        ensures differ { IfErr result (Stops (IsCase J.setting self.history seats.now)) }
+    /// Hands out the entries that wait, to one who has what was handed out before. It takes no memory.
+    pub(crate) fn hand_out(&mut self, mine: &mut Front<J>) -> Result<Vec<Entry>, Broken>
+        ensures handed { IfOk result (λ v. entries mine.new ≡ entries mine.old ++ v.items) }
+        ensures grows { OnOk result (IsPrefix mine.old mine.new) }
+        ensures all { OnOk result ((mine.new ≡ self.old.history) × (self.new.waiting ≡ [])) }
+        ensures history { self.new.history ≡ self.old.history }
+        ensures broken { OnErr result ((self.new ≡ self.old) × (mine.new ≡ mine.old)) }
     {
-        let history = self.into_history();
-        check_all(alloc, basis, &history, seats)?;
-        Ok(Seq::new(history))
+        if !self.handed.is_same(mine) {
+            return Err(Broken);
+        }
+        self.handed = self.lead.front().again();
+        *mine = self.lead.front().again();
+        Ok(self.rest.take_waiting())
     }
 
-    /// The history, out of the lock.
-    fn into_history(self) -> Vec<Entry>
-        ensures same { result.items ≡ self.history }
-        ensures trace { IsTrace J.setting (reverse result.items) }
-        ensures stands { (d : D) × D.Daemon.stands d J.setting (reverse result.items) }
+    /// Whether all was handed out to this one, the daemon stands for it, and the seats' counts make it up; else what differs.
+    pub(crate) fn close(self, seats: &[Seat<J>], mine: &Front<J>) -> Result<(), Differ>
+        requires { length seats.now < 2 ^ 32 }
+        ensures stands { OnOk result ((d : D) × D.Daemon.stands d J.setting (trace_of mine.now)) }
+        ensures trace { IsTrace J.setting (trace_of self.history) }
+        ensures whole { OnOk result ((self.history ≡ mine.now) × (self.waiting ≡ [])) }
+        ensures exact { OnOk result (AreExact 0 seats.now mine.now) }
+        ensures below { OnOk result (AreBelow (length seats.now) mine.now) }
+        ensures differ { IfErr result (IsCase self seats.now mine.now) }
     {
         let Kept {
-            core,
-            connections: _,
-            delta: _,
-            resource: _,
+            lead,
+            rest: _,
+            handed,
         } = self;
-        core.into_history()
+        let (all, whole) = lead.end();
+        if is_torn(whole, &all, &handed, mine) {
+            return Err(Differ::Broken { entries: all.len() });
+        }
+        check(seats, &all)
     }
 }

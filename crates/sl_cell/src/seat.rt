@@ -1,158 +1,113 @@
-//! What one thread did on a cell.
+//! A thread's seat: some words, however long the run is.
 
-ghost use Rattle.sl_cell.specs.declared.seat.Part.{Part as PartOf};
-ghost use Rattle.sl_cell.specs.Seats.{SeatState, idle_of, is_of, part_of, with_idle};
-ghost use Rattle.std.specs.Prelude.{None, OnOk, Some, [], ◌++◌, ◌-◌, ◌<◌, ◌∷◌, ◌≡◌, ◌≤◌};
+ghost use Rattle.sl_cell.specs.Closings.{IsSeatOf};
+ghost use Rattle.sl_history.specs.Histories.{given_by};
+ghost use Rattle.sl_history.specs.declared.signed.Signed.{Signed as SignedOf};
+ghost use Rattle.std.specs.Prelude.{IsFalse, IsTrue, List, length, [], ◌++◌, ◌+◌, ◌∷◌, ◌≡◌, ◌≤◌};
+ghost use mathlib.Core.List.{IsPrefix};
 
-use sl_trace::{Call, Entry, Input, Purpose};
-use std::alloc::{AllocError, Global};
+use sl_history::{Front, Signed, Station};
 use std::marker::Model;
 
-/// Whose call it is: of the work on sessions, or of the work on leases.
-#[derive(Clone, Copy, PartialEq, Eq)]
-pub enum Part {
-    Delta,
-    Resource,
-}
-
-/// A call on a cell. Entries are numbered from 1; a front is how many there were.
+/// What one thread did on a cell: how many entries it gave, how many calls of its part were taken when it last took one, and how much of the
+/// history it has seen. Only a cell's calls change it.
 #[derive(Drop)]
-pub enum Made {
-    /// The input was applied: the entry that it made.
-    Applied {
-        number: usize,
-        entry: Entry,
-    },
-    /// The input answered nothing that was open.
-    Unasked {
-        front: usize,
-        input: Input,
-    },
-    /// The call of that entry was taken.
-    Took {
-        number: usize,
-        call: Call,
-    },
-    /// The connections were tested at this reading.
-    Tested {
-        now: u64,
-        answer: bool,
-        front: usize,
-    },
+pub struct Seat<J: Station> {
+    by: u32,
+    count: u64,
+    taken: u64,
+    front: Front<J>,
 }
 
-/// Where a part had no call left: how many entries there were, and how many calls the seat had made.
-#[derive(Clone, Copy)]
-pub struct Idle {
-    pub front: usize,
-    pub place: usize,
-}
-
-/// The calls of one thread, in order, and of each part where the thread last found none. Only a cell's calls change it.
-#[derive(Drop)]
-pub struct Seat {
-    calls: Vec<Made>,
-    delta: Option<Idle>,
-    resource: Option<Idle>,
-}
-
-impl Model for Seat {
+impl<J: Station> Model for Seat<J> {
     ghost use Rattle.sl_cell.specs.Seats.{SeatState};
-    ghost use Rattle.std.specs.Prelude.{vec_capacity, vec_len, ◌-◌};
+    ghost use Rattle.sl_history.specs.Histories.{given_by};
+    ghost use Rattle.std.specs.Prelude.{length, ◌≤◌};
 
     ghost Value = { SeatState };
 
-    ghost view = { λ s. record { calls = s.calls.items; delta = s.delta; resource = s.resource; room = vec_capacity s.calls - vec_len s.calls } };
+    ghost view = { λ s. record { by = s.by; count = s.count; taken = s.taken; front = s.front } };
+
+    ghost invariant = { λ s. s.count ≤ length (given_by s.by s.front) };
 }
 
-impl Seat {
-    /// No call.
-    pub(crate) fn new(alloc: Global) -> Seat
-        ensures { (result.calls ≡ []) × (result.delta ≡ None) × (result.resource ≡ None) }
+impl<J: Station> Seat<J> {
+    /// A thread with this number that gave nothing, and has seen this. It takes no memory.
+    pub(crate) fn new(by: u32, front: Front<J>) -> Seat<J>
+        ensures { result ≡ record { by = by; count = 0; taken = 0; front = front } }
     {
         Seat {
-            calls: Vec::new(alloc),
-            delta: None,
-            resource: None,
-        }
-    }
-
-    /// Sees that there is room for so many calls more. An `Err` is want of memory.
-    pub fn reserve(&mut self, more: usize) -> Result<(), AllocError>
-        ensures calls { self.new.calls ≡ self.old.calls }
-        ensures delta { self.new.delta ≡ self.old.delta }
-        ensures resource { self.new.resource ≡ self.old.resource }
-        ensures ok { OnOk result (more ≤ self.new.room) }
-    {
-        self.calls.reserve(more)
-    }
-
-    /// One call more, for which there is room.
-    pub(crate) fn put(&mut self, made: Made)
-        requires { 0 < self.old.room }
-        ensures { self.new ≡ record self.old { calls = self.old.calls ++ made ∷ []; room = self.old.room - 1 } }
-    {
-        self.calls.push_reserved(made);
-    }
-
-    /// The part has no call left, after so many entries.
-    pub(crate) fn put_idle(&mut self, part: Part, front: usize)
-        ensures { self.new ≡ with_idle part front self.old }
-    {
-        let idle = Idle {
+            by,
+            count: 0,
+            taken: 0,
             front,
-            place: self.calls.len(),
-        };
-        match part {
-            Part::Delta => self.delta = Some(idle),
-            Part::Resource => self.resource = Some(idle),
         }
     }
 
-    /// Its calls, in order.
-    pub fn calls(&self) -> &[Made]
-        ensures { result.now ≡ self.now.calls }
+    /// Its number.
+    pub fn by(&self) -> u32
+        ensures { result ≡ self.now.by }
     {
-        &self.calls
+        self.by
     }
 
-    /// Where the part had no call left, if the thread found it so.
-    pub fn idle(&self, part: Part) -> Option<Idle>
-        ensures { result ≡ idle_of part self.now }
+    /// How many entries it gave. No fewer have its number in what it has seen.
+    pub fn count(&self) -> u64
+        ensures count { result ≡ self.now.count }
+        ensures most { result ≤ length (given_by self.now.by self.now.front) }
     {
-        match part {
-            Part::Delta => self.delta,
-            Part::Resource => self.resource,
-        }
+        self.count
     }
-}
 
-/// Of which part a call is.
-fn part_of(purpose: &Purpose) -> Part
-    ensures { result ≡ part_of purpose.now }
-{
-    match purpose {
-        Purpose::Joining { .. } => Part::Delta,
-        Purpose::Renewal => Part::Delta,
-        Purpose::Survey => Part::Delta,
-        Purpose::Leaving { .. } => Part::Delta,
-        Purpose::Lease { .. } => Part::Resource,
-        Purpose::RequestRead { .. } => Part::Resource,
-        Purpose::RequestWrite { .. } => Part::Resource,
-        Purpose::SeeRequest => Part::Resource,
-        Purpose::ValueWrite { .. } => Part::Resource,
-        Purpose::ValueRead { .. } => Part::Resource,
+    /// How many calls of its part were taken when it last took one.
+    pub fn taken(&self) -> u64
+        ensures { result ≡ self.now.taken }
+    {
+        self.taken
     }
-}
 
-/// Whether the call is of this part.
-pub(crate) fn is_of(part: Part, call: &Call) -> bool
-    ensures { result ≡ is_of part call.now }
-{
-    match (part, part_of(&call.purpose)) {
-        (Part::Delta, Part::Delta) => true,
-        (Part::Delta, Part::Resource) => false,
-        (Part::Resource, Part::Delta) => false,
-        (Part::Resource, Part::Resource) => true,
+    /// How much of the history it has seen.
+    pub fn front(&self) -> &Front<J>
+        ensures { result.now ≡ self.now.front }
+    {
+        &self.front
+    }
+
+    /// Whether it has this number, and has seen a beginning of this.
+    pub(crate) fn fits(&self, by: u32, front: &Front<J>) -> bool
+        ensures by { IsTrue result → self.now.by ≡ by }
+        ensures behind { IsTrue result → IsPrefix self.now.front front.now }
+        ensures apart { IsFalse result → IsSeatOf by self.now front.now → ⊥ }
+    {
+        self.by == by && self.front.is_behind(front)
+    }
+
+    /// Whether it has seen a beginning of this.
+    pub(crate) fn is_behind(&self, front: &Front<J>) -> bool
+        ensures { IsTrue result → IsPrefix self.now.front front.now }
+    {
+        self.front.is_behind(front)
+    }
+
+    /// It has seen this, when so many calls of its part were taken, and gave nothing.
+    #[tactic(auto, using(crate::proofs::SeatLaws::seen_on))]
+    pub(crate) fn see(&mut self, front: &Front<J>, taken: u64)
+        requires { IsPrefix self.old.front front.now }
+        ensures { self.new ≡ record { by = self.old.by; count = self.old.count; taken = taken; front = front.now } }
+    {
+        self.front = front.again();
+        self.taken = taken;
+    }
+
+    /// It gave the last element of this.
+    #[tactic(auto, using(crate::proofs::SeatLaws::given_on))]
+    pub(crate) fn gave(&mut self, front: &Front<J>, signed: &Signed)
+        requires by { signed.now.by ≡ self.old.by }
+        requires last { (past : List SignedOf) × IsPrefix self.old.front past × (front.now ≡ past ++ signed.now ∷ []) }
+        ensures { self.new ≡ record { by = self.old.by; count = self.old.count + 1; taken = self.old.taken; front = front.now } }
+    {
+        let _most = front.len();
+        self.front = front.again();
+        self.count += 1;
     }
 }

@@ -1,14 +1,13 @@
-//! Copies of what a step did, and of what came to it.
+//! A copy of what a step did.
 
 ghost use Rattle.sl_cell.specs.Copies.{AreWithin};
 ghost use Rattle.sl_cell.specs.CopyRoom.{Holds};
 ghost use Rattle.sl_world_state.specs.declared.daemon.Most.{Most};
-ghost use Rattle.std.specs.Prelude.{length, IfOk, OnOk, ℕ, ◌≡◌, ◌≤◌};
+ghost use Rattle.std.specs.Prelude.{length, OnOk, ℕ, ◌≡◌, ◌≤◌};
 
 use crate::copies::Blank;
 use crate::reply_copies::Blanks;
-use sl_text::Bytes;
-use sl_trace::{Answer, Call, Effects, End, Grant, Input, Move, Sent, Start};
+use sl_trace::{Call, Effects, End, Grant, Move, Sent, Start};
 use sl_world_state::Most;
 use std::alloc::{AllocError, Global};
 
@@ -65,36 +64,5 @@ impl Spare {
             replies: self.replies.copy(alloc, effects.replies.as_slice()),
             calls: self.calls.copy(alloc, effects.calls.as_slice()),
         }
-    }
-}
-
-/// A copy of what came. An `Err` is want of memory.
-pub(crate) fn copy_input(alloc: Global, input: &Input) -> Result<Input, AllocError>
-    ensures { IfOk result (λ copy. copy ≡ input.now) }
-{
-    Ok(match input {
-        Input::Line(text) => Input::Line(Bytes::from_slice(alloc, text.as_slice())?),
-        Input::Number(text) => Input::Number(Bytes::from_slice(alloc, text.as_slice())?),
-        Input::Answer { call, answer } => Input::Answer {
-            call: *call,
-            answer: copy_answer(alloc, answer)?,
-        },
-        Input::Wake => Input::Wake,
-        Input::Exit { process } => Input::Exit { process: *process },
-        Input::Spawned { process, ok } => Input::Spawned {
-            process: *process,
-            ok: *ok,
-        },
-    })
-}
-
-/// A copy of an answer. An `Err` is want of memory.
-fn copy_answer(alloc: Global, answer: &Answer) -> Result<Answer, AllocError>
-    ensures { IfOk result (λ copy. copy ≡ answer.now) }
-{
-    match answer {
-        Answer::Read(bytes) => Ok(Answer::Read(Bytes::from_slice(alloc, bytes.as_slice())?)),
-        Answer::Written => Ok(Answer::Written),
-        Answer::Failed => Ok(Answer::Failed),
     }
 }

@@ -1,3 +1,4 @@
 pub mod TurnLaws
 pub mod RecordLaws
 pub mod ServedLaws
+pub mod WorkLaws

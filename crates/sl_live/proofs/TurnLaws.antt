@@ -1,15 +1,13 @@
 -- Signals one after another, and lists of a machine's children without one of them.
-use Rattle.sl_cell.specs.declared.seat.Made.{Made}
-use Rattle.sl_live.specs.Turns.{ChildrenState, Does, GivesUp, MakesTurn, TakesIn, TellsStart, sent_by, told_off, without}
+use Rattle.sl_live.specs.Turns.{Does, sent_by, told_off, without}
 use Rattle.sl_live.specs.declared.children.Awaited.{Awaited}
 use Rattle.sl_outside.specs.Acts.{Grows}
 use Rattle.sl_outside.specs.declared.act.Act.{Act}
 use Rattle.sl_trace.specs.declared.effects.Sent.{Sent}
-use Rattle.sl_trace.specs.declared.input.Input.TheVariants.{Spawned}
 use Rattle.std.proofs.Common.{append_assoc, append-nil, ap, arith, refl, subst, sym, ◌∙◌}
 use Rattle.std.proofs.lemmas.List.{map_more, take_all}
 use Rattle.std.specs.List.{position, remove}
-use Rattle.std.specs.Prelude.{Bool, Err, List, None, Ok, OnErr, OnOk, Option, Result, Some, get_or, length, map, take, [], ℕ, ◌++◌, ◌+◌, ◌<◌, ◌==◌, ◌∷◌, ◌≡◌, ◌≤◌}
+use Rattle.std.specs.Prelude.{List, None, Option, Some, get_or, length, map, take, [], ℕ, ◌++◌, ◌+◌, ◌<◌, ◌==◌, ◌∷◌, ◌≡◌, ◌≤◌}
 
 -- ---- what a spawner tells
 
@@ -52,21 +50,6 @@ module _ {P : Type 0} (told : P → Option (List Act)) (faults : P → ℕ) (run
   -- a signal
   pub signalled : (a b : P) (s : Sent) → running b ≡ running a → Grows (told a) (told b) (sent_by s ∷ []) → faults a ≤ faults b → Does told faults running a b (sent_by s ∷ [])
   signalled a b s same grows later = record { grows = grows; later = later; runs = same }
-
--- ---- a start that is taken in, and told
-
-module _ {P C A E : Type 0} (told : P → Option (List Act)) (faults : P → ℕ) (running : P → List ℕ) (process : ℕ) (child : Option C)
-    (before taken after : ChildrenState P) (had has : List Made) (ok : Bool) where
-  pub told_ok : (now : ℕ) (r : Result A E) → TakesIn told faults running process child before taken ok
-      → OnOk r (MakesTurn told faults running now (Spawned process ok) taken after had has)
-      → OnOk r (TellsStart told faults running process child (MakesTurn told faults running now) before after had has)
-  told_ok now (Ok x) takes turn = record { ok = ok; taken = taken; takes = takes; turn = turn }
-  told_ok now (Err e) takes turn = tt
-
-  pub told_err : (r : Result A E) → TakesIn told faults running process child before taken ok → OnErr r (GivesUp taken after had has)
-      → OnErr r (TellsStart told faults running process child (λ i. GivesUp) before after had has)
-  told_err (Ok x) takes turn = tt
-  told_err (Err e) takes turn = record { ok = ok; taken = taken; takes = takes; turn = turn }
 
 -- ---- numbers, and awaited starts
 

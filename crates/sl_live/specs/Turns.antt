@@ -1,11 +1,18 @@
 -- What a thread does in a turn: the input that it gives, and what its step asks of the machine's children.
-use Rattle.sl_cell.specs.declared.seat.Made.TheVariants.{Applied, Tested, Took, Unasked}
-use Rattle.sl_cell.specs.declared.seat.Made.{Made}
+use Rattle.sl_cell.specs.Parts.{calls_of}
+use Rattle.sl_cell.specs.Seats.{IsMine, SeatState}
+use Rattle.sl_cell.specs.Told.{Gave, IsUnasked}
+use Rattle.sl_cell.specs.declared.part.Part.{Part}
+use Rattle.sl_history.specs.Histories.{entries, trace_of}
+use Rattle.sl_history.specs.declared.signed.Signed.{Signed}
 use Rattle.sl_live.specs.declared.children.Awaited.{Awaited}
+use Rattle.sl_live.specs.declared.steps.Gone.{Gone}
 use Rattle.sl_outside.specs.Acts.{Grows, IsTold}
 use Rattle.sl_outside.specs.declared.act.Act.TheVariants.{Signalled, Started}
 use Rattle.sl_outside.specs.declared.act.Act.{Act}
+use Rattle.sl_trace.specs.Traces.{Setting, is_expected}
 use Rattle.sl_trace.specs.declared.effects.Effects.{Effects}
+use Rattle.sl_trace.specs.declared.effects.Entry.{Entry}
 use Rattle.sl_trace.specs.declared.effects.Sent.{Sent}
 use Rattle.sl_trace.specs.declared.effects.Signal.TheVariants.{Kill}
 use Rattle.sl_trace.specs.declared.effects.Start.{Start}
@@ -14,8 +21,9 @@ use Rattle.sl_trace.specs.declared.input.Input.TheVariants.{Answer as Told, Exit
 use Rattle.sl_trace.specs.declared.input.Input.{Input}
 use Rattle.sl_trace.specs.declared.effects.Call.{Call}
 use Rattle.sl_io.specs.FaultCauses.{Rose}
-use Rattle.std.specs.List.{flat_map, list_any, position, remove}
-use Rattle.std.specs.Prelude.{All, Bool, Err, List, None, Ok, Option, Result, Some, false, if◌then◌else◌, is_some, length, map, nat_le, true, [], ℕ, ◌&&◌, ◌++◌, ◌+◌, ◌==◌, ◌||◌, ◌∷◌, ◌≡◌, ◌≤◌, ◌⊎◌}
+use Rattle.std.specs.List.{list_any, position, remove}
+use Rattle.std.specs.Prelude.{All, Bool, Err, List, None, Ok, Option, Result, Some, false, if◌then◌else◌, is_some, length, map, nat_le, take, true, [], ℕ, ◌&&◌, ◌++◌, ◌+◌, ◌==◌, ◌||◌, ◌∷◌, ◌≡◌, ◌≤◌, ◌⊎◌}
+use mathlib.Core.List.{IsPrefix}
 
 -- ---- the machine's children
 
@@ -75,34 +83,16 @@ pub record Carries {P : Type 0} (told : P → Option (List Act)) (faults : P →
 
 -- ---- a turn
 
--- The call is the input's, at a reading of the clock.
-abbrev pub IsGiven : ℕ → Input → Made → Type 0
-IsGiven now i (Applied number e) = (e.input ≡ i) × (now ≤ e.reading)
-IsGiven now i (Unasked front asked) = asked ≡ i
-IsGiven now i (Took number c) = ⊥
-IsGiven now i (Tested at answer front) = ⊥
+-- The input was given at this reading, and what its step asks for was done, with these effects; or it answered nothing that was open, and nothing
+-- was done.
+abbrev pub MakesTurn : {P : Type 0} → (P → Option (List Act)) → (P → ℕ) → (P → List ℕ) → Setting → ℕ → Option Effects → Input
+    → ChildrenState P → ChildrenState P → SeatState → SeatState → Type 0
+MakesTurn told faults running st now (Some fx) i before after s s' = Gave s s' now i fx × Carries told faults running fx before after
+MakesTurn told faults running st now None i before after s s' = IsUnasked st s s' i × (after ≡ before)
 
--- What its step asks for was done; nothing where there was no step.
-abbrev pub IsCarriedOut : {P : Type 0} → (P → Option (List Act)) → (P → ℕ) → (P → List ℕ) → Made → ChildrenState P → ChildrenState P → Type 0
-IsCarriedOut told faults running (Applied number e) before after = Carries told faults running e.effects before after
-IsCarriedOut told faults running (Unasked front asked) before after = after ≡ before
-IsCarriedOut told faults running (Took number c) before after = ⊥
-IsCarriedOut told faults running (Tested at answer front) before after = ⊥
-
--- The input was given at this reading, and what its step asks was done.
-pub record MakesTurn {P : Type 0} (told : P → Option (List Act)) (faults : P → ℕ) (running : P → List ℕ) (now : ℕ) (i : Input)
-    (before after : ChildrenState P) (had has : List Made) : Type 0 where
-  pub made : Made
-  pub whole : has ≡ had ++ made ∷ []
-  pub given : IsGiven now i made
-  pub carried : IsCarriedOut told faults running made before after
-
--- Nothing was done, though a step may have been made.
-pub record GivesUp {C : Type 0} (before after : C) (had has : List Made) : Type 0 where
-  pub last : List Made
-  pub whole : has ≡ had ++ last
-  pub few : length last ≤ 1
-  pub same : after ≡ before
+-- Nothing was done, though a step may have been made: one by this input.
+abbrev pub GivesUp : {C : Type 0} → ℕ → Input → C → C → SeatState → SeatState → Type 0
+GivesUp now i before after s s' = (after ≡ before) × ((s' ≡ s) ⊎ ((fx : Effects) × Gave s s' now i fx))
 
 -- ---- starts
 
@@ -138,43 +128,42 @@ pub record TakesIn {P C : Type 0} (told : P → Option (List Act)) (faults : P �
   pub none : child ≡ None → ok ≡ false
   pub failed : ok ≡ false → (child ≡ None) ⊎ Rose (faults before.spawner) (faults after.spawner)
 
--- What a start came to was taken in, and told in a turn.
-pub record TellsStart {P C : Type 0} (told : P → Option (List Act)) (faults : P → ℕ) (running : P → List ℕ) (process : ℕ) (child : Option C)
-    (IsTurn : Input → ChildrenState P → ChildrenState P → List Made → List Made → Type 0) (before after : ChildrenState P) (had has : List Made) : Type 0 where
-  pub ok : Bool
+-- What a start came to was taken in, and whether it runs is told in a turn of this kind.
+pub record TellsStart {P C : Type 0} (told : P → Option (List Act)) (faults : P → ℕ) (running : P → List ℕ) (process : ℕ) (child : Option C) (ok : Bool)
+    (IsTurn : Input → ChildrenState P → ChildrenState P → SeatState → SeatState → Type 0) (before after : ChildrenState P) (s s' : SeatState) : Type 0 where
   pub taken : ChildrenState P
   pub takes : TakesIn told faults running process child before taken ok
-  pub turn : IsTurn (Spawned process ok) taken after had has
+  pub turn : IsTurn (Spawned process ok) taken after s s'
 
 -- ---- exits
 
--- A child has exited, as the spawner was found to tell, and its exit is given in a turn of this kind.
-pub record TellsExit {P : Type 0} (told : P → Option (List Act)) (faults : P → ℕ) (running : P → List ℕ)
-    (IsTurn : Input → ChildrenState P → ChildrenState P → List Made → List Made → Type 0)
-    (before after : ChildrenState P) (had has : List Made) : Type 0 where
-  pub process : ℕ
+-- The child of this process has exited, as the spawner was found to tell, and its exit is given in a turn of this kind.
+pub record TellsExit {P : Type 0} (told : P → Option (List Act)) (faults : P → ℕ) (running : P → List ℕ) (process : ℕ)
+    (IsTurn : Input → ChildrenState P → ChildrenState P → SeatState → SeatState → Type 0)
+    (before after : ChildrenState P) (s s' : SeatState) : Type 0 where
   pub polled : ChildrenState P
   pub gave : IsTold (Some process) (running before.spawner) (running polled.spawner)
   pub gone : polled.numbers ≡ without process before.numbers
   pub awaited : polled.awaited ≡ before.awaited
   pub quiet : IsQuiet told faults before.spawner polled.spawner
-  pub turn : IsTurn (Exit process) polled after had has
+  pub turn : IsTurn (Exit process) polled after s s'
 
 -- No exit was found, and nothing was given.
 pub record IsIdleTurn {P : Type 0} (told : P → Option (List Act)) (faults : P → ℕ) (running : P → List ℕ)
-    (before after : ChildrenState P) (had has : List Made) : Type 0 where
+    (before after : ChildrenState P) (s s' : SeatState) : Type 0 where
   pub gave : IsTold None (running before.spawner) (running after.spawner)
   pub numbers : after.numbers ≡ before.numbers
   pub awaited : after.awaited ≡ before.awaited
   pub quiet : IsQuiet told faults before.spawner after.spawner
-  pub calls : has ≡ had
+  pub seat : s' ≡ s
 
--- What a look for an exited child did, by whether it found one; for want of memory it left off.
-abbrev pub Looks : {P E : Type 0} → (P → Option (List Act)) → (P → ℕ) → (P → List ℕ) → ℕ → ChildrenState P
-    → ChildrenState P → List Made → List Made → Result Bool E → Type 0
-Looks told faults running now before after had has (Ok true) = TellsExit told faults running (MakesTurn told faults running now) before after had has
-Looks told faults running now before after had has (Ok false) = IsIdleTurn told faults running before after had has
-Looks told faults running now before after had has (Err e) = TellsExit told faults running (λ i. GivesUp) before after had has
+-- What a look for an exited child did, by which it found, if it found one; for want of memory it left off.
+abbrev pub Looks : {P E : Type 0} → (P → Option (List Act)) → (P → ℕ) → (P → List ℕ) → Setting → ℕ → ChildrenState P
+    → ChildrenState P → SeatState → SeatState → Result (Option Gone) E → Type 0
+Looks told faults running st now before after s s' (Ok (Some gone)) =
+    TellsExit told faults running gone.process (MakesTurn told faults running st now gone.effects) before after s s'
+Looks told faults running st now before after s s' (Ok None) = IsIdleTurn told faults running before after s s'
+Looks told faults running st now before after s s' (Err e) = (process : ℕ) × TellsExit told faults running process (GivesUp now) before after s s'
 
 -- ---- tests
 
@@ -191,22 +180,7 @@ pub record Guards {P : Type 0} (told : P → Option (List Act)) (faults : P → 
   pub numbers : after.numbers ≡ before.numbers
   pub awaited : after.awaited ≡ (if is_lapsed last' fire now then map doomed before.awaited else before.awaited)
 
--- ---- a thread's seat: its turns, one after another
-
--- The calls are those of turns of this kind.
-pub record AreTurns (IsTurn : List Made → Type 0) (calls : List Made) : Type 0 where
-  pub turns : List (List Made)
-  pub whole : calls ≡ flat_map (λ t. t) turns
-  pub each : All IsTurn turns
-
--- A turn that gives an input of this kind, at a reading.
-pub record IsTurnOf (IsInput : Input → Type 0) (calls : List Made) : Type 0 where
-  pub input : Input
-  pub is : IsInput input
-  pub now : ℕ
-  pub made : Made
-  pub one : calls ≡ made ∷ []
-  pub given : IsGiven now input made
+-- ---- what a thread gave
 
 abbrev pub IsWake : Input → Type 0
 IsWake i = i ≡ Wake
@@ -221,39 +195,50 @@ IsSpawned i = (process : ℕ) × (ok : Bool) × (i ≡ Spawned process ok)
 abbrev pub IsLine : Input → Type 0
 IsLine i = (text : List ℕ) × ((i ≡ Line text) ⊎ (i ≡ Number text))
 
-abbrev pub IsTellOf : Call → Input → Type 0
-IsTellOf c i = (a : Answer) × (i ≡ Told c.number a)
+-- All that a seat gave is of this kind.
+pub record Gives (IsInput : Input → Type 0) (s : SeatState) : Type 0 where
+  pub made : List Entry
+  pub mine : IsMine s made
+  pub each : All (λ (e : Entry). IsInput e.input) made
 
 -- The ticker wakes, the child thread tells exits, the starter tells what starts came to, the line thread gives lines: and nothing else.
-abbrev pub IsTicker : List Made → Type 0
-IsTicker calls = AreTurns (IsTurnOf IsWake) calls
+abbrev pub IsTicker : SeatState → Type 0
+IsTicker s = Gives IsWake s
 
-abbrev pub IsChildThread : List Made → Type 0
-IsChildThread calls = AreTurns (IsTurnOf IsExit) calls
+abbrev pub IsChildThread : SeatState → Type 0
+IsChildThread s = Gives IsExit s
 
-abbrev pub IsStarterThread : List Made → Type 0
-IsStarterThread calls = AreTurns (IsTurnOf IsSpawned) calls
+abbrev pub IsStarterThread : SeatState → Type 0
+IsStarterThread s = Gives IsSpawned s
 
-abbrev pub IsLineThread : List Made → Type 0
-IsLineThread calls = AreTurns (IsTurnOf IsLine) calls
+abbrev pub IsLineThread : SeatState → Type 0
+IsLineThread s = Gives IsLine s
 
--- A worker answers each call that it takes, once, and gives nothing else.
-pub record IsWorkTurn (calls : List Made) : Type 0 where
-  pub number : ℕ
-  pub call : Call
-  pub behind : List Made
-  pub whole : calls ≡ Took number call ∷ behind
-  pub told : IsTurnOf (IsTellOf call) behind
+-- An answer of this call.
+abbrev pub IsAnswerOf : Call → Input → Type 0
+IsAnswerOf c i = (a : Answer) × (i ≡ Told c.number a)
 
-abbrev pub IsWorker : List Made → Type 0
-IsWorker calls = AreTurns IsWorkTurn calls
+-- An answer of this call answered nothing that was open when so much of the history stood.
+pub record IsPassed (st : Setting) (h : List Signed) (c : Call) : Type 0 where
+  pub answer : Answer
+  pub past : List Signed
+  pub before : IsPrefix past h
+  pub unasked : is_expected st (trace_of past) (Told c.number answer) ≡ false
 
--- The device thread tests, and gives nothing.
-pub record IsTest (calls : List Made) : Type 0 where
-  pub now : ℕ
-  pub answer : Bool
-  pub front : ℕ
-  pub whole : calls ≡ Tested now answer front ∷ []
+-- The entries answer these calls in their order, each once; of a call that none answers the answer answered nothing that was open.
+abbrev pub AreServed : Setting → List Signed → List Call → List Entry → Type 0
+AreServed st h [] [] = Unit {0}
+AreServed st h [] (e ∷ es) = ⊥
+AreServed st h (c ∷ cs) [] = IsPassed st h c × AreServed st h cs []
+AreServed st h (c ∷ cs) (e ∷ es) = (IsAnswerOf c e.input × AreServed st h cs es) ⊎ (IsPassed st h c × AreServed st h cs (e ∷ es))
 
-abbrev pub IsDeviceThread : List Made → Type 0
-IsDeviceThread calls = AreTurns IsTest calls
+-- A worker answers the calls of its part in the order in which they were made, from the first on, as many as it took; and it gives nothing else.
+pub record Works (st : Setting) (part : Part) (s : SeatState) : Type 0 where
+  pub made : List Entry
+  pub mine : IsMine s made
+  pub most : s.taken ≤ length (calls_of part (entries s.front))
+  pub serves : AreServed st s.front (take s.taken (calls_of part (entries s.front))) made
+
+-- The device thread gives nothing.
+abbrev pub IsDeviceThread : SeatState → Type 0
+IsDeviceThread s = s.count ≡ 0

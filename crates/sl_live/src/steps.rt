@@ -5,40 +5,57 @@
 //! starts are ordered. A start is made by a thread that holds no lock meanwhile. What it came to is taken in and told in one turn, for which the
 //! children are lent, so no exit comes before its start is told.
 
-ghost use Rattle.sl_cell.specs.Cells.{IsTested, KeepsIdle};
+ghost use Rattle.sl_cell.specs.Told.{IsTested};
 ghost use Rattle.sl_live.specs.Turns.{GivesUp, Guards, Looks, MakesTurn, Starts, TellsStart};
-ghost use Rattle.std.specs.Prelude.{Bool, OnErr, OnOk, ◌≡◌, ◌≤◌};
+ghost use Rattle.std.specs.Prelude.{Bool, IfOk, OnErr, OnOk, ◌≡◌, ◌≤◌};
 
 use crate::children::{Awaited, Children};
-use sl_cell::{HostCell, NotApplied, Seat, Station, Teller};
+use sl_cell::{HostCell, NotApplied, Seat, Teller};
+use sl_history::Station;
 use sl_outside::{Device, Spawner, StartedChild};
 use sl_time::Clock;
-use sl_trace::Input;
+use sl_trace::{Effects, Input};
 use std::alloc::AllocError;
 use std::sync::Wait;
 
-/// Gives an input, and does what its step asks of the children. An `Err` is want of memory: nothing was done then, though the step may have been
-/// made.
+/// Gives an input, and does what its step asks of the children: the step's effects, or none where the input answers nothing that is open. An `Err` is
+/// want of memory, or a history that is not the daemon's any more: nothing was done then, though the step may have been made.
 pub fn give_step<D: Teller, J: Station, R: Wait, C: Clock, P: Spawner>(
     rt: &R,
     cell: &HostCell<D, J>,
-    seat: &mut Seat,
+    seat: &mut Seat<J>,
     clock: &mut C,
     children: &mut Children<P>,
     input: Input,
-) -> Result<(), AllocError>
-    ensures ok { OnOk result (MakesTurn P.acts P.faults P.running (C.last clock.new) input children.old children.new
-        seat.old.calls seat.new.calls) }
-    ensures err { OnErr result (GivesUp children.old children.new seat.old.calls seat.new.calls) }
+) -> Result<Option<Effects>, AllocError>
+    ensures ok { IfOk result (λ fx. MakesTurn P.acts P.faults P.running J.setting (C.last clock.new) fx input children.old children.new seat.old seat.new) }
+    ensures err { OnErr result (GivesUp (C.last clock.new) input children.old children.new seat.old seat.new) }
     ensures clock { C.last clock.old ≤ C.last clock.new }
-    ensures idle { KeepsIdle seat.old seat.new }
 {
     let now = clock.now();
     match cell.apply(rt, seat, now, input) {
-        Ok((_, effects)) => children.carry_out(&effects),
-        Err(NotApplied::Unasked { front: _ }) => Ok(()),
+        Ok(effects) => {
+            children.carry_out(&effects)?;
+            Ok(Some(effects))
+        }
+        Err(NotApplied::Unasked) => Ok(None),
         Err(NotApplied::NoMemory) => Err(AllocError),
+        Err(NotApplied::Broken) => Err(AllocError),
     }
+}
+
+/// What came of a start that was told: whether the child runs, and the effects of the step.
+#[derive(Drop)]
+pub struct Told {
+    pub ok: bool,
+    pub effects: Option<Effects>,
+}
+
+/// A child that has exited, and the effects of the step at its exit.
+#[derive(Drop)]
+pub struct Gone {
+    pub process: u32,
+    pub effects: Option<Effects>,
 }
 
 /// Makes a start that is awaited: the child, if it came to one. Where a signal was sent to its process before, nothing is started.
@@ -54,77 +71,75 @@ pub fn start_step<P: Spawner>(starter: &mut P, awaited: &Awaited) -> Option<Star
         .ok()
 }
 
-/// Takes in what the start of a process came to, and tells it. An `Err` is want of memory, of the turn that tells it.
+/// Takes in what the start of a process came to, and tells it: whether it runs, and the step's effects. An `Err` is of the turn that tells it, as
+/// above.
 pub fn spawned_step<D: Teller, J: Station, R: Wait, C: Clock, P: Spawner>(
     rt: &R,
     cell: &HostCell<D, J>,
-    seat: &mut Seat,
+    seat: &mut Seat<J>,
     clock: &mut C,
     children: &mut Children<P>,
     process: u32,
     child: Option<StartedChild>,
-) -> Result<(), AllocError>
-    ensures ok { OnOk result (TellsStart P.acts P.faults P.running process child (MakesTurn P.acts P.faults P.running (C.last clock.new))
-        children.old children.new seat.old.calls seat.new.calls) }
-    ensures err { OnErr result (TellsStart P.acts P.faults P.running process child (λ i. GivesUp)
-        children.old children.new seat.old.calls seat.new.calls) }
+) -> Result<Told, AllocError>
+    ensures ok { IfOk result (λ t. TellsStart P.acts P.faults P.running process child t.ok
+        (MakesTurn P.acts P.faults P.running J.setting (C.last clock.new) t.effects) children.old children.new seat.old seat.new) }
+    ensures err { OnErr result ((ok : Bool) × TellsStart P.acts P.faults P.running process child ok (GivesUp (C.last clock.new))
+        children.old children.new seat.old seat.new) }
     ensures clock { C.last clock.old ≤ C.last clock.new }
-    ensures idle { KeepsIdle seat.old seat.new }
 {
     let ok = children.take_in(process, child);
-    give_step(
-        rt,
-        cell,
-        seat,
-        clock,
-        children,
-        Input::Spawned { process, ok },
-    )
+    let input = Input::Spawned { process, ok };
+    match give_step(rt, cell, seat, clock, children, input) {
+        Ok(effects) => Ok(Told { ok, effects }),
+        Err(error) => Err(error),
+    }
 }
 
-/// Polls the children once, and tells the exit of one, if one has exited and was not told before: whether one had. An `Err` is want of
-/// memory, of the turn that tells it.
+/// Polls the children once, and tells the exit of one, if one has exited and was not told before: which, and the step's effects. An `Err` is of the
+/// turn that tells it.
 pub fn child_step<D: Teller, J: Station, R: Wait, C: Clock, P: Spawner>(
     rt: &R,
     cell: &HostCell<D, J>,
-    seat: &mut Seat,
+    seat: &mut Seat<J>,
     clock: &mut C,
     children: &mut Children<P>,
-) -> Result<bool, AllocError>
-    ensures looks { Looks P.acts P.faults P.running (C.last clock.new) children.old children.new seat.old.calls seat.new.calls result }
+) -> Result<Option<Gone>, AllocError>
+    ensures looks { Looks P.acts P.faults P.running J.setting (C.last clock.new) children.old children.new seat.old seat.new result }
     ensures clock { C.last clock.old ≤ C.last clock.new }
-    ensures idle { KeepsIdle seat.old seat.new }
 {
-    match children.poll() {
-        Some(process) => match give_step(rt, cell, seat, clock, children, Input::Exit { process }) {
-            Ok(()) => Ok(true),
-            Err(error) => Err(error),
-        },
-        None => Ok(false),
+    let Some(process) = children.poll() else {
+        return Ok(None);
+    };
+    match give_step(rt, cell, seat, clock, children, Input::Exit { process }) {
+        Ok(effects) => Ok(Some(Gone { process, effects })),
+        Err(error) => Err(error),
     }
 }
 
 /// Tests the machine's connections at the clock's reading, and keeps the device from firing exactly where the test holds. Where the device
-/// has fired by then, each child is killed and each awaited start marked, and nowhere else. An `Err` is want of memory, and nothing was done.
+/// has fired by then, each child is killed and each awaited start marked, and nowhere else. An `Err` is a history that is not the daemon's any more:
+/// nothing was done then.
 pub fn device_step<D: Teller, J: Station, R: Wait, C: Clock, P: Spawner, V: Device>(
     rt: &R,
     cell: &HostCell<D, J>,
-    seat: &mut Seat,
+    seat: &mut Seat<J>,
     clock: &mut C,
     device: &mut V,
     children: &mut Children<P>,
 ) -> Result<(), AllocError>
-    ensures ok { OnOk result ((answer : Bool) × IsTested seat.old seat.new (C.last clock.new) answer
+    ensures ok { OnOk result ((answer : Bool) × IsTested J.setting seat.old seat.new (C.last clock.new) answer
         × Guards P.acts P.faults P.running (C.last clock.new) (V.last device.old) (V.last device.new) (V.fire device.old)
         children.old children.new answer) }
-    ensures err { OnErr result ((seat.new.calls ≡ seat.old.calls) × KeepsIdle seat.old seat.new × (children.new ≡ children.old)
-        × (V.last device.new ≡ V.last device.old)) }
+    ensures err { OnErr result ((seat.new ≡ seat.old) × (children.new ≡ children.old) × (V.last device.new ≡ V.last device.old)) }
     ensures fire { V.fire device.new ≡ V.fire device.old }
     ensures clock { C.last clock.old ≤ C.last clock.new }
 {
-    seat.reserve(1)?;
     let now = clock.now();
-    if cell.test(rt, seat, now) {
+    let Ok(holds) = cell.test(rt, seat, now) else {
+        return Err(AllocError);
+    };
+    if holds {
         device.keepalive(now);
     }
     if device.lapsed(now) {

@@ -1,19 +1,30 @@
 -- A machine's run, from what its threads and its cell say.
-use Rattle.sl_cell.specs.Audits.{Agrees}
-use Rattle.sl_cell.specs.DifferenceCases.{IsCaseOfSome, Stops}
-use Rattle.sl_cell.specs.Seats.{SeatState}
-use Rattle.sl_cell.specs.declared.audit.CloseError.TheVariants.{Differ as Differs, NoMemory}
-use Rattle.sl_cell.specs.declared.audit.CloseError.{CloseError}
-use Rattle.sl_live.specs.Turns.{IsChildThread, IsDeviceThread, IsLineThread, IsStarterThread, IsTicker, IsWorker}
-use Rattle.sl_live_machine.specs.ThreadSeats.{AreSeats, IsCaseOfRun, IsRun}
+use Rattle.sl_cell.proofs.SeatLaws.{calls_prefix, mine_none, mine_whole}
+use Rattle.sl_cell.specs.Closings.{AreBelow, AreExact, IsCaseOfSome}
+use Rattle.sl_cell.specs.Parts.{calls_of}
+use Rattle.sl_cell.specs.Seats.{IsMine, SeatState}
+use Rattle.sl_cell.specs.declared.closing.Differ.TheVariants.{Broken, Entry as Counted}
+use Rattle.sl_cell.specs.declared.closing.Differ.{Differ}
+use Rattle.sl_cell.specs.declared.part.Part.TheVariants.{Delta, Resource}
+use Rattle.sl_cell.specs.declared.part.Part.{Part}
+use Rattle.sl_history.proofs.Fronts.{prefix_length}
+use Rattle.sl_history.specs.Histories.{entries, given_by, trace_of}
+use Rattle.sl_history.specs.declared.signed.Signed.{Signed}
+use Rattle.sl_live.proofs.WorkLaws.{served_more, take_same}
+use Rattle.sl_live.specs.Turns.{AreServed, Gives, IsChildThread, IsDeviceThread, IsLineThread, IsStarterThread, IsTicker, Works}
+use Rattle.sl_live_machine.specs.ThreadSeats.{AreSeats, AreSeatsOf, GaveOnly, IsCaseOfRun, IsRun, Worked, children_number, device_number, entries_by, lines_number, number_of, starter_number, thread_count, ticker_number}
 use Rattle.sl_trace.specs.Traces.{IsTrace, Setting}
 use Rattle.sl_trace.specs.declared.effects.Entry.{Entry}
-use Rattle.std.proofs.Common.{refl}
-use Rattle.std.specs.Prelude.{Err, IfErr, IfOk, List, Ok, Result, reverse, [], ◌∷◌}
+use Rattle.sl_trace.specs.declared.input.Input.{Input}
+use Rattle.sl_world_state.specs.Daemons.{Stood}
+use Rattle.sl_run.specs.Lawful.{IsSetting}
+use Rattle.std.proofs.Common.{ap, arith, refl, subst, sym, ◌∙◌}
+use Rattle.std.specs.Prelude.{All, List, length, reverse, take, [], ℕ, ◌++◌, ◌+◌, ◌∷◌, ◌≡◌, ◌≤◌}
+use mathlib.Core.List.{IsPrefix}
 
-pub are_seats : (ticks delta resource exits starts tests lines : SeatState) → IsTicker ticks.calls → IsWorker delta.calls → IsWorker resource.calls → IsChildThread exits.calls
-    → IsStarterThread starts.calls → IsDeviceThread tests.calls → IsLineThread lines.calls → AreSeats (ticks ∷ delta ∷ resource ∷ exits ∷ starts ∷ tests ∷ lines ∷ [])
-are_seats ticks delta resource exits starts tests lines t d r c p v l = record {
+pub are_seats : (st : Setting) (ticks delta resource exits starts tests lines : SeatState) → IsTicker ticks → Works st Delta delta → Works st Resource resource → IsChildThread exits
+    → IsStarterThread starts → IsDeviceThread tests → IsLineThread lines → AreSeats st (ticks ∷ delta ∷ resource ∷ exits ∷ starts ∷ tests ∷ lines ∷ [])
+are_seats st ticks delta resource exits starts tests lines t d r c p v l = record {
   ticker = ticks;
   delta = delta;
   resource = resource;
@@ -31,15 +42,102 @@ are_seats ticks delta resource exits starts tests lines t d r c p v l = record {
   gives_lines = l;
 }
 
-pub ok_run : (st : Setting) (seats : List SeatState) (r : Result (List Entry) CloseError) → AreSeats seats → IfOk r (λ h. IsTrace st (reverse h)) → IfOk r (λ h. Agrees st h seats)
-    → IfOk r (λ h. IsRun st h)
-ok_run st seats (Ok h) threads trace agrees = record { trace = trace; seats = seats; threads = threads; agrees = agrees }
-ok_run st seats (Err e) threads trace agrees = tt
+-- ---- seats whose counts are exact
 
-stops_run : (st : Setting) (seats : List SeatState) (e : CloseError) → AreSeats seats → Stops (IsCaseOfSome st seats) e → Stops (IsCaseOfRun st) e
-stops_run st seats (Differs d) threads case_of = record { seats = seats; threads = threads; case_of = case_of }
-stops_run st seats NoMemory threads stops = tt
+-- The seat of this number has counted just the entries of its number.
+record IsExact (k : ℕ) (s : SeatState) (h : List Signed) : Type 0 where
+  by : s.by ≡ k
+  before : IsPrefix s.front h
+  count : s.count ≡ length (given_by k h)
 
-pub err_run : (st : Setting) (seats : List SeatState) (r : Result (List Entry) CloseError) → AreSeats seats → IfErr r (Stops (IsCaseOfSome st seats)) → IfErr r (Stops (IsCaseOfRun st))
-err_run st seats (Ok h) threads stops = tt
-err_run st seats (Err e) threads stops = stops_run st seats e threads stops
+-- what it gave are they
+mine_exact : (k : ℕ) (s : SeatState) (h : List Signed) (made : List Entry) → IsExact k s h → IsMine s made → made ≡ entries_by k h
+mine_exact k s h made exact mine =
+    mine_whole s h made exact.before (exact.count ∙ ap (λ (n : ℕ). length (given_by n h)) (sym exact.by)) mine ∙ ap (λ (n : ℕ). entries (given_by n h)) exact.by
+
+gave_only : (IsInput : Input → Type 0) (k : ℕ) (s : SeatState) (h : List Signed) → IsExact k s h → Gives IsInput s → GaveOnly IsInput k h
+gave_only IsInput k s h exact so = subst (All (λ (e : Entry). IsInput e.input)) (mine_exact k s h so.made exact so.mine) so.each
+
+gave_nothing : (k : ℕ) (s : SeatState) (h : List Signed) → IsExact k s h → IsDeviceThread s → entries_by k h ≡ []
+gave_nothing k s h exact none = sym (mine_exact k s h [] exact (mine_none s none))
+
+worked : (st : Setting) (part : Part) (s : SeatState) (h : List Signed) → IsExact (number_of part) s h → Works st part s → Worked st part h
+worked st part s h exact w =
+    let cs = calls_prefix part s.front h exact.before in
+    let n = prefix_length (calls_of part (entries s.front)) (calls_of part (entries h)) cs in
+    let most = w.most in
+    let more : AreServed st h (take s.taken (calls_of part (entries s.front))) w.made
+    = served_more st s.front h (take s.taken (calls_of part (entries s.front))) w.made exact.before w.serves in
+    let all : AreServed st h (take s.taken (calls_of part (entries h))) w.made
+    = subst (λ l. AreServed st h l w.made) (sym (take_same s.taken (calls_of part (entries s.front)) (calls_of part (entries h)) w.most cs)) more in
+    record {
+      taken = s.taken;
+      most = omega (arith, n, most);
+      serves = subst (λ es. AreServed st h (take s.taken (calls_of part (entries h))) es) (mine_exact (number_of part) s h w.made exact w.mine) all;
+    }
+
+-- ---- the run
+
+exact_at : (k : ℕ) (s : SeatState) (h : List Signed) → (s.by ≡ k) × IsPrefix s.front h × (s.count ≡ length (given_by k h)) → IsExact k s h
+exact_at k s h so = record { by = so.0; before = so.1; count = so.2 }
+
+-- The seven seats are exact.
+record AreSeven (st : Setting) (seats : List SeatState) (a : AreSeats st seats) (h : List Signed) : Type 0 where
+  ticker : IsExact ticker_number a.ticker h
+  delta : IsExact (number_of Delta) a.delta h
+  resource : IsExact (number_of Resource) a.resource h
+  children : IsExact children_number a.children h
+  starter : IsExact starter_number a.starter h
+  device : IsExact device_number a.device h
+  lines : IsExact lines_number a.lines h
+
+seven : (st : Setting) (seats : List SeatState) (h : List Signed) (a : AreSeats st seats) → AreExact 0 seats h → AreSeven st seats a h
+seven st seats h a so =
+    let all : AreExact 0 (a.ticker ∷ a.delta ∷ a.resource ∷ a.children ∷ a.starter ∷ a.device ∷ a.lines ∷ []) h = subst (λ (ss : List SeatState). AreExact 0 ss h) a.all so in
+    record {
+      ticker = exact_at 0 a.ticker h all.0;
+      delta = exact_at 1 a.delta h all.1.0;
+      resource = exact_at 2 a.resource h all.1.1.0;
+      children = exact_at 3 a.children h all.1.1.1.0;
+      starter = exact_at 4 a.starter h all.1.1.1.1.0;
+      device = exact_at 5 a.device h all.1.1.1.1.1.0;
+      lines = exact_at 6 a.lines h all.1.1.1.1.1.1.0;
+    }
+
+run_so : (st : Setting) (seats : List SeatState) (h : List Signed) (es : List Entry) → es ≡ entries h → (a : AreSeats st seats) → AreSeven st seats a h
+    → AreBelow (length seats) h → IsTrace st (reverse es) → IsRun st es
+run_so st seats h es same a x below trace = record {
+  signed = h;
+  same = sym same;
+  trace = trace;
+  by_threads = subst (λ n. AreBelow n h) (ap length a.all) below;
+  wakes = gave_only _ ticker_number a.ticker h x.ticker a.wakes;
+  delta = worked st Delta a.delta h x.delta a.delta_works;
+  resource = worked st Resource a.resource h x.resource a.resource_works;
+  exits = gave_only _ children_number a.children h x.children a.tells_exits;
+  starts = gave_only _ starter_number a.starter h x.starter a.tells_starts;
+  tests = gave_nothing device_number a.device h x.device a.tests;
+  lines = gave_only _ lines_number a.lines h x.lines a.gives_lines;
+}
+
+-- These are the entries of a history that the counts of all seats make up.
+pub run_whole : (st : Setting) (seats : List SeatState) (h : List Signed) (es : List Entry) → es ≡ entries h → AreSeats st seats → AreExact 0 seats h → AreBelow (length seats) h
+    → IsTrace st (trace_of h) → IsRun st es
+run_whole st seats h es same a exact below trace =
+    run_so st seats h es same a (seven st seats h a exact) below (subst (λ (l : List Entry). IsTrace st (reverse l)) (sym same) trace)
+
+pub stood_whole : {D : Type 0} (stands : D → Setting → List Entry → Type 0) (st : Setting) (h : List Signed) (es : List Entry) → es ≡ entries h → IsSetting st
+    → IsTrace st (trace_of h) → (d : D) × stands d st (trace_of h) → Stood stands st (reverse es)
+stood_whole {D} stands st h es same is trace so = subst (λ (l : List Entry). Stood stands st (reverse l)) (sym same) (record { setting = is; trace = trace; daemon = so.0; stood = so.1 })
+
+-- ---- a case
+
+seats_of : (st : Setting) (seats : List SeatState) (d : Differ) → AreSeats st seats → AreSeatsOf st seats d
+seats_of st seats (Counted length_is counted) a = a
+seats_of st seats (Broken length_is) a = tt
+
+pub case_run : (st : Setting) (seats : List SeatState) (mine : List Signed) (d : Differ) → AreSeats st seats → IsCaseOfSome st seats mine d → IsCaseOfRun st d
+case_run st seats mine d a so = record { seats = seats; mine = mine; threads = seats_of st seats d a; case_of = so }
+
+pub case_broken : (st : Setting) (seats : List SeatState) (mine : List Signed) (n : ℕ) → IsCaseOfSome st seats mine (Broken n) → IsCaseOfRun st (Broken n)
+case_broken st seats mine n so = record { seats = seats; mine = mine; threads = tt; case_of = so }

@@ -1,108 +1,196 @@
 -- A thread's seat with one turn more.
-use Rattle.sl_cell.specs.Cells.{IsTaken, IsTested}
+use Rattle.sl_cell.proofs.SeatLaws.{calls_prefix, gave_before, mine_none, mine_on, mine_seen}
+use Rattle.sl_cell.specs.Parts.{calls_of}
 use Rattle.sl_cell.specs.Seats.{SeatState}
-use Rattle.sl_cell.specs.declared.seat.Made.TheVariants.{Took}
-use Rattle.sl_cell.specs.declared.seat.Made.{Made}
-use Rattle.sl_live.specs.Turns.{AreTurns, ChildrenState, IsChildThread, IsDeviceThread, IsIdleTurn, IsLine, IsLineThread, IsSpawned, IsStarterThread, IsTest, IsTicker, IsTurnOf, IsWake, IsExit, IsTellOf, IsWorkTurn, IsWorker, Looks, MakesTurn, TellsExit, TellsStart}
-use Rattle.sl_live_machine.specs.ThreadSeats.{GaveTurn}
+use Rattle.sl_cell.specs.Told.{Gave, HasSeen, IsTested, IsUnasked, Took, TookAll}
+use Rattle.sl_cell.specs.declared.part.Part.{Part}
+use Rattle.sl_history.proofs.Fronts.{prefix_get, prefix_length, prefix_self, prefix_trans}
+use Rattle.sl_history.specs.Histories.{entries}
+use Rattle.sl_history.specs.declared.signed.Signed.{Signed}
+use Rattle.sl_live.proofs.WorkLaws.{next_within, served_answer, served_more, served_pass, take_next, take_same}
+use Rattle.sl_live.specs.Turns.{AreServed, ChildrenState, Gives, IsAnswerOf, IsChildThread, IsDeviceThread, IsExit, IsIdleTurn, IsLine, IsLineThread, IsPassed, IsSpawned, IsStarterThread, IsTicker, IsWake, Looks, MakesTurn, TellsExit, TellsStart, Works}
+use Rattle.sl_live.specs.declared.steps.Gone.{Gone}
+use Rattle.sl_live_machine.specs.ThreadSeats.{GaveTurn, TestedTurn}
 use Rattle.sl_outside.specs.declared.act.Act.{Act}
+use Rattle.sl_trace.specs.Traces.{Setting}
 use Rattle.sl_trace.specs.declared.effects.Call.{Call}
+use Rattle.sl_trace.specs.declared.effects.Effects.{Effects}
+use Rattle.sl_trace.specs.declared.effects.Entry.{Entry}
 use Rattle.sl_trace.specs.declared.input.Answer.{Answer}
 use Rattle.sl_trace.specs.declared.input.Input.TheVariants.{Answer as Told, Exit, Spawned, Wake}
 use Rattle.sl_trace.specs.declared.input.Input.{Input}
-use Rattle.std.proofs.Common.{append_assoc, append-nil, ap, arith, refl, subst, sym, ◌∙◌}
-use Rattle.std.proofs.lemmas.List.Concat.{flat_map-append}
+use Rattle.std.proofs.Common.{ap, arith, inl, inr, refl, subst, sym, ◌∙◌}
 use Rattle.std.proofs.lemmas.List.Elements.{All-append, All-cons}
 use Rattle.std.specs.declared.alloc.AllocError.{AllocError}
-use Rattle.std.specs.Prelude.{All, Bool, Err, List, None, Ok, OnOk, Option, Result, Some, false, flat_map, true, [], ℕ, ◌++◌, ◌∷◌, ◌≡◌}
-
--- ---- turns
-
--- no turn yet
-pub no_turns : (IsTurn : List Made → Type 0) (calls : List Made) → calls ≡ [] → AreTurns IsTurn calls
-no_turns IsTurn calls none = record { turns = []; whole = none; each = λ k d below. absurd (omega arith) }
-
--- one more
-pub turns_on : (IsTurn : List Made → Type 0) (had has turn : List Made) → has ≡ had ++ turn → IsTurn turn → AreTurns IsTurn had → AreTurns IsTurn has
-turns_on IsTurn had has turn whole is so = record {
-  turns = so.turns ++ turn ∷ [];
-  whole = whole ∙ ap (λ l. l ++ turn) so.whole ∙ ap (λ l. flat_map (λ t. t) so.turns ++ l) (sym (append-nil turn))
-      ∙ sym (flat_map-append (λ t. t) so.turns (turn ∷ []));
-  each = All-append IsTurn so.turns (turn ∷ []) so.each (All-cons IsTurn turn [] is (λ k d below. absurd (omega arith)));
-}
-
--- the same calls
-pub turns_same : (IsTurn : List Made → Type 0) (had has : List Made) → has ≡ had → AreTurns IsTurn had → AreTurns IsTurn has
-turns_same IsTurn had has same so = subst (AreTurns IsTurn) (sym same) so
-
-turn_of : (IsInput : Input → Type 0) (i : Input) (had has : List Made) → IsInput i → (gave : GaveTurn i had has) → IsTurnOf IsInput (gave.made ∷ [])
-turn_of IsInput i had has is gave = record { input = i; is = is; now = gave.now; made = gave.made; one = refl; given = gave.given }
+use Rattle.std.specs.Prelude.{All, Bool, Err, IfOk, List, None, Ok, OnOk, Option, Result, Some, length, slice_get, take, [], ℕ, ◌++◌, ◌+◌, ◌<◌, ◌∷◌, ◌≡◌, ◌≤◌}
+use mathlib.Core.List.{IsPrefix}
 
 -- ---- a turn that gives an input
 
 -- a turn on children is one on the seat
-pub made_gave : {P : Type 0} (told : P → Option (List Act)) (faults : P → ℕ) (running : P → List ℕ) (now : ℕ) (i : Input) (before after : ChildrenState P) (had has : List Made)
-    → MakesTurn told faults running now i before after had has → GaveTurn i had has
-made_gave told faults running now i before after had has so = record { now = now; made = so.made; whole = so.whole; given = so.given }
-
-pub ok_gave : {P A E : Type 0} (r : Result A E) (told : P → Option (List Act)) (faults : P → ℕ) (running : P → List ℕ) (now : ℕ) (i : Input) (before after : ChildrenState P)
-    (had has : List Made) → OnOk r (MakesTurn told faults running now i before after had has) → OnOk r (GaveTurn i had has)
-ok_gave (Ok x) told faults running now i before after had has so = made_gave told faults running now i before after had has so
-ok_gave (Err e) told faults running now i before after had has so = tt
-
--- ---- the threads
+pub made_gave : {P : Type 0} (told : P → Option (List Act)) (faults : P → ℕ) (running : P → List ℕ) (st : Setting) (now : ℕ) (fx : Option Effects) (i : Input)
+    (before after : ChildrenState P) (s s' : SeatState) → MakesTurn told faults running st now fx i before after s s' → GaveTurn st i s s'
+made_gave told faults running st now (Some fx) i before after s s' so = inl (now, fx, so.0)
+made_gave told faults running st now None i before after s s' so = inr so.0
 
 pub on_ok : {A E M : Type 0} (r : Result A E) → M → OnOk r M
 on_ok (Ok a) m = m
 on_ok (Err e) m = tt
 
-pub wakes_on : (had has : List Made) → GaveTurn Wake had has → IsTicker had → IsTicker has
-wakes_on had has gave so = turns_on (IsTurnOf IsWake) had has (gave.made ∷ []) gave.whole (turn_of IsWake Wake had has refl gave) so
+-- ---- threads that only give
 
-pub lines_on : (i : Input) (had has : List Made) → IsLine i → GaveTurn i had has → IsLineThread had → IsLineThread has
-lines_on i had has is gave so = turns_on (IsTurnOf IsLine) had has (gave.made ∷ []) gave.whole (turn_of IsLine i had has is gave) so
+gives_seen : (IsInput : Input → Type 0) (s s' : SeatState) → HasSeen s s' → Gives IsInput s → Gives IsInput s'
+gives_seen IsInput s s' seen so = record { made = so.made; mine = mine_seen s s' so.made seen so.mine; each = so.each }
 
-exits_gave : (process : ℕ) (had has : List Made) → GaveTurn (Exit process) had has → IsChildThread had → IsChildThread has
-exits_gave process had has gave so = turns_on (IsTurnOf IsExit) had has (gave.made ∷ []) gave.whole (turn_of IsExit (Exit process) had has (process, refl) gave) so
+gives_more : (IsInput : Input → Type 0) (i : Input) (s s' : SeatState) (now : ℕ) (fx : Effects) → IsInput i → Gave s s' now i fx → Gives IsInput s → Gives IsInput s'
+gives_more IsInput i s s' now fx is gave so =
+    let e : Entry = gave.entry.entry in record {
+      made = so.made ++ e ∷ [];
+      mine = mine_on s s' now i fx so.made gave so.mine;
+      each = All-append (λ (x : Entry). IsInput x.input) so.made (e ∷ []) so.each
+          (All-cons (λ (x : Entry). IsInput x.input) e [] (subst IsInput (sym gave.is.same) is) (λ k d below. absurd (omega arith)));
+    }
 
-pub exits_on : {P : Type 0} (told : P → Option (List Act)) (faults : P → ℕ) (running : P → List ℕ) (now : ℕ) (before after : ChildrenState P) (had has : List Made)
-    → TellsExit told faults running (MakesTurn told faults running now) before after had has → IsChildThread had → IsChildThread has
-exits_on told faults running now before after had has tells so =
-    exits_gave tells.process had has (made_gave told faults running now (Exit tells.process) tells.polled after had has tells.turn) so
+gives_on : (IsInput : Input → Type 0) (st : Setting) (i : Input) (s s' : SeatState) → IsInput i → GaveTurn st i s s' → Gives IsInput s → Gives IsInput s'
+gives_on IsInput st i s s' is (inl gave) so = gives_more IsInput i s s' gave.0 gave.1 is gave.2 so
+gives_on IsInput st i s s' is (inr passed) so = gives_seen IsInput s s' passed.seen so
 
-pub exits_none : {P : Type 0} (told : P → Option (List Act)) (faults : P → ℕ) (running : P → List ℕ) (before after : ChildrenState P) (had has : List Made)
-    → IsIdleTurn told faults running before after had has → IsChildThread had → IsChildThread has
-exits_none told faults running before after had has idle so = turns_same (IsTurnOf IsExit) had has idle.calls so
+-- nothing yet
+pub gave_none : (IsInput : Input → Type 0) (s : SeatState) → s.count ≡ 0 → Gives IsInput s
+gave_none IsInput s none = record { made = []; mine = mine_none s none; each = λ k d below. absurd (omega arith) }
+
+pub ticker_none : (s : SeatState) → s.count ≡ 0 → IsTicker s
+ticker_none s none = gave_none IsWake s none
+
+pub exits_none : (s : SeatState) → s.count ≡ 0 → IsChildThread s
+exits_none s none = gave_none IsExit s none
+
+pub starts_none : (s : SeatState) → s.count ≡ 0 → IsStarterThread s
+starts_none s none = gave_none IsSpawned s none
+
+pub lines_none : (s : SeatState) → s.count ≡ 0 → IsLineThread s
+lines_none s none = gave_none IsLine s none
+
+pub wakes_on : (st : Setting) (s s' : SeatState) → GaveTurn st Wake s s' → IsTicker s → IsTicker s'
+wakes_on st s s' gave so = gives_on IsWake st Wake s s' refl gave so
+
+pub lines_on : (st : Setting) (i : Input) (s s' : SeatState) → IsLine i → GaveTurn st i s s' → IsLineThread s → IsLineThread s'
+lines_on st i s s' is gave so = gives_on IsLine st i s s' is gave so
 
 -- whether a look found an exited child or not
-pub looks_on : {P : Type 0} (exited : Bool) (told : P → Option (List Act)) (faults : P → ℕ) (running : P → List ℕ) (now : ℕ) (before after : ChildrenState P) (had has : List Made)
-    → Looks {P = P} {E = AllocError} told faults running now before after had has (Ok exited) → IsChildThread had → IsChildThread has
-looks_on true told faults running now before after had has looks so = exits_on told faults running now before after had has looks so
-looks_on false told faults running now before after had has looks so = exits_none told faults running before after had has looks so
-
-starts_gave : (process : ℕ) (ok : Bool) (had has : List Made) → GaveTurn (Spawned process ok) had has → IsStarterThread had → IsStarterThread has
-starts_gave process ok had has gave so = turns_on (IsTurnOf IsSpawned) had has (gave.made ∷ []) gave.whole (turn_of IsSpawned (Spawned process ok) had has (process, ok, refl) gave) so
+pub looks_on : {P : Type 0} (gone : Option Gone) (told : P → Option (List Act)) (faults : P → ℕ) (running : P → List ℕ) (st : Setting) (now : ℕ) (before after : ChildrenState P)
+    (s s' : SeatState) → Looks {P = P} {E = AllocError} told faults running st now before after s s' (Ok gone) → IsChildThread s → IsChildThread s'
+looks_on (Some gone) told faults running st now before after s s' looks so =
+    gives_on IsExit st (Exit gone.process) s s' (gone.process, refl) (made_gave told faults running st now gone.effects (Exit gone.process) looks.polled after s s' looks.turn) so
+looks_on None told faults running st now before after s s' idle so = subst IsChildThread (sym idle.seat) so
 
 -- what a start came to is told
-pub ok_starts : {P C A E : Type 0} (r : Result A E) (told : P → Option (List Act)) (faults : P → ℕ) (running : P → List ℕ) (now process : ℕ) (child : Option C)
-    (before after : ChildrenState P) (had has : List Made)
-    → OnOk r (TellsStart told faults running process child (MakesTurn told faults running now) before after had has) → OnOk r (IsStarterThread had → IsStarterThread has)
-ok_starts (Ok x) told faults running now process child before after had has tells =
-    starts_gave process tells.ok had has (made_gave told faults running now (Spawned process tells.ok) tells.taken after had has tells.turn)
-ok_starts (Err e) told faults running now process child before after had has tells = tt
+pub starts_on : {P C : Type 0} (told : P → Option (List Act)) (faults : P → ℕ) (running : P → List ℕ) (st : Setting) (now process : ℕ) (child : Option C) (ok : Bool)
+    (fx : Option Effects) (before after : ChildrenState P) (s s' : SeatState)
+    → TellsStart told faults running process child ok (MakesTurn told faults running st now fx) before after s s' → IsStarterThread s → IsStarterThread s'
+starts_on told faults running st now process child ok fx before after s s' tells so =
+    gives_on IsSpawned st (Spawned process ok) s s' (process, ok, refl) (made_gave told faults running st now fx (Spawned process ok) tells.taken after s s' tells.turn) so
 
-pub tests_on : (now : ℕ) (answer : Bool) (had has : SeatState) → IsTested had has now answer → IsDeviceThread had.calls → IsDeviceThread has.calls
-tests_on now answer had has tested so =
-    turns_on IsTest had.calls has.calls (_ ∷ []) tested.1 (record { now = now; answer = answer; front = tested.0; whole = refl }) so
+-- ---- the device thread
+
+pub tests_on : (st : Setting) (now : ℕ) (answer : Bool) (s s' : SeatState) → IsTested st s s' now answer → IsDeviceThread s → IsDeviceThread s'
+tests_on st now answer s s' tested none = tested.seen.count ∙ none
+
+-- ---- a worker
+
+-- nothing yet
+pub works_none : (st : Setting) (part : Part) (s : SeatState) → s.count ≡ 0 → s.taken ≡ 0 → Works st part s
+works_none st part s none first = record {
+  made = [];
+  mine = mine_none s none;
+  most = omega (arith, first);
+  serves = subst (λ n. AreServed st s.front (take n (calls_of part (entries s.front))) []) (sym first) tt;
+}
+
+-- more of the history was seen
+serves_seen : (st : Setting) (part : Part) (h h' : List Signed) (taken : ℕ) (made : List Entry) → IsPrefix h h' → taken ≤ length (calls_of part (entries h))
+    → AreServed st h (take taken (calls_of part (entries h))) made → AreServed st h' (take taken (calls_of part (entries h'))) made
+serves_seen st part h h' taken made p most so =
+    let cs = calls_prefix part h h' p in
+    subst (λ l. AreServed st h' l made) (sym (take_same taken (calls_of part (entries h)) (calls_of part (entries h')) most cs))
+    (served_more st h h' (take taken (calls_of part (entries h))) made p so)
+
+most_seen : (part : Part) (h h' : List Signed) (taken : ℕ) → IsPrefix h h' → taken ≤ length (calls_of part (entries h)) → taken ≤ length (calls_of part (entries h'))
+most_seen part h h' taken p most =
+    let n = prefix_length (calls_of part (entries h)) (calls_of part (entries h')) (calls_prefix part h h' p) in omega (arith, n, most)
+
+works_seen : (st : Setting) (part : Part) (s s' : SeatState) → HasSeen s s' → s'.taken ≡ s.taken → Works st part s → Works st part s'
+works_seen st part s s' seen same w = record {
+  made = w.made;
+  mine = mine_seen s s' w.made seen w.mine;
+  most = subst (λ n. n ≤ length (calls_of part (entries s'.front))) (sym same) (most_seen part s.front s'.front s.taken seen.before w.most);
+  serves = subst (λ n. AreServed st s'.front (take n (calls_of part (entries s'.front))) w.made) (sym same)
+      (serves_seen st part s.front s'.front s.taken w.made seen.before w.most w.serves);
+}
+
+-- no call was left
+pub works_idle : (st : Setting) (part : Part) (s s' : SeatState) → TookAll part s s' → Works st part s → Works st part s'
+works_idle st part s s' all w = works_seen st part s s' all.seen all.taken w
+
+-- a call was taken: what was answered before it, and the call
+record HasTaken (st : Setting) (part : Part) (s : SeatState) (c : Call) (before : ℕ) (made : List Entry) : Type 0 where
+  there : slice_get (calls_of part (entries s.front)) before ≡ Some c
+  next : s.taken ≡ before + 1
+  serves : AreServed st s.front (take before (calls_of part (entries s.front))) made
+
+took_one : (st : Setting) (part : Part) (s m : SeatState) (c : Call) → Took part s m c → (w : Works st part s) → HasTaken st part m c s.taken w.made
+took_one st part s m c took w = record {
+  there = took.call;
+  next = took.taken;
+  serves = serves_seen st part s.front m.front s.taken w.made took.seen.before w.most w.serves;
+}
+
+-- .. and as much more was seen
+taken_seen : (st : Setting) (part : Part) (m s' : SeatState) (c : Call) (n : ℕ) (made : List Entry) → IsPrefix m.front s'.front → s'.taken ≡ m.taken → HasTaken st part m c n made
+    → HasTaken st part s' c n made
+taken_seen st part m s' c n made p same t =
+    let within = next_within n c (calls_of part (entries m.front)) t.there in record {
+      there = prefix_get (calls_of part (entries m.front)) (calls_of part (entries s'.front)) n c (calls_prefix part m.front s'.front p) t.there;
+      next = same ∙ t.next;
+      serves = serves_seen st part m.front s'.front n made p (omega (arith, within)) t.serves;
+    }
+
+taken_most : (st : Setting) (part : Part) (s : SeatState) (c : Call) (n : ℕ) (made : List Entry) → HasTaken st part s c n made → s.taken ≤ length (calls_of part (entries s.front))
+taken_most st part s c n made t = let within = next_within n c (calls_of part (entries s.front)) t.there in let next = t.next in omega (arith, within, next)
+
+-- all that was taken, where these are served with the call
+serves_all : (st : Setting) (part : Part) (s : SeatState) (c : Call) (n : ℕ) (made all : List Entry) → HasTaken st part s c n made
+    → AreServed st s.front (take n (calls_of part (entries s.front)) ++ c ∷ []) all → AreServed st s.front (take s.taken (calls_of part (entries s.front))) all
+serves_all st part s c n made all t so =
+    subst (λ k. AreServed st s.front (take k (calls_of part (entries s.front))) all) (sym t.next)
+    (subst (λ l. AreServed st s.front l all) (sym (take_next n c (calls_of part (entries s.front)) t.there)) so)
+
+answers_on : (st : Setting) (part : Part) (s m s' : SeatState) (c : Call) (a : Answer) (now : ℕ) (fx : Effects) → Took part s m c → Gave m s' now (Told c.number a) fx → Works st part s
+    → Works st part s'
+answers_on st part s m s' c a now fx took gave w =
+    let e : Entry = gave.entry.entry in
+    let t : HasTaken st part s' c s.taken w.made
+    = taken_seen st part m s' c s.taken w.made (gave_before m s' now (Told c.number a) fx gave) gave.taken (took_one st part s m c took w) in
+    record {
+      made = w.made ++ e ∷ [];
+      mine = mine_on m s' now (Told c.number a) fx w.made gave (mine_seen s m w.made took.seen w.mine);
+      most = taken_most st part s' c s.taken w.made t;
+      serves = serves_all st part s' c s.taken w.made (w.made ++ e ∷ []) t
+          (served_answer st s'.front (take s.taken (calls_of part (entries s'.front))) w.made c e (a, gave.is.same) t.serves);
+    }
+
+passes_on : (st : Setting) (part : Part) (s m s' : SeatState) (c : Call) (a : Answer) → Took part s m c → IsUnasked st m s' (Told c.number a) → Works st part s → Works st part s'
+passes_on st part s m s' c a took passed w =
+    let t : HasTaken st part s' c s.taken w.made = taken_seen st part m s' c s.taken w.made passed.seen.before passed.taken (took_one st part s m c took w) in
+    let is : IsPassed st s'.front c = record { answer = a; past = s'.front; before = prefix_self s'.front; unasked = passed.unasked } in
+    record {
+      made = w.made;
+      mine = mine_seen m s' w.made passed.seen (mine_seen s m w.made took.seen w.mine);
+      most = taken_most st part s' c s.taken w.made t;
+      serves = serves_all st part s' c s.taken w.made w.made t (served_pass st s'.front (take s.taken (calls_of part (entries s'.front))) w.made c is t.serves);
+    }
 
 -- a call that is taken is answered
-pub works_on : (number : ℕ) (c : Call) (a : Answer) (had mid has : List Made) → mid ≡ had ++ Took number c ∷ [] → GaveTurn (Told c.number a) mid has → IsWorker had → IsWorker has
-works_on number c a had mid has took gave so =
-    turns_on IsWorkTurn had has (Took number c ∷ gave.made ∷ [])
-    (gave.whole ∙ ap (λ l. l ++ gave.made ∷ []) took ∙ append_assoc had (Took number c ∷ []) (gave.made ∷ []))
-    (record { number = number; call = c; behind = gave.made ∷ []; whole = refl; told = turn_of (IsTellOf c) (Told c.number a) mid has (a, refl) gave }) so
-
-pub ok_tests : {A E : Type 0} (r : Result A E) (now : ℕ) (had has : SeatState) (Rest : Bool → Type 0) → OnOk r ((answer : Bool) × IsTested had has now answer × Rest answer)
-    → OnOk r (IsDeviceThread had.calls → IsDeviceThread has.calls)
-ok_tests (Ok x) now had has Rest so = tests_on now so.0 had has so.1
-ok_tests (Err e) now had has Rest so = tt
+pub works_on : (st : Setting) (part : Part) (s m s' : SeatState) (c : Call) (a : Answer) → Took part s m c → GaveTurn st (Told c.number a) m s' → Works st part s → Works st part s'
+works_on st part s m s' c a took (inl gave) w = answers_on st part s m s' c a gave.0 gave.1 took gave.2 w
+works_on st part s m s' c a took (inr passed) w = passes_on st part s m s' c a took passed w

@@ -1,8 +1,9 @@
 //! What the threads of a machine tell one another: lines to be given, what turns have made, and whether the machine ends.
 
-use sl_cell::{Made, Part};
+use crate::turn::{Happened, Turn};
+use sl_cell::Part;
 use sl_live_lines::{GivenLine, copy_reply};
-use sl_trace::{Entry, Input, JobReply, Purpose, Reply};
+use sl_trace::{Effects, JobReply, Purpose, Reply};
 use std::alloc::{AllocError, Global};
 use std::collections::VecDeque;
 
@@ -194,15 +195,24 @@ impl Board {
         self.begin_turn()
     }
 
-    /// A turn has ended that made these calls of the cell: for whom there is news. An `Err` is want of memory.
-    pub(crate) fn end_turn(&mut self, calls: &[Made]) -> Result<News, AllocError> {
+    /// A turn has ended: for whom there is news. An `Err` is want of memory.
+    pub(crate) fn end_turn(&mut self, turn: &Turn) -> Result<News, AllocError> {
         let mut news = News::none();
-        for made in calls {
-            self.note(&mut news, made)?;
+        self.note(&mut news, turn.happened)?;
+        if let Some(effects) = &turn.effects {
+            self.note_effects(&mut news, effects)?;
         }
         self.turns = self.turns.wrapping_sub(1);
         news.ticker = self.is_quiet();
         Ok(news)
+    }
+
+    /// A turn has ended in which nothing was given: for whom there is news.
+    pub(crate) fn end_idle(&mut self) -> News {
+        let mut news = News::none();
+        self.turns = self.turns.wrapping_sub(1);
+        news.ticker = self.is_quiet();
+        news
     }
 
     /// Whether no turn is under way and none is left but to wake the daemon: no line, no call, no start, no child.
@@ -215,42 +225,33 @@ impl Board {
             && self.running.is_empty()
     }
 
-    /// Notes a call of the cell.
-    fn note(&mut self, news: &mut News, made: &Made) -> Result<(), AllocError> {
-        match made {
-            Made::Applied { number: _, entry } => {
-                self.note_input(news, &entry.input)?;
-                self.note_calls(news, entry);
-                self.note_starts(news, entry);
-                self.note_replies(news, entry.effects.replies.as_slice())
-            }
-            Made::Unasked { front: _, input } => self.note_input(news, input),
-            Made::Took { .. } => Ok(()),
-            Made::Tested { .. } => Ok(()),
-        }
+    /// Notes what a step made.
+    fn note_effects(&mut self, news: &mut News, effects: &Effects) -> Result<(), AllocError> {
+        self.note_calls(news, effects);
+        self.note_starts(news, effects);
+        self.note_replies(news, effects.replies.as_slice())
     }
 
     /// Notes an answer, a child that has started, or one that has exited.
-    fn note_input(&mut self, news: &mut News, input: &Input) -> Result<(), AllocError> {
-        match input {
-            Input::Answer { .. } => {
+    fn note(&mut self, news: &mut News, happened: Happened) -> Result<(), AllocError> {
+        match happened {
+            Happened::Answered => {
                 self.answered = self.answered.wrapping_add(1);
                 Ok(())
             }
-            Input::Spawned { process, ok } => {
+            Happened::Started { process, ok } => {
                 self.started = self.started.wrapping_add(1);
-                if *ok {
-                    self.note_start(news, *process)?;
+                if ok {
+                    self.note_start(news, process)?;
                 }
                 Ok(())
             }
-            Input::Exit { process } => {
+            Happened::Exited { process } => {
                 news.script = true;
-                self.note_exit(*process)
+                self.note_exit(process)
             }
-            Input::Line(_) => Ok(()),
-            Input::Number(_) => Ok(()),
-            Input::Wake => Ok(()),
+            Happened::Line => Ok(()),
+            Happened::Woke => Ok(()),
         }
     }
 
@@ -276,8 +277,8 @@ impl Board {
     }
 
     /// Notes the calls that were made.
-    fn note_calls(&mut self, news: &mut News, entry: &Entry) {
-        for call in entry.effects.calls.as_slice() {
+    fn note_calls(&mut self, news: &mut News, effects: &Effects) {
+        for call in effects.calls.as_slice() {
             self.made = self.made.wrapping_add(1);
             match part_of(&call.purpose) {
                 Part::Delta => news.delta = true,
@@ -287,8 +288,8 @@ impl Board {
     }
 
     /// Notes the starts that were ordered.
-    fn note_starts(&mut self, news: &mut News, entry: &Entry) {
-        for _start in entry.effects.starts.as_slice() {
+    fn note_starts(&mut self, news: &mut News, effects: &Effects) {
+        for _start in effects.starts.as_slice() {
             self.ordered = self.ordered.wrapping_add(1);
             news.starter = true;
         }

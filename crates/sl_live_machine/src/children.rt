@@ -6,8 +6,11 @@ ghost use Rattle.std.specs.Prelude.{IfOk, OnOk};
 
 use crate::room::Room;
 use crate::script_waits::Post;
-use sl_cell::{Seat, Station, Teller};
-use sl_live::laws::child_step;
+use crate::thread_numbers::CHILDREN;
+use crate::turn::{Happened, Turn};
+use sl_cell::{Seat, Teller};
+use sl_history::Station;
+use sl_live::laws::{Gone, child_step};
 use sl_outside::Spawner;
 use sl_time::Clock;
 use std::alloc::AllocError;
@@ -39,18 +42,32 @@ fn finding(exited: bool, idle: bool) -> Found {
     }
 }
 
-/// Tells the exit of one child, if one has exited. An `Err` is want of memory.
+/// The turn that told an exit.
+fn turn_of(gone: Gone) -> Turn {
+    let Gone { process, effects } = gone;
+    Turn {
+        happened: Happened::Exited { process },
+        effects,
+    }
+}
+
+/// Tells the exit of one child, if one has exited: what was found, and the turn. An `Err` is want of memory.
+#[tactic(auto, using(crate::proofs::SeatLaws::looks_on))]
 fn look<D: Teller, J: Station, R: Wait, C: Clock, P: Spawner>(
     rt: &R,
     room: &Room<D, J, P>,
-    seat: &mut Seat,
+    seat: &mut Seat<J>,
     clock: &mut C,
-) -> Result<Found, AllocError>
-    ensures { OnOk result (IsChildThread seat.old.calls → IsChildThread seat.new.calls) }
+) -> Result<(Found, Option<Turn>), AllocError>
+    ensures { OnOk result (IsChildThread seat.old → IsChildThread seat.new) }
 {
     let mut children = room.children.lock(rt);
-    let exited = child_step(rt, &room.cell, seat, clock, &mut *children)?;
-    Ok(finding(exited, children.is_idle()))
+    let gone = child_step(rt, &room.cell, seat, clock, &mut *children)?;
+    let found = finding(gone.is_some(), children.is_idle());
+    match gone {
+        Some(gone) => Ok((found, Some(turn_of(gone)))),
+        None => Ok((found, None)),
+    }
 }
 
 /// A turn that has begun: what its look has found. An `Err` is want of memory.
@@ -58,14 +75,13 @@ fn turn<D: Teller, J: Station, R: Wait, C: Clock, P: Spawner>(
     rt: &R,
     room: &Room<D, J, P>,
     post: &Post,
-    seat: &mut Seat,
+    seat: &mut Seat<J>,
     clock: &mut C,
 ) -> Result<Found, AllocError>
-    ensures { OnOk result (IsChildThread seat.old.calls → IsChildThread seat.new.calls) }
+    ensures { OnOk result (IsChildThread seat.old → IsChildThread seat.new) }
 {
-    let from = seat.calls().len();
-    let found = look(rt, room, seat, clock)?;
-    post.end_turn(rt, seat.calls(), from)?;
+    let (found, turn) = look(rt, room, seat, clock)?;
+    post.end_turn_of(rt, &turn)?;
     Ok(found)
 }
 
@@ -86,16 +102,16 @@ fn wait<R: Wait + time::Clock>(rt: &R, post: &Post, seen: u64, found: Found, int
 }
 
 /// Tells exits until the machine ends. An `Err` is want of memory.
-#[tactic(auto, using(crate::proofs::SeatLaws::no_turns))]
+#[tactic(auto, using(crate::proofs::SeatLaws::exits_none))]
 pub(crate) fn tell_exits<D: Teller, J: Station, R: Wait + time::Clock, C: Clock, P: Spawner>(
     rt: &R,
     room: &Room<D, J, P>,
     post: &Post,
     mut clock: C,
-) -> Result<Seat, AllocError>
-    ensures { IfOk result (λ s. IsChildThread s.calls) }
+) -> Result<Seat<J>, AllocError>
+    ensures { IfOk result (λ s. IsChildThread s) }
 {
-    let mut seat = room.cell.seat();
+    let mut seat = room.cell.seat(CHILDREN, &room.front);
     let mut interval = SHORTEST;
     for _ in rt.forever() {
         let seen = post.children.moves(rt);

@@ -1,11 +1,14 @@
 //! The thread that tests the machine's connections and keeps its watchdog device from firing while they hold.
 
 ghost use Rattle.sl_live.specs.Turns.{IsDeviceThread};
+ghost use Rattle.sl_live_machine.specs.ThreadSeats.{TestedTurn};
 ghost use Rattle.std.specs.Prelude.{IfOk, OnOk};
 
 use crate::room::Room;
 use crate::script_waits::Post;
-use sl_cell::{Seat, Station, Teller};
+use crate::thread_numbers::DEVICE;
+use sl_cell::{Seat, Teller};
+use sl_history::Station;
 use sl_live::laws::device_step;
 use sl_outside::{Device, Spawner};
 use sl_time::Clock;
@@ -13,16 +16,17 @@ use std::alloc::AllocError;
 use std::sync::Wait;
 use std::time;
 
-/// Tests once. An `Err` is want of memory.
-#[tactic(auto, using(crate::proofs::SeatLaws::ok_tests))]
+/// Tests once, and gives nothing. An `Err` is a history that is not the daemon's any more.
+#[tactic(auto, using(crate::proofs::SeatLaws::tests_on))]
 fn test<D: Teller, J: Station, R: Wait, C: Clock, P: Spawner, V: Device>(
     rt: &R,
     room: &Room<D, J, P>,
-    seat: &mut Seat,
+    seat: &mut Seat<J>,
     clock: &mut C,
     device: &mut V,
 ) -> Result<(), AllocError>
-    ensures { OnOk result (IsDeviceThread seat.old.calls → IsDeviceThread seat.new.calls) }
+    ensures tested { OnOk result (TestedTurn J.setting seat.old seat.new) }
+    ensures thread { OnOk result (IsDeviceThread seat.old → IsDeviceThread seat.new) }
 {
     let mut children = room.children.lock(rt);
     device_step(rt, &room.cell, seat, clock, device, &mut *children)
@@ -33,11 +37,11 @@ fn test_each<D: Teller, J: Station, R: Wait + time::Clock, C: Clock, P: Spawner,
     rt: &R,
     room: &Room<D, J, P>,
     post: &Post,
-    seat: &mut Seat,
+    seat: &mut Seat<J>,
     clock: &mut C,
     device: &mut V,
 ) -> Result<(), AllocError>
-    ensures { OnOk result (IsDeviceThread seat.old.calls → IsDeviceThread seat.new.calls) }
+    ensures { OnOk result (IsDeviceThread seat.old → IsDeviceThread seat.new) }
 {
     for _ in rt.forever() {
         let seen = post.device.moves(rt);
@@ -51,7 +55,6 @@ fn test_each<D: Teller, J: Station, R: Wait + time::Clock, C: Clock, P: Spawner,
 }
 
 /// The thread's whole course: what it tested. An `Err` is want of memory.
-#[tactic(auto, using(crate::proofs::SeatLaws::no_turns))]
 pub(crate) fn keep_alive<
     D: Teller,
     J: Station,
@@ -65,10 +68,10 @@ pub(crate) fn keep_alive<
     post: &Post,
     mut clock: C,
     mut device: V,
-) -> Result<Seat, AllocError>
-    ensures { IfOk result (λ s. IsDeviceThread s.calls) }
+) -> Result<Seat<J>, AllocError>
+    ensures { IfOk result (λ s. IsDeviceThread s) }
 {
-    let mut seat = room.cell.seat();
+    let mut seat = room.cell.seat(DEVICE, &room.front);
     test_each(rt, room, post, &mut seat, &mut clock, &mut device)?;
     Ok(seat)
 }

@@ -13,13 +13,14 @@ mod machine;
 mod room;
 mod script_waits;
 mod starter;
+mod thread_numbers;
 mod thread_roll;
 mod threads;
 mod ticker;
 mod turn;
 mod worker;
 
-pub use machine::{Parts, Ran, run_machine};
+pub use machine::{CloseError, Parts, Ran, run_machine};
 pub use script_waits::{Post, fail_all};
 pub use thread_roll::Roll;
 pub use threads::{Clocks, Stand};

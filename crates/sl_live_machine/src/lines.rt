@@ -9,8 +9,10 @@ ghost use Rattle.std.specs.Prelude.{IfOk, OnOk, [], ◌≡◌};
 use crate::board::Next;
 use crate::room::Room;
 use crate::script_waits::Post;
-use crate::turn::give;
-use sl_cell::{Made, Seat, Station, Teller};
+use crate::thread_numbers::LINES;
+use crate::turn::{Turn, give};
+use sl_cell::{Seat, Teller};
+use sl_history::Station;
 use sl_live_lines::GivenLine;
 use sl_locks::{LockInput, LvmLocks};
 use sl_outside::Spawner;
@@ -53,32 +55,28 @@ fn turn(
     Ok(())
 }
 
-/// Locks leave the table whose holdings these calls of the cell have ended. A holding of lvmlockd's process ends by its own asks alone: it is no
-/// child that could exit.
-fn leave(locks: &mut LvmLocks, calls: &[Made]) {
-    for made in calls {
-        if let Made::Applied { number: _, entry } = made {
-            locks.leave(&entry.effects);
-        }
+/// Locks leave the table whose holdings a turn has ended. A holding of lvmlockd's process ends by its own asks alone: it is no child that could exit.
+fn leave(locks: &mut LvmLocks, turn: &Turn) {
+    if let Some(effects) = &turn.effects {
+        locks.leave(effects);
     }
 }
 
 /// Gives a line, in a turn that has begun. An `Err` is want of memory.
-#[tactic(auto, using(crate::proofs::SeatLaws::lines_on))]
 fn give_line<D: Teller, J: Station, R: Wait, C: Clock, P: Spawner>(
     rt: &R,
     room: &Room<D, J, P>,
     post: &Post,
-    seat: &mut Seat,
+    seat: &mut Seat<J>,
     clock: &mut C,
     input: Input,
-) -> Result<(), AllocError>
+) -> Result<Turn, AllocError>
     requires { IsLine input }
-    ensures { OnOk result (IsLineThread seat.old.calls → IsLineThread seat.new.calls) }
+    ensures { OnOk result (IsLineThread seat.old → IsLineThread seat.new) }
 {
-    let from = seat.calls().len();
-    give(rt, room, seat, clock, input)?;
-    post.end_turn(rt, seat.calls(), from)
+    let turn = give(rt, room, seat, clock, input)?;
+    post.end_turn(rt, &turn)?;
+    Ok(turn)
 }
 
 /// Gives an ask, and waits for its reply, by which the locks go on: whether the machine runs still. An `Err` is want of memory.
@@ -86,20 +84,18 @@ fn ask<D: Teller, J: Station, R: Wait, C: Clock, P: Spawner>(
     rt: &R,
     room: &Room<D, J, P>,
     post: &Post,
-    seat: &mut Seat,
+    seat: &mut Seat<J>,
     clock: &mut C,
     locks: &mut LvmLocks,
     text: Bytes,
 ) -> Result<bool, AllocError>
-    ensures { OnOk result (IsLineThread seat.old.calls → IsLineThread seat.new.calls) }
+    ensures { OnOk result (IsLineThread seat.old → IsLineThread seat.new) }
 {
     let Some(number) = post.begin_ask(rt) else {
         return Ok(false);
     };
-    let from = seat.calls().len();
-    give_line(rt, room, post, seat, clock, Input::Line(text))?;
-    let (_, own) = seat.calls().split_at(from.min(seat.calls().len()));
-    leave(locks, own);
+    let given = give_line(rt, room, post, seat, clock, Input::Line(text))?;
+    leave(locks, &given);
     turn(
         room.alloc,
         locks,
@@ -121,11 +117,11 @@ fn give_ask<D: Teller, J: Station, R: Wait, C: Clock, P: Spawner>(
     rt: &R,
     room: &Room<D, J, P>,
     post: &Post,
-    seat: &mut Seat,
+    seat: &mut Seat<J>,
     clock: &mut C,
     locks: &mut LvmLocks,
 ) -> Result<bool, AllocError>
-    ensures { OnOk result (IsLineThread seat.old.calls → IsLineThread seat.new.calls) }
+    ensures { OnOk result (IsLineThread seat.old → IsLineThread seat.new) }
 {
     match locks.ask_text(room.alloc)? {
         Some(text) => ask(rt, room, post, seat, clock, locks, text),
@@ -138,11 +134,11 @@ fn give_asks<D: Teller, J: Station, R: Wait, C: Clock, P: Spawner>(
     rt: &R,
     room: &Room<D, J, P>,
     post: &Post,
-    seat: &mut Seat,
+    seat: &mut Seat<J>,
     clock: &mut C,
     locks: &mut LvmLocks,
 ) -> Result<(), AllocError>
-    ensures { OnOk result (IsLineThread seat.old.calls → IsLineThread seat.new.calls) }
+    ensures { OnOk result (IsLineThread seat.old → IsLineThread seat.new) }
 {
     for _ in rt.forever() {
         if !give_ask(rt, room, post, seat, clock, locks)? {
@@ -157,12 +153,12 @@ fn give_locks<D: Teller, J: Station, R: Wait, C: Clock, P: Spawner>(
     rt: &R,
     room: &Room<D, J, P>,
     post: &Post,
-    seat: &mut Seat,
+    seat: &mut Seat<J>,
     clock: &mut C,
     locks: &mut LvmLocks,
     line: Bytes,
 ) -> Result<(), AllocError>
-    ensures { OnOk result (IsLineThread seat.old.calls → IsLineThread seat.new.calls) }
+    ensures { OnOk result (IsLineThread seat.old → IsLineThread seat.new) }
 {
     let copy = Bytes::from_slice(room.alloc, line.as_slice())?;
     give_line(rt, room, post, seat, clock, Input::Number(line))?;
@@ -184,15 +180,18 @@ fn serve<D: Teller, J: Station, R: Wait, C: Clock, P: Spawner>(
     rt: &R,
     room: &Room<D, J, P>,
     post: &Post,
-    seat: &mut Seat,
+    seat: &mut Seat<J>,
     clock: &mut C,
     locks: &mut LvmLocks,
     line: GivenLine,
 ) -> Result<(), AllocError>
-    ensures { OnOk result (IsLineThread seat.old.calls → IsLineThread seat.new.calls) }
+    ensures { OnOk result (IsLineThread seat.old → IsLineThread seat.new) }
 {
     match line {
-        GivenLine::ForHost(text) => give_line(rt, room, post, seat, clock, Input::Line(text)),
+        GivenLine::ForHost(text) => {
+            give_line(rt, room, post, seat, clock, Input::Line(text))?;
+            Ok(())
+        }
         GivenLine::ForLocks(line) => give_locks(rt, room, post, seat, clock, locks, line),
     }
 }
@@ -202,11 +201,11 @@ fn give_each<D: Teller, J: Station, R: Wait, C: Clock, P: Spawner>(
     rt: &R,
     room: &Room<D, J, P>,
     post: &Post,
-    seat: &mut Seat,
+    seat: &mut Seat<J>,
     clock: &mut C,
     locks: &mut LvmLocks,
 ) -> Result<(), AllocError>
-    ensures { OnOk result (IsLineThread seat.old.calls → IsLineThread seat.new.calls) }
+    ensures { OnOk result (IsLineThread seat.old → IsLineThread seat.new) }
 {
     for _ in rt.forever() {
         let seen = post.lines.moves(rt);
@@ -220,16 +219,16 @@ fn give_each<D: Teller, J: Station, R: Wait, C: Clock, P: Spawner>(
 }
 
 /// The thread's whole course: what it gave. An `Err` is want of memory.
-#[tactic(auto, using(crate::proofs::SeatLaws::no_turns))]
+#[tactic(auto, using(crate::proofs::SeatLaws::lines_none))]
 pub(crate) fn give_lines<D: Teller, J: Station, R: Wait, C: Clock, P: Spawner>(
     rt: &R,
     room: &Room<D, J, P>,
     post: &Post,
     mut clock: C,
-) -> Result<Seat, AllocError>
-    ensures { IfOk result (λ s. IsLineThread s.calls) }
+) -> Result<Seat<J>, AllocError>
+    ensures { IfOk result (λ s. IsLineThread s) }
 {
-    let mut seat = room.cell.seat();
+    let mut seat = room.cell.seat(LINES, &room.front);
     let mut locks = room.locks.lock(rt);
     give_each(rt, room, post, &mut seat, &mut clock, &mut *locks)?;
     Ok(seat)

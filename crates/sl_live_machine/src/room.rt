@@ -4,7 +4,8 @@
 //! the first, none is held while a sector call or a start is made, or anything else that may take any time.
 
 use sl_area::Geometry;
-use sl_cell::{HostCell, Station, Teller};
+use sl_cell::{HostCell, Teller};
+use sl_history::{Front, Station};
 use sl_live::Children;
 use sl_locks::LvmLocks;
 use sl_outside::Spawner;
@@ -29,6 +30,8 @@ pub(crate) struct Room<D: Teller, J: Station, P: Spawner> {
     pub geometry: Geometry,
     pub pace: Pace,
     pub cell: HostCell<D, J>,
+    /// The front of one who has seen nothing: a thread gets its seat by it.
+    pub front: Front<J>,
     pub children: Mutex<Children<P>>,
     pub locks: Mutex<LvmLocks>,
 }

@@ -4,7 +4,8 @@
 
 use crate::bell::Bell;
 use crate::board::{Board, News, Next, Stage};
-use sl_cell::{Made, Part};
+use crate::turn::Turn;
+use sl_cell::Part;
 use sl_live_lines::GivenLine;
 use sl_trace::Reply;
 use std::alloc::{AllocError, Global};
@@ -156,17 +157,27 @@ impl Post {
         begins
     }
 
-    /// A turn has ended; behind the first `from` of these calls stand its own. An `Err` is want of memory.
-    pub(crate) fn end_turn<R: Wait>(
-        &self,
-        rt: &R,
-        calls: &[Made],
-        from: usize,
-    ) -> Result<(), AllocError> {
-        let (_, own) = calls.split_at(from.min(calls.len()));
-        let news = self.board.lock(rt).end_turn(own)?;
+    /// A turn has ended. An `Err` is want of memory.
+    pub(crate) fn end_turn<R: Wait>(&self, rt: &R, turn: &Turn) -> Result<(), AllocError> {
+        let news = self.board.lock(rt).end_turn(turn)?;
         self.ring_for(rt, news);
         Ok(())
+    }
+
+    /// A turn has ended, in which something was given or nothing. An `Err` is want of memory.
+    pub(crate) fn end_turn_of<R: Wait>(
+        &self,
+        rt: &R,
+        turn: &Option<Turn>,
+    ) -> Result<(), AllocError> {
+        match turn {
+            Some(turn) => self.end_turn(rt, turn),
+            None => {
+                let news = self.board.lock(rt).end_idle();
+                self.ring_for(rt, news);
+                Ok(())
+            }
+        }
     }
 
     /// Rings for those for whom there is news.

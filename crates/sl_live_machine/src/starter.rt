@@ -6,9 +6,12 @@ ghost use Rattle.std.specs.Prelude.{IfOk, OnOk};
 
 use crate::room::Room;
 use crate::script_waits::Post;
-use sl_cell::{Seat, Station, Teller};
+use crate::thread_numbers::STARTER;
+use crate::turn::{Happened, Turn};
+use sl_cell::{Seat, Teller};
+use sl_history::Station;
 use sl_live::Awaited;
-use sl_live::laws::{spawned_step, start_step};
+use sl_live::laws::{Told, spawned_step, start_step};
 use sl_outside::{Spawner, StartedChild};
 use sl_time::Clock;
 use std::alloc::AllocError;
@@ -23,37 +26,40 @@ fn next<D: Teller, J: Station, R: Wait, P: Spawner>(
 }
 
 /// Takes in what a start came to, and tells it. An `Err` is want of memory.
-#[tactic(auto, using(crate::proofs::SeatLaws::ok_starts))]
 fn tell<D: Teller, J: Station, R: Wait, C: Clock, P: Spawner>(
     rt: &R,
     room: &Room<D, J, P>,
-    seat: &mut Seat,
+    seat: &mut Seat<J>,
     clock: &mut C,
     process: u32,
     child: Option<StartedChild>,
-) -> Result<(), AllocError>
-    ensures { OnOk result (IsStarterThread seat.old.calls → IsStarterThread seat.new.calls) }
+) -> Result<Turn, AllocError>
+    ensures { OnOk result (IsStarterThread seat.old → IsStarterThread seat.new) }
 {
     let mut children = room.children.lock(rt);
-    spawned_step(rt, &room.cell, seat, clock, &mut *children, process, child)
+    let told = spawned_step(rt, &room.cell, seat, clock, &mut *children, process, child)?;
+    let Told { ok, effects } = told;
+    Ok(Turn {
+        happened: Happened::Started { process, ok },
+        effects,
+    })
 }
 
-/// Makes the start that is next, if there is one, and tells what it came to: whether there was one. An `Err` is want of memory.
+/// Makes the start that is next, if there is one, and tells what it came to: the turn, if there was one. An `Err` is want of memory.
 fn serve<D: Teller, J: Station, R: Wait, C: Clock, P: Spawner>(
     rt: &R,
     room: &Room<D, J, P>,
-    seat: &mut Seat,
+    seat: &mut Seat<J>,
     clock: &mut C,
     starter: &mut P,
-) -> Result<bool, AllocError>
-    ensures { OnOk result (IsStarterThread seat.old.calls → IsStarterThread seat.new.calls) }
+) -> Result<Option<Turn>, AllocError>
+    ensures { OnOk result (IsStarterThread seat.old → IsStarterThread seat.new) }
 {
     let Some(awaited) = next(rt, room) else {
-        return Ok(false);
+        return Ok(None);
     };
     let child = start_step(starter, &awaited);
-    tell(rt, room, seat, clock, awaited.start.process, child)?;
-    Ok(true)
+    Ok(Some(tell(rt, room, seat, clock, awaited.start.process, child)?))
 }
 
 /// A turn that has begun: whether there was a start to make. An `Err` is want of memory.
@@ -61,16 +67,15 @@ fn turn<D: Teller, J: Station, R: Wait, C: Clock, P: Spawner>(
     rt: &R,
     room: &Room<D, J, P>,
     post: &Post,
-    seat: &mut Seat,
+    seat: &mut Seat<J>,
     clock: &mut C,
     starter: &mut P,
 ) -> Result<bool, AllocError>
-    ensures { OnOk result (IsStarterThread seat.old.calls → IsStarterThread seat.new.calls) }
+    ensures { OnOk result (IsStarterThread seat.old → IsStarterThread seat.new) }
 {
-    let from = seat.calls().len();
     let served = serve(rt, room, seat, clock, starter)?;
-    post.end_turn(rt, seat.calls(), from)?;
-    Ok(served)
+    post.end_turn_of(rt, &served)?;
+    Ok(served.is_some())
 }
 
 /// Makes starts until the machine ends. An `Err` is want of memory.
@@ -78,11 +83,11 @@ fn start_each<D: Teller, J: Station, R: Wait, C: Clock, P: Spawner>(
     rt: &R,
     room: &Room<D, J, P>,
     post: &Post,
-    seat: &mut Seat,
+    seat: &mut Seat<J>,
     clock: &mut C,
     starter: &mut P,
 ) -> Result<(), AllocError>
-    ensures { OnOk result (IsStarterThread seat.old.calls → IsStarterThread seat.new.calls) }
+    ensures { OnOk result (IsStarterThread seat.old → IsStarterThread seat.new) }
 {
     for _ in rt.forever() {
         let seen = post.starter.moves(rt);
@@ -97,16 +102,16 @@ fn start_each<D: Teller, J: Station, R: Wait, C: Clock, P: Spawner>(
 }
 
 /// The thread's whole course: what it told. An `Err` is want of memory.
-#[tactic(auto, using(crate::proofs::SeatLaws::no_turns))]
+#[tactic(auto, using(crate::proofs::SeatLaws::starts_none))]
 pub(crate) fn start_programs<D: Teller, J: Station, R: Wait, C: Clock, P: Spawner>(
     rt: &R,
     room: &Room<D, J, P>,
     post: &Post,
     mut clock: C,
-) -> Result<Seat, AllocError>
-    ensures { IfOk result (λ s. IsStarterThread s.calls) }
+) -> Result<Seat<J>, AllocError>
+    ensures { IfOk result (λ s. IsStarterThread s) }
 {
-    let mut seat = room.cell.seat();
+    let mut seat = room.cell.seat(STARTER, &room.front);
     let mut starter = room.children.lock(rt).starter();
     start_each(rt, room, post, &mut seat, &mut clock, &mut starter)?;
     Ok(seat)

@@ -2,9 +2,10 @@
 //!
 //! None begins before all threads of the run are there. One that ends for want of memory ends all of them, on every machine.
 
-ghost use Rattle.sl_live.specs.Turns.{IsChildThread, IsDeviceThread, IsLineThread, IsStarterThread, IsTicker, IsWorker};
+ghost use Rattle.sl_live.specs.Turns.{IsChildThread, IsDeviceThread, IsLineThread, IsStarterThread, IsTicker, Works};
 ghost use Rattle.sl_live_machine.specs.ThreadSeats.{AreSeats};
 ghost use Rattle.std.specs.Prelude.{IfOk, Ok, ◌≡◌};
+ghost use Rattle.sl_cell.specs.declared.part.Part.TheVariants.{Delta as DeltaPart, Resource as ResourcePart};
 ghost use denote.Param.Send.{IsSend, IsSync};
 
 use crate::children::tell_exits;
@@ -17,7 +18,8 @@ use crate::thread_roll::Roll;
 use crate::ticker::tick;
 use crate::worker::work;
 use sl_area::Area;
-use sl_cell::{Part, Seat, Station, Teller};
+use sl_cell::{Part, Seat, Teller};
+use sl_history::Station;
 use sl_live::Disk;
 use sl_outside::{Device, Gate, Spawner};
 use sl_time::Clock;
@@ -64,7 +66,11 @@ impl<'a> Stand<'a> {
     }
 
     /// What a thread ended with. Where there was no memory, all threads are to end.
-    fn ended<R: Wait>(&self, rt: &R, seat: Result<Seat, AllocError>) -> Result<Seat, AllocError>
+    fn ended<J: Station, R: Wait>(
+        &self,
+        rt: &R,
+        seat: Result<Seat<J>, AllocError>,
+    ) -> Result<Seat<J>, AllocError>
         ensures { result ≡ seat }
     {
         if seat.is_err() {
@@ -80,8 +86,8 @@ fn ticker<D: Teller, J: Station, R: Wait + time::Clock, C: Clock, P: Spawner>(
     room: &Room<D, J, P>,
     stand: &Stand<'_>,
     clock: C,
-) -> Result<Seat, AllocError>
-    ensures { IfOk result (λ s. IsTicker s.calls) }
+) -> Result<Seat<J>, AllocError>
+    ensures { IfOk result (λ s. IsTicker s) }
 {
     stand.enter(rt)?;
     stand.ended(rt, tick(rt, room, stand.post, clock))
@@ -93,8 +99,8 @@ fn line_thread<D: Teller, J: Station, R: Wait + time::Clock, C: Clock, P: Spawne
     room: &Room<D, J, P>,
     stand: &Stand<'_>,
     clock: C,
-) -> Result<Seat, AllocError>
-    ensures { IfOk result (λ s. IsLineThread s.calls) }
+) -> Result<Seat<J>, AllocError>
+    ensures { IfOk result (λ s. IsLineThread s) }
 {
     stand.enter(rt)?;
     stand.ended(rt, give_lines(rt, room, stand.post, clock))
@@ -106,8 +112,8 @@ fn child_thread<D: Teller, J: Station, R: Wait + time::Clock, C: Clock, P: Spawn
     room: &Room<D, J, P>,
     stand: &Stand<'_>,
     clock: C,
-) -> Result<Seat, AllocError>
-    ensures { IfOk result (λ s. IsChildThread s.calls) }
+) -> Result<Seat<J>, AllocError>
+    ensures { IfOk result (λ s. IsChildThread s) }
 {
     stand.enter(rt)?;
     let seat = stand.ended(rt, tell_exits(rt, room, stand.post, clock));
@@ -123,8 +129,8 @@ fn starter_thread<D: Teller, J: Station, R: Wait + time::Clock, C: Clock, P: Spa
     room: &Room<D, J, P>,
     stand: &Stand<'_>,
     clock: C,
-) -> Result<Seat, AllocError>
-    ensures { IfOk result (λ s. IsStarterThread s.calls) }
+) -> Result<Seat<J>, AllocError>
+    ensures { IfOk result (λ s. IsStarterThread s) }
 {
     stand.enter(rt)?;
     stand.ended(rt, start_programs(rt, room, stand.post, clock))
@@ -137,8 +143,8 @@ fn device_thread<D: Teller, J: Station, R: Wait + time::Clock, C: Clock, P: Spaw
     stand: &Stand<'_>,
     clock: C,
     device: V,
-) -> Result<Seat, AllocError>
-    ensures { IfOk result (λ s. IsDeviceThread s.calls) }
+) -> Result<Seat<J>, AllocError>
+    ensures { IfOk result (λ s. IsDeviceThread s) }
 {
     stand.enter(rt)?;
     stand.ended(rt, keep_alive(rt, room, stand.post, clock, device))
@@ -146,8 +152,8 @@ fn device_thread<D: Teller, J: Station, R: Wait + time::Clock, C: Clock, P: Spaw
 
 /// A worker's seat, and its disks back.
 #[derive(Drop)]
-pub(crate) struct Worked<A: Area> {
-    pub seat: Result<Seat, AllocError>,
+pub(crate) struct Worked<J: Station, A: Area> {
+    pub seat: Result<Seat<J>, AllocError>,
     pub disks: Vec<Disk<A>>,
 }
 
@@ -176,8 +182,8 @@ fn worker_seat<
     part: Part,
     clock: C,
     disks: &mut [Disk<A>],
-) -> Result<Seat, AllocError>
-    ensures { IfOk result (λ s. IsWorker s.calls) }
+) -> Result<Seat<J>, AllocError>
+    ensures { IfOk result (λ s. Works J.setting part s) }
 {
     stand.enter(rt)?;
     stand.ended(rt, work(rt, room, stand.post, gate, part, clock, disks))
@@ -190,8 +196,8 @@ fn worker<D: Teller, J: Station, R: Wait + time::Clock, C: Clock, P: Spawner, A:
     stand: &Stand<'_>,
     gate: &G,
     tools: Tools<C, A>,
-) -> Worked<A>
-    ensures { IfOk result.seat (λ s. IsWorker s.calls) }
+) -> Worked<J, A>
+    ensures { IfOk result.seat (λ s. Works J.setting tools.part s) }
 {
     let Tools {
         part,
@@ -218,9 +224,9 @@ fn workers<
     gate: &G,
     delta: Tools<C, A>,
     resource: Tools<C, A>,
-) -> (Worked<A>, Worked<A>)
-    ensures delta { IfOk result.0.seat (λ s. IsWorker s.calls) }
-    ensures resource { IfOk result.1.seat (λ s. IsWorker s.calls) }
+) -> (Worked<J, A>, Worked<J, A>)
+    ensures delta { IfOk result.0.seat (λ s. Works J.setting delta.part s) }
+    ensures resource { IfOk result.1.seat (λ s. Works J.setting resource.part s) }
 {
     join(
         rt,
@@ -242,9 +248,9 @@ fn givers<
     stand: &Stand<'_>,
     ticks: C,
     lines: C,
-) -> (Result<Seat, AllocError>, Result<Seat, AllocError>)
-    ensures ticks { IfOk result.0 (λ s. IsTicker s.calls) }
-    ensures lines { IfOk result.1 (λ s. IsLineThread s.calls) }
+) -> (Result<Seat<J>, AllocError>, Result<Seat<J>, AllocError>)
+    ensures ticks { IfOk result.0 (λ s. IsTicker s) }
+    ensures lines { IfOk result.1 (λ s. IsLineThread s) }
 {
     join(
         rt,
@@ -254,7 +260,7 @@ fn givers<
 }
 
 /// What a thread that is no worker ends with.
-type Ending = Result<Seat, AllocError>;
+type Ending<J> = Result<Seat<J>, AllocError>;
 
 /// The threads that start children and look after them.
 fn keepers<
@@ -263,9 +269,9 @@ fn keepers<
     R: Threads + Wait + time::Clock + Sync,
     C: Clock + Send,
     P: Spawner + Send,
->(rt: &R, room: &Room<D, J, P>, stand: &Stand<'_>, exits: C, starts: C) -> (Ending, Ending)
-    ensures exits { IfOk result.0 (λ s. IsChildThread s.calls) }
-    ensures starts { IfOk result.1 (λ s. IsStarterThread s.calls) }
+>(rt: &R, room: &Room<D, J, P>, stand: &Stand<'_>, exits: C, starts: C) -> (Ending<J>, Ending<J>)
+    ensures exits { IfOk result.0 (λ s. IsChildThread s) }
+    ensures starts { IfOk result.1 (λ s. IsStarterThread s) }
 {
     join(
         rt,
@@ -290,10 +296,10 @@ fn watchers<
     starts: C,
     tests: C,
     device: V,
-) -> (Ending, Ending, Ending)
-    ensures exits { IfOk result.0 (λ s. IsChildThread s.calls) }
-    ensures starts { IfOk result.1 (λ s. IsStarterThread s.calls) }
-    ensures tests { IfOk result.2 (λ s. IsDeviceThread s.calls) }
+) -> (Ending<J>, Ending<J>, Ending<J>)
+    ensures exits { IfOk result.0 (λ s. IsChildThread s) }
+    ensures starts { IfOk result.1 (λ s. IsStarterThread s) }
+    ensures tests { IfOk result.2 (λ s. IsDeviceThread s) }
 {
     let ((exits, starts), tests) = join(
         rt,
@@ -305,12 +311,12 @@ fn watchers<
 
 /// What all threads but the workers end with.
 #[derive(Drop)]
-struct OtherEndings {
-    ticks: Ending,
-    lines: Ending,
-    exits: Ending,
-    starts: Ending,
-    tests: Ending,
+struct OtherEndings<J: Station> {
+    ticks: Ending<J>,
+    lines: Ending<J>,
+    exits: Ending<J>,
+    starts: Ending<J>,
+    tests: Ending<J>,
 }
 
 /// All threads but the workers.
@@ -331,12 +337,12 @@ fn others<
     starts: C,
     tests: C,
     device: V,
-) -> OtherEndings
-    ensures ticks { IfOk result.ticks (λ s. IsTicker s.calls) }
-    ensures lines { IfOk result.lines (λ s. IsLineThread s.calls) }
-    ensures exits { IfOk result.exits (λ s. IsChildThread s.calls) }
-    ensures starts { IfOk result.starts (λ s. IsStarterThread s.calls) }
-    ensures tests { IfOk result.tests (λ s. IsDeviceThread s.calls) }
+) -> OtherEndings<J>
+    ensures ticks { IfOk result.ticks (λ s. IsTicker s) }
+    ensures lines { IfOk result.lines (λ s. IsLineThread s) }
+    ensures exits { IfOk result.exits (λ s. IsChildThread s) }
+    ensures starts { IfOk result.starts (λ s. IsStarterThread s) }
+    ensures tests { IfOk result.tests (λ s. IsDeviceThread s) }
 {
     let ((ticks, lines), (exits, starts, tests)) = join(
         rt,
@@ -361,7 +367,11 @@ fn others<
 }
 
 /// The seats of three threads, if none ended for want of memory.
-fn three(first: Ending, second: Ending, third: Ending) -> Result<(Seat, Seat, Seat), AllocError>
+fn three<J: Station>(
+    first: Ending<J>,
+    second: Ending<J>,
+    third: Ending<J>,
+) -> Result<(Seat<J>, Seat<J>, Seat<J>), AllocError>
     ensures first { IfOk result (λ s. first ≡ Ok s.0) }
     ensures second { IfOk result (λ s. second ≡ Ok s.1) }
     ensures third { IfOk result (λ s. third ≡ Ok s.2) }
@@ -371,20 +381,20 @@ fn three(first: Ending, second: Ending, third: Ending) -> Result<(Seat, Seat, Se
 
 /// The seats of all threads, if none ended for want of memory, and there is memory for the list.
 #[tactic(auto, using(crate::proofs::RunLaws::are_seats))]
-fn gather(
+fn gather<J: Station>(
     alloc: Global,
-    delta: Ending,
-    resource: Ending,
-    others: OtherEndings,
-) -> Result<Vec<Seat>, AllocError>
-    requires delta { IfOk delta (λ s. IsWorker s.calls) }
-    requires resource { IfOk resource (λ s. IsWorker s.calls) }
-    requires ticks { IfOk others.ticks (λ s. IsTicker s.calls) }
-    requires lines { IfOk others.lines (λ s. IsLineThread s.calls) }
-    requires exits { IfOk others.exits (λ s. IsChildThread s.calls) }
-    requires starts { IfOk others.starts (λ s. IsStarterThread s.calls) }
-    requires tests { IfOk others.tests (λ s. IsDeviceThread s.calls) }
-    ensures { IfOk result (λ v. AreSeats v.items) }
+    delta: Ending<J>,
+    resource: Ending<J>,
+    others: OtherEndings<J>,
+) -> Result<Vec<Seat<J>>, AllocError>
+    requires delta { IfOk delta (λ s. Works J.setting DeltaPart s) }
+    requires resource { IfOk resource (λ s. Works J.setting ResourcePart s) }
+    requires ticks { IfOk others.ticks (λ s. IsTicker s) }
+    requires lines { IfOk others.lines (λ s. IsLineThread s) }
+    requires exits { IfOk others.exits (λ s. IsChildThread s) }
+    requires starts { IfOk others.starts (λ s. IsStarterThread s) }
+    requires tests { IfOk others.tests (λ s. IsDeviceThread s) }
+    ensures { IfOk result (λ v. AreSeats J.setting v.items) }
 {
     let OtherEndings {
         ticks,
@@ -401,27 +411,27 @@ fn gather(
 
 /// What the threads of a machine have left: their seats, and the workers' disks.
 #[derive(Drop)]
-pub(crate) struct Threaded<A: Area> {
-    pub seats: Result<Vec<Seat>, AllocError>,
+pub(crate) struct Threaded<J: Station, A: Area> {
+    pub seats: Result<Vec<Seat<J>>, AllocError>,
     pub delta: Vec<Disk<A>>,
     pub resource: Vec<Disk<A>>,
 }
 
 /// What the threads have left, by what each has ended with.
-fn gather_threads<A: Area>(
+fn gather_threads<J: Station, A: Area>(
     alloc: Global,
-    delta: Worked<A>,
-    resource: Worked<A>,
-    others: OtherEndings,
-) -> Threaded<A>
-    requires delta { IfOk delta.seat (λ s. IsWorker s.calls) }
-    requires resource { IfOk resource.seat (λ s. IsWorker s.calls) }
-    requires ticks { IfOk others.ticks (λ s. IsTicker s.calls) }
-    requires lines { IfOk others.lines (λ s. IsLineThread s.calls) }
-    requires exits { IfOk others.exits (λ s. IsChildThread s.calls) }
-    requires starts { IfOk others.starts (λ s. IsStarterThread s.calls) }
-    requires tests { IfOk others.tests (λ s. IsDeviceThread s.calls) }
-    ensures { IfOk result.seats (λ v. AreSeats v.items) }
+    delta: Worked<J, A>,
+    resource: Worked<J, A>,
+    others: OtherEndings<J>,
+) -> Threaded<J, A>
+    requires delta { IfOk delta.seat (λ s. Works J.setting DeltaPart s) }
+    requires resource { IfOk resource.seat (λ s. Works J.setting ResourcePart s) }
+    requires ticks { IfOk others.ticks (λ s. IsTicker s) }
+    requires lines { IfOk others.lines (λ s. IsLineThread s) }
+    requires exits { IfOk others.exits (λ s. IsChildThread s) }
+    requires starts { IfOk others.starts (λ s. IsStarterThread s) }
+    requires tests { IfOk others.tests (λ s. IsDeviceThread s) }
+    ensures { IfOk result.seats (λ v. AreSeats J.setting v.items) }
 {
     let Worked {
         seat: delta,
@@ -457,8 +467,8 @@ pub(crate) fn run_threads<
     device: V,
     delta: Vec<Disk<A>>,
     resource: Vec<Disk<A>>,
-) -> Threaded<A>
-    ensures { IfOk result.seats (λ v. AreSeats v.items) }
+) -> Threaded<J, A>
+    ensures { IfOk result.seats (λ v. AreSeats J.setting v.items) }
 {
     let Clocks {
         ticks,

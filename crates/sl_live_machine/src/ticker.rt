@@ -6,8 +6,10 @@ ghost use Rattle.std.specs.Prelude.{IfOk, OnOk};
 
 use crate::room::Room;
 use crate::script_waits::Post;
+use crate::thread_numbers::TICKER;
 use crate::turn::give;
-use sl_cell::{Seat, Station, Teller};
+use sl_cell::{Seat, Teller};
+use sl_history::Station;
 use sl_outside::Spawner;
 use sl_time::Clock;
 use sl_trace::Input;
@@ -16,32 +18,30 @@ use std::sync::Wait;
 use std::time;
 
 /// Wakes the daemon once. An `Err` is want of memory.
-#[tactic(auto, using(crate::proofs::SeatLaws::wakes_on))]
 fn wake<D: Teller, J: Station, R: Wait, C: Clock, P: Spawner>(
     rt: &R,
     room: &Room<D, J, P>,
     post: &Post,
-    seat: &mut Seat,
+    seat: &mut Seat<J>,
     clock: &mut C,
 ) -> Result<(), AllocError>
-    ensures { OnOk result (IsTicker seat.old.calls → IsTicker seat.new.calls) }
+    ensures { OnOk result (IsTicker seat.old → IsTicker seat.new) }
 {
-    let from = seat.calls().len();
-    give(rt, room, seat, clock, Input::Wake)?;
-    post.end_turn(rt, seat.calls(), from)
+    let turn = give(rt, room, seat, clock, Input::Wake)?;
+    post.end_turn(rt, &turn)
 }
 
 /// Wakes the daemon again and again until the machine ends. An `Err` is want of memory.
-#[tactic(auto, using(crate::proofs::SeatLaws::no_turns))]
+#[tactic(auto, using(crate::proofs::SeatLaws::ticker_none))]
 pub(crate) fn tick<D: Teller, J: Station, R: Wait + time::Clock, C: Clock, P: Spawner>(
     rt: &R,
     room: &Room<D, J, P>,
     post: &Post,
     mut clock: C,
-) -> Result<Seat, AllocError>
-    ensures { IfOk result (λ s. IsTicker s.calls) }
+) -> Result<Seat<J>, AllocError>
+    ensures { IfOk result (λ s. IsTicker s) }
 {
-    let mut seat = room.cell.seat();
+    let mut seat = room.cell.seat(TICKER, &room.front);
     for _ in rt.forever() {
         let seen = post.ticker.moves(rt);
         if !post.begin_wake(rt) {

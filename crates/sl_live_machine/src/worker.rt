@@ -1,6 +1,6 @@
 //! A worker: it takes the calls of its part one after another, makes each, and gives its answer.
 
-ghost use Rattle.sl_live.specs.Turns.{IsWorker};
+ghost use Rattle.sl_live.specs.Turns.{Works};
 ghost use Rattle.sl_live_machine.specs.ThreadSeats.{GaveTurn};
 ghost use Rattle.sl_trace.specs.declared.input.Answer.{Answer};
 ghost use Rattle.sl_trace.specs.declared.input.Input.TheVariants.{Answer as Told};
@@ -8,9 +8,11 @@ ghost use Rattle.std.specs.Prelude.{IfOk, OnOk};
 
 use crate::room::Room;
 use crate::script_waits::Post;
-use crate::turn::give;
+use crate::thread_numbers::worker_number;
+use crate::turn::{Turn, give};
 use sl_area::Area;
-use sl_cell::{Part, Seat, Station, Teller};
+use sl_cell::{Part, Seat, Teller};
+use sl_history::Station;
 use sl_live::Disk;
 use sl_live::laws::sector_step;
 use sl_outside::{Gate, Spawner};
@@ -38,11 +40,11 @@ fn answer<D: Teller, J: Station, R: Wait, C: Clock, P: Spawner, A: Area, G: Gate
     room: &Room<D, J, P>,
     gate: &G,
     call: &Call,
-    seat: &mut Seat,
+    seat: &mut Seat<J>,
     clock: &mut C,
     disks: &mut [Disk<A>],
-) -> Result<(), AllocError>
-    ensures { OnOk result ((a : Answer) × GaveTurn (Told call.now.number a) seat.old.calls seat.new.calls) }
+) -> Result<Turn, AllocError>
+    ensures { OnOk result ((a : Answer) × GaveTurn J.setting (Told call.now.number a) seat.old seat.new) }
 {
     let answer = make(room, gate, call, disks)?;
     let input = Input::Answer {
@@ -52,24 +54,26 @@ fn answer<D: Teller, J: Station, R: Wait, C: Clock, P: Spawner, A: Area, G: Gate
     give(rt, room, seat, clock, input)
 }
 
-/// Takes a call, if there is one, makes it, and gives its answer: whether there was one. An `Err` is want of memory.
+/// Takes a call, if there is one, makes it, and gives its answer: the turn, if there was one. An `Err` is want of memory.
+#[tactic(auto, using(crate::proofs::SeatLaws::works_idle))]
 fn serve<D: Teller, J: Station, R: Wait, C: Clock, P: Spawner, A: Area, G: Gate>(
     rt: &R,
     room: &Room<D, J, P>,
     gate: &G,
     part: Part,
-    seat: &mut Seat,
+    seat: &mut Seat<J>,
     clock: &mut C,
     disks: &mut [Disk<A>],
-) -> Result<bool, AllocError>
-    ensures { OnOk result (IsWorker seat.old.calls → IsWorker seat.new.calls) }
+) -> Result<Option<Turn>, AllocError>
+    ensures { OnOk result (Works J.setting part seat.old → Works J.setting part seat.new) }
 {
-    seat.reserve(1)?;
-    let Some(call) = room.cell.take(rt, seat, part) else {
-        return Ok(false);
+    let Ok(taken) = room.cell.take(rt, seat, part) else {
+        return Err(AllocError);
     };
-    answer(rt, room, gate, &call, seat, clock, disks)?;
-    Ok(true)
+    match taken {
+        Some(call) => Ok(Some(answer(rt, room, gate, &call, seat, clock, disks)?)),
+        None => Ok(None),
+    }
 }
 
 /// A turn that has begun: whether there was a call to make. An `Err` is want of memory.
@@ -79,16 +83,15 @@ fn turn<D: Teller, J: Station, R: Wait, C: Clock, P: Spawner, A: Area, G: Gate>(
     post: &Post,
     gate: &G,
     part: Part,
-    seat: &mut Seat,
+    seat: &mut Seat<J>,
     clock: &mut C,
     disks: &mut [Disk<A>],
 ) -> Result<bool, AllocError>
-    ensures { OnOk result (IsWorker seat.old.calls → IsWorker seat.new.calls) }
+    ensures { OnOk result (Works J.setting part seat.old → Works J.setting part seat.new) }
 {
-    let from = seat.calls().len();
     let served = serve(rt, room, gate, part, seat, clock, disks)?;
-    post.end_turn(rt, seat.calls(), from)?;
-    Ok(served)
+    post.end_turn_of(rt, &served)?;
+    Ok(served.is_some())
 }
 
 /// Makes calls until the machine ends. An `Err` is want of memory.
@@ -98,11 +101,11 @@ fn serve_each<D: Teller, J: Station, R: Wait, C: Clock, P: Spawner, A: Area, G: 
     post: &Post,
     gate: &G,
     part: Part,
-    seat: &mut Seat,
+    seat: &mut Seat<J>,
     clock: &mut C,
     disks: &mut [Disk<A>],
 ) -> Result<(), AllocError>
-    ensures { OnOk result (IsWorker seat.old.calls → IsWorker seat.new.calls) }
+    ensures { OnOk result (Works J.setting part seat.old → Works J.setting part seat.new) }
 {
     let bell = post.worker(part);
     for _ in rt.forever() {
@@ -118,7 +121,7 @@ fn serve_each<D: Teller, J: Station, R: Wait, C: Clock, P: Spawner, A: Area, G: 
 }
 
 /// The worker's whole course: what it made. An `Err` is want of memory.
-#[tactic(auto, using(crate::proofs::SeatLaws::no_turns))]
+#[tactic(auto, using(crate::proofs::SeatLaws::works_none))]
 pub(crate) fn work<D: Teller, J: Station, R: Wait, C: Clock, P: Spawner, A: Area, G: Gate>(
     rt: &R,
     room: &Room<D, J, P>,
@@ -127,10 +130,10 @@ pub(crate) fn work<D: Teller, J: Station, R: Wait, C: Clock, P: Spawner, A: Area
     part: Part,
     mut clock: C,
     disks: &mut [Disk<A>],
-) -> Result<Seat, AllocError>
-    ensures { IfOk result (λ s. IsWorker s.calls) }
+) -> Result<Seat<J>, AllocError>
+    ensures { IfOk result (λ s. Works J.setting part s) }
 {
-    let mut seat = room.cell.seat();
+    let mut seat = room.cell.seat(worker_number(part), &room.front);
     serve_each(rt, room, post, gate, part, &mut seat, &mut clock, disks)?;
     Ok(seat)
 }

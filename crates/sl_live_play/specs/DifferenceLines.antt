@@ -1,19 +1,15 @@
 -- The line of a case in which records of a machine differ.
-use Rattle.sl_cell.specs.declared.audit.Differ.TheVariants.{Asked, Entry, Idle, Seen, Taken, Tested}
-use Rattle.sl_cell.specs.declared.audit.Differ.{Differ}
+use Rattle.sl_cell.specs.declared.closing.Differ.TheVariants.{Broken, Entry}
+use Rattle.sl_cell.specs.declared.closing.Differ.{Differ}
 use Rattle.sl_live_run.specs.declared.compare.LiveDiffer.TheVariants.{Cell, Left, Line, Untold}
 use Rattle.sl_live_run.specs.declared.compare.LiveDiffer.{LiveDiffer}
 use Rattle.sl_text.specs.Forms.{spaced}
 use Rattle.std.specs.Prelude.{List, codes, decimal, [], ℕ, ◌++◌, ◌∷◌}
 
--- The name of a case of the threads' records and the history, and the number that it is told by: of the entry, or of those that were seen.
+-- The name of a case of what the threads counted and the history, and the number that it is told by: of the history's entries.
 abbrev pub cell_case : Differ → List ℕ × ℕ
-cell_case (Entry number receipt kept) = (codes "Entry", number)
-cell_case (Seen seen number) = (codes "Seen", number)
-cell_case (Asked front i) = (codes "Asked", front)
-cell_case (Taken number c) = (codes "Taken", number)
-cell_case (Idle front c) = (codes "Idle", front)
-cell_case (Tested front now answer) = (codes "Tested", front)
+cell_case (Entry length_is counted) = (codes "Entry", length_is)
+cell_case (Broken length_is) = (codes "Broken", length_is)
 
 -- .. of any case. A start that is not answered is left as a call is.
 abbrev pub live_case : LiveDiffer → List ℕ × ℕ

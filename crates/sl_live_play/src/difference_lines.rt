@@ -9,30 +9,26 @@ use sl_text::write::push_line;
 use std::alloc::AllocError;
 
 /// The name of a case of a cell, and its number.
-fn cell_case(differ: &Differ) -> (&'static str, usize)
+fn cell_case(differ: &Differ) -> (&'static str, u64)
     ensures name { result.0.now ≡ (cell_case differ.now).0 }
     ensures number { result.1 ≡ (cell_case differ.now).1 }
 {
     match differ {
-        Differ::Entry { number, .. } => ("Entry", *number),
-        Differ::Seen { number, .. } => ("Seen", *number),
-        Differ::Asked { front, .. } => ("Asked", *front),
-        Differ::Taken { number, .. } => ("Taken", *number),
-        Differ::Idle { front, .. } => ("Idle", *front),
-        Differ::Tested { front, .. } => ("Tested", *front),
+        Differ::Entry { entries, .. } => ("Entry", *entries),
+        Differ::Broken { entries } => ("Broken", *entries),
     }
 }
 
 /// The name of a case, and its number.
-fn live_case(differ: &LiveDiffer) -> (&'static str, usize)
+fn live_case(differ: &LiveDiffer) -> (&'static str, u64)
     ensures name { result.0.now ≡ (live_case differ.now).0 }
     ensures number { result.1 ≡ (live_case differ.now).1 }
 {
     match differ {
         LiveDiffer::Cell(differ) => cell_case(differ),
-        LiveDiffer::Line { number, .. } => ("Line", *number),
-        LiveDiffer::Left { number, .. } => ("Left", *number),
-        LiveDiffer::Untold { number, .. } => ("Left", *number),
+        LiveDiffer::Line { number, .. } => ("Line", *number as u64),
+        LiveDiffer::Left { number, .. } => ("Left", *number as u64),
+        LiveDiffer::Untold { number, .. } => ("Left", *number as u64),
     }
 }
 

@@ -1,14 +1,16 @@
 -- A machine's outcome beside what the script gave it, and all of them, one machine more at a time.
-use Rattle.sl_cell.specs.declared.audit.CloseError.TheVariants.{Differ as Differs, NoMemory as NoMemoryClose}
-use Rattle.sl_cell.specs.declared.audit.CloseError.{CloseError}
+use Rattle.sl_cell.specs.declared.closing.Differ.{Differ as CellDiffer}
+use Rattle.sl_live_machine.specs.declared.machine.CloseError.TheVariants.{Differ as Differs, NoMemory as NoMemoryClose}
+use Rattle.sl_live_machine.specs.declared.machine.CloseError.{CloseError}
 use Rattle.sl_live_lines.specs.AuditedHistory.{AreLines, IsAnswered, IsUnanswered, LineDiffers}
 use Rattle.sl_live_lines.specs.declared.unanswered.Unanswered.TheVariants.{Call as CallLeft, Start as StartLeft}
 use Rattle.sl_live_lines.specs.declared.unanswered.Unanswered.{Unanswered}
 use Rattle.sl_live_lines.specs.LocksAlong.{AlongState, begun_along}
 use Rattle.sl_live_lines.specs.declared.given_lines.GivenLine.{GivenLine}
-use Rattle.sl_live_run.specs.Runs.{AreSettled, HistoryDiffers, IsStopOf, StopsSome, begun_at, first_at, left_case, lines_at, stop_of}
-use Rattle.sl_live_run.specs.declared.compare.LiveDiffer.TheVariants.{Line}
+use Rattle.sl_live_run.specs.Runs.{AreSettled, HistoryDiffers, IsEarlyStop, IsStopOf, StopsSome, begun_at, first_at, left_case, lines_at, stop_of}
+use Rattle.sl_live_run.specs.declared.compare.LiveDiffer.TheVariants.{Cell, Line}
 use Rattle.sl_live_run.specs.declared.compare.LiveDiffer.{LiveDiffer}
+use Rattle.sl_live_run.specs.declared.compare.LiveStop.TheVariants.{Differ}
 use Rattle.sl_live_run.specs.declared.compare.LiveStop.{LiveStop}
 use Rattle.sl_run.specs.declared.header.Header.{Header}
 use Rattle.sl_words.proofs.Lists.{got_before}
@@ -41,6 +43,11 @@ pub no_history : (machine : ℕ) (a : AlongState) (outcome : Result (List Entry)
     → stop ≡ stop_of machine e → IsStopOf machine a outcome due stop
 no_history machine a outcome due e stop none is =
     subst (λ o. IsStopOf machine a o due stop) (sym none) (subst (IsStopOf machine a (Err e) due) (sym is) (no_history_so machine a due e))
+
+-- A cell tells its case, where threads ended too soon.
+pub cell_early : (outcomes : List (Result (List Entry) CloseError)) (place m : ℕ) (c : CellDiffer) → slice_get outcomes place ≡ Some (Err (Differs c)) → m ≡ place + 1
+    → IsEarlyStop outcomes (Differ m (Cell c))
+cell_early outcomes place m c at is = (place, c, at, is, refl)
 
 -- ---- all of them
 

@@ -1,14 +1,14 @@
 -- A whole run, from what its machines, its script and the comparison say.
-use Rattle.sl_cell.specs.DifferenceCases.{Stops}
-use Rattle.sl_cell.specs.declared.audit.CloseError.{CloseError}
+use Rattle.sl_live_machine.specs.declared.machine.CloseError.TheVariants.{Differ as Differs}
+use Rattle.sl_live_machine.specs.declared.machine.CloseError.{CloseError}
 use Rattle.sl_world_state.specs.Daemons.{begun_with}
 use Rattle.sl_world_state.specs.declared.daemon.Site.{Site}
 use Rattle.sl_reader.specs.declared.live_lines.LiveLine.{LiveLine}
 use Rattle.sl_live_lines.specs.AuditedHistory.{AreLines}
 use Rattle.sl_live_lines.specs.LocksAlong.{AlongState, begun_along}
 use Rattle.sl_live_lines.specs.declared.given_lines.GivenLine.{GivenLine}
-use Rattle.sl_live_machine.specs.ThreadSeats.{IsCaseOfRun}
-use Rattle.sl_live_run.specs.Runs.{AreLiveHistories, AreSettled, AreGiven, CameTo, CanRun, HasRun, HasTold, IsCaseIn, IsLiveCase, IsLiveStop, Runs, StopsSome, outcome_of, begun_at, begun_on, first_at, lines_at, lines_for, site_of}
+use Rattle.sl_live_machine.specs.ThreadSeats.{IsCaseOfRun, Stops}
+use Rattle.sl_live_run.specs.Runs.{AreLiveHistories, AreSettled, AreGiven, CameTo, CanRun, HasRun, HasTold, IsCaseIn, IsEarlyStop, IsLiveCase, IsLiveStop, Runs, StopsSome, outcome_of, begun_at, begun_on, first_at, lines_at, lines_for, site_of}
 use Rattle.sl_live_run.specs.declared.compare.LiveDiffer.TheVariants.{Cell, Left, Line, Untold}
 use Rattle.sl_live_run.specs.declared.compare.LiveDiffer.{LiveDiffer}
 use Rattle.sl_live_run.specs.declared.compare.LiveStop.TheVariants.{Differ, NoMemory}
@@ -156,13 +156,39 @@ stop_there {D} {C} {P} {V} {A} stands commands header sites firsts olds news bef
           (live_case stands (begun_with commands header there.0) (begun_at header firsts place) (lines_at place given) outcome d run so.3.1));
     }
 
+-- A case that a cell tells, where threads ended too soon.
+early_stop : {D C P V A T E : Type 0} (stands : D → Setting → Trace → Type 0) (commands : Header → List (Form Command)) (header : Header) (sites : List Site)
+    (olds news : List (Machine C P V A)) (before after : List LiveLine) (given : List (List GivenLine)) (outcomes : List (Result (List Entry) CloseError)) (stop : LiveStop)
+    (told : Result T E) → map site_of olds ≡ map (λ s. Some s) sites → length news ≡ length olds
+    → ((k : ℕ) → (d : Machine C P V A) → k < length olds → Runs commands stands header (slice_index_or olds k d) (slice_index_or news k d)) → outcomes ≡ map outcome_of news
+    → HasTold (length olds) before after given told → IsEarlyStop outcomes stop → IsLiveStop stands commands header sites before after stop
+early_stop stands commands header sites olds news before after given outcomes NoMemory told same len each came tells so = tt
+early_stop {D} {C} {P} {V} {A} stands commands header sites olds news before after given outcomes (Differ m d) told same len each came tells so =
+    let place = so.0 in
+    let outcome : Result (List Entry) CloseError = Err (Differs so.1) in
+    let at : slice_get (map outcome_of news) place ≡ Some outcome = ap (λ (xs : List (Result (List Entry) CloseError)). slice_get xs place) (sym came) ∙ so.2 in
+    let lt = inside (map outcome_of news) place outcome at in
+    let long = length-map news (λ (x : Machine C P V A). outcome_of x) in
+    let n = counts sites olds same in
+    let there = there_is sites place (omega (arith, lt, long, len, n)) in
+    let run = ran_at stands commands header sites olds news same each place there.0 outcome there.1 at in
+    record {
+      lines = tells.lines;
+      gave = tells.gave;
+      place = place;
+      site = there.0;
+      numbered = so.3;
+      there = there.1;
+      case_of = subst (IsLiveCase stands (begun_with commands header there.0) (begun_on header there.0) (lines_for m tells.lines)) (sym so.4) run.stops;
+    }
+
 pub live_stop : {D C P V A T E : Type 0} (stands : D → Setting → Trace → Type 0) (commands : Header → List (Form Command)) (header : Header) (sites : List Site) (firsts : List ℕ)
     (olds news : List (Machine C P V A)) (before after : List LiveLine) (given : List (List GivenLine)) (outcomes : List (Result (List Entry) CloseError)) (stop : LiveStop)
     (told : Result T E) → map site_of olds ≡ map (λ s. Some s) sites → firsts ≡ map (λ (s : Site). s.first.job) sites → length news ≡ length olds
     → ((k : ℕ) → (d : Machine C P V A) → k < length olds → Runs commands stands header (slice_index_or olds k d) (slice_index_or news k d)) → outcomes ≡ map outcome_of news
-    → HasTold (length olds) before after given told → (stop ≡ NoMemory) ⊎ (IsOk told × StopsSome (begun_at header firsts) outcomes given stop) → IsLiveStop stands commands header sites before after stop
-live_stop stands commands header sites firsts olds news before after given outcomes stop told same numbers len each came tells (inl is) =
-    subst (IsLiveStop stands commands header sites before after) (sym is) tt
+    → HasTold (length olds) before after given told → IsEarlyStop outcomes stop ⊎ (IsOk told × StopsSome (begun_at header firsts) outcomes given stop) → IsLiveStop stands commands header sites before after stop
+live_stop stands commands header sites firsts olds news before after given outcomes stop told same numbers len each came tells (inl so) =
+    early_stop stands commands header sites olds news before after given outcomes stop told same len each came tells so
 live_stop stands commands header sites firsts olds news before after given outcomes stop told same numbers len each came tells (inr so) =
     stop_there stands commands header sites firsts olds news before after given outcomes stop told same numbers len each came tells so.0 so.1
 

@@ -1,8 +1,8 @@
 -- Areas that are handed out to workers, and what is written through them before the run.
 use Rattle.sl_area.specs.AreaSizes.{layout_of}
 use Rattle.sl_area.specs.AreaLayout.{delta_offset}
-use Rattle.sl_cell.specs.declared.seat.Part.TheVariants.{Delta, Resource}
-use Rattle.sl_cell.specs.declared.seat.Part.{Part}
+use Rattle.sl_cell.specs.declared.part.Part.TheVariants.{Delta, Resource}
+use Rattle.sl_cell.specs.declared.part.Part.{Part}
 use Rattle.sl_direct.specs.FreshAreas.{Write, resource_writes, write_of}
 use Rattle.sl_direct.specs.HalfDone.{Wrote}
 use Rattle.sl_live.specs.declared.disks.Disk.{Disk}

@@ -1,5 +1,5 @@
 -- What a live run begins with.
-use Rattle.sl_cell.specs.declared.seat.Part.TheVariants.{Delta, Resource}
+use Rattle.sl_cell.specs.declared.part.Part.TheVariants.{Delta, Resource}
 use Rattle.sl_command.specs.DefaultNames.{default_name_text}
 use Rattle.sl_world_state.specs.declared.daemon.Site.{Site}
 use Rattle.sl_world_state.specs.FirstKept.{session_of}

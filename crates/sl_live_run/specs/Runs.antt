@@ -1,7 +1,7 @@
 -- What a live run leaves: histories that daemons stood for, whose lines are the script's; or a case that holds of a machine.
-use Rattle.sl_cell.specs.DifferenceCases.{Stops}
-use Rattle.sl_cell.specs.declared.audit.CloseError.TheVariants.{Differ as Differs, NoMemory as NoMemoryClose}
-use Rattle.sl_cell.specs.declared.audit.CloseError.{CloseError}
+use Rattle.sl_cell.specs.declared.closing.Differ.{Differ as CellDiffer}
+use Rattle.sl_live_machine.specs.declared.machine.CloseError.TheVariants.{Differ as Differs, NoMemory as NoMemoryClose}
+use Rattle.sl_live_machine.specs.declared.machine.CloseError.{CloseError}
 use Rattle.sl_world_state.specs.Daemons.{Stood, begun_with}
 use Rattle.sl_world_state.specs.declared.daemon.Site.{Site}
 use Rattle.sl_live_lines.specs.AuditedHistory.{AreLines, IsAnswered, IsUnanswered, LineDiffers}
@@ -12,7 +12,7 @@ use Rattle.sl_reader.specs.declared.live_lines.LiveLine.{LiveLine}
 use Rattle.sl_live_lines.specs.LocksAlong.{AlongState, begun_along}
 use Rattle.sl_live_lines.specs.declared.given_lines.GivenLine.TheVariants.{ForHost, ForLocks}
 use Rattle.sl_live_lines.specs.declared.given_lines.GivenLine.{GivenLine}
-use Rattle.sl_live_machine.specs.ThreadSeats.{IsCaseOfRun, IsRun}
+use Rattle.sl_live_machine.specs.ThreadSeats.{IsCaseOfRun, IsRun, Stops}
 use Rattle.sl_live_run.specs.declared.compare.LiveDiffer.TheVariants.{Cell, Left, Line, Untold}
 use Rattle.sl_live_run.specs.declared.compare.LiveDiffer.{LiveDiffer}
 use Rattle.sl_live_run.specs.declared.compare.LiveStop.TheVariants.{Differ, NoMemory}
@@ -142,6 +142,11 @@ abbrev pub StopsSome : (ℕ → AlongState) → List (Result (List Entry) CloseE
 StopsSome begun outcomes given stop =
     (place : ℕ) × (outcome : Result (List Entry) CloseError) × (slice_get outcomes place ≡ Some outcome)
     × IsStopOf (place + 1) (begun place) outcome (lines_at place given) stop
+
+-- Why there are no histories where threads ended too soon: a case that a machine's cell tells, or want of memory.
+abbrev pub IsEarlyStop : List (Result (List Entry) CloseError) → LiveStop → Type 0
+IsEarlyStop outcomes (Differ m d) = (place : ℕ) × (c : CellDiffer) × (slice_get outcomes place ≡ Some (Err (Differs c))) × (m ≡ place + 1) × (d ≡ Cell c)
+IsEarlyStop outcomes NoMemory = Unit {0}
 
 -- The histories are those of the outcomes, with the lines that are due, and nothing of them is unanswered.
 pub record AreSettled (begun : ℕ → AlongState) (outcomes : List (Result (List Entry) CloseError)) (given : List (List GivenLine)) (hs : List (List Entry)) : Type 0 where

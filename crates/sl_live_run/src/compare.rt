@@ -2,13 +2,15 @@
 
 ghost use Rattle.sl_live_lines.specs.AuditedHistory.{AreLines, IsAnswered};
 ghost use Rattle.sl_live_lines.specs.LocksAlong.{begun_along};
-ghost use Rattle.sl_live_run.specs.Runs.{AreSettled, HistoryDiffers, IsStopOf, StopsSome, begun_at, first_at, left_case, lines_at, stop_of};
+ghost use Rattle.sl_live_machine.specs.declared.machine.CloseError.TheVariants.{Differ as Differs};
+ghost use Rattle.sl_live_run.specs.Runs.{AreSettled, HistoryDiffers, IsEarlyStop, IsStopOf, StopsSome, begun_at, first_at, left_case, lines_at, stop_of};
 ghost use Rattle.sl_live_run.specs.declared.compare.LiveDiffer.{LiveDiffer as LiveDifferOf};
-ghost use Rattle.std.specs.Prelude.{IfErr, IfNone, IfOk, IfSome, Ok, ◌≡◌};
+ghost use Rattle.std.specs.Prelude.{Err, IfErr, IfNone, IfOk, IfSome, Ok, Some, slice_get, ◌≡◌};
 
 use crate::script_lines::Given;
-use sl_cell::{CloseError, Differ};
+use sl_cell::Differ;
 use sl_live_lines::{GivenLine, LineDiffer, Unanswered, differing_line, first_unanswered};
+use sl_live_machine::CloseError;
 use sl_run::Header;
 use sl_text::Seq;
 use sl_trace::Entry;
@@ -132,6 +134,34 @@ fn settle(
         },
         Err(error) => Err(stop_of(machine, error)),
     }
+}
+
+/// The case that the cell of the machine at this place tells, if it tells one.
+fn differ_at(outcomes: &[Outcome], place: usize) -> Option<Differ>
+    ensures { IfSome result (λ d. slice_get outcomes.now place ≡ Some (Err (Differs d))) }
+{
+    match outcomes.get(place) {
+        Some(Err(CloseError::Differ(differ))) => Some(*differ),
+        Some(Err(CloseError::NoMemory)) => None,
+        Some(Ok(_)) => None,
+        None => None,
+    }
+}
+
+/// Why there are no histories, where threads ended too soon: the first case that a cell tells, or want of memory.
+#[tactic(auto, using(crate::proofs::CompareLaws::cell_early))]
+pub(crate) fn stop_early(outcomes: &[Outcome]) -> LiveStop
+    ensures { IsEarlyStop outcomes.now result }
+{
+    for place in 0..outcomes.len() {
+        if let Some(differ) = differ_at(outcomes, place) {
+            return LiveStop::Differ {
+                machine: place + 1,
+                differ: LiveDiffer::Cell(differ),
+            };
+        }
+    }
+    LiveStop::NoMemory
 }
 
 /// The number of the first job of the machine at this place.

@@ -1,6 +1,6 @@
 //! A machine among those of a run: what it is to run on, and then what is left of its run.
 
-ghost use Rattle.sl_cell.specs.declared.audit.CloseError.TheVariants.{NoMemory as NoMemoryClose};
+ghost use Rattle.sl_live_machine.specs.declared.machine.CloseError.TheVariants.{NoMemory as NoMemoryClose};
 ghost use Rattle.sl_world_state.specs.Daemons.{begun_with};
 ghost use Rattle.sl_live_run.specs.Runs.{CanRun, HasRun, Runs};
 ghost use Rattle.sl_run.specs.Headers.{IsHeader};
@@ -8,8 +8,9 @@ ghost use Rattle.sl_run.specs.Lawful.{IsSetting};
 ghost use Rattle.std.specs.Prelude.{Err, Some, ◌≡◌};
 
 use sl_area::Area;
-use sl_cell::{CloseError, Station, Teller};
-use sl_live_machine::{Parts, Post, Ran, Roll, Stand, fail_all, run_machine};
+use sl_cell::Teller;
+use sl_history::{Opened, Station};
+use sl_live_machine::{CloseError, Parts, Post, Ran, Roll, Stand, fail_all, run_machine};
 use sl_outside::{Device, Gate, Spawner};
 use sl_run::Header;
 use sl_time::Clock;
@@ -34,7 +35,7 @@ pub(crate) struct Machine<C: Clock, P: Spawner, V: Device, A: Area> {
     pub ran: Ran<A>,
 }
 
-/// Runs a machine, as one of this setting. Where it has no post, all machines end.
+/// Runs a machine, as one of this setting and this book. Where it has no post, all machines end.
 fn run_as<
     D: Teller + Send,
     J: Station + Send + Sync,
@@ -52,18 +53,22 @@ fn run_as<
     roll: &Roll,
     posts: &[Post],
     place: usize,
+    opened: Opened,
     work: Work<C, P, V, A>,
 ) -> Ran<A>
     requires header { IsHeader header.now }
     requires setting { IsSetting J.setting }
     requires site { J.setting ≡ begun_with D.Daemon.commands header.now work.site }
+    requires book { opened.seen.book ≡ J.book }
     ensures { HasRun D.Daemon.stands J.setting result.history }
 {
     let Work { site, parts } = work;
     match posts.get(place) {
         Some(post) => {
             let stand = Stand { roll, posts, post };
-            run_machine::<D, J, R, C, P, V, A, G>(rt, alloc, header, site, parts, gate, &stand)
+            run_machine::<D, J, R, C, P, V, A, G>(
+                rt, alloc, header, site, opened, parts, gate, &stand,
+            )
         }
         None => {
             roll.give_up(rt);
@@ -91,7 +96,7 @@ fn not_run<C: Clock, P: Spawner, V: Device, A: Area>(parts: Parts<C, P, V, A>) -
     }
 }
 
-/// Runs a machine, as one of the setting that its site and the header make.
+/// Runs a machine, as one of the setting that its site and the header make, and of a new book.
 fn run_work<
     D: Teller + Send,
     R: Threads + Wait + time::Clock + Sync,
@@ -114,7 +119,17 @@ fn run_work<
     requires setting { IsSetting (begun_with D.Daemon.commands header.now work.site) }
     ensures { HasRun D.Daemon.stands (begun_with D.Daemon.commands header.now work.site) result.history }
 {
-    run_as::<D, Brand, R, C, P, V, A, G>(rt, alloc, header, gate, roll, posts, place, work)
+    run_as::<D, Brand, R, C, P, V, A, G>(
+        rt,
+        alloc,
+        header,
+        gate,
+        roll,
+        posts,
+        place,
+        Opened::new(),
+        work,
+    )
 }
 
 impl<C: Clock, P: Spawner, V: Device, A: Area> Machine<C, P, V, A> {

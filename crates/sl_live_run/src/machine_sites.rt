@@ -7,7 +7,7 @@ ghost use Rattle.sl_live_run.specs.Areas.{AreLent, first_writes};
 ghost use Rattle.sl_live_run.specs.Causes.{Explains};
 ghost use Rattle.sl_live_run.specs.Clocks.{AreTicks, as_first};
 ghost use Rattle.sl_live_run.specs.Grounds.{AreReady, IsReady, IsSiteOf, RunsOn, drawn_site};
-ghost use Rattle.sl_cell.specs.declared.seat.Part.TheVariants.{Delta, Resource};
+ghost use Rattle.sl_cell.specs.declared.part.Part.TheVariants.{Delta, Resource};
 ghost use Rattle.sl_world_state.specs.FirstKept as first_kept;
 ghost use Rattle.sl_run.specs.Headers.{IsHeader};
 ghost use Rattle.sl_run.specs.Worlds.{clock_reading};

@@ -2,7 +2,7 @@
 
 ghost use Rattle.sl_world_state.specs.Daemons.{begun_with};
 ghost use Rattle.sl_world_state.specs.declared.daemon.Site.{Site as SiteOf};
-ghost use Rattle.sl_live_run.specs.Runs.{AreLiveHistories, AreSettled, AreGiven, CameTo, CanRun, HasTold, IsLiveStop, Runs, StopsSome, begun_at, site_of};
+ghost use Rattle.sl_live_run.specs.Runs.{AreLiveHistories, AreSettled, AreGiven, CameTo, CanRun, HasTold, IsEarlyStop, IsLiveStop, Runs, StopsSome, begun_at, site_of};
 ghost use Rattle.sl_live_run.specs.declared.compare.LiveStop.TheVariants.{NoMemory as NoMemoryStop};
 ghost use Rattle.sl_live_run.specs.declared.machine_runs.Machine.{Machine as MachineOf};
 ghost use Rattle.sl_run.specs.Headers.{IsHeader};
@@ -11,7 +11,7 @@ ghost use Rattle.std.specs.Fork.{AcceptsEach, ChangesEach};
 ghost use Rattle.std.specs.Prelude.{All, Err, IfErr, IfOk, IsOk, List, OnOk, Some, [], length, map, slice_index_or, ◌++◌, ◌<◌, ◌∷◌, ◌≡◌, ◌⊎◌, ℕ};
 ghost use Rattle.std.specs.Vec.{vec_capacity, vec_len};
 
-use crate::compare::{LiveStop, Outcome, settle_all};
+use crate::compare::{LiveStop, Outcome, settle_all, stop_early};
 use crate::machine_runs::Machine;
 use crate::script::{has_failed, tell};
 use crate::script_lines::Given;
@@ -343,7 +343,8 @@ fn take_apart<C: Clock, P: Spawner, V: Device, A: Area>(
     Ok(left)
 }
 
-/// The histories of a run, if no memory was wanting: what the machines came to, compared with what the script gave them.
+/// The histories of a run, if no thread ended too soon: what the machines came to, compared with what the script gave them. Else a case that a cell
+/// tells goes before want of memory, by which all machines end.
 fn histories_of(
     alloc: Global,
     header: &Header,
@@ -354,10 +355,10 @@ fn histories_of(
     given: &Given,
 ) -> Result<Vec<Seq<Entry>>, LiveStop>
     ensures ok { IfOk result (λ hs. IsOk told.now × AreSettled (begun_at header.now firsts.items) outcomes.items given.now hs.items) }
-    ensures err { IfErr result (λ stop. (stop ≡ NoMemoryStop) ⊎ (IsOk told.now × StopsSome (begun_at header.now firsts.items) outcomes.items given.now stop)) }
+    ensures err { IfErr result (λ stop. IsEarlyStop outcomes.items stop ⊎ (IsOk told.now × StopsSome (begun_at header.now firsts.items) outcomes.items given.now stop)) }
 {
     if failed || told.is_err() {
-        return Err(LiveStop::NoMemory);
+        return Err(stop_early(&outcomes));
     }
     settle_all(alloc, header, &firsts, outcomes, given)
 }

@@ -1,4 +1,4 @@
-//! Writes that take effect in part: tested and made in one, since what a write leaves is read once.
+//! Writes that take effect in part: tested and then made, since what a part of a write leaves is asked of the sector that it falls on.
 
 ghost use Rattle.sl_world_state.specs.Refusals.{is_shaped_in, refusal_in};
 ghost use Rattle.sl_machine.specs.KeptParts.{kept_state};

@@ -2,6 +2,6 @@ use Rattle.sl_world_state.specs.Daemons.{begun_with}
 use Rattle.sl_host_step.specs.HostServes.{whole_commands}
 use Rattle.machines.proofs.cells.told.Given as goal
 
--- the setting that the first site and header make
-abbrev pub ghosts-push_told_of_both : goal.ghosts-push_told_of_both
-ghosts-push_told_of_both g a = record { setting = begun_with whole_commands a.begun.header a.begun.site }
+-- the book that was just opened, and the setting that site and header make
+abbrev pub ghosts-push_told_of : goal.ghosts-push_told_of
+ghosts-push_told_of g a = record { book = a.opened.seen.book; setting = begun_with whole_commands a.begun.header a.begun.site }

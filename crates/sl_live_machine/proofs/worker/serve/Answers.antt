@@ -1,11 +1,10 @@
-use Rattle.sl_cell.specs.declared.seat.Made.TheVariants.{Took}
+use Rattle.sl_cell.specs.Told.{IsTaken}
 use Rattle.sl_live_machine.proofs.SeatLaws.{works_on}
 use Rattle.sl_live_machine.proofs.worker.serve.Goals as goal
-use Rattle.std.proofs.Common.{ap, ◌∙◌}
-use Rattle.std.specs.Prelude.{[], ◌++◌, ◌∷◌}
+use Rattle.std.proofs.Common.{subst}
 
-pub returns : goal.returns
-returns g c =
-    let taken = c.in-Some.ensures in
-    let gave = c.in_ok-answer.ensures in
-    works_on taken.0 c.in-Some.call gave.0 _ _ _ (taken.1 ∙ ap (λ l. l ++ Took taken.0 c.in-Some.call ∷ []) c.reserve.ensures.calls) gave.1
+pub returns-in_ok-answer-in-Some : goal.returns-in_ok-answer-in-Some
+returns-in_ok-answer-in-Some g c =
+    let gave = c.in_ok-answer-in-Some.ensures in
+    works_on g.J.Station.setting c.args.part c.args.seat.now c.take.new.seat c.answer.new.seat c.in-Some.call gave.0
+    (subst (IsTaken c.args.part c.args.seat.now c.take.new.seat) c.in-Some.is c.in-Ok.ensures.taken) gave.1

@@ -1,0 +1,7 @@
+use Rattle.sl_live_machine.proofs.SeatLaws.{starts_on}
+use Rattle.sl_live_machine.proofs.starter.tell.Goals as goal
+
+pub returns : goal.returns
+returns g c =
+    starts_on g.P.Spawner.acts g.P.Spawner.faults g.P.Spawner.running g.J.Station.setting (g.C.Clock.last c.spawned_step.new.clock) c.args.process c.args.child
+    c.in_ok-told.told.ok c.in_ok-told.told.effects _ _ c.args.seat.now c.spawned_step.new.seat c.in_ok-told.ensures.ok
