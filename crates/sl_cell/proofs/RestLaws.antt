@@ -111,6 +111,22 @@ rest_stepped st h h' handed s e fx r ready r' rest connected delta resource wait
     (subst (λ (x : Effects). r'.resource.calls.items ≡ ready.resource.calls.items ++ filter (is_of Resource) x.calls) back resource'.0, resource'.1)
     (subst (λ (x : Entry). r'.waiting.items ≡ ready.waiting.items ++ x ∷ []) is waits')
 
+-- .. and room for the next one
+pub rest_ready : (st : Setting) (h h' handed : List Signed) (s : Signed) (e : Entry) (fx : Effects) (r ready r' r'' : Rest) → IsRest st h handed r
+    → ready.connections.items ≡ r.connections.items
+    → (ready.delta.calls.items ≡ r.delta.calls.items) × (ready.delta.taken ≡ r.delta.taken) → (ready.resource.calls.items ≡ r.resource.calls.items) × (ready.resource.taken ≡ r.resource.taken)
+    → ready.waiting.items ≡ r.waiting.items → h' ≡ h ++ s ∷ [] → s.entry.effects ≡ fx → e ≡ s.entry
+    → r'.connections.items ≡ fold after_move ready.connections.items fx.moves
+    → (r'.delta.calls.items ≡ ready.delta.calls.items ++ filter (is_of Delta) fx.calls) × (r'.delta.taken ≡ ready.delta.taken)
+    → (r'.resource.calls.items ≡ ready.resource.calls.items ++ filter (is_of Resource) fx.calls) × (r'.resource.taken ≡ ready.resource.taken)
+    → r'.waiting.items ≡ ready.waiting.items ++ e ∷ []
+    → r''.connections.items ≡ r'.connections.items
+    → (r''.delta.calls.items ≡ r'.delta.calls.items) × (r''.delta.taken ≡ r'.delta.taken) → (r''.resource.calls.items ≡ r'.resource.calls.items) × (r''.resource.taken ≡ r'.resource.taken)
+    → r''.waiting.items ≡ r'.waiting.items → IsRest st h' handed r''
+rest_ready st h h' handed s e fx r ready r' r'' rest connected delta resource waits grown told is connected' delta' resource' waits' connected'' delta'' resource'' waits'' =
+    rest_same st h' handed r' r''
+    (rest_stepped st h h' handed s e fx r ready r' rest connected delta resource waits grown told is connected' delta' resource' waits') connected'' delta'' resource'' waits''
+
 -- ---- a call goes
 
 first_of : (xs : List Call) (n : ℕ) (c : Call) (rest : List Call) → c ∷ rest ≡ drop n xs → (slice_get xs n ≡ Some c) × (rest ≡ drop (n + 1) xs) × (n + 1 ≤ length xs)

@@ -76,7 +76,8 @@ impl<D: Teller, J: Station> Kept<D, J> {
     }
 
     /// The input comes to the daemon, at this reading or the last one if that is later. With an answer the seat has given it: its entry is the last
-    /// of what the seat has seen now. An input that answers nothing that is open changes nothing here.
+    /// of what the seat has seen now. An input that answers nothing that is open changes nothing here. Behind a step the memory of one step more
+    /// stands by, where there is any: then a recovery signals and kills though no memory is left.
     pub(crate) fn step(
         &mut self,
         book: &Book<J>,
@@ -101,6 +102,8 @@ impl<D: Teller, J: Station> Kept<D, J> {
             Ok((signed, effects)) => {
                 seat.gave(self.lead.front(), &signed);
                 self.rest.note(signed.into_entry(), &effects);
+                // places for the next step stand by; a refusal is no answer of this one
+                let _places = self.rest.reserve(&self.lead.most());
                 Ok(effects)
             }
             Err(NotApplied::Unasked) => {

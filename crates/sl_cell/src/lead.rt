@@ -165,6 +165,8 @@ fn make<D: Teller, J: Station>(
     spare.reserve(&most, longest)?;
     let (effects, _ready) = step_ready(daemon, reading, &input)?;
     let copy = spare.copy(alloc, &effects);
+    // so does the memory for the next copy; a refusal is no answer of this step either
+    let _held = spare.reserve(&daemon.most(), daemon.longest());
     let entry = Entry {
         reading,
         input,
