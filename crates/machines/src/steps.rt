@@ -4,7 +4,7 @@
 //! what waits is handed out to the front that the cell is closed with, or to another one.
 
 use sl_cell::{HostCell, NotApplied, Part, Seat, Teller};
-use sl_history::{Front, Station};
+use sl_cell::{Front, Station};
 use sl_text::Bytes;
 use sl_trace::{Answer, Input};
 use std::alloc::{AllocError, Global};

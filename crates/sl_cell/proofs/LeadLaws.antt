@@ -4,9 +4,9 @@ use Rattle.sl_cell.specs.Copies.{AreShort, AreWithin}
 use Rattle.sl_cell.specs.Leads.{HasNumbers, IsLead, IsMade, IsReady, LeadState}
 use Rattle.sl_cell.specs.Parts.{calls_of, is_of}
 use Rattle.sl_cell.specs.declared.part.Part.{Part}
-use Rattle.sl_history.proofs.Givens.{trace_last}
-use Rattle.sl_history.specs.Histories.{entries, trace_of}
-use Rattle.sl_history.specs.declared.signed.Signed.{Signed}
+use Rattle.sl_cell.proofs.HistoryLaws.{trace_last}
+use Rattle.sl_book.specs.Logs.{entries}
+use Rattle.sl_cell.specs.Histories.{Signed, trace_of}
 use Rattle.sl_run.specs.Lawful.{IsGiven, IsSetting}
 use Rattle.sl_run.specs.declared.header.Header.{Header}
 use Rattle.sl_text.specs.Forms.{Form}

@@ -1,3 +1,4 @@
+pub mod HistoryLaws
 pub mod ListFronts
 pub mod MappedLists
 pub mod CopyLaws

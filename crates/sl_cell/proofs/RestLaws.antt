@@ -3,15 +3,17 @@ use Rattle.sl_cell.proofs.LeadLaws.{calls_behind}
 use Rattle.sl_cell.specs.Cells.{Goes, GoesOf, IsRest, IsWaiting, other, queue_of}
 use Rattle.sl_cell.specs.Parts.{IsLeft, calls_of, is_of}
 use Rattle.sl_cell.specs.Seats.{SeatState}
-use Rattle.sl_cell.specs.Told.{HasSeen, IsTaken, Took, TookAll}
+use Rattle.sl_book.specs.Seats.{HasSeen}
+use Rattle.sl_cell.specs.Told.{IsTaken, Took, TookAll}
 use Rattle.sl_cell.specs.declared.part.Part.TheVariants.{Delta, Resource}
 use Rattle.sl_cell.specs.declared.part.Part.{Part}
 use Rattle.sl_cell.specs.declared.queue.Queue.{Queue}
 use Rattle.sl_cell.specs.declared.rest.Rest.{Rest}
-use Rattle.sl_history.proofs.Fronts.{prefix_last, prefix_self}
-use Rattle.sl_history.proofs.Givens.{entries_last, trace_last}
-use Rattle.sl_history.specs.Histories.{entries, trace_of}
-use Rattle.sl_history.specs.declared.signed.Signed.{Signed}
+use Rattle.sl_book.proofs.Fronts.{prefix_last, prefix_self}
+use Rattle.sl_book.proofs.Givens.{entries_last}
+use Rattle.sl_cell.proofs.HistoryLaws.{trace_last}
+use Rattle.sl_book.specs.Logs.{entries}
+use Rattle.sl_cell.specs.Histories.{Signed, trace_of}
 use Rattle.sl_trace.specs.Traces.{Setting}
 use Rattle.sl_trace.specs.WatchdogConnections.{Connection, after_move, connections}
 use Rattle.sl_trace.specs.declared.effects.Call.{Call}

@@ -4,8 +4,8 @@ use Rattle.sl_cell.specs.declared.part.Part.TheVariants.{Delta, Resource}
 use Rattle.sl_cell.specs.declared.part.Part.{Part}
 use Rattle.sl_cell.specs.declared.queue.Queue.{Queue}
 use Rattle.sl_cell.specs.declared.rest.Rest.{Rest}
-use Rattle.sl_history.specs.Histories.{entries, trace_of}
-use Rattle.sl_history.specs.declared.signed.Signed.{Signed}
+use Rattle.sl_book.specs.Logs.{entries}
+use Rattle.sl_cell.specs.Histories.{Signed, trace_of}
 use Rattle.sl_trace.specs.Traces.{Setting}
 use Rattle.sl_trace.specs.WatchdogConnections.{connections}
 use Rattle.sl_trace.specs.declared.effects.Call.{Call}

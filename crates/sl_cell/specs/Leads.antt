@@ -1,6 +1,5 @@
 -- A daemon with the front of the history that led to it.
-use Rattle.sl_history.specs.Histories.{trace_of}
-use Rattle.sl_history.specs.declared.signed.Signed.{Signed}
+use Rattle.sl_cell.specs.Histories.{Signed, trace_of}
 use Rattle.sl_trace.specs.Traces.{IsTrace, Setting, Trace, is_expected, last_reading, next_call, next_job}
 use Rattle.sl_trace.specs.declared.effects.Effects.{Effects}
 use Rattle.sl_trace.specs.declared.input.Input.{Input}

@@ -1,3 +1,5 @@
+pub mod Histories
+pub mod Stations
 pub mod Copies
 pub mod CopyRoom
 pub mod Parts

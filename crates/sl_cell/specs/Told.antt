@@ -3,8 +3,9 @@ use Rattle.sl_cell.specs.Leads.{IsEntry}
 use Rattle.sl_cell.specs.Parts.{calls_of}
 use Rattle.sl_cell.specs.Seats.{SeatState}
 use Rattle.sl_cell.specs.declared.part.Part.{Part}
-use Rattle.sl_history.specs.Histories.{entries, trace_of}
-use Rattle.sl_history.specs.declared.signed.Signed.{Signed}
+use Rattle.sl_book.specs.Logs.{entries}
+use Rattle.sl_book.specs.Seats.{HasSeen}
+use Rattle.sl_cell.specs.Histories.{Signed, trace_of}
 use Rattle.sl_trace.specs.Traces.{Setting, is_expected}
 use Rattle.sl_trace.specs.WatchdogConnections.{connections, test_holds}
 use Rattle.sl_trace.specs.declared.effects.Call.{Call}
@@ -25,12 +26,6 @@ pub record Gave (s s' : SeatState) (now : ℕ) (i : Input) (fx : Effects) : Type
   pub by : s'.by ≡ s.by
   pub count : s'.count ≡ s.count + 1
   pub taken : s'.taken ≡ s.taken
-
--- The seat has seen as much of the history as before, or more.
-pub record HasSeen (s s' : SeatState) : Type 0 where
-  pub before : IsPrefix s.front s'.front
-  pub by : s'.by ≡ s.by
-  pub count : s'.count ≡ s.count
 
 -- The input answers nothing that is open in the history that the seat has seen now.
 pub record IsUnasked (st : Setting) (s s' : SeatState) (i : Input) : Type 0 where

@@ -1,9 +1,11 @@
 //! The cell: one machine's daemon under its lock, shared by the machine's threads.
 
-ghost use Rattle.sl_cell.specs.Closings.{AreBelow, AreExact, IsCaseOfSome};
+ghost use Rattle.sl_book.specs.Closings.{AreBelow, AreExact};
+ghost use Rattle.sl_cell.specs.Closings.{IsCaseOfSome};
 ghost use Rattle.sl_cell.specs.Told.{Gave, IsTaken, IsTested, IsUnasked};
 ghost use Rattle.sl_cell.specs.declared.lead.NotApplied.{NotApplied as Why};
-ghost use Rattle.sl_history.specs.Histories.{entries, trace_of};
+ghost use Rattle.sl_book.specs.Logs.{entries};
+ghost use Rattle.sl_cell.specs.Histories.{trace_of};
 ghost use Rattle.sl_run.specs.Headers.{IsHeader};
 ghost use Rattle.sl_run.specs.Lawful.{IsSetting};
 ghost use Rattle.sl_trace.specs.Traces.{IsTrace};
@@ -16,9 +18,8 @@ use crate::closing::Differ;
 use crate::kept::Kept;
 use crate::lead::{Broken, NotApplied};
 use crate::part::Part;
-use crate::seat::Seat;
 use crate::teller::Teller;
-use sl_history::{Book, Front, Opened, Station};
+use crate::station::{Book, Front, Opened, Seat, Station};
 use sl_run::Header;
 use sl_trace::{Call, Effects, Entry, Input};
 use sl_world_state::{Daemon, Site};

@@ -1,9 +1,11 @@
 //! What lies under the lock: the daemon with the front of its history, and what is kept of the history beside it.
 
-ghost use Rattle.sl_cell.specs.Closings.{AreBelow, AreExact, IsCase};
+ghost use Rattle.sl_book.specs.Closings.{AreBelow, AreExact};
+ghost use Rattle.sl_cell.specs.Closings.{IsCase};
 ghost use Rattle.sl_cell.specs.Told.{Gave, IsTaken, IsTested, IsUnasked};
 ghost use Rattle.sl_cell.specs.declared.lead.NotApplied.{NotApplied as Why};
-ghost use Rattle.sl_history.specs.Histories.{entries, trace_of};
+ghost use Rattle.sl_book.specs.Logs.{entries};
+ghost use Rattle.sl_cell.specs.Histories.{trace_of};
 ghost use Rattle.sl_run.specs.Headers.{IsHeader};
 ghost use Rattle.sl_run.specs.Lawful.{IsSetting};
 ghost use Rattle.sl_trace.specs.Traces.{IsTrace};
@@ -12,14 +14,13 @@ ghost use Rattle.sl_world_state.specs.Daemons.{begun_with};
 ghost use Rattle.std.specs.Prelude.{Err, IfErr, IfOk, OnErr, OnOk, length, true, [], ◌++◌, ◌<◌, ◌^◌, ◌≡◌};
 ghost use mathlib.Core.List.{IsPrefix};
 
-use crate::closing::{Differ, check, is_torn};
+use crate::closing::{Differ, check_seats, is_torn};
 use crate::connections::given_connections;
 use crate::lead::{Broken, Lead, NotApplied};
 use crate::part::Part;
 use crate::rest::Rest;
-use crate::seat::Seat;
 use crate::teller::Teller;
-use sl_history::{Book, Front, Station};
+use crate::station::{Book, Front, Seat, Station};
 use sl_run::Header;
 use sl_trace::{Call, Effects, Entry, Input};
 use sl_world_state::{Daemon, Site};
@@ -182,6 +183,6 @@ impl<D: Teller, J: Station> Kept<D, J> {
         if is_torn(whole, &all, &handed, mine) {
             return Err(Differ::Broken { entries: all.len() });
         }
-        check(seats, &all)
+        check_seats(seats, &all)
     }
 }

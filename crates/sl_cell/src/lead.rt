@@ -4,7 +4,8 @@ ghost use Rattle.sl_cell.specs.Leads.{HasNumbers, IsEntry, IsFew, IsMade, IsRead
 ghost use Rattle.sl_cell.specs.Parts.{calls_of};
 ghost use Rattle.sl_cell.specs.declared.lead.NotApplied.{NotApplied as Why};
 ghost use Rattle.sl_cell.specs.declared.part.Part.{Part as PartOf};
-ghost use Rattle.sl_history.specs.Histories.{entries, trace_of};
+ghost use Rattle.sl_book.specs.Logs.{entries};
+ghost use Rattle.sl_cell.specs.Histories.{trace_of};
 ghost use Rattle.sl_run.specs.Headers.{IsHeader};
 ghost use Rattle.sl_run.specs.Lawful.{IsSetting};
 ghost use Rattle.sl_trace.specs.Traces.{IsTrace, Setting, Trace, is_expected, takes_number};
@@ -16,7 +17,7 @@ ghost use Rattle.std.specs.Prelude.{Err, IfOk, IsFalse, IsOk, IsTrue, OnErr, OnO
 
 use crate::step_copies::Spare;
 use crate::teller::Teller;
-use sl_history::{Book, Front, Signed, Station};
+use crate::station::{Book, Front, Signed, Station};
 use sl_run::Header;
 use sl_trace::{Effects, Entry, Given, Input, Numbers};
 use sl_world_state::{Daemon, Most, Site};

@@ -1,6 +1,6 @@
 -- Calls that are answered one after another, as more of the history is seen.
-use Rattle.sl_history.proofs.Fronts.{prefix_trans}
-use Rattle.sl_history.specs.declared.signed.Signed.{Signed}
+use Rattle.sl_book.proofs.Fronts.{prefix_trans}
+use Rattle.sl_cell.specs.Histories.{Signed}
 use Rattle.sl_live.specs.Turns.{AreServed, IsAnswerOf, IsPassed}
 use Rattle.sl_trace.specs.Traces.{Setting}
 use Rattle.sl_trace.specs.declared.effects.Call.{Call}

@@ -1,10 +1,11 @@
 -- What a thread does in a turn: the input that it gives, and what its step asks of the machine's children.
 use Rattle.sl_cell.specs.Parts.{calls_of}
-use Rattle.sl_cell.specs.Seats.{IsMine, SeatState}
+use Rattle.sl_book.specs.Seats.{IsMine}
+use Rattle.sl_cell.specs.Seats.{SeatState}
 use Rattle.sl_cell.specs.Told.{Gave, IsUnasked}
 use Rattle.sl_cell.specs.declared.part.Part.{Part}
-use Rattle.sl_history.specs.Histories.{entries, trace_of}
-use Rattle.sl_history.specs.declared.signed.Signed.{Signed}
+use Rattle.sl_book.specs.Logs.{entries}
+use Rattle.sl_cell.specs.Histories.{Signed, trace_of}
 use Rattle.sl_live.specs.declared.children.Awaited.{Awaited}
 use Rattle.sl_live.specs.declared.steps.Gone.{Gone}
 use Rattle.sl_outside.specs.Acts.{Grows, IsTold}

@@ -11,7 +11,7 @@ ghost use Rattle.std.specs.Prelude.{Bool, IfOk, OnErr, OnOk, ◌≡◌, ◌≤�
 
 use crate::children::{Awaited, Children};
 use sl_cell::{HostCell, NotApplied, Seat, Teller};
-use sl_history::Station;
+use sl_cell::Station;
 use sl_outside::{Device, Spawner, StartedChild};
 use sl_time::Clock;
 use sl_trace::{Effects, Input};

@@ -1,15 +1,18 @@
 -- A machine's run, from what its threads and its cell say.
-use Rattle.sl_cell.proofs.SeatLaws.{calls_prefix, mine_none, mine_whole}
-use Rattle.sl_cell.specs.Closings.{AreBelow, AreExact, IsCaseOfSome}
+use Rattle.sl_cell.proofs.SeatLaws.{calls_prefix}
+use Rattle.sl_book.proofs.SeatLaws.{mine_none, mine_whole}
+use Rattle.sl_book.specs.Closings.{AreBelow, AreExact}
+use Rattle.sl_cell.specs.Closings.{IsCaseOfSome}
 use Rattle.sl_cell.specs.Parts.{calls_of}
-use Rattle.sl_cell.specs.Seats.{IsMine, SeatState}
+use Rattle.sl_book.specs.Seats.{IsMine}
+use Rattle.sl_cell.specs.Seats.{SeatState}
 use Rattle.sl_cell.specs.declared.closing.Differ.TheVariants.{Broken, Entry as Counted}
 use Rattle.sl_cell.specs.declared.closing.Differ.{Differ}
 use Rattle.sl_cell.specs.declared.part.Part.TheVariants.{Delta, Resource}
 use Rattle.sl_cell.specs.declared.part.Part.{Part}
-use Rattle.sl_history.proofs.Fronts.{prefix_length}
-use Rattle.sl_history.specs.Histories.{entries, given_by, trace_of}
-use Rattle.sl_history.specs.declared.signed.Signed.{Signed}
+use Rattle.sl_book.proofs.Fronts.{prefix_length}
+use Rattle.sl_book.specs.Logs.{entries, given_by}
+use Rattle.sl_cell.specs.Histories.{Signed, trace_of}
 use Rattle.sl_live.proofs.WorkLaws.{served_more, take_same}
 use Rattle.sl_live.specs.Turns.{AreServed, Gives, IsChildThread, IsDeviceThread, IsLineThread, IsStarterThread, IsTicker, Works}
 use Rattle.sl_live_machine.specs.ThreadSeats.{AreSeats, AreSeatsOf, GaveOnly, IsCaseOfRun, IsRun, Worked, children_number, device_number, entries_by, lines_number, number_of, starter_number, thread_count, ticker_number}

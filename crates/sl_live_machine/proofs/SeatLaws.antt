@@ -1,12 +1,14 @@
 -- A thread's seat with one turn more.
-use Rattle.sl_cell.proofs.SeatLaws.{calls_prefix, gave_before, mine_none, mine_on, mine_seen}
+use Rattle.sl_cell.proofs.SeatLaws.{calls_prefix, gave_before, mine_on}
+use Rattle.sl_book.proofs.SeatLaws.{mine_none, mine_seen}
 use Rattle.sl_cell.specs.Parts.{calls_of}
 use Rattle.sl_cell.specs.Seats.{SeatState}
-use Rattle.sl_cell.specs.Told.{Gave, HasSeen, IsTested, IsUnasked, Took, TookAll}
+use Rattle.sl_cell.specs.Told.{Gave, IsTested, IsUnasked, Took, TookAll}
+use Rattle.sl_book.specs.Seats.{HasSeen}
 use Rattle.sl_cell.specs.declared.part.Part.{Part}
-use Rattle.sl_history.proofs.Fronts.{prefix_get, prefix_length, prefix_self, prefix_trans}
-use Rattle.sl_history.specs.Histories.{entries}
-use Rattle.sl_history.specs.declared.signed.Signed.{Signed}
+use Rattle.sl_book.proofs.Fronts.{prefix_get, prefix_length, prefix_self, prefix_trans}
+use Rattle.sl_book.specs.Logs.{entries}
+use Rattle.sl_cell.specs.Histories.{Signed}
 use Rattle.sl_live.proofs.WorkLaws.{next_within, served_answer, served_more, served_pass, take_next, take_same}
 use Rattle.sl_live.specs.Turns.{AreServed, ChildrenState, Gives, IsAnswerOf, IsChildThread, IsDeviceThread, IsExit, IsIdleTurn, IsLine, IsLineThread, IsPassed, IsSpawned, IsStarterThread, IsTicker, IsWake, Looks, MakesTurn, TellsExit, TellsStart, Works}
 use Rattle.sl_live.specs.declared.steps.Gone.{Gone}

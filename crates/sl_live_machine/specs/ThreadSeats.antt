@@ -1,5 +1,6 @@
 -- What the threads of a machine have done, by their seats, and what a run owes of them.
-use Rattle.sl_cell.specs.Closings.{AreBelow, IsCaseOfSome}
+use Rattle.sl_book.specs.Closings.{AreBelow}
+use Rattle.sl_cell.specs.Closings.{IsCaseOfSome}
 use Rattle.sl_cell.specs.Parts.{calls_of}
 use Rattle.sl_cell.specs.Seats.{SeatState}
 use Rattle.sl_cell.specs.Told.{Gave, IsTested, IsUnasked}
@@ -7,8 +8,8 @@ use Rattle.sl_cell.specs.declared.closing.Differ.TheVariants.{Broken, Entry as C
 use Rattle.sl_cell.specs.declared.closing.Differ.{Differ}
 use Rattle.sl_cell.specs.declared.part.Part.TheVariants.{Delta, Resource}
 use Rattle.sl_cell.specs.declared.part.Part.{Part}
-use Rattle.sl_history.specs.Histories.{entries, given_by}
-use Rattle.sl_history.specs.declared.signed.Signed.{Signed}
+use Rattle.sl_book.specs.Logs.{entries, given_by}
+use Rattle.sl_cell.specs.Histories.{Signed}
 use Rattle.sl_live.specs.Turns.{AreServed, IsChildThread, IsDeviceThread, IsExit, IsLine, IsLineThread, IsSpawned, IsStarterThread, IsTicker, IsWake, Works}
 use Rattle.sl_live_machine.specs.declared.machine.CloseError.TheVariants.{Differ as Differs, NoMemory}
 use Rattle.sl_live_machine.specs.declared.machine.CloseError.{CloseError}

@@ -9,7 +9,7 @@ use crate::script_waits::Post;
 use crate::thread_numbers::CHILDREN;
 use crate::turn::{Happened, Turn};
 use sl_cell::{Seat, Teller};
-use sl_history::Station;
+use sl_cell::Station;
 use sl_live::laws::{Gone, child_step};
 use sl_outside::Spawner;
 use sl_time::Clock;

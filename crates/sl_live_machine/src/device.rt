@@ -8,7 +8,7 @@ use crate::room::Room;
 use crate::script_waits::Post;
 use crate::thread_numbers::DEVICE;
 use sl_cell::{Seat, Teller};
-use sl_history::Station;
+use sl_cell::Station;
 use sl_live::laws::device_step;
 use sl_outside::{Device, Spawner};
 use sl_time::Clock;

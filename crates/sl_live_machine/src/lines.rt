@@ -12,7 +12,7 @@ use crate::script_waits::Post;
 use crate::thread_numbers::LINES;
 use crate::turn::{Turn, give};
 use sl_cell::{Seat, Teller};
-use sl_history::Station;
+use sl_cell::Station;
 use sl_live_lines::GivenLine;
 use sl_locks::{LockInput, LvmLocks};
 use sl_outside::Spawner;

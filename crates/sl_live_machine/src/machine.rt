@@ -1,7 +1,7 @@
 //! A machine's run: its cell is made, its threads run beside each other, and the cell is closed with their seats. It ends where no line, no call
 //! and no child is left (`board`).
 
-ghost use Rattle.sl_history.specs.Histories.{entries};
+ghost use Rattle.sl_book.specs.Logs.{entries};
 ghost use Rattle.sl_live_machine.specs.ThreadSeats.{AreSeats, IsCaseOfRun, IsRun, Stops};
 ghost use Rattle.sl_run.specs.Headers.{IsHeader};
 ghost use Rattle.sl_run.specs.Lawful.{IsSetting};
@@ -12,7 +12,7 @@ use crate::room::{Pace, Room};
 use crate::threads::{Clocks, Stand, Threaded, run_threads};
 use sl_area::Area;
 use sl_cell::{Differ, HostCell, Seat, Teller};
-use sl_history::{Front, Opened, Station};
+use sl_cell::{Front, Opened, Station};
 use sl_live::{Children, Disk};
 use sl_locks::LvmLocks;
 use sl_outside::{Device, Gate, Spawner};

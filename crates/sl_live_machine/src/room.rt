@@ -5,7 +5,7 @@
 
 use sl_area::Geometry;
 use sl_cell::{HostCell, Teller};
-use sl_history::{Front, Station};
+use sl_cell::{Front, Station};
 use sl_live::Children;
 use sl_locks::LvmLocks;
 use sl_outside::Spawner;

@@ -19,7 +19,7 @@ use crate::ticker::tick;
 use crate::worker::work;
 use sl_area::Area;
 use sl_cell::{Part, Seat, Teller};
-use sl_history::Station;
+use sl_cell::Station;
 use sl_live::Disk;
 use sl_outside::{Device, Gate, Spawner};
 use sl_time::Clock;

@@ -9,7 +9,7 @@ use crate::script_waits::Post;
 use crate::thread_numbers::TICKER;
 use crate::turn::give;
 use sl_cell::{Seat, Teller};
-use sl_history::Station;
+use sl_cell::Station;
 use sl_outside::Spawner;
 use sl_time::Clock;
 use sl_trace::Input;

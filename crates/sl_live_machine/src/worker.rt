@@ -12,7 +12,7 @@ use crate::thread_numbers::worker_number;
 use crate::turn::{Turn, give};
 use sl_area::Area;
 use sl_cell::{Part, Seat, Teller};
-use sl_history::Station;
+use sl_cell::Station;
 use sl_live::Disk;
 use sl_live::laws::sector_step;
 use sl_outside::{Gate, Spawner};

@@ -1,6 +1,6 @@
 use Rattle.sl_cell.proofs.LeadLaws.{within}
 use Rattle.sl_cell.proofs.lead.make.Goals as goal
-use Rattle.sl_history.specs.Histories.{trace_of}
+use Rattle.sl_cell.specs.Histories.{trace_of}
 use Rattle.sl_world_state.specs.Daemons.{IsStep, entry_of}
 use Rattle.std.proofs.Common.{subst, sym}
 

@@ -1,5 +1,5 @@
 use Rattle.sl_cell.proofs.RestLaws.{rest_goes, taken_told}
-use Rattle.sl_cell.proofs.SeatLaws.{seen_told}
+use Rattle.sl_book.proofs.SeatLaws.{seen_told}
 use Rattle.sl_cell.proofs.kept.Kept.take.Goals as goal
 use Rattle.sl_cell.specs.Cells.{queue_of}
 use Rattle.sl_cell.specs.Seats.{SeatState}

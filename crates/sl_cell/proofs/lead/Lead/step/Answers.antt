@@ -1,7 +1,7 @@
 use Rattle.sl_cell.proofs.LeadLaws.{has_numbers, lead_on}
 use Rattle.sl_cell.proofs.lead.Lead.step.Goals as goal
 use Rattle.sl_cell.specs.Leads.{IsMade}
-use Rattle.sl_history.specs.declared.signed.Signed.{Signed}
+use Rattle.sl_cell.specs.Histories.{Signed}
 use Rattle.sl_trace.specs.declared.effects.Effects.{Effects}
 use Rattle.std.proofs.Common.{List, [], ap, length, subst, sym, ◌++◌, ◌∙◌, ◌∷◌, ◌≤◌}
 

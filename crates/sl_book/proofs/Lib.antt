@@ -1,0 +1,5 @@
+pub mod Fronts
+pub mod Adding
+pub mod Givens
+pub mod SeatLaws
+pub mod Counts

@@ -1,0 +1,5 @@
+pub mod Shelves
+pub mod Logs
+pub mod Books
+pub mod Seats
+pub mod Closings

@@ -1,3 +1,0 @@
-pub mod Stations
-pub mod Histories
-pub mod Books
