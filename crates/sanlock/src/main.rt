@@ -27,9 +27,10 @@ fn main(rt: HostRuntime) -> ExitCode {
         Err(_) => Vec::new(rt.alloc()),
     };
     let source = ReadSource::new(rt.stdin());
-    let mut sink = WriteSink::new(rt.stdout());
+    let sink = WriteSink::new(rt.stdout());
     let devices = FileDevices::new(rt, rt.alloc());
-    let (status, _source, _devices) = run(&rt, rt.alloc(), &words, source, &mut sink, devices);
+    let (status, _source, sink, _devices) = run(&rt, rt.alloc(), &words, source, sink, devices);
+    let mut sink = sink;
     let status = match sink.flush() {
         Ok(()) => status,
         Err(_) => Status::WriteFault,

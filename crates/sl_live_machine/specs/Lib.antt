@@ -1,1 +1,3 @@
 pub mod ThreadSeats
+pub mod Printing
+pub mod MachineEnds

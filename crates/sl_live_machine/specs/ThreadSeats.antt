@@ -11,8 +11,6 @@ use Rattle.sl_cell.specs.declared.part.Part.{Part}
 use Rattle.sl_book.specs.Logs.{entries, given_by}
 use Rattle.sl_cell.specs.Histories.{Signed}
 use Rattle.sl_live.specs.Turns.{AreServed, IsChildThread, IsDeviceThread, IsExit, IsLine, IsLineThread, IsSpawned, IsStarterThread, IsTicker, IsWake, Works}
-use Rattle.sl_live_machine.specs.declared.machine.CloseError.TheVariants.{Differ as Differs, NoMemory}
-use Rattle.sl_live_machine.specs.declared.machine.CloseError.{CloseError}
 use Rattle.sl_trace.specs.Traces.{IsTrace, Setting}
 use Rattle.sl_trace.specs.declared.effects.Effects.{Effects}
 use Rattle.sl_trace.specs.declared.effects.Entry.{Entry}
@@ -111,8 +109,3 @@ pub record IsCaseOfRun (st : Setting) (d : Differ) : Type 0 where
   pub mine : List Signed
   pub threads : AreSeatsOf st seats d
   pub case_of : IsCaseOfSome st seats mine d
-
--- Why a machine has no history: a case, or want of memory, of which nothing is said.
-abbrev pub Stops : (Differ → Type 0) → CloseError → Type 0
-Stops IsCase (Differs d) = IsCase d
-Stops IsCase NoMemory = Unit {0}

@@ -35,6 +35,7 @@ pub(crate) struct News {
     pub children: bool,
     pub starter: bool,
     pub lines: bool,
+    pub printer: bool,
     pub script: bool,
     pub ticker: bool,
 }
@@ -48,6 +49,7 @@ impl News {
             children: false,
             starter: false,
             lines: false,
+            printer: false,
             script: false,
             ticker: false,
         }
@@ -63,7 +65,7 @@ pub(crate) struct Board {
     closed: bool,
     /// The number of the next line's job. While a line for lvmlockd runs, no other line comes, and its asks take the numbers behind its own.
     next_job: u64,
-    /// The job whose reply the script waits for.
+    /// The job for whose reply the script waits, until it is put out.
     awaited: Option<u64>,
     /// The job of the ask whose reply a line for lvmlockd waits for, and that reply, once it has come.
     asked: Option<u64>,
@@ -172,10 +174,21 @@ impl Board {
         self.heard.take()
     }
 
-    /// The line for lvmlockd is answered: the script goes on.
+    /// The line for lvmlockd is answered.
     pub(crate) fn end_line(&mut self) {
         self.asked = None;
-        self.awaited = None;
+    }
+
+    /// The replies of these jobs are put out: whether the script goes on.
+    pub(crate) fn note_printed(&mut self, jobs: &[u64]) -> bool {
+        let Some(awaited) = self.awaited else {
+            return false;
+        };
+        let printed = jobs.contains(&awaited);
+        if printed {
+            self.awaited = None;
+        }
+        printed
     }
 
     /// A turn begins, if the machine runs: whether it does.
@@ -298,10 +311,7 @@ impl Board {
     /// Notes the replies. An `Err` is want of memory.
     fn note_replies(&mut self, news: &mut News, replies: &[JobReply]) -> Result<(), AllocError> {
         for reply in replies {
-            if self.awaited == Some(reply.job) {
-                self.awaited = None;
-                news.script = true;
-            }
+            news.printer = true;
             self.note_heard(news, reply)?;
         }
         Ok(())

@@ -10,6 +10,8 @@ mod children;
 mod device;
 mod lines;
 mod machine;
+mod mail;
+mod printer;
 mod room;
 mod script_waits;
 mod starter;
@@ -21,6 +23,8 @@ mod turn;
 mod worker;
 
 pub use machine::{CloseError, Parts, Ran, run_machine};
+pub use mail::Mail;
+pub use printer::Desk;
 pub use script_waits::{Post, fail_all};
 pub use thread_roll::Roll;
 pub use threads::{Clocks, Stand};

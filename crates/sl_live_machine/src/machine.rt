@@ -2,24 +2,34 @@
 //! and no child is left (`board`).
 
 ghost use Rattle.sl_book.specs.Logs.{entries};
-ghost use Rattle.sl_live_machine.specs.ThreadSeats.{AreSeats, IsCaseOfRun, IsRun, Stops};
+ghost use Rattle.sl_cell.specs.Histories.{trace_of};
+ghost use Rattle.sl_live_lines.specs.LocksAlong.{AlongState, begun_along};
+ghost use Rattle.sl_live_machine.specs.MachineEnds.{Checks, EndsEarly, EndsSo, HasRun};
+ghost use Rattle.sl_live_machine.specs.Printing.{IsPrinting, lines_read};
+ghost use Rattle.sl_live_machine.specs.ThreadSeats.{AreSeats, IsCaseOfRun, IsRun};
+ghost use Rattle.sl_live_machine.specs.declared.machine.CloseError.TheVariants.{NoMemory as NoMemoryClose};
+ghost use Rattle.sl_trace.specs.declared.effects.Entry.{Entry as EntryOf};
 ghost use Rattle.sl_run.specs.Headers.{IsHeader};
 ghost use Rattle.sl_run.specs.Lawful.{IsSetting};
 ghost use Rattle.sl_world_state.specs.Daemons.{Stood, begun_with};
-ghost use Rattle.std.specs.Prelude.{IfErr, IfOk, reverse, [], ◌++◌, ◌≡◌};
+ghost use Rattle.std.specs.Prelude.{Err, IfErr, IfOk, List, Ok, OnOk, [], ◌+◌, ◌≡◌};
 
+use crate::printer::{Desk, Printer};
 use crate::room::{Pace, Room};
-use crate::threads::{Clocks, Stand, Threaded, run_threads};
+use crate::script_waits::Post;
+use crate::threads::{Clocks, Printed, Stand, Threaded, run_beside};
 use sl_area::Area;
+use sl_book::{Reader, Shelf};
 use sl_cell::{Differ, HostCell, Seat, Teller};
 use sl_cell::{Front, Opened, Station};
+use sl_io::Sink;
 use sl_live::{Children, Disk};
+use sl_live_lines::{Audit, GivenLine, Left};
 use sl_locks::LvmLocks;
 use sl_outside::{Device, Gate, Spawner};
+use sl_output::{Press, Seat as Writer};
 use sl_run::Header;
-use sl_text::Seq;
 use sl_time::Clock;
-use sl_trace::Entry;
 use sl_world_state::Site;
 use std::alloc::{AllocError, Global};
 use std::sync::{Mutex, Wait};
@@ -37,18 +47,27 @@ pub struct Parts<C: Clock, P: Spawner, V: Device, A: Area> {
     pub resource: Vec<Disk<A>>,
 }
 
-/// Why a machine has no history.
+/// Why a machine has no whole history.
 #[derive(Clone, Copy)]
 pub enum CloseError {
     /// A case in which what its threads counted differs from a history that the daemon could have.
     Differ(Differ),
+    /// The line of the entry of this number, counted from 1, is not the one that was due.
+    Line { number: u64 },
+    /// A line for lvmlockd still runs at the end, or a call or a start is not answered.
+    Left(Left),
     NoMemory,
 }
 
-/// What is left of a machine's run: its history, or why there is none, and the workers' disks.
+/// What is left of a machine's run: whether its history is whole, or why it is not; the script's lines that its printer met, the pieces that it put out
+/// and how many replies are in them; how many entries the history has; and the workers' disks.
 #[derive(Drop)]
-pub struct Ran<A: Area> {
-    pub history: Result<Seq<Entry>, CloseError>,
+pub struct Ran<O: Press, T: Shelf, A: Area> {
+    pub end: Result<(), CloseError>,
+    pub reader: Reader<T, GivenLine>,
+    pub writer: Writer<O>,
+    pub replies: u64,
+    pub entries: u64,
     pub delta: Vec<Disk<A>>,
     pub resource: Vec<Disk<A>>,
 }
@@ -63,40 +82,20 @@ fn pace_of(header: &Header) -> Pace {
     }
 }
 
-/// What was not handed out yet. Where it was handed out to another one it is nothing, and that the close will tell.
-fn hand_out<D: Teller, J: Station, R: Wait>(
-    rt: &R,
-    alloc: Global,
-    cell: &HostCell<D, J>,
-    mine: &mut Front<J>,
-) -> Vec<Entry>
-    ensures { entries mine.new ≡ entries mine.old ++ result.items }
-{
-    match cell.hand_out(rt, mine) {
-        Ok(more) => more,
-        Err(_) => Vec::new(alloc),
-    }
-}
-
-/// Closes a cell with the seats of all threads. The history has these entries.
+/// Closes a cell with the seats of all threads, for a printer that has seen all that was handed out.
 #[tactic(auto, using(crate::proofs::RunLaws::stood_whole, crate::proofs::RunLaws::case_run))]
 fn close_with<D: Teller, J: Station>(
     cell: HostCell<D, J>,
     seats: Vec<Seat<J>>,
-    mine: Front<J>,
-    handed: Vec<Entry>,
-) -> Result<Seq<Entry>, CloseError>
+    mine: &Front<J>,
+) -> Result<(), Differ>
     requires setting { IsSetting J.setting }
     requires seats { AreSeats J.setting seats.items }
-    requires handed { handed.items ≡ entries mine }
-    ensures stood { IfOk result (λ h. Stood D.Daemon.stands J.setting (reverse h)) }
-    ensures ok { IfOk result (λ h. IsRun J.setting h) }
-    ensures differ { IfErr result (Stops (IsCaseOfRun J.setting)) }
+    ensures stood { OnOk result (Stood D.Daemon.stands J.setting (trace_of mine.now)) }
+    ensures ok { OnOk result (IsRun J.setting (entries mine.now)) }
+    ensures differ { IfErr result (IsCaseOfRun J.setting) }
 {
-    match cell.close(&seats, &mine) {
-        Ok(()) => Ok(Seq::new(handed)),
-        Err(differ) => Err(CloseError::Differ(differ)),
-    }
+    cell.close(&seats, mine)
 }
 
 /// Closes the cell of threads of which one has ended too soon: want of memory, if the daemon stands for its history.
@@ -104,32 +103,80 @@ fn close_with<D: Teller, J: Station>(
 fn close_early<D: Teller, J: Station>(
     alloc: Global,
     cell: HostCell<D, J>,
-    mine: Front<J>,
+    mine: &Front<J>,
 ) -> CloseError
-    ensures { Stops (IsCaseOfRun J.setting) result }
+    ensures { EndsEarly J.setting result }
 {
     let none: Vec<Seat<J>> = Vec::new(alloc);
-    match cell.close(&none, &mine) {
+    match cell.close(&none, mine) {
         Ok(()) => CloseError::NoMemory,
         Err(Differ::Entry { .. }) => CloseError::NoMemory,
         Err(Differ::Broken { entries }) => CloseError::Differ(Differ::Broken { entries }),
     }
 }
 
-/// Closes the cell of a machine whose threads have ended, once all that waits is handed out. Where there was no memory, no child goes on: one may
-/// have been started behind the kill of the child thread.
-fn close<D: Teller, J: Station, R: Wait, P: Spawner>(
+/// Whether what the printer found along a whole history is as it should be.
+fn check_lines<J: Station, O: Press, T: Shelf>(
+    printer: &Printer<J, O, T>,
+) -> Result<(), CloseError>
+    ensures { (a : AlongState) → (h : List EntryOf) → IsPrinting a h printer.now → Checks a h printer.now result }
+{
+    if let Some(number) = printer.wrong {
+        return Err(CloseError::Line { number });
+    }
+    match printer.audit.left() {
+        None => Ok(()),
+        Some(left) => Err(CloseError::Left(left)),
+    }
+}
+
+/// How a machine ends whose threads have all ended, and whose printer has put out all.
+fn close_whole<D: Teller, J: Station, O: Press, T: Shelf>(
+    cell: HostCell<D, J>,
+    seats: Vec<Seat<J>>,
+    printer: &Printer<J, O, T>,
+) -> Result<(), CloseError>
+    requires setting { IsSetting J.setting }
+    requires seats { AreSeats J.setting seats.items }
+    ensures { (a : AlongState) → IsPrinting a (entries printer.now.mine) printer.now → EndsSo D.Daemon.stands J.setting a printer.now result }
+{
+    match close_with(cell, seats, &printer.mine) {
+        Ok(()) => check_lines(printer),
+        Err(differ) => Err(CloseError::Differ(differ)),
+    }
+}
+
+/// The seats of threads that have ended, where the printer has put out all that is told of the history. An `Err` is want of memory.
+fn print_last<D: Teller, J: Station, K: Sink, O: Press, T: Shelf, R: Wait, P: Spawner>(
     rt: &R,
+    room: &Room<D, J, P>,
+    post: &Post,
+    desk: &Desk<'_, K, O, T>,
+    printed: &mut Printed<J, O, T>,
+    seats: Result<Vec<Seat<J>>, AllocError>,
+) -> Result<Vec<Seat<J>>, AllocError>
+    ensures seats { IfOk result (λ v. seats ≡ Ok v) }
+    ensures { (a : AlongState) → OnOk printed.old.end (IsPrinting a (entries printed.old.printer.mine) printed.old.printer)
+        → OnOk result (IsPrinting a (entries printed.new.printer.mine) printed.new.printer × (printed.new.printer.text ≡ [])) }
+    ensures by { printed.new.printer.reader.by ≡ printed.old.printer.reader.by }
+{
+    let seats = seats?;
+    printed.end?;
+    printed.printer.print(rt, room, post, desk)?;
+    Ok(seats)
+}
+
+/// How a machine ends whose threads have ended. Where there was no memory, no child goes on: one may have been started behind the kill of the child
+/// thread.
+fn close<D: Teller, J: Station, O: Press, T: Shelf, P: Spawner>(
     room: Room<D, J, P>,
     failed: bool,
+    printer: &Printer<J, O, T>,
     seats: Result<Vec<Seat<J>>, AllocError>,
-) -> Result<Seq<Entry>, CloseError>
+) -> Result<(), CloseError>
     requires setting { IsSetting J.setting }
-    requires front { room.front ≡ [] }
     requires seats { IfOk seats (λ v. AreSeats J.setting v.items) }
-    ensures stood { IfOk result (λ h. Stood D.Daemon.stands J.setting (reverse h)) }
-    ensures ok { IfOk result (λ h. IsRun J.setting h) }
-    ensures differ { IfErr result (Stops (IsCaseOfRun J.setting)) }
+    ensures { (a : AlongState) → OnOk seats (IsPrinting a (entries printer.now.mine) printer.now) → EndsSo D.Daemon.stands J.setting a printer.now result }
 {
     let Room {
         alloc,
@@ -137,29 +184,104 @@ fn close<D: Teller, J: Station, R: Wait, P: Spawner>(
         geometry: _,
         pace: _,
         cell,
-        front,
+        front: _,
         children,
         locks: _,
     } = room;
     if failed {
         children.into_inner().kill();
     }
-    let mut mine = front;
-    let handed = hand_out(rt, alloc, &cell, &mut mine);
     match seats {
-        Ok(seats) => close_with(cell, seats, mine, handed),
-        Err(_) => Err(close_early(alloc, cell, mine)),
+        Ok(seats) => close_whole(cell, seats, printer),
+        Err(_) => Err(close_early(alloc, cell, &printer.mine)),
     }
 }
 
-/// Runs a machine until its script's end: seven threads over one cell, which are all joined before the cell is closed.
+/// What is left of a machine that did not run.
+fn not_run<O: Press, T: Shelf, A: Area>(
+    reader: Reader<T, GivenLine>,
+    writer: Writer<O>,
+    delta: Vec<Disk<A>>,
+    resource: Vec<Disk<A>>,
+) -> Ran<O, T, A>
+    ensures end { result.end ≡ Err NoMemoryClose }
+    ensures reader { result.reader ≡ reader }
+    ensures writer { result.writer ≡ writer }
+{
+    Ran {
+        end: Err(CloseError::NoMemory),
+        reader,
+        writer,
+        replies: 0,
+        entries: 0,
+        delta,
+        resource,
+    }
+}
+
+/// Runs the threads of a machine, its printer beside the others, until all have ended.
+fn run_room<
+    D: Teller + Send,
+    J: Station + Send + Sync,
+    K: Sink + Send,
+    O: Press + Send + Sync,
+    T: Shelf + Send + Sync,
+    R: Threads + Wait + time::Clock + Sync,
+    C: Clock + Send,
+    P: Spawner + Send,
+    V: Device + Send,
+    A: Area + Send,
+    G: Gate + Sync,
+>(
+    rt: &R,
+    room: Room<D, J, P>,
+    stand: &Stand<'_>,
+    gate: &G,
+    desk: &Desk<'_, K, O, T>,
+    clocks: Clocks<C>,
+    device: V,
+    printer: Printer<J, O, T>,
+    delta: Vec<Disk<A>>,
+    resource: Vec<Disk<A>>,
+) -> Ran<O, T, A>
+    requires setting { IsSetting J.setting }
+    ensures { (a : AlongState) → IsPrinting a (entries printer.mine) printer → HasRun D.Daemon.stands J.setting a result }
+    ensures by { result.reader.by ≡ printer.reader.by }
+{
+    let (threaded, mut printed) = run_beside(rt, &room, stand, gate, desk, clocks, device, printer, delta, resource);
+    let Threaded {
+        seats,
+        delta,
+        resource,
+    } = threaded;
+    let seats = print_last(rt, &room, stand.post, desk, &mut printed, seats);
+    let failed = stand.post.has_failed(rt);
+    let Printed { printer, end: _ } = printed;
+    let end = close(room, failed, &printer, seats);
+    let (replies, entries) = (printer.audit.replies(), printer.mine.len());
+    let (reader, writer) = printer.into_parts();
+    Ran {
+        end,
+        reader,
+        writer,
+        replies,
+        entries,
+        delta,
+        resource,
+    }
+}
+
+/// Runs a machine until its script's end: eight threads over one cell, which are all joined before the cell is closed.
 ///
-/// An `Ok` has the history of the daemon of this setting, which stood for it; its entries are exactly what the machine's threads gave, each once. Else
-/// a case in which what they counted differs from a history that the daemon could have, or want of memory: there, and where threads can't be
-/// made, all machines end.
+/// An `Ok` end is a history of the daemon of this setting, which stood for it: its entries are exactly what the machine's threads gave, each once; its
+/// lines are those that the reader has met, each for lvmlockd with its asks and answered; no call and no start is unanswered; and the pieces of the
+/// writer are what is told of it. Else a case that holds of it, or want of memory: there, and where threads can't be made, all machines end.
 pub fn run_machine<
     D: Teller + Send,
     J: Station + Send + Sync,
+    K: Sink + Send,
+    O: Press + Send + Sync,
+    T: Shelf + Send + Sync,
     R: Threads + Wait + time::Clock + Sync,
     C: Clock + Send,
     P: Spawner + Send,
@@ -175,14 +297,18 @@ pub fn run_machine<
     parts: Parts<C, P, V, A>,
     gate: &G,
     stand: &Stand<'_>,
-) -> Ran<A>
+    desk: &Desk<'_, K, O, T>,
+    reader: Reader<T, GivenLine>,
+    writer: Writer<O>,
+) -> Ran<O, T, A>
     requires header { IsHeader header.now }
     requires setting { IsSetting J.setting }
     requires site { J.setting ≡ begun_with D.Daemon.commands header.now site }
     requires book { opened.seen.book ≡ J.book }
-    ensures stood { IfOk result.history (λ h. Stood D.Daemon.stands J.setting (reverse h)) }
-    ensures ok { IfOk result.history (λ h. IsRun J.setting h) }
-    ensures differ { IfErr result.history (Stops (IsCaseOfRun J.setting)) }
+    requires reader { lines_read reader ≡ [] }
+    requires writer { (writer.by ≡ reader.by) × (writer.count ≡ 0) }
+    ensures { HasRun D.Daemon.stands J.setting (begun_along header.now site.first.job) result }
+    ensures by { result.reader.by ≡ reader.by }
 {
     let Parts {
         clocks,
@@ -192,17 +318,15 @@ pub fn run_machine<
         resource,
     } = parts;
     let machine = site.machine;
+    let audit = Audit::new(alloc, header, site.first.job);
     let (cell, front) = match HostCell::<D, J>::new(alloc, header, site, opened) {
         Ok(begun) => begun,
         Err(_) => {
             stand.give_up(rt);
-            return Ran {
-                history: Err(CloseError::NoMemory),
-                delta,
-                resource,
-            };
+            return not_run(reader, writer, delta, resource);
         }
     };
+    let printer = Printer::new(alloc, front.again(), audit, reader, writer);
     let room = Room {
         alloc,
         machine,
@@ -213,15 +337,5 @@ pub fn run_machine<
         children: Mutex::new(Children::new(alloc, spawner)),
         locks: Mutex::new(LvmLocks::fresh(alloc, header)),
     };
-    let Threaded {
-        seats,
-        delta,
-        resource,
-    } = run_threads(rt, &room, stand, gate, clocks, device, delta, resource);
-    let failed = stand.post.has_failed(rt);
-    Ran {
-        history: close(rt, room, failed, seats),
-        delta,
-        resource,
-    }
+    run_room(rt, room, stand, gate, desk, clocks, device, printer, delta, resource)
 }

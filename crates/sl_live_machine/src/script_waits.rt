@@ -22,6 +22,7 @@ pub struct Post {
     pub(crate) starter: Bell,
     pub(crate) device: Bell,
     pub(crate) lines: Bell,
+    pub(crate) printer: Bell,
     script: Bell,
 }
 
@@ -37,6 +38,7 @@ impl Post {
             starter: Bell::new(),
             device: Bell::new(),
             lines: Bell::new(),
+            printer: Bell::new(),
             script: Bell::new(),
         }
     }
@@ -48,7 +50,7 @@ impl Post {
         Ok(())
     }
 
-    /// A line for the machine, for whose reply one waits. An `Err` is want of memory, here or of the machine.
+    /// A line for the machine; one waits until its reply is put out. An `Err` is want of memory, here or of the machine.
     pub fn command<R: Wait>(&self, rt: &R, line: GivenLine) -> Result<(), AllocError> {
         self.board.lock(rt).put(line, true)?;
         self.lines.ring(rt);
@@ -137,10 +139,16 @@ impl Post {
         heard
     }
 
-    /// The line for lvmlockd is answered: the script goes on.
+    /// The line for lvmlockd is answered.
     pub(crate) fn end_line<R: Wait>(&self, rt: &R) {
         self.board.lock(rt).end_line();
-        self.script.ring(rt);
+    }
+
+    /// The replies of these jobs are put out.
+    pub(crate) fn printed<R: Wait>(&self, rt: &R, jobs: &[u64]) {
+        if self.board.lock(rt).note_printed(jobs) {
+            self.script.ring(rt);
+        }
     }
 
     /// A turn begins, if the machine runs: whether it does.
@@ -197,6 +205,9 @@ impl Post {
         if news.lines {
             self.lines.ring(rt);
         }
+        if news.printer {
+            self.printer.ring(rt);
+        }
         if news.script {
             self.script.ring(rt);
         }
@@ -214,6 +225,7 @@ impl Post {
         self.starter.ring(rt);
         self.device.ring(rt);
         self.lines.ring(rt);
+        self.printer.ring(rt);
         self.script.ring(rt);
     }
 }

@@ -3,14 +3,18 @@
 //! None begins before all threads of the run are there. One that ends for want of memory ends all of them, on every machine.
 
 ghost use Rattle.sl_live.specs.Turns.{IsChildThread, IsDeviceThread, IsLineThread, IsStarterThread, IsTicker, Works};
+ghost use Rattle.sl_book.specs.Logs.{entries};
+ghost use Rattle.sl_live_lines.specs.LocksAlong.{AlongState};
+ghost use Rattle.sl_live_machine.specs.Printing.{IsPrinting};
 ghost use Rattle.sl_live_machine.specs.ThreadSeats.{AreSeats};
-ghost use Rattle.std.specs.Prelude.{IfOk, Ok, ◌≡◌};
+ghost use Rattle.std.specs.Prelude.{IfOk, Ok, OnOk, ◌+◌, ◌≡◌};
 ghost use Rattle.sl_cell.specs.declared.part.Part.TheVariants.{Delta as DeltaPart, Resource as ResourcePart};
 ghost use denote.Param.Send.{IsSend, IsSync};
 
 use crate::children::tell_exits;
 use crate::device::keep_alive;
 use crate::lines::give_lines;
+use crate::printer::{Desk, Printer, print_replies};
 use crate::room::Room;
 use crate::script_waits::{Post, fail_all};
 use crate::starter::start_programs;
@@ -18,10 +22,13 @@ use crate::thread_roll::Roll;
 use crate::ticker::tick;
 use crate::worker::work;
 use sl_area::Area;
+use sl_book::Shelf;
 use sl_cell::{Part, Seat, Teller};
 use sl_cell::Station;
+use sl_io::Sink;
 use sl_live::Disk;
 use sl_outside::{Device, Gate, Spawner};
+use sl_output::Press;
 use sl_time::Clock;
 use std::alloc::{AllocError, Global};
 use std::sync::Wait;
@@ -66,17 +73,13 @@ impl<'a> Stand<'a> {
     }
 
     /// What a thread ended with. Where there was no memory, all threads are to end.
-    fn ended<J: Station, R: Wait>(
-        &self,
-        rt: &R,
-        seat: Result<Seat<J>, AllocError>,
-    ) -> Result<Seat<J>, AllocError>
-        ensures { result ≡ seat }
+    fn ended<S, R: Wait>(&self, rt: &R, end: Result<S, AllocError>) -> Result<S, AllocError>
+        ensures { result ≡ end }
     {
-        if seat.is_err() {
+        if end.is_err() {
             fail_all(rt, self.posts);
         }
-        seat
+        end
     }
 }
 
@@ -448,7 +451,64 @@ fn gather_threads<J: Station, A: Area>(
     }
 }
 
-/// Runs the threads of a machine until all have ended.
+/// The printer with what it ended with.
+#[derive(Drop)]
+pub(crate) struct Printed<J: Station, O: Press, T: Shelf> {
+    pub printer: Printer<J, O, T>,
+    pub end: Result<(), AllocError>,
+}
+
+/// What the printer ends with, which is lent.
+fn printer_end<
+    D: Teller,
+    J: Station,
+    K: Sink,
+    O: Press,
+    T: Shelf,
+    R: Wait + time::Clock,
+    P: Spawner,
+>(
+    rt: &R,
+    room: &Room<D, J, P>,
+    stand: &Stand<'_>,
+    desk: &Desk<'_, K, O, T>,
+    printer: &mut Printer<J, O, T>,
+) -> Result<(), AllocError>
+    ensures { (a : AlongState) → IsPrinting a (entries printer.old.mine) printer.old → OnOk result (IsPrinting a (entries printer.new.mine) printer.new) }
+    ensures by { printer.new.reader.by ≡ printer.old.reader.by }
+{
+    stand.enter(rt)?;
+    stand.ended(rt, print_replies(rt, room, stand.post, desk, printer))
+}
+
+/// The printer. Where a line is not the one due, all threads are to end.
+pub(crate) fn printer_thread<
+    D: Teller,
+    J: Station,
+    K: Sink,
+    O: Press,
+    T: Shelf,
+    R: Wait + time::Clock,
+    P: Spawner,
+>(
+    rt: &R,
+    room: &Room<D, J, P>,
+    stand: &Stand<'_>,
+    desk: &Desk<'_, K, O, T>,
+    printer: Printer<J, O, T>,
+) -> Printed<J, O, T>
+    ensures { (a : AlongState) → IsPrinting a (entries printer.mine) printer → OnOk result.end (IsPrinting a (entries result.printer.mine) result.printer) }
+    ensures by { result.printer.reader.by ≡ printer.reader.by }
+{
+    let mut printer = printer;
+    let end = printer_end(rt, room, stand, desk, &mut printer);
+    if printer.wrong.is_some() {
+        fail_all(rt, stand.posts);
+    }
+    Printed { printer, end }
+}
+
+/// Runs the threads of a machine but its printer until all have ended.
 pub(crate) fn run_threads<
     D: Teller + Send,
     J: Station + Send + Sync,
@@ -512,4 +572,50 @@ pub(crate) fn run_threads<
         { others(rt, room, stand, ticks, lines, exits, starts, tests, device) },
     );
     gather_threads(room.alloc, delta, resource, rest)
+}
+
+/// Runs all threads of a machine until they have ended.
+pub(crate) fn run_beside<
+    D: Teller + Send,
+    J: Station + Send + Sync,
+    K: Sink + Send,
+    O: Press + Send + Sync,
+    T: Shelf + Send + Sync,
+    R: Threads + Wait + time::Clock + Sync,
+    C: Clock + Send,
+    P: Spawner + Send,
+    V: Device + Send,
+    A: Area + Send,
+    G: Gate + Sync,
+>(
+    rt: &R,
+    room: &Room<D, J, P>,
+    stand: &Stand<'_>,
+    gate: &G,
+    desk: &Desk<'_, K, O, T>,
+    clocks: Clocks<C>,
+    device: V,
+    printer: Printer<J, O, T>,
+    delta: Vec<Disk<A>>,
+    resource: Vec<Disk<A>>,
+) -> (Threaded<J, A>, Printed<J, O, T>)
+    ensures seats { IfOk result.0.seats (λ v. AreSeats J.setting v.items) }
+    ensures printer { (a : AlongState) → IsPrinting a (entries printer.mine) printer → OnOk result.1.end (IsPrinting a (entries result.1.printer.mine) result.1.printer) }
+    ensures by { result.1.printer.reader.by ≡ printer.reader.by }
+{
+    join(
+        rt,
+        ||
+            requires teller { IsSend D.row }
+            requires station { IsSend J.row }
+            requires station_shared { IsSync J.row }
+            requires runtime { IsSync R.row }
+            requires clock { IsSend C.row }
+            requires spawner { IsSend P.row }
+            requires device { IsSend V.row }
+            requires area { IsSend A.row }
+            requires gate { IsSync G.row }
+        { run_threads(rt, room, stand, gate, clocks, device, delta, resource) },
+        || printer_thread(rt, room, stand, desk, printer),
+    )
 }

@@ -14,7 +14,7 @@ cell_case (Broken length_is) = (codes "Broken", length_is)
 -- .. of any case. A start that is not answered is left as a call is.
 abbrev pub live_case : LiveDiffer → List ℕ × ℕ
 live_case (Cell d) = cell_case d
-live_case (Line number asked due) = (codes "Line", number)
+live_case (Line number) = (codes "Line", number)
 live_case (Left number call) = (codes "Left", number)
 live_case (Untold number process) = (codes "Left", number)
 

@@ -15,7 +15,12 @@ use Rattle.sl_live_play.specs.declared.play.Lived.{Lived}
 use Rattle.sl_reader.specs.ScriptReading.{ReadsScript}
 use Rattle.sl_reader.specs.declared.script_reading.ScriptEnd.TheVariants as script
 use Rattle.sl_reader.specs.declared.script_reading.ScriptEnd.{ScriptEnd}
-use Rattle.sl_live_lines.specs.LiveTexts.{live_text}
+use Rattle.sl_book.specs.Logs.{entries}
+use Rattle.sl_book.specs.declared.signed.Signed.{Signed}
+use Rattle.sl_live_lines.specs.LiveTexts.{IsWoven, count_replies, last_text}
+use Rattle.sl_live_lines.specs.declared.live_texts.Ending.{Ending}
+use Rattle.sl_output.specs.Outputs.{flat}
+use Rattle.std.specs.List.{sum_by}
 use Rattle.sl_live_lines.specs.declared.live_texts.Ending.TheVariants as ending
 use Rattle.sl_live_run.specs.Runs.{AreLiveHistories, LiveCaseOf}
 use Rattle.sl_live_run.specs.declared.compare.LiveDiffer.{LiveDiffer}
@@ -55,6 +60,14 @@ pub record Lives {D : Type 0} (stands : D → Setting → Trace → Type 0) (com
   pub begun : Beginnings h
   pub histories : AreLiveHistories stands commands begun.header begun.sites [] given hs
 
+-- What is put out of such histories: pieces, of which each machine's are what is told of its history, and how the script ended.
+abbrev pub told_text : AlongState → List (List Entry) → List (Signed (List ℕ)) → Ending → List ℕ
+told_text a hs pieces e = flat (entries pieces) ++ last_text (length hs) (sum_by (count_replies a) hs) e
+
+-- lvmlockd's locks on each machine, before the first entry.
+abbrev pub first_locks : Header → AlongState
+first_locks h = begun_along h first_numbers.job
+
 -- A case holds of this machine, in which its threads, its history and the script differ.
 pub record Differing {D : Type 0} (stands : D → Setting → Trace → Type 0) (commands : Header → List (Form Command)) (h : Header) (given : List LiveLine)
     (machine : ℕ) (d : LiveDiffer) : Type 0 where
@@ -80,23 +93,23 @@ disk_there_text path = codes "disk there " ++ path ++ 10 ∷ []
 pub data Due {D : Type 0} (stands : D → Setting → Trace → Type 0) (commands : Header → List (Form Command)) (f : Asked) (left after : Option (List ℕ))
     (faults later device_faults device_later : ℕ) : List ℕ → Lived → Type 0 where
   -- the script was read to its end
-  Ends : (h : Header) (given : List LiveLine) (hs : List (List Entry)) → ReadsScript left after faults later h given (Some script.End)
-      → Lives stands commands h given hs → IsVacant f h
-      → Due stands commands f left after faults later device_faults device_later (live_text (begun_along h first_numbers.job) hs ending.Whole) Done
+  Ends : (h : Header) (given : List LiveLine) (hs : List (List Entry)) (pieces : List (Signed (List ℕ))) → ReadsScript left after faults later h given (Some script.End)
+      → Lives stands commands h given hs → IsWoven (first_locks h) hs pieces → IsVacant f h
+      → Due stands commands f left after faults later device_faults device_later (told_text (first_locks h) hs pieces ending.Whole) Done
   -- a line of its header is refused
   Stops_early : (r : ReaderState) (number : ℕ) (why : Refusal) → HeaderStops left after r number why
       → Due stands commands f left after faults later device_faults device_later (as_bytes (refusal_line number why ∷ [])) Refused
   -- .. or a line behind it
-  Stops : (h : Header) (given : List LiveLine) (hs : List (List Entry)) (number : ℕ) (why : Refusal)
-      → ReadsScript left after faults later h given (Some (script.Refused number why)) → Lives stands commands h given hs → IsVacant f h
-      → Due stands commands f left after faults later device_faults device_later (live_text (begun_along h first_numbers.job) hs (ending.Refused number why)) Refused
+  Stops : (h : Header) (given : List LiveLine) (hs : List (List Entry)) (pieces : List (Signed (List ℕ))) (number : ℕ) (why : Refusal)
+      → ReadsScript left after faults later h given (Some (script.Refused number why)) → Lives stands commands h given hs → IsWoven (first_locks h) hs pieces → IsVacant f h
+      → Due stands commands f left after faults later device_faults device_later (told_text (first_locks h) hs pieces (ending.Refused number why)) Refused
   -- a read failed within the header
   Breaks_early : HeaderBreaks left after → Rose faults later
       → Due stands commands f left after faults later device_faults device_later [] ReadFault
   -- .. or behind it: what the machines did is put out
-  Breaks : (h : Header) (given : List LiveLine) (hs : List (List Entry)) → ReadsScript left after faults later h given (Some script.ReadFault)
-      → Lives stands commands h given hs → IsVacant f h
-      → Due stands commands f left after faults later device_faults device_later (live_text (begun_along h first_numbers.job) hs ending.Cut) ReadFault
+  Breaks : (h : Header) (given : List LiveLine) (hs : List (List Entry)) (pieces : List (Signed (List ℕ))) → ReadsScript left after faults later h given (Some script.ReadFault)
+      → Lives stands commands h given hs → IsWoven (first_locks h) hs pieces → IsVacant f h
+      → Due stands commands f left after faults later device_faults device_later (told_text (first_locks h) hs pieces ending.Cut) ReadFault
   -- a disk can't be made, or a sector of an area can't be written before the threads begin
   Faults : Rose device_faults device_later
       → Due stands commands f left after faults later device_faults device_later area_fault_text AreaFault
@@ -106,39 +119,44 @@ pub data Due {D : Type 0} (stands : D → Setting → Trace → Type 0) (command
   -- a disk of the header stands there
   Disk_there : (r : ReaderState) (h : Header) (path : List ℕ) → HeaderBegins left after r h → IsDiskThere f.anew h path → Rose device_faults device_later
       → Due stands commands f left after faults later device_faults device_later (disk_there_text path) AreaFault
-  -- records of a machine differ, where the script gave these lines, however it ended
-  Parts : (h : Header) (given : List LiveLine) (end : Option ScriptEnd) (machine : ℕ) (d : LiveDiffer)
+  -- records of a machine differ, where the script gave these lines, however it ended: the case stands behind what was put out before
+  Parts : (h : Header) (given : List LiveLine) (end : Option ScriptEnd) (before : List ℕ) (machine : ℕ) (d : LiveDiffer)
       → ReadsScript left after faults later h given end → Differing stands commands h given machine d → IsVacant f h
-      → Due stands commands f left after faults later device_faults device_later (differ_text machine d) Differs
+      → Due stands commands f left after faults later device_faults device_later (before ++ differ_text machine d) Differs
 
--- What was put out of a text, and how the play ended: all of it, a front of it after a fault of the sink, or nothing for want of memory.
+-- What was put out of a text, and how the play ended: all of it, or a front of it, after a fault of the sink or for want of memory.
 pub data Puts (taken now : Option (List ℕ)) (faults later : ℕ) (text : List ℕ) (whole : Lived) : Lived → Type 0 where
   All : Appends taken now text → Puts taken now faults later text whole whole
   Part : (front : List ℕ) → Appends taken now front → IsFrontOf front text → Rose faults later → Puts taken now faults later text whole WriteFault
-  Nothing : Appends taken now [] → Puts taken now faults later text whole NoMemory
+  Front : (front : List ℕ) → Appends taken now front → IsFrontOf front text → Puts taken now faults later text whole NoMemory
 
--- What is owed: of what is due what was put out, or want of memory before anything was due.
+-- What is owed: of what is due what was put out; or want of memory, where what machines replied before stays put out.
 pub data Owes {D : Type 0} (stands : D → Setting → Trace → Type 0) (commands : Header → List (Form Command)) (f : Asked) (left after taken now : Option (List ℕ))
     (faults later sink_faults sink_later device_faults device_later : ℕ) : Lived → Type 0 where
   Of : (text : List ℕ) (whole s : Lived) → Due stands commands f left after faults later device_faults device_later text whole
       → Puts taken now sink_faults sink_later text whole s
       → Owes stands commands f left after taken now faults later sink_faults sink_later device_faults device_later s
-  Lacks : Appends taken now [] → Owes stands commands f left after taken now faults later sink_faults sink_later device_faults device_later NoMemory
+  Lacks : (part : List ℕ) → Appends taken now part → Owes stands commands f left after taken now faults later sink_faults sink_later device_faults device_later NoMemory
 
 -- ---- step by step
 
--- What was put out of histories whose script ended so, where lvmlockd's locks begin like this; and how the play then ended.
-abbrev pub PutsEnded : Option (List ℕ) → Option (List ℕ) → ℕ → ℕ → AlongState → List (List Entry) → Option ScriptEnd → Lived → Type 0
-PutsEnded taken now faults later a hs (Some script.End) s = Puts taken now faults later (live_text a hs ending.Whole) Done s
-PutsEnded taken now faults later a hs (Some (script.Refused number why)) s = Puts taken now faults later (live_text a hs (ending.Refused number why)) Refused s
-PutsEnded taken now faults later a hs (Some script.ReadFault) s = Puts taken now faults later (live_text a hs ending.Cut) ReadFault s
-PutsEnded taken now faults later a hs (Some script.NoMemory) s = (s ≡ NoMemory) × Appends taken now []
-PutsEnded taken now faults later a hs None s = (s ≡ NoMemory) × Appends taken now []
+-- Something was put out.
+abbrev pub PutsPart : Option (List ℕ) → Option (List ℕ) → Type 0
+PutsPart taken now = (part : List ℕ) × Appends taken now part
 
--- .. of why there are none.
-abbrev pub PutsStop : Option (List ℕ) → Option (List ℕ) → ℕ → ℕ → LiveStop → Lived → Type 0
-PutsStop taken now faults later (stop.Differ machine d) s = Puts taken now faults later (differ_text machine d) Differs s
-PutsStop taken now faults later stop.NoMemory s = (s ≡ NoMemory) × Appends taken now []
+-- What was put out of so many machines behind these pieces, which have so many replies, whose script ended so; and how the play then ended.
+abbrev pub PutsEnded : Option (List ℕ) → Option (List ℕ) → ℕ → ℕ → List (Signed (List ℕ)) → ℕ → ℕ → Option ScriptEnd → Lived → Type 0
+PutsEnded taken now faults later ps machines replies (Some script.End) s = Puts taken now faults later (flat (entries ps) ++ last_text machines replies ending.Whole) Done s
+PutsEnded taken now faults later ps machines replies (Some (script.Refused number why)) s =
+    Puts taken now faults later (flat (entries ps) ++ last_text machines replies (ending.Refused number why)) Refused s
+PutsEnded taken now faults later ps machines replies (Some script.ReadFault) s = Puts taken now faults later (flat (entries ps) ++ last_text machines replies ending.Cut) ReadFault s
+PutsEnded taken now faults later ps machines replies (Some script.NoMemory) s = (s ≡ NoMemory) × PutsPart taken now
+PutsEnded taken now faults later ps machines replies None s = (s ≡ NoMemory) × PutsPart taken now
+
+-- .. of why there are no histories.
+abbrev pub PutsStop : Option (List ℕ) → Option (List ℕ) → ℕ → ℕ → List (Signed (List ℕ)) → LiveStop → Lived → Type 0
+PutsStop taken now faults later ps (stop.Differ machine d) s = Puts taken now faults later (flat (entries ps) ++ differ_text machine d) Differs s
+PutsStop taken now faults later ps stop.NoMemory s = (s ≡ NoMemory) × PutsPart taken now
 
 -- .. where a run can't begin.
 abbrev pub PutsNoGround : Option (List ℕ) → Option (List ℕ) → ℕ → ℕ → NoGround → Lived → Type 0

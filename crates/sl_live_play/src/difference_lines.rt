@@ -26,9 +26,9 @@ fn live_case(differ: &LiveDiffer) -> (&'static str, u64)
 {
     match differ {
         LiveDiffer::Cell(differ) => cell_case(differ),
-        LiveDiffer::Line { number, .. } => ("Line", *number as u64),
-        LiveDiffer::Left { number, .. } => ("Left", *number as u64),
-        LiveDiffer::Untold { number, .. } => ("Left", *number as u64),
+        LiveDiffer::Line { number } => ("Line", *number),
+        LiveDiffer::Left { number, .. } => ("Left", *number),
+        LiveDiffer::Untold { number, .. } => ("Left", *number),
     }
 }
 

@@ -3,27 +3,24 @@
 ghost use Rattle.sl_live_play.specs.DifferenceLines.{differ_text};
 ghost use Rattle.sl_live_play.specs.LiveOwed.{Puts, area_fault_text, disk_there_text, in_use_text};
 ghost use Rattle.sl_live_play.specs.declared.play.Lived.TheVariants as lived;
-ghost use Rattle.sl_live_lines.specs.LocksAlong.{begun_along};
-ghost use Rattle.sl_live_lines.specs.LiveTexts.{live_text};
+ghost use Rattle.sl_book.specs.Logs.{entries};
+ghost use Rattle.sl_book.specs.declared.signed.Signed.{Signed};
+ghost use Rattle.sl_live_lines.specs.LiveTexts.{last_text};
+ghost use Rattle.sl_output.specs.Outputs.{IsPut, flat};
 ghost use Rattle.sl_report.specs.RefusalLines.{refusal_line};
-ghost use Rattle.sl_run.specs.Worlds.{first_numbers};
 ghost use Rattle.sl_text.specs.Forms.{as_bytes};
-ghost use Rattle.std.specs.Prelude.{List, OnOk, [], ℕ, ◌++◌, ◌∷◌, ◌≡◌};
+ghost use Rattle.std.specs.Prelude.{List, OnOk, Option, [], ℕ, ◌++◌, ◌∷◌, ◌≡◌};
 
 use crate::difference_lines::push_differ_line;
 use crate::play::Lived;
 use sl_io::{Sink, write_all};
-use sl_live_lines::{Ending, push_live_text};
+use sl_live_lines::{Ending, push_last};
 use sl_live_run::LiveDiffer;
-use sl_run::{Header, Refusal};
+use sl_run::Refusal;
 use sl_schedule::push_refusal_line;
 use sl_text::write::push_line;
-use sl_text::{FilePath, Seq};
-use sl_trace::Entry;
+use sl_text::FilePath;
 use std::alloc::{AllocError, Global};
-
-/// The number of the first job of a machine's first daemon.
-const FIRST_JOB: u64 = 1;
 
 /// Puts out a text that stands, or found no memory.
 fn put<K: Sink>(sink: &mut K, pushed: Result<(), AllocError>, text: &[u8], whole: Lived) -> Lived
@@ -78,32 +75,56 @@ pub(crate) fn put_disk_there<K: Sink>(alloc: Global, sink: &mut K, path: FilePat
     put(sink, pushed, &out, Lived::AreaFault)
 }
 
-/// Puts out what machines did, by how their script ended.
-pub(crate) fn put_histories<K: Sink>(
+/// Puts a text that stands, or found no memory, behind the pieces that were put out, of which a write failed or none.
+fn put_behind<K: Sink>(
+    sink: &mut K,
+    cut: bool,
+    pushed: Result<(), AllocError>,
+    text: &[u8],
+    whole: Lived,
+) -> Lived
+    ensures { (taken : Option (List ℕ)) → (faults : ℕ) → (pieces : List (Signed (List ℕ))) → (all : List ℕ)
+        → IsPut taken faults (K.taken sink.old) (K.faults sink.old) pieces cut → OnOk pushed (text.now ≡ all)
+        → Puts taken (K.taken sink.new) faults (K.faults sink.new) (flat (entries pieces) ++ all) whole result }
+{
+    if cut {
+        return Lived::WriteFault;
+    }
+    put(sink, pushed, text, whole)
+}
+
+/// Puts out how a run ended, by how its script ended, behind what so many machines told, with so many replies.
+pub(crate) fn put_last<K: Sink>(
     alloc: Global,
     sink: &mut K,
-    header: &Header,
-    histories: &[Seq<Entry>],
+    cut: bool,
+    machines: usize,
+    replies: u64,
     ending: Ending,
     whole: Lived,
 ) -> Lived
-    ensures { Puts (K.taken sink.old) (K.taken sink.new) (K.faults sink.old) (K.faults sink.new) (live_text (begun_along header.now first_numbers.job) histories.now ending) whole result }
+    ensures { (taken : Option (List ℕ)) → (faults : ℕ) → (pieces : List (Signed (List ℕ)))
+        → IsPut taken faults (K.taken sink.old) (K.faults sink.old) pieces cut
+        → Puts taken (K.taken sink.new) faults (K.faults sink.new) (flat (entries pieces) ++ last_text machines replies ending) whole result }
 {
     let mut out = Vec::new(alloc);
-    let pushed = push_live_text(&mut out, header, FIRST_JOB, histories, ending);
-    put(sink, pushed, &out, whole)
+    let pushed = push_last(&mut out, machines, replies, ending);
+    put_behind(sink, cut, pushed, &out, whole)
 }
 
-/// Puts out the case in which records of a machine differ.
+/// Puts out the case in which records of a machine differ, behind what machines told.
 pub(crate) fn put_differ<K: Sink>(
     alloc: Global,
     sink: &mut K,
+    cut: bool,
     machine: usize,
     differ: &LiveDiffer,
 ) -> Lived
-    ensures { Puts (K.taken sink.old) (K.taken sink.new) (K.faults sink.old) (K.faults sink.new) (differ_text machine differ.now) lived.Differs result }
+    ensures { (taken : Option (List ℕ)) → (faults : ℕ) → (pieces : List (Signed (List ℕ)))
+        → IsPut taken faults (K.taken sink.old) (K.faults sink.old) pieces cut
+        → Puts taken (K.taken sink.new) faults (K.faults sink.new) (flat (entries pieces) ++ differ_text machine differ.now) lived.Differs result }
 {
     let mut out = Vec::new(alloc);
     let pushed = push_differ_line(&mut out, machine, differ);
-    put(sink, pushed, &out, Lived::Differs)
+    put_behind(sink, cut, pushed, &out, Lived::Differs)
 }

@@ -5,11 +5,11 @@ ghost use Rattle.sl_world_state.specs.SaneWorlds.{ReadsCommands};
 ghost use Rattle.sl_live_run.specs.Folders.{Asked, IsVacant};
 ghost use Rattle.sl_live_run.specs.Grounds.{IsGroundOf};
 ghost use Rattle.sl_reader.specs.Scopes.{scope_of};
-ghost use Rattle.sl_live_lines.specs.LocksAlong.{begun_along};
+ghost use Rattle.sl_book.specs.declared.signed.Signed.{Signed};
 ghost use Rattle.sl_live_play.specs.LiveOwed.{Owes, PutsEnded, PutsNoEntry, PutsNoGround, PutsStop};
 ghost use Rattle.sl_run.specs.Headers.{IsHeader};
 ghost use Rattle.sl_run.specs.Lawful.{IsSetting};
-ghost use Rattle.sl_run.specs.Worlds.{first_numbers};
+ghost use Rattle.sl_output.specs.Outputs.{IsPut};
 ghost use Rattle.sl_run.specs.declared.header.Header.{Header as HeaderOf};
 ghost use Rattle.sl_reader.specs.HeaderBegins.{HeaderBegins};
 ghost use Rattle.sl_reader.specs.LineReads.{EndStands};
@@ -18,7 +18,7 @@ ghost use Rattle.sl_report.specs.Languages.{whole_language};
 ghost use Rattle.std.specs.Prelude.{All, IfErr, IfOk, List, Option, map, ℕ, ◌≡◌};
 
 use crate::final_lines::{
-    put_area_fault, put_differ, put_disk_there, put_histories, put_in_use, put_refusal,
+    put_area_fault, put_differ, put_disk_there, put_in_use, put_last, put_refusal,
 };
 use sl_cell::Teller;
 use sl_io::{Sink, Source};
@@ -29,8 +29,6 @@ use sl_live_run::{
 use sl_outside::LiveDevices;
 use sl_reader::{LineReader, Origin, ReadError, ScriptEnd, ScriptLines, read_header};
 use sl_run::Header;
-use sl_text::Seq;
-use sl_trace::Entry;
 use std::alloc::Global;
 use std::marker::Brand;
 use std::sync::Wait;
@@ -48,12 +46,12 @@ pub enum Lived {
     ReadFault,
     /// A write failed. What is put out begins what was to be.
     WriteFault,
-    /// There was no memory. Nothing is put out.
+    /// There was no memory. What was put out stays.
     NoMemory,
     /// Another program has the folder, or a disk stands there already; or a disk can't be made, or a sector of an area can't be written before
     /// the threads begin. Which it is is put out.
     AreaFault,
-    /// Records of a machine differ; the case is put out.
+    /// Records of a machine differ; the case is put out behind what machines replied.
     Differs,
 }
 
@@ -64,37 +62,34 @@ fn give_all_back<V: LiveDevices>(disks: Vec<Disks<V::Area>>, devices: &mut V) {
     }
 }
 
-/// Puts out what machines did whose script ended so.
+/// Puts out how a run of so many machines ended whose script ended so, behind what they told, with so many replies.
 fn put_ended<K: Sink>(
     alloc: Global,
     sink: &mut K,
-    header: &Header,
-    histories: &[Seq<Entry>],
+    cut: bool,
+    machines: usize,
+    replies: u64,
     end: Option<ScriptEnd>,
 ) -> Lived
-    ensures { PutsEnded (K.taken sink.old) (K.taken sink.new) (K.faults sink.old) (K.faults sink.new) (begun_along header.now first_numbers.job) histories.now end result }
+    ensures { (taken : Option (List ℕ)) → (faults : ℕ) → (pieces : List (Signed (List ℕ)))
+        → IsPut taken faults (K.taken sink.old) (K.faults sink.old) pieces cut
+        → PutsEnded taken (K.taken sink.new) faults (K.faults sink.new) pieces machines replies end result }
 {
     match end {
         Some(ScriptEnd::End) => {
-            put_histories(alloc, sink, header, histories, Ending::Whole, Lived::Done)
+            put_last(alloc, sink, cut, machines, replies, Ending::Whole, Lived::Done)
         }
-        Some(ScriptEnd::Refused { number, why }) => put_histories(
+        Some(ScriptEnd::Refused { number, why }) => put_last(
             alloc,
             sink,
-            header,
-            histories,
+            cut,
+            machines,
+            replies,
             Ending::Refused { number, why },
             Lived::Refused,
         ),
         Some(ScriptEnd::ReadFault) => {
-            put_histories(
-                alloc,
-                sink,
-                header,
-                histories,
-                Ending::Cut,
-                Lived::ReadFault,
-            )
+            put_last(alloc, sink, cut, machines, replies, Ending::Cut, Lived::ReadFault)
         }
         Some(ScriptEnd::NoMemory) => Lived::NoMemory,
         None => Lived::NoMemory,
@@ -123,20 +118,27 @@ fn put_no_ground<K: Sink>(sink: &mut K, why: NoGround) -> Lived
     }
 }
 
-/// Puts out what came of a run whose script ended so.
+/// Puts out what came of a run whose script ended so, behind what its machines told.
 fn put_run<K: Sink>(
     alloc: Global,
     sink: &mut K,
-    header: &Header,
-    histories: Result<Vec<Seq<Entry>>, LiveStop>,
+    cut: bool,
+    machines: usize,
+    replies: Result<u64, LiveStop>,
     end: Option<ScriptEnd>,
 ) -> Lived
-    ensures ok { IfOk histories (λ hs. PutsEnded (K.taken sink.old) (K.taken sink.new) (K.faults sink.old) (K.faults sink.new) (begun_along header.now first_numbers.job) hs.items end result) }
-    ensures stop { IfErr histories (λ why. PutsStop (K.taken sink.old) (K.taken sink.new) (K.faults sink.old) (K.faults sink.new) why result) }
+    ensures ok { (taken : Option (List ℕ)) → (faults : ℕ) → (pieces : List (Signed (List ℕ)))
+        → IsPut taken faults (K.taken sink.old) (K.faults sink.old) pieces cut
+        → IfOk replies (λ n. PutsEnded taken (K.taken sink.new) faults (K.faults sink.new) pieces machines n end result) }
+    ensures stop { (taken : Option (List ℕ)) → (faults : ℕ) → (pieces : List (Signed (List ℕ)))
+        → IsPut taken faults (K.taken sink.old) (K.faults sink.old) pieces cut
+        → IfErr replies (λ why. PutsStop taken (K.taken sink.new) faults (K.faults sink.new) pieces why result) }
 {
-    match histories {
-        Ok(histories) => put_ended(alloc, sink, header, &histories, end),
-        Err(LiveStop::Differ { machine, differ }) => put_differ(alloc, sink, machine, &differ),
+    match replies {
+        Ok(replies) => put_ended(alloc, sink, cut, machines, replies, end),
+        Err(LiveStop::Differ { machine, differ }) => {
+            put_differ(alloc, sink, cut, machine, &differ)
+        }
         Err(LiveStop::NoMemory) => Lived::NoMemory,
     }
 }
@@ -146,7 +148,7 @@ fn play_as<
     D: Teller + Send,
     J: Origin + Send + Sync,
     S: Source + Send,
-    K: Sink,
+    K: Sink + Send,
     V: LiveDevices,
     R: Threads + Wait + time::Clock + Sync,
 >(
@@ -155,9 +157,9 @@ fn play_as<
     ground: Ground<V>,
     source: S,
     reader: LineReader,
-    sink: &mut K,
+    sink: K,
     devices: &mut V,
-) -> (Lived, S)
+) -> (Lived, S, K)
 where
     V::Area: Send,
     requires header { IsHeader ground.header }
@@ -169,26 +171,32 @@ where
     requires scope { scope_of ground.header ≡ J.scope }
     ensures { (f : Asked) (first : Option (List ℕ)) (h : HeaderOf) → IsGroundOf V.Clock.last V.Spawner.running V.Device.last V.Device.fire V.Area.content h ground
         → HeaderBegins first (S.left source) reader h → IsVacant f h
-        → Owes D.Daemon.stands D.Daemon.commands f first (S.left result.1) (K.taken sink.old) (K.taken sink.new) (S.faults source) (S.faults result.1)
-        (K.faults sink.old) (K.faults sink.new) (V.Devices.faults devices.old) (V.Devices.faults devices.new) result.0 }
+        → Owes D.Daemon.stands D.Daemon.commands f first (S.left result.1) (K.taken sink) (K.taken result.2) (S.faults source) (S.faults result.1)
+        (K.faults sink) (K.faults result.2) (V.Devices.faults devices.old) (V.Devices.faults devices.new) result.0 }
 {
     let mut lines: ScriptLines<S, J> = ScriptLines::new(alloc, source, reader, &ground.header);
-    let (run, header) = run_machines::<D, V, ScriptLines<S, J>, R>(rt, alloc, ground, &mut lines);
+    let (run, _header) =
+        run_machines::<D, V, ScriptLines<S, J>, K, R>(rt, alloc, ground, sink, &mut lines);
     let LiveRun {
-        histories,
+        replies,
+        machines,
+        sink,
+        cut,
         disks,
         ended: _,
     } = run;
+    let mut sink = sink;
     give_all_back::<V>(disks, devices);
     let (source, end) = lines.close();
-    (put_run(alloc, sink, &header, histories, end), source)
+    let lived = put_run(alloc, &mut sink, cut, machines, replies, end);
+    (lived, source, sink)
 }
 
 /// Runs the machines of this ground, beside the lines that are still to be read.
 fn play_ground<
     D: Teller + Send,
     S: Source + Send,
-    K: Sink,
+    K: Sink + Send,
     V: LiveDevices,
     R: Threads + Wait + time::Clock + Sync,
 >(
@@ -197,9 +205,9 @@ fn play_ground<
     ground: Ground<V>,
     source: S,
     reader: LineReader,
-    sink: &mut K,
+    sink: K,
     devices: &mut V,
-) -> (Lived, S)
+) -> (Lived, S, K)
 where
     V::Area: Send,
     requires header { IsHeader ground.header }
@@ -207,8 +215,8 @@ where
     requires ends { EndStands (S.left source) reader }
     ensures { (f : Asked) (first : Option (List ℕ)) (h : HeaderOf) → IsGroundOf V.Clock.last V.Spawner.running V.Device.last V.Device.fire V.Area.content h ground
         → HeaderBegins first (S.left source) reader h → IsVacant f h
-        → Owes D.Daemon.stands D.Daemon.commands f first (S.left result.1) (K.taken sink.old) (K.taken sink.new) (S.faults source) (S.faults result.1)
-        (K.faults sink.old) (K.faults sink.new) (V.Devices.faults devices.old) (V.Devices.faults devices.new) result.0 }
+        → Owes D.Daemon.stands D.Daemon.commands f first (S.left result.1) (K.taken sink) (K.taken result.2) (S.faults source) (S.faults result.1)
+        (K.faults sink) (K.faults result.2) (V.Devices.faults devices.old) (V.Devices.faults devices.new) result.0 }
 {
     play_as::<D, Brand, S, K, V, R>(rt, alloc, ground, source, reader, sink, devices)
 }
@@ -217,7 +225,7 @@ where
 fn play_entered<
     D: Teller + Send,
     S: Source + Send,
-    K: Sink,
+    K: Sink + Send,
     V: LiveDevices,
     R: Threads + Wait + time::Clock + Sync,
 >(
@@ -228,23 +236,26 @@ fn play_entered<
     source: S,
     reader: LineReader,
     header: Header,
-    sink: &mut K,
+    sink: K,
     devices: &mut V,
-) -> (Lived, S)
+) -> (Lived, S, K)
 where
     V::Area: Send,
     requires header { IsHeader header }
     requires reads { (h : HeaderOf) → IsHeader h → ReadsCommands D.Daemon.commands h }
     requires ends { EndStands (S.left source) reader }
     ensures { (f : Asked) (first : Option (List ℕ)) → HeaderBegins first (S.left source) reader header → IsVacant f header
-        → Owes D.Daemon.stands D.Daemon.commands f first (S.left result.1) (K.taken sink.old) (K.taken sink.new) (S.faults source) (S.faults result.1)
-        (K.faults sink.old) (K.faults sink.new) (V.Devices.faults devices.old) (V.Devices.faults devices.new) result.0 }
+        → Owes D.Daemon.stands D.Daemon.commands f first (S.left result.1) (K.taken sink) (K.taken result.2) (S.faults source) (S.faults result.1)
+        (K.faults sink) (K.faults result.2) (V.Devices.faults devices.old) (V.Devices.faults devices.new) result.0 }
 {
     match prepare::<V>(alloc, header, folder, anew, devices) {
         Ok(ground) => {
             play_ground::<D, S, K, V, R>(rt, alloc, ground, source, reader, sink, devices)
         }
-        Err(why) => (put_no_ground(sink, why), source),
+        Err(why) => {
+            let mut sink = sink;
+            (put_no_ground(&mut sink, why), source, sink)
+        }
     }
 }
 
@@ -252,7 +263,7 @@ where
 fn play_header<
     D: Teller + Send,
     S: Source + Send,
-    K: Sink,
+    K: Sink + Send,
     V: LiveDevices,
     R: Threads + Wait + time::Clock + Sync,
 >(
@@ -263,37 +274,41 @@ fn play_header<
     source: S,
     reader: LineReader,
     header: Header,
-    sink: &mut K,
+    sink: K,
     devices: &mut V,
-) -> (Lived, S)
+) -> (Lived, S, K)
 where
     V::Area: Send,
     requires header { IsHeader header }
     requires reads { (h : HeaderOf) → IsHeader h → ReadsCommands D.Daemon.commands h }
     requires ends { EndStands (S.left source) reader }
     ensures { (first : Option (List ℕ)) → HeaderBegins first (S.left source) reader header
-        → Owes D.Daemon.stands D.Daemon.commands (record { path = folder.now; anew = anew; disks = V.Devices.disks devices.old }) first (S.left result.1) (K.taken sink.old) (K.taken sink.new) (S.faults source) (S.faults result.1)
-        (K.faults sink.old) (K.faults sink.new) (V.Devices.faults devices.old) (V.Devices.faults devices.new) result.0 }
+        → Owes D.Daemon.stands D.Daemon.commands (record { path = folder.now; anew = anew; disks = V.Devices.disks devices.old }) first (S.left result.1) (K.taken sink) (K.taken result.2) (S.faults source) (S.faults result.1)
+        (K.faults sink) (K.faults result.2) (V.Devices.faults devices.old) (V.Devices.faults devices.new) result.0 }
 {
     match enter::<V>(alloc, &header, folder, anew, devices) {
         Ok(()) => play_entered::<D, S, K, V, R>(
             rt, alloc, folder, anew, source, reader, header, sink, devices,
         ),
-        Err(why) => (put_no_entry(alloc, sink, why), source),
+        Err(why) => {
+            let mut sink = sink;
+            (put_no_entry(alloc, &mut sink, why), source, sink)
+        }
     }
 }
 
 /// Plays a live script: reads its header from the source, takes the folder, makes its disks there, runs its machines beside each other, gives
-/// them the script's lines as they are read, and puts out what the machines replied, once all have ended.
+/// them the script's lines as they are read, and puts out what the machines reply, as it comes.
 ///
 /// Disks that stand there are made anew if that is said; else the first of them is put out, and nothing is done. So it is where another program
 /// has the folder.
 ///
-/// A machine ends when the script has ended, no child of it runs and nothing of it is unanswered. The source comes back.
+/// A machine ends when the script has ended, no child of it runs and nothing of it is unanswered. The source and the sink come
+/// back.
 pub fn play_live<
     D: Teller + Send,
     S: Source + Send,
-    K: Sink,
+    K: Sink + Send,
     V: LiveDevices,
     R: Threads + Wait + time::Clock + Sync,
 >(
@@ -302,25 +317,28 @@ pub fn play_live<
     folder: &str,
     anew: bool,
     source: S,
-    sink: &mut K,
+    sink: K,
     devices: &mut V,
-) -> (Lived, S)
+) -> (Lived, S, K)
 where
     V::Area: Send,
     requires reads { (h : HeaderOf) → IsHeader h → ReadsCommands D.Daemon.commands h }
     requires headers { HeadersAreGood whole_language }
-    ensures { Owes D.Daemon.stands D.Daemon.commands (record { path = folder.now; anew = anew; disks = V.Devices.disks devices.old }) (S.left source) (S.left result.1) (K.taken sink.old) (K.taken sink.new) (S.faults source) (S.faults result.1)
-        (K.faults sink.old) (K.faults sink.new) (V.Devices.faults devices.old) (V.Devices.faults devices.new) result.0 }
+    ensures { Owes D.Daemon.stands D.Daemon.commands (record { path = folder.now; anew = anew; disks = V.Devices.disks devices.old }) (S.left source) (S.left result.1) (K.taken sink) (K.taken result.2) (S.faults source) (S.faults result.1)
+        (K.faults sink) (K.faults result.2) (V.Devices.faults devices.old) (V.Devices.faults devices.new) result.0 }
 {
     let mut source = source;
     let mut reader = match LineReader::new(alloc) {
         Ok(reader) => reader,
-        Err(_) => return (Lived::NoMemory, source),
+        Err(_) => return (Lived::NoMemory, source, sink),
     };
     match read_header(alloc, &mut source, &mut reader) {
-        Err(ReadError::Failed) => (Lived::ReadFault, source),
-        Err(ReadError::NoMemory) => (Lived::NoMemory, source),
-        Ok(Err((number, why))) => (put_refusal(alloc, sink, number, why), source),
+        Err(ReadError::Failed) => (Lived::ReadFault, source, sink),
+        Err(ReadError::NoMemory) => (Lived::NoMemory, source, sink),
+        Ok(Err((number, why))) => {
+            let mut sink = sink;
+            (put_refusal(alloc, &mut sink, number, why), source, sink)
+        }
         Ok(Ok(header)) => play_header::<D, S, K, V, R>(
             rt, alloc, folder, anew, source, reader, header, sink, devices,
         ),

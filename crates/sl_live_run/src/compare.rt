@@ -1,47 +1,41 @@
-//! A machine's outcome, compared with what the script gave it.
+//! What machines came to, compared with what the script gave them, and what they put out.
 
-ghost use Rattle.sl_live_lines.specs.AuditedHistory.{AreLines, IsAnswered};
-ghost use Rattle.sl_live_lines.specs.LocksAlong.{begun_along};
-ghost use Rattle.sl_live_machine.specs.declared.machine.CloseError.TheVariants.{Differ as Differs};
-ghost use Rattle.sl_live_run.specs.Runs.{AreSettled, HistoryDiffers, IsEarlyStop, IsStopOf, StopsSome, begun_at, first_at, left_case, lines_at, stop_of};
-ghost use Rattle.sl_live_run.specs.declared.compare.LiveDiffer.{LiveDiffer as LiveDifferOf};
-ghost use Rattle.std.specs.Prelude.{Err, IfErr, IfNone, IfOk, IfSome, Ok, Some, slice_get, ◌≡◌};
+ghost use Rattle.sl_book.specs.Closings.{AreBelow, AreExact};
+ghost use Rattle.sl_live_run.specs.Settling.{AreSettled, StopsSome, left_case, settled, settled_early};
+ghost use Rattle.std.specs.Prelude.{IfErr, IfOk, IsTrue, length, ◌<◌, ◌^◌, ◌≡◌};
 
-use crate::script_lines::Given;
+use sl_area::Area;
+use sl_book::{Ledger, Reading, Shelf, check};
 use sl_cell::Differ;
-use sl_live_lines::{GivenLine, LineDiffer, Unanswered, differing_line, first_unanswered};
-use sl_live_machine::CloseError;
-use sl_run::Header;
-use sl_text::Seq;
-use sl_trace::Entry;
-use std::alloc::{AllocError, Global};
+use sl_live_lines::{GivenLine, Left};
+use sl_live_machine::{CloseError, Ran};
+use sl_output::{Front as Pieces, Press, Seat as Writer};
+use std::alloc::AllocError;
 
 /// How a machine's threads, its history and the script differ.
-#[derive(Drop)]
+#[derive(Clone, Copy)]
 pub enum LiveDiffer {
-    /// The threads' records and the history.
+    /// What the threads counted and the history.
     Cell(Differ),
-    /// The line of the entry of this number, counted from 1, is not the one that is due there: the script's next, or the next ask of a line for
-    /// lvmlockd; or the history has no line left, and the number is one past its last entry.
+    /// The line of the entry of this number, counted from 1, is not the one that was due there: the script's next, or the next ask of a line for
+    /// lvmlockd; or the history has no such entry, and one was due.
     Line {
-        number: usize,
-        asked: Option<GivenLine>,
-        due: Option<GivenLine>,
+        number: u64,
     },
     /// A call of the entry of this number is not answered.
     Left {
-        number: usize,
+        number: u64,
         call: u64,
     },
     /// The start of a child, by its number, of the entry of this number is not answered.
     Untold {
-        number: usize,
+        number: u64,
         process: u64,
     },
 }
 
 /// Why a live run has no histories.
-#[derive(Drop)]
+#[derive(Clone, Copy)]
 pub enum LiveStop {
     /// A case that holds of the machine of this number, counted from 1.
     Differ { machine: usize, differ: LiveDiffer },
@@ -59,147 +53,122 @@ impl From<AllocError> for LiveStop {
     }
 }
 
-/// What a machine's run came to: its history, or why there is none.
-pub(crate) type Outcome = Result<Seq<Entry>, CloseError>;
-
-/// The case of a line.
-fn line_case(differ: LineDiffer) -> LiveDiffer
-    ensures { result ≡ LiveDifferOf.Line differ.number differ.asked differ.due }
-{
-    let LineDiffer { number, asked, due } = differ;
-    LiveDiffer::Line { number, asked, due }
+/// What a machine's run comes to, compared with the script.
+#[derive(Clone, Copy)]
+pub(crate) enum Settled {
+    /// Its history is whole, and its lines are the script's.
+    Whole,
+    /// A case holds.
+    Case(LiveDiffer),
+    /// There was no memory.
+    Lost,
 }
 
-/// The case of what is left unanswered.
-fn left_case(left: Unanswered) -> LiveDiffer
-    ensures { result ≡ left_case left }
+/// The case of what is left at the end of a history, behind whose last entry this number comes.
+fn left_case(left: Left, next: u64) -> LiveDiffer
+    ensures { result ≡ left_case left next }
 {
     match left {
-        Unanswered::Call { number, call } => LiveDiffer::Left { number, call },
-        Unanswered::Start { number, process } => LiveDiffer::Untold { number, process },
+        Left::Line => LiveDiffer::Line { number: next },
+        Left::Call { number, call } => LiveDiffer::Left { number, call },
+        Left::Start { number, process } => LiveDiffer::Untold { number, process },
     }
 }
 
-/// How a history differs from what is due, if it does. An `Err` is want of memory.
-#[tactic(auto, using(crate::proofs::CompareLaws::line_differs, crate::proofs::CompareLaws::left_differs))]
-fn differing(
-    alloc: Global,
-    header: &Header,
-    first_job: u64,
-    history: &[Entry],
-    due: &[GivenLine],
-) -> Result<Option<LiveDiffer>, AllocError>
-    ensures none { IfOk result (λ d. IfNone d (AreLines (begun_along header.now first_job) history.now due.now × IsAnswered history.now)) }
-    ensures some { IfOk result (λ d. IfSome d (HistoryDiffers (begun_along header.now first_job) history.now due.now)) }
+/// What a machine comes to that ended so, whose printer has met all of the script's lines, or the first ones; where the history is whole and a line is
+/// left, it is due behind the last entry.
+fn settled(reading: Reading, end: Result<(), CloseError>, next: u64) -> Settled
+    ensures { result ≡ settled reading end next }
 {
-    if let Some(differ) = differing_line(alloc, header, first_job, history, due)? {
-        return Ok(Some(line_case(differ)));
-    }
-    match first_unanswered(alloc, history)? {
-        Some(left) => Ok(Some(left_case(left))),
-        None => Ok(None),
-    }
-}
-
-/// Why there are no histories, where a machine's cell gave none.
-fn stop_of(machine: usize, error: CloseError) -> LiveStop
-    ensures { result ≡ stop_of machine error }
-{
-    match error {
-        CloseError::Differ(differ) => LiveStop::Differ {
-            machine,
-            differ: LiveDiffer::Cell(differ),
+    match end {
+        Err(CloseError::Differ(differ)) => Settled::Case(LiveDiffer::Cell(differ)),
+        Err(CloseError::NoMemory) => Settled::Lost,
+        Err(CloseError::Line { number }) => match reading {
+            Reading::All => Settled::Case(LiveDiffer::Line { number }),
+            Reading::Part => Settled::Case(LiveDiffer::Line { number }),
+            Reading::Apart => Settled::Lost,
         },
-        CloseError::NoMemory => LiveStop::NoMemory,
-    }
-}
-
-/// The history of a machine, counted from 1, if its lines are those due and nothing of it is unanswered.
-#[tactic(auto, using(crate::proofs::CompareLaws::no_history))]
-fn settle(
-    alloc: Global,
-    header: &Header,
-    first_job: u64,
-    machine: usize,
-    outcome: Outcome,
-    due: &[GivenLine],
-) -> Result<Seq<Entry>, LiveStop>
-    ensures ok { IfOk result (λ h. (outcome ≡ Ok h) × AreLines (begun_along header.now first_job) h due.now × IsAnswered h) }
-    ensures err { IfErr result (IsStopOf machine (begun_along header.now first_job) outcome due.now) }
-{
-    match outcome {
-        Ok(history) => match differing(alloc, header, first_job, history.as_slice(), due)? {
-            Some(differ) => Err(LiveStop::Differ { machine, differ }),
-            None => Ok(history),
+        Err(CloseError::Left(left)) => match reading {
+            Reading::All => Settled::Case(left_case(left, next)),
+            Reading::Part => Settled::Case(LiveDiffer::Line { number: next }),
+            Reading::Apart => Settled::Lost,
         },
-        Err(error) => Err(stop_of(machine, error)),
+        Ok(()) => match reading {
+            Reading::All => Settled::Whole,
+            Reading::Part => Settled::Case(LiveDiffer::Line { number: next }),
+            Reading::Apart => Settled::Lost,
+        },
     }
 }
 
-/// The case that the cell of the machine at this place tells, if it tells one.
-fn differ_at(outcomes: &[Outcome], place: usize) -> Option<Differ>
-    ensures { IfSome result (λ d. slice_get outcomes.now place ≡ Some (Err (Differs d))) }
+/// .. that ended too soon, since another machine had no memory or a line that was not due: what is left open then is no case.
+fn settled_early(reading: Reading, end: Result<(), CloseError>) -> Settled
+    ensures { result ≡ settled_early reading end }
 {
-    match outcomes.get(place) {
-        Some(Err(CloseError::Differ(differ))) => Some(*differ),
-        Some(Err(CloseError::NoMemory)) => None,
-        Some(Ok(_)) => None,
-        None => None,
+    match end {
+        Err(CloseError::Differ(differ)) => Settled::Case(LiveDiffer::Cell(differ)),
+        Err(CloseError::Line { number }) => match reading {
+            Reading::All => Settled::Case(LiveDiffer::Line { number }),
+            Reading::Part => Settled::Case(LiveDiffer::Line { number }),
+            Reading::Apart => Settled::Lost,
+        },
+        Err(CloseError::NoMemory) => Settled::Lost,
+        Err(CloseError::Left(_)) => Settled::Lost,
+        Ok(()) => Settled::Lost,
     }
 }
 
-/// Why there are no histories, where threads ended too soon: the first case that a cell tells, or want of memory.
-#[tactic(auto, using(crate::proofs::CompareLaws::cell_early))]
-pub(crate) fn stop_early(outcomes: &[Outcome]) -> LiveStop
-    ensures { IsEarlyStop outcomes.now result }
+/// How many replies all machines were given, the first of which has this place, where all have whole histories. Else the first case, or want of memory.
+#[tactic(auto, using(crate::proofs::CompareLaws::none_settled, crate::proofs::CompareLaws::settled_more, crate::proofs::CompareLaws::stops_here))]
+pub(crate) fn settle_all<O: Press, T: Shelf, A: Area>(
+    ledger: &Ledger<T, GivenLine>,
+    rans: &[Ran<O, T, A>],
+) -> Result<u64, LiveStop>
+    ensures ok { IfOk result (AreSettled ledger.now rans.now) }
+    ensures err { IfErr result (StopsSome ledger.now rans.now) }
 {
-    for place in 0..outcomes.len() {
-        if let Some(differ) = differ_at(outcomes, place) {
+    let mut replies = 0u64;
+    for place in 0..rans.len() {
+        let ran = &rans[place];
+        let next = ran.entries.checked_add(1).ok_or(AllocError)?;
+        match settled(ledger.reading(&ran.reader), ran.end, next) {
+            Settled::Whole => replies = replies.checked_add(ran.replies).ok_or(AllocError)?,
+            Settled::Case(differ) => {
+                return Err(LiveStop::Differ {
+                    machine: place + 1,
+                    differ,
+                });
+            }
+            Settled::Lost => return Err(LiveStop::NoMemory),
+        }
+    }
+    Ok(replies)
+}
+
+/// Why there are no histories, where threads ended too soon: the first case, or want of memory.
+pub(crate) fn stop_early<O: Press, T: Shelf, A: Area>(
+    ledger: &Ledger<T, GivenLine>,
+    rans: &[Ran<O, T, A>],
+) -> LiveStop
+    ensures { StopsSome ledger.now rans.now result }
+{
+    for place in 0..rans.len() {
+        let ran = &rans[place];
+        if let Settled::Case(differ) = settled_early(ledger.reading(&ran.reader), ran.end) {
             return LiveStop::Differ {
                 machine: place + 1,
-                differ: LiveDiffer::Cell(differ),
+                differ,
             };
         }
     }
     LiveStop::NoMemory
 }
 
-/// The number of the first job of the machine at this place.
-fn first_at(firsts: &[u64], place: usize) -> u64
-    ensures { result ≡ first_at firsts.now place }
+/// Whether the pieces that were put out are just those that the machines' printers put.
+pub(crate) fn are_pieces<O: Press>(writers: &[Writer<O>], pieces: &Pieces<O>) -> bool
+    requires { length writers.now < 2 ^ 32 }
+    ensures exact { IsTrue result → AreExact 0 writers.now pieces.now }
+    ensures below { IsTrue result → AreBelow (length writers.now) pieces.now }
 {
-    match firsts.get(place) {
-        Some(first) => *first,
-        None => 0,
-    }
-}
-
-/// The histories of all machines, the first machine first.
-#[tactic(auto, using(crate::proofs::CompareLaws::none_settled, crate::proofs::CompareLaws::settled_more, crate::proofs::CompareLaws::stops_here))]
-pub(crate) fn settle_all(
-    alloc: Global,
-    header: &Header,
-    firsts: &[u64],
-    outcomes: Vec<Outcome>,
-    given: &Given,
-) -> Result<Vec<Seq<Entry>>, LiveStop>
-    ensures ok { IfOk result (λ hs. AreSettled (begun_at header.now firsts.now) outcomes.items given.now hs.items) }
-    ensures err { IfErr result (StopsSome (begun_at header.now firsts.now) outcomes.items given.now) }
-{
-    let mut histories = Vec::new(alloc);
-    for outcome in outcomes {
-        let place = histories.len();
-        let first_job = first_at(firsts, place);
-        let history = settle(
-            alloc,
-            header,
-            first_job,
-            place.saturating_add(1),
-            outcome,
-            given.at(place),
-        )?;
-        histories.reserve(1)?;
-        histories.push_reserved(history);
-    }
-    Ok(histories)
+    check(writers, pieces).is_ok()
 }

@@ -2,15 +2,24 @@
 
 ghost use Rattle.sl_reader.specs.declared.live_lines.LiveLine.{LiveLine as LineOf};
 ghost use Rattle.sl_live_run.specs.Runs.{AreGiven, HasTold};
-ghost use Rattle.std.specs.Prelude.{List, OnOk, [], ◌++◌, ◌≡◌, ℕ};
+ghost use Rattle.std.specs.Prelude.{List, OnOk, [], ◌++◌, ◌∷◌, ◌≡◌, ℕ};
 
-use crate::script_lines::Given;
+use crate::script_lines::given_by;
+use sl_book::{Book, Ledger, Shelf};
 use sl_live_lines::GivenLine;
-use sl_live_machine::{Post, Roll, fail_all};
+use sl_live_machine::{Mail, Post, Roll, fail_all};
 use sl_reader::{LiveLine, LiveLines, NoLine};
 use std::alloc::{AllocError, Global};
 use std::sync::Wait;
 use std::time::Clock;
+
+/// Where the script gives its lines: a post and a mail for each machine, and the book of all that it gave.
+#[derive(Clone, Copy)]
+pub(crate) struct Ways<'a, T: Shelf> {
+    pub posts: &'a [Post],
+    pub mails: &'a [Mail<T>],
+    pub book: &'a Book<T, GivenLine>,
+}
 
 /// The post of the machine of this number, counted from 1, if there is one.
 fn post_of(posts: &[Post], machine: u32) -> Option<&Post> {
@@ -44,25 +53,51 @@ pub(crate) fn has_failed<R: Wait>(rt: &R, posts: &[Post]) -> bool {
     posts.iter().any(|post| post.has_failed(rt))
 }
 
-/// Gives the lines, one after another: why they end, if it is not their end. An `Err` is want of memory, here or of a machine; then no line is
-/// read any more.
-fn give_all<L: LiveLines, R: Wait>(
+/// Notes what a line of the script gives, for the printer of its machine, before it is given. An `Err` is want of memory.
+#[tactic(auto, using(crate::proofs::GivenLaws::some_given, crate::proofs::GivenLaws::none_given))]
+fn note<T: Shelf, R: Wait>(
     rt: &R,
     alloc: Global,
-    posts: &[Post],
+    ways: &Ways<'_, T>,
+    ledger: &mut Ledger<T, GivenLine>,
+    line: &LiveLine,
+) -> Result<(), AllocError>
+    ensures { (ls : List LineOf) → (machines : ℕ) → AreGiven ledger.old machines ls → OnOk result (AreGiven ledger.new machines (ls ++ line.now ∷ [])) }
+{
+    let Some((machine, copy)) = given_by(alloc, line)? else {
+        return Ok(());
+    };
+    if machine == 0 || ledger.places() < machine as usize {
+        return Ok(());
+    }
+    let Ok(posted) = ledger.post(ways.book, machine - 1, copy) else {
+        return Err(AllocError);
+    };
+    match ways.mails.get(machine as usize - 1) {
+        Some(mail) => mail.put(rt, posted),
+        None => Ok(()),
+    }
+}
+
+/// Gives the lines, one after another: why they end, if it is not their end. An `Err` is want of memory, here or of a machine; then no line is
+/// read any more.
+fn give_all<L: LiveLines, T: Shelf, R: Wait>(
+    rt: &R,
+    alloc: Global,
+    ways: &Ways<'_, T>,
     lines: &mut L,
-    given: &mut Given,
+    ledger: &mut Ledger<T, GivenLine>,
 ) -> Result<Option<NoLine>, AllocError>
-    ensures { (machines : ℕ) → AreGiven given.old machines [] → HasTold machines (L.given lines.old) (L.given lines.new) given.new result }
+    ensures { (machines : ℕ) → AreGiven ledger.old machines [] → HasTold machines (L.given lines.old) (L.given lines.new) ledger.new result }
 {
     for _ in rt.forever() {
-        if has_failed(rt, posts) {
+        if has_failed(rt, ways.posts) {
             return Err(AllocError);
         }
         match lines.next() {
             Ok(Some(line)) => {
-                given.keep(alloc, &line)?;
-                give(rt, posts, line)?;
+                note(rt, alloc, ways, ledger, &line)?;
+                give(rt, ways.posts, line)?;
             }
             Ok(None) => return Ok(None),
             Err(NoLine::NoMemory) => return Err(AllocError),
@@ -80,25 +115,25 @@ fn close_all<R: Wait>(rt: &R, posts: &[Post]) {
 }
 
 /// The script's thread, which begins once all threads of the run are there. Where they are not, and where there is no memory, all machines end.
-pub(crate) fn tell<L: LiveLines, R: Wait + Clock>(
+pub(crate) fn tell<L: LiveLines, T: Shelf, R: Wait + Clock>(
     rt: &R,
     alloc: Global,
     roll: &Roll,
-    posts: &[Post],
+    ways: &Ways<'_, T>,
     lines: &mut L,
-    given: &mut Given,
+    ledger: &mut Ledger<T, GivenLine>,
 ) -> Result<Option<NoLine>, AllocError>
-    ensures { (machines : ℕ) → AreGiven given.old machines [] → HasTold machines (L.given lines.old) (L.given lines.new) given.new result }
+    ensures { (machines : ℕ) → AreGiven ledger.old machines [] → HasTold machines (L.given lines.old) (L.given lines.new) ledger.new result }
 {
     if !roll.enter(rt) {
         roll.give_up(rt);
-        fail_all(rt, posts);
+        fail_all(rt, ways.posts);
         return Err(AllocError);
     }
-    let told = give_all(rt, alloc, posts, lines, given);
+    let told = give_all(rt, alloc, ways, lines, ledger);
     match &told {
-        Ok(_) => close_all(rt, posts),
-        Err(_) => fail_all(rt, posts),
+        Ok(_) => close_all(rt, ways.posts),
+        Err(_) => fail_all(rt, ways.posts),
     }
     told
 }

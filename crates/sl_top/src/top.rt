@@ -91,23 +91,23 @@ struct Place {
 }
 
 /// Runs live machines by the script that the source gives, on disks at this place, and puts out what they replied.
-fn live<R: Threads + Wait + Clock + Sync, S: Source + Send, K: Sink, D: LiveDevices>(
+fn live<R: Threads + Wait + Clock + Sync, S: Source + Send, K: Sink + Send, D: LiveDevices>(
     rt: &R,
     alloc: Global,
     place: &Place,
     source: S,
-    sink: &mut K,
+    sink: K,
     devices: &mut D,
-) -> (Status, S)
+) -> (Status, S, K)
 where
     D::Area: Send,
     ensures { RunsLive place.now.folder place.now.anew
-        (record { left = S.left source; source_faults = S.faults source; taken = K.taken sink.old; sink_faults = K.faults sink.old; disks = D.Devices.disks devices.old; device_faults = D.Devices.faults devices.old })
-        (record { left = S.left result.1; source_faults = S.faults result.1; taken = K.taken sink.new; sink_faults = K.faults sink.new; disks = D.Devices.disks devices.new; device_faults = D.Devices.faults devices.new })
+        (record { left = S.left source; source_faults = S.faults source; taken = K.taken sink; sink_faults = K.faults sink; disks = D.Devices.disks devices.old; device_faults = D.Devices.faults devices.old })
+        (record { left = S.left result.1; source_faults = S.faults result.1; taken = K.taken result.2; sink_faults = K.faults result.2; disks = D.Devices.disks devices.new; device_faults = D.Devices.faults devices.new })
         result.0 }
 {
     whole_language_may_play();
-    let (lived, source) = play_live::<LiveHost, S, K, D, R>(
+    let (lived, source, sink) = play_live::<LiveHost, S, K, D, R>(
         rt,
         alloc,
         place.folder.as_str(),
@@ -116,7 +116,7 @@ where
         sink,
         devices,
     );
-    (status_of_live(lived), source)
+    (status_of_live(lived), source, sink)
 }
 
 /// Does what the words say (those behind the program's name), with no handle that waits: so it returns.
@@ -195,41 +195,41 @@ fn live_place(alloc: Global, words: &[String]) -> Result<Option<Place>, AllocErr
     }
 }
 
-/// Does what the words say, and hands the source and the devices back: `live` runs machines by the script that it reads, and all else is done
+/// Does what the words say, and hands the source, the sink and the devices back: `live` runs machines by the script that it reads, and all else is done
 /// as by `run_offline`.
 ///
 /// # Statuses
 /// Those of `run_offline`. `live` ends with `Done` where its script was read to its end, with `Refused` where a line of it is refused, with
 /// `ReadFault` and `WriteFault` only where the source's or the sink's count of faults rose, with `AreaFault` only where the devices' did
-/// before its machines began, as where another program has the folder, or a disk stands there that is not made anew, with `Differs` only where a case holds of a machine, which is put out; `NoMemory` for want of memory, after which
-/// nothing was put out. It returns once its machines have ended, which wait for their children.
-pub fn run<R: Threads + Wait + Clock + Sync, S: Source + Send, K: Sink, D: LiveDevices>(
+/// before its machines began, as where another program has the folder, or a disk stands there that is not made anew, with `Differs` only where a case holds of a machine, which is put out; `NoMemory` for want of memory: what
+/// was put out before stays. It returns once its machines have ended, which wait for their children.
+pub fn run<R: Threads + Wait + Clock + Sync, S: Source + Send, K: Sink + Send, D: LiveDevices>(
     rt: &R,
     alloc: Global,
     words: &[String],
     source: S,
-    sink: &mut K,
+    sink: K,
     devices: D,
-) -> (Status, S, D)
+) -> (Status, S, K, D)
 where
     D::Area: Send,
     ensures owes { Owes (said words.now)
-        (record { left = S.left source; source_faults = S.faults source; taken = K.taken sink.old; sink_faults = K.faults sink.old; disks = D.Devices.disks devices; device_faults = D.Devices.faults devices })
-        (record { left = S.left result.1; source_faults = S.faults result.1; taken = K.taken sink.new; sink_faults = K.faults sink.new; disks = D.Devices.disks result.2; device_faults = D.Devices.faults result.2 })
+        (record { left = S.left source; source_faults = S.faults source; taken = K.taken sink; sink_faults = K.faults sink; disks = D.Devices.disks devices; device_faults = D.Devices.faults devices })
+        (record { left = S.left result.1; source_faults = S.faults result.1; taken = K.taken result.2; sink_faults = K.faults result.2; disks = D.Devices.disks result.3; device_faults = D.Devices.faults result.3 })
         result.0 }
     ensures source { (IsReplay (said words.now) → ⊥) → (IsLive (said words.now) → ⊥) → result.1 ≡ source }
-    ensures devices { (IsDirect (said words.now) → ⊥) → (IsLive (said words.now) → ⊥) → result.2 ≡ devices }
+    ensures devices { (IsDirect (said words.now) → ⊥) → (IsLive (said words.now) → ⊥) → result.3 ≡ devices }
 {
-    let (mut source, mut devices) = (source, devices);
+    let (mut source, mut sink, mut devices) = (source, sink, devices);
     match live_place(alloc, words) {
-        Err(_) => (Status::NoMemory, source, devices),
+        Err(_) => (Status::NoMemory, source, sink, devices),
         Ok(Some(place)) => {
-            let (status, source) = live(rt, alloc, &place, source, sink, &mut devices);
-            (status, source, devices)
+            let (status, source, sink) = live(rt, alloc, &place, source, sink, &mut devices);
+            (status, source, sink, devices)
         }
         Ok(None) => {
-            let status = run_offline(alloc, words, &mut source, sink, &mut devices);
-            (status, source, devices)
+            let status = run_offline(alloc, words, &mut source, &mut sink, &mut devices);
+            (status, source, sink, devices)
         }
     }
 }

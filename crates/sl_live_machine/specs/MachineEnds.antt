@@ -1,0 +1,82 @@
+-- How a machine's run ends.
+use Rattle.sl_book.specs.Logs.{entries}
+use Rattle.sl_book.specs.Mails.{ReaderState}
+use Rattle.sl_book.specs.Seats.{IsMine, SeatState}
+use Rattle.sl_cell.specs.Histories.{trace_of}
+use Rattle.sl_live_lines.specs.AuditedHistory.{AreLines, IsAnswered, IsLeft, KeepsAsks, lines_along}
+use Rattle.sl_live_lines.specs.LiveTexts.{count_replies, history_text}
+use Rattle.sl_live_lines.specs.LocksAlong.{AlongState, along, runs_line}
+use Rattle.sl_live_lines.specs.declared.audit.Left.TheVariants.{Line as LineLeft}
+use Rattle.sl_live_lines.specs.declared.audit.Left.{Left}
+use Rattle.sl_live_lines.specs.declared.given_lines.GivenLine.{GivenLine}
+use Rattle.sl_live_machine.specs.Printing.{IsWrong, PrinterState, lines_read}
+use Rattle.sl_live_machine.specs.ThreadSeats.{IsCaseOfRun, IsRun}
+use Rattle.sl_live_machine.specs.declared.machine.CloseError.TheVariants as close
+use Rattle.sl_live_machine.specs.declared.machine.CloseError.{CloseError}
+use Rattle.sl_live_machine.specs.declared.machine.Ran.{Ran}
+use Rattle.sl_output.specs.Outputs.{flat}
+use Rattle.sl_trace.specs.Traces.{Setting, Trace}
+use Rattle.sl_trace.specs.declared.effects.Entry.{Entry}
+use Rattle.sl_world_state.specs.Daemons.{Stood}
+use Rattle.std.specs.Prelude.{Err, List, Ok, Result, false, length, reverse, true, [], ℕ, ◌+◌, ◌≡◌, ◌⊎◌}
+
+-- What a printer found along the history, where the script's lines that it met are these: nothing, or a case.
+abbrev pub Finds : AlongState → List Entry → List GivenLine → Result Unit CloseError → Type 0
+Finds a h read (Ok u) = AreLines a h read × IsAnswered h
+Finds a h read (Err (close.Line number)) = IsWrong a h read number
+Finds a h read (Err (close.Left left)) = (lines_along a h ≡ read) × KeepsAsks a h × IsLeft a h left
+Finds a h read (Err (close.Differ d)) = ⊥
+Finds a h read (Err close.NoMemory) = ⊥
+
+abbrev pub Checks : AlongState → List Entry → PrinterState → Result Unit CloseError → Type 0
+Checks a h p end = Finds a h (lines_read p.reader) end
+
+-- A whole history of a daemon of this setting.
+pub record IsWhole {D : Type 0} (stands : D → Setting → Trace → Type 0) (st : Setting) (h : List Entry) : Type 0 where
+  pub stood : Stood stands st (reverse h)
+  pub run : IsRun st h
+
+-- A case of a cell, or want of memory, of which nothing is said.
+abbrev pub EndsEarly : Setting → CloseError → Type 0
+EndsEarly st (close.Differ d) = IsCaseOfRun st d
+EndsEarly st (close.Line number) = ⊥
+EndsEarly st (close.Left left) = ⊥
+EndsEarly st close.NoMemory = Unit {0}
+
+-- How a machine ends whose history is this, if it is whole.
+abbrev pub EndsWith : {D : Type 0} → (D → Setting → Trace → Type 0) → Setting → AlongState → List Entry → List GivenLine → Result Unit CloseError → Type 0
+EndsWith stands st a h read (Ok u) = IsWhole stands st h × Finds a h read (Ok u)
+EndsWith stands st a h read (Err (close.Line number)) = IsWhole stands st h × Finds a h read (Err (close.Line number))
+EndsWith stands st a h read (Err (close.Left left)) = IsWhole stands st h × Finds a h read (Err (close.Left left))
+EndsWith stands st a h read (Err (close.Differ d)) = IsCaseOfRun st d
+EndsWith stands st a h read (Err close.NoMemory) = Unit {0}
+
+abbrev pub EndsSo : {D : Type 0} → (D → Setting → Trace → Type 0) → Setting → AlongState → PrinterState → Result Unit CloseError → Type 0
+EndsSo stands st a p end = EndsWith stands st a (entries p.mine) (lines_read p.reader) end
+
+-- The pieces of the writer are what is told of the history, which has so many replies.
+pub record HasTold (a : AlongState) (h : List Entry) (reader : ReaderState GivenLine) (writer : SeatState (List ℕ)) (replies : ℕ) : Type 0 where
+  pub texts : List (List ℕ)
+  pub mine : IsMine writer texts
+  pub text : flat texts ≡ history_text (reader.by + 1) a h
+  pub count : replies ≡ count_replies a h
+
+abbrev pub Told : AlongState → List Entry → ReaderState GivenLine → SeatState (List ℕ) → ℕ → Result Unit CloseError → Type 0
+Told a h reader writer replies (Ok u) = HasTold a h reader writer replies
+Told a h reader writer replies (Err e) = Unit {0}
+
+-- It has so many entries.
+abbrev pub Counts : List Entry → ℕ → Result Unit CloseError → Type 0
+Counts h entries (Ok u) = entries ≡ length h
+Counts h entries (Err (close.Line number)) = entries ≡ length h
+Counts h entries (Err (close.Left left)) = entries ≡ length h
+Counts h entries (Err (close.Differ d)) = Unit {0}
+Counts h entries (Err close.NoMemory) = Unit {0}
+
+-- A machine has run: with a whole history of which all is told; or a case that holds of it, or want of memory.
+pub record HasRun {D O T A : Type 0} (stands : D → Setting → Trace → Type 0) (st : Setting) (a : AlongState) (r : Ran O T A) : Type 0 where
+  pub by : r.writer.by ≡ r.reader.by
+  pub history : List Entry
+  pub ends : EndsWith stands st a history (lines_read r.reader) r.end
+  pub told : Told a history r.reader r.writer r.replies r.end
+  pub counted : Counts history r.entries r.end

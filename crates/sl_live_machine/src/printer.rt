@@ -1,0 +1,245 @@
+//! The thread that puts out what a machine replies, as it comes.
+//!
+//! It takes the entries that the cell hands out, goes along them with fresh locks of lvmlockd, and drops them: what it keeps is what is open. Each
+//! line of the history is compared with the next one that the script gave, or, while a line for lvmlockd runs, with its next ask; where it is another
+//! one, the machines end.
+
+ghost use Rattle.sl_live_lines.specs.LocksAlong.{AlongState};
+ghost use Rattle.sl_live_machine.specs.Printing.{IsPrinting};
+ghost use Rattle.sl_book.specs.Logs.{entries};
+ghost use Rattle.sl_trace.specs.declared.effects.Entry.{Entry as EntryOf};
+ghost use Rattle.std.specs.Prelude.{List, None, OnOk, [], ℕ, ◌++◌, ◌+◌, ◌∷◌, ◌≡◌};
+
+use crate::mail::Mail;
+use crate::room::Room;
+use crate::script_waits::Post;
+use sl_book::{Posted, Reader, Shelf};
+use sl_cell::{Front, Station, Teller};
+use sl_io::Sink;
+use sl_live_lines::{Audit, GivenLine};
+use sl_outside::Spawner;
+use sl_output::{Output, Press, Seat as Writer};
+use sl_text::Seq;
+use sl_trace::Entry;
+use std::alloc::{AllocError, Global};
+use std::marker::Model;
+use std::mem;
+use std::sync::Wait;
+use std::time;
+
+/// Where a machine's printer gets the script's lines, and where it puts out what it tells.
+#[derive(Clone, Copy)]
+pub struct Desk<'a, K: Sink, O: Press, T: Shelf> {
+    pub mail: &'a Mail<T>,
+    pub output: &'a Output<K, O>,
+}
+
+/// A machine's printer: how much of the history it has seen, what it found along it, the script's lines that it met there, the pieces that it put
+/// out, and the text that it has not put out yet, with the jobs whose replies are in it.
+#[derive(Drop)]
+pub(crate) struct Printer<J: Station, O: Press, T: Shelf> {
+    pub mine: Front<J>,
+    pub audit: Audit,
+    pub reader: Reader<T, GivenLine>,
+    pub writer: Writer<O>,
+    text: Vec<u8>,
+    jobs: Vec<u64>,
+    /// The number of the entry whose line is not the one that was due, counted from 1. Behind it nothing is told.
+    pub wrong: Option<u64>,
+}
+
+impl<J: Station, O: Press, T: Shelf> Model for Printer<J, O, T> {
+    ghost use Rattle.sl_live_machine.specs.Printing.{PrinterState};
+
+    ghost Value = { PrinterState };
+
+    ghost view = { λ p. record { mine = p.mine; audit = p.audit; reader = p.reader; writer = p.writer; text = p.text.items; wrong = p.wrong } };
+}
+
+impl<J: Station, O: Press, T: Shelf> Printer<J, O, T> {
+    /// One that has seen this of the history.
+    pub(crate) fn new(
+        alloc: Global,
+        mine: Front<J>,
+        audit: Audit,
+        reader: Reader<T, GivenLine>,
+        writer: Writer<O>,
+    ) -> Printer<J, O, T>
+        ensures { result ≡ record { mine = mine; audit = audit; reader = reader; writer = writer; text = []; wrong = None } }
+    {
+        Printer {
+            mine,
+            audit,
+            reader,
+            writer,
+            text: Vec::new(alloc),
+            jobs: Vec::new(alloc),
+            wrong: None,
+        }
+    }
+
+    /// The script's lines that it met, and the pieces that it put out.
+    pub(crate) fn into_parts(self) -> (Reader<T, GivenLine>, Writer<O>)
+        ensures reader { result.0 ≡ self.reader }
+        ensures writer { result.1 ≡ self.writer }
+    {
+        let Printer {
+            mine: _,
+            audit: _,
+            reader,
+            writer,
+            text: _,
+            jobs: _,
+            wrong: _,
+        } = self;
+        (reader, writer)
+    }
+
+    /// The script's line that is due at this entry, if the entry has one of the script's, and one is there.
+    fn next_line<R: Wait>(
+        &mut self,
+        rt: &R,
+        mail: &Mail<T>,
+        entry: &Entry,
+    ) -> Option<Posted<T, GivenLine>> {
+        if !self.audit.has_own_line(entry) {
+            return None;
+        }
+        let posted = mail.next(rt)?;
+        if self.reader.take(&posted) {
+            Some(posted)
+        } else {
+            None
+        }
+    }
+
+    /// Whether the entry's line, if it has one, is the one that is due, where this is the script's next. An `Err` is want of memory.
+    fn fits(
+        &self,
+        entry: &Entry,
+        next: &Option<Posted<T, GivenLine>>,
+    ) -> Result<bool, AllocError> {
+        match next {
+            Some(posted) => self.audit.fits(entry, Some(posted.element())),
+            None => self.audit.fits(entry, None),
+        }
+    }
+
+    /// Goes on by an entry. After an `Err`, which is want of memory, it is of no use.
+    fn go_on<R: Wait>(
+        &mut self,
+        rt: &R,
+        mail: &Mail<T>,
+        machine: usize,
+        entry: &Entry,
+    ) -> Result<(), AllocError>
+        ensures { (a : AlongState) → (h : List EntryOf) → machine ≡ self.old.reader.by + 1 → IsPrinting a h self.old
+            → OnOk result (IsPrinting a (h ++ entry.now ∷ []) self.new) }
+        ensures mine { self.new.mine ≡ self.old.mine }
+        ensures by { self.new.reader.by ≡ self.old.reader.by }
+    {
+        if self.wrong.is_some() {
+            return Ok(());
+        }
+        let next = self.next_line(rt, mail, entry);
+        if !self.fits(entry, &next)? {
+            self.wrong = Some(self.audit.entries() + 1);
+            return Ok(());
+        }
+        self.audit
+            .step(&mut self.text, &mut self.jobs, machine, entry)
+    }
+
+    /// Goes on by these, one after another.
+    fn go_on_each<R: Wait>(
+        &mut self,
+        rt: &R,
+        mail: &Mail<T>,
+        machine: usize,
+        entries: &[Entry],
+    ) -> Result<(), AllocError>
+        ensures { (a : AlongState) → (h : List EntryOf) → machine ≡ self.old.reader.by + 1 → IsPrinting a h self.old
+            → OnOk result (IsPrinting a (h ++ entries.now) self.new) }
+        ensures mine { self.new.mine ≡ self.old.mine }
+        ensures by { self.new.reader.by ≡ self.old.reader.by }
+    {
+        for index in 0..entries.len() {
+            self.go_on(rt, mail, machine, &entries[index])?;
+        }
+        Ok(())
+    }
+
+    /// Puts out the text that it has. An `Err` is an output of which nobody knows any more what was put there.
+    fn put<K: Sink, R: Wait>(&mut self, rt: &R, output: &Output<K, O>) -> Result<(), AllocError>
+        ensures { (a : AlongState) → (h : List EntryOf) → IsPrinting a h self.old → OnOk result (IsPrinting a h self.new × (self.new.text ≡ [])) }
+        ensures mine { self.new.mine ≡ self.old.mine }
+        ensures by { self.new.reader.by ≡ self.old.reader.by }
+    {
+        if self.text.is_empty() {
+            return Ok(());
+        }
+        let none = Vec::new(*self.text.allocator());
+        let text = mem::replace(&mut self.text, none);
+        match output.put(rt, &mut self.writer, Seq::new(text)) {
+            Ok(()) => Ok(()),
+            Err(_) => Err(AllocError),
+        }
+    }
+
+    /// Takes what the cell hands out, and puts out what is told of it. An `Err` is want of memory, or a history that is longer than the daemon's.
+    pub(crate) fn print<
+        D: Teller,
+        K: Sink,
+        R: Wait,
+        P: Spawner,
+    >(
+        &mut self,
+        rt: &R,
+        room: &Room<D, J, P>,
+        post: &Post,
+        desk: &Desk<'_, K, O, T>,
+    ) -> Result<(), AllocError>
+        ensures { (a : AlongState) → IsPrinting a (entries self.old.mine) self.old → OnOk result (IsPrinting a (entries self.new.mine) self.new × (self.new.text ≡ [])) }
+        ensures by { self.new.reader.by ≡ self.old.reader.by }
+    {
+        let Ok(handed) = room.cell.hand_out(rt, &mut self.mine) else {
+            return Err(AllocError);
+        };
+        let machine = self.reader.by() as usize + 1;
+        self.go_on_each(rt, desk.mail, machine, &handed)?;
+        self.put(rt, desk.output)?;
+        post.printed(rt, &self.jobs);
+        self.jobs.clear();
+        Ok(())
+    }
+}
+
+/// Prints until the machine ends, or a line is not the one due. An `Err` is want of memory, or a history that is longer than the daemon's.
+pub(crate) fn print_replies<
+    D: Teller,
+    J: Station,
+    K: Sink,
+    O: Press,
+    T: Shelf,
+    R: Wait + time::Clock,
+    P: Spawner,
+>(
+    rt: &R,
+    room: &Room<D, J, P>,
+    post: &Post,
+    desk: &Desk<'_, K, O, T>,
+    printer: &mut Printer<J, O, T>,
+) -> Result<(), AllocError>
+    ensures { (a : AlongState) → IsPrinting a (entries printer.old.mine) printer.old → OnOk result (IsPrinting a (entries printer.new.mine) printer.new) }
+    ensures by { printer.new.reader.by ≡ printer.old.reader.by }
+{
+    for _ in rt.forever() {
+        let seen = post.printer.moves(rt);
+        printer.print(rt, room, post, desk)?;
+        if printer.wrong.is_some() || !post.runs(rt) {
+            break;
+        }
+        post.printer.wait_at_most(rt, seen, room.pace.wake);
+    }
+    Ok(())
+}
