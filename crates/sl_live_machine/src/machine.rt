@@ -156,7 +156,7 @@ fn print_last<D: Teller, J: Station, K: Sink, O: Press, T: Shelf, R: Wait, P: Sp
     seats: Result<Vec<Seat<J>>, AllocError>,
 ) -> Result<Vec<Seat<J>>, AllocError>
     ensures seats { IfOk result (λ v. seats ≡ Ok v) }
-    ensures { (a : AlongState) → OnOk printed.old.end (IsPrinting a (entries printed.old.printer.mine) printed.old.printer)
+    ensures goes { (a : AlongState) → OnOk printed.old.end (IsPrinting a (entries printed.old.printer.mine) printed.old.printer)
         → OnOk result (IsPrinting a (entries printed.new.printer.mine) printed.new.printer × (printed.new.printer.text ≡ [])) }
     ensures by { printed.new.printer.reader.by ≡ printed.old.printer.reader.by }
 {
@@ -245,7 +245,7 @@ fn run_room<
     resource: Vec<Disk<A>>,
 ) -> Ran<O, T, A>
     requires setting { IsSetting J.setting }
-    ensures { (a : AlongState) → IsPrinting a (entries printer.mine) printer → HasRun D.Daemon.stands J.setting a result }
+    ensures goes { (a : AlongState) → IsPrinting a (entries printer.mine) printer → HasRun D.Daemon.stands J.setting a result }
     ensures by { result.reader.by ≡ printer.reader.by }
 {
     let (threaded, mut printed) = run_beside(rt, &room, stand, gate, desk, clocks, device, printer, delta, resource);
@@ -307,7 +307,7 @@ pub fn run_machine<
     requires book { opened.seen.book ≡ J.book }
     requires reader { lines_read reader ≡ [] }
     requires writer { (writer.by ≡ reader.by) × (writer.count ≡ 0) }
-    ensures { HasRun D.Daemon.stands J.setting (begun_along header.now site.first.job) result }
+    ensures goes { HasRun D.Daemon.stands J.setting (begun_along header.now site.first.job) result }
     ensures by { result.reader.by ≡ reader.by }
 {
     let Parts {

@@ -19,7 +19,7 @@ use sl_io::Sink;
 use sl_live_lines::{Audit, GivenLine};
 use sl_outside::Spawner;
 use sl_output::{Output, Press, Seat as Writer};
-use sl_text::Seq;
+use sl_text::Bytes;
 use sl_trace::Entry;
 use std::alloc::{AllocError, Global};
 use std::marker::Model;
@@ -133,7 +133,7 @@ impl<J: Station, O: Press, T: Shelf> Printer<J, O, T> {
         machine: usize,
         entry: &Entry,
     ) -> Result<(), AllocError>
-        ensures { (a : AlongState) → (h : List EntryOf) → machine ≡ self.old.reader.by + 1 → IsPrinting a h self.old
+        ensures goes { (a : AlongState) → (h : List EntryOf) → machine ≡ self.old.reader.by + 1 → IsPrinting a h self.old
             → OnOk result (IsPrinting a (h ++ entry.now ∷ []) self.new) }
         ensures mine { self.new.mine ≡ self.old.mine }
         ensures by { self.new.reader.by ≡ self.old.reader.by }
@@ -158,7 +158,7 @@ impl<J: Station, O: Press, T: Shelf> Printer<J, O, T> {
         machine: usize,
         entries: &[Entry],
     ) -> Result<(), AllocError>
-        ensures { (a : AlongState) → (h : List EntryOf) → machine ≡ self.old.reader.by + 1 → IsPrinting a h self.old
+        ensures goes { (a : AlongState) → (h : List EntryOf) → machine ≡ self.old.reader.by + 1 → IsPrinting a h self.old
             → OnOk result (IsPrinting a (h ++ entries.now) self.new) }
         ensures mine { self.new.mine ≡ self.old.mine }
         ensures by { self.new.reader.by ≡ self.old.reader.by }
@@ -171,7 +171,7 @@ impl<J: Station, O: Press, T: Shelf> Printer<J, O, T> {
 
     /// Puts out the text that it has. An `Err` is an output of which nobody knows any more what was put there.
     fn put<K: Sink, R: Wait>(&mut self, rt: &R, output: &Output<K, O>) -> Result<(), AllocError>
-        ensures { (a : AlongState) → (h : List EntryOf) → IsPrinting a h self.old → OnOk result (IsPrinting a h self.new × (self.new.text ≡ [])) }
+        ensures goes { (a : AlongState) → (h : List EntryOf) → IsPrinting a h self.old → OnOk result (IsPrinting a h self.new × (self.new.text ≡ [])) }
         ensures mine { self.new.mine ≡ self.old.mine }
         ensures by { self.new.reader.by ≡ self.old.reader.by }
     {
@@ -180,7 +180,7 @@ impl<J: Station, O: Press, T: Shelf> Printer<J, O, T> {
         }
         let none = Vec::new(*self.text.allocator());
         let text = mem::replace(&mut self.text, none);
-        match output.put(rt, &mut self.writer, Seq::new(text)) {
+        match output.put(rt, &mut self.writer, Bytes::new(text)) {
             Ok(()) => Ok(()),
             Err(_) => Err(AllocError),
         }
@@ -199,7 +199,7 @@ impl<J: Station, O: Press, T: Shelf> Printer<J, O, T> {
         post: &Post,
         desk: &Desk<'_, K, O, T>,
     ) -> Result<(), AllocError>
-        ensures { (a : AlongState) → IsPrinting a (entries self.old.mine) self.old → OnOk result (IsPrinting a (entries self.new.mine) self.new × (self.new.text ≡ [])) }
+        ensures goes { (a : AlongState) → IsPrinting a (entries self.old.mine) self.old → OnOk result (IsPrinting a (entries self.new.mine) self.new × (self.new.text ≡ [])) }
         ensures by { self.new.reader.by ≡ self.old.reader.by }
     {
         let Ok(handed) = room.cell.hand_out(rt, &mut self.mine) else {
@@ -230,7 +230,7 @@ pub(crate) fn print_replies<
     desk: &Desk<'_, K, O, T>,
     printer: &mut Printer<J, O, T>,
 ) -> Result<(), AllocError>
-    ensures { (a : AlongState) → IsPrinting a (entries printer.old.mine) printer.old → OnOk result (IsPrinting a (entries printer.new.mine) printer.new) }
+    ensures goes { (a : AlongState) → IsPrinting a (entries printer.old.mine) printer.old → OnOk result (IsPrinting a (entries printer.new.mine) printer.new) }
     ensures by { printer.new.reader.by ≡ printer.old.reader.by }
 {
     for _ in rt.forever() {

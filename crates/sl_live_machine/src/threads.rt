@@ -474,7 +474,7 @@ fn printer_end<
     desk: &Desk<'_, K, O, T>,
     printer: &mut Printer<J, O, T>,
 ) -> Result<(), AllocError>
-    ensures { (a : AlongState) → IsPrinting a (entries printer.old.mine) printer.old → OnOk result (IsPrinting a (entries printer.new.mine) printer.new) }
+    ensures goes { (a : AlongState) → IsPrinting a (entries printer.old.mine) printer.old → OnOk result (IsPrinting a (entries printer.new.mine) printer.new) }
     ensures by { printer.new.reader.by ≡ printer.old.reader.by }
 {
     stand.enter(rt)?;
@@ -497,7 +497,7 @@ pub(crate) fn printer_thread<
     desk: &Desk<'_, K, O, T>,
     printer: Printer<J, O, T>,
 ) -> Printed<J, O, T>
-    ensures { (a : AlongState) → IsPrinting a (entries printer.mine) printer → OnOk result.end (IsPrinting a (entries result.printer.mine) result.printer) }
+    ensures goes { (a : AlongState) → IsPrinting a (entries printer.mine) printer → OnOk result.end (IsPrinting a (entries result.printer.mine) result.printer) }
     ensures by { result.printer.reader.by ≡ printer.reader.by }
 {
     let mut printer = printer;

@@ -114,7 +114,7 @@ fn run_as<
     requires site { J.setting ≡ begun_with D.Daemon.commands shared.now.header work.site }
     requires book { opened.seen.book ≡ J.book }
     requires fresh { IsFresh work }
-    ensures { HasRun D.Daemon.stands J.setting (begun_along shared.now.header work.site.first.job) result }
+    ensures goes { HasRun D.Daemon.stands J.setting (begun_along shared.now.header work.site.first.job) result }
     ensures by { result.reader.by ≡ work.reader.by }
 {
     let (Some(post), Some(mail)) = (shared.posts.get(place), shared.mails.get(place)) else {
@@ -175,7 +175,7 @@ fn run_work<
     requires header { IsHeader shared.now.header }
     requires setting { IsSetting (begun_with D.Daemon.commands shared.now.header work.site) }
     requires fresh { IsFresh work }
-    ensures { HasRun D.Daemon.stands (begun_with D.Daemon.commands shared.now.header work.site) (begun_along shared.now.header work.site.first.job) result }
+    ensures goes { HasRun D.Daemon.stands (begun_with D.Daemon.commands shared.now.header work.site) (begun_along shared.now.header work.site.first.job) result }
     ensures by { result.reader.by ≡ work.reader.by }
 {
     run_as::<D, Brand, K, O, T, R, C, P, V, A, G>(
