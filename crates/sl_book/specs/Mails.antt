@@ -1,8 +1,11 @@
 -- A log that one writes, and others read their own elements of.
 use Rattle.sl_book.specs.Books.{IsLonger}
 use Rattle.sl_book.specs.Logs.{given_by}
+use Rattle.sl_book.specs.declared.mail.Reading.TheVariants.{All, Apart, Part}
+use Rattle.sl_book.specs.declared.mail.Reading.{Reading}
 use Rattle.sl_book.specs.declared.signed.Signed.{Signed}
 use Rattle.std.specs.Prelude.{List, length, [], ℕ, ◌++◌, ◌+◌, ◌<◌, ◌∷◌, ◌≡◌, ◌≤◌, ◌⊎◌}
+use mathlib.Core.List.{IsPrefix}
 
 -- These are how many elements of each number the log has, counted from k.
 abbrev pub AreCounts : {E : Type 0} → ℕ → List ℕ → List (Signed E) → Type 0
@@ -38,6 +41,8 @@ pub record IsNext {E : Type 0} (r : ReaderState E) (p : PostedState E) : Type 0 
   pub longer : IsLonger r.front p.front
   pub given : given_by r.by p.front ≡ given_by r.by r.front ++ record { by = p.by; entry = p.element } ∷ []
 
--- The elements of the reader's number are not counted, or it has seen more than this log, or not all of its number.
-abbrev pub IsUnread : {E : Type 0} → ReaderState E → LedgerState E → Type 0
-IsUnread r l = (l.places ≤ r.by) ⊎ ((length l.front < length r.front) ⊎ (length (given_by r.by r.front) < length (given_by r.by l.front)))
+-- How much of the elements of its number a reader has read: all, the first ones and not all; or they are not counted, or it has seen more than this log.
+abbrev pub IsReading : {E : Type 0} → Reading → ReaderState E → LedgerState E → Type 0
+IsReading All r l = IsPrefix r.front l.front × (given_by r.by r.front ≡ given_by r.by l.front)
+IsReading Part r l = IsPrefix r.front l.front × (length (given_by r.by r.front) < length (given_by r.by l.front))
+IsReading Apart r l = (l.places ≤ r.by) ⊎ (length l.front < length r.front)

@@ -17,7 +17,7 @@ mod signed;
 
 pub use book::{Book, Front, Opened};
 pub use closing::{Miscount, check};
-pub use mail::{Broken, Ledger, Posted, Reader};
+pub use mail::{Broken, Ledger, Posted, Reader, Reading};
 pub use seat::Seat;
 pub use shelf::Shelf;
 pub use signed::Signed;

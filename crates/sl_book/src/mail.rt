@@ -5,7 +5,7 @@
 //! has read are the first so many of them, whatever way they came. Whether that is all of them is told by the counts.
 
 ghost use Rattle.sl_book.specs.Logs.{entries, given_by};
-ghost use Rattle.sl_book.specs.Mails.{IsNext, IsUnread};
+ghost use Rattle.sl_book.specs.Mails.{IsNext, IsReading};
 ghost use Rattle.std.specs.Prelude.{IfOk, IsFalse, IsTrue, OnErr, OnOk, length, replicate, slice_get, slice_set, [], ◌++◌, ◌+◌, ◌<◌, ◌^◌, ◌∷◌, ◌≡◌, ◌≤◌, ◌⊎◌};
 
 use crate::book::{Book, Front};
@@ -17,6 +17,17 @@ use std::marker::Model;
 /// The log is longer than what was seen of it, or there is no place for more.
 #[derive(Clone, Copy)]
 pub struct Broken;
+
+/// How much of the elements of its number a reader has read.
+#[derive(Clone, Copy)]
+pub enum Reading {
+    /// All of them.
+    All,
+    /// The first ones, and not all.
+    Part,
+    /// They are not counted, or the reader has seen more of the log than the ledger.
+    Apart,
+}
 
 /// A ledger posts no more behind so many elements.
 const MOST_POSTED: u64 = 1 << 60;
@@ -50,6 +61,13 @@ impl Counts {
         ensures { result ≡ slice_get self.now by }
     {
         self.counts.get(by as usize).copied()
+    }
+
+    /// How many numbers are counted.
+    fn len(&self) -> usize
+        ensures { result ≡ length self.now }
+    {
+        self.counts.len()
     }
 
     /// There are so many of this number now.
@@ -173,15 +191,28 @@ impl<J: Shelf, E> Ledger<J, E> {
         })
     }
 
-    /// Whether the reader has read all elements of its number.
-    pub fn is_read(&self, reader: &Reader<J, E>) -> bool
-        ensures all { IsTrue result → given_by reader.now.by reader.now.front ≡ given_by reader.now.by self.now.front }
-        ensures left { IsFalse result → IsUnread reader.now self.now }
+    /// For how many numbers it counts: those below this one.
+    pub fn places(&self) -> usize
+        ensures { result ≡ self.now.places }
+    {
+        self.counts.len()
+    }
+
+    /// How much of the elements of its number a reader has read.
+    pub fn reading(&self, reader: &Reader<J, E>) -> Reading
+        ensures { IsReading result reader.now self.now }
     {
         let Some(count) = self.counts.get(reader.by) else {
-            return false;
+            return Reading::Apart;
         };
-        reader.front.is_behind(&self.front) && reader.count == count
+        if !reader.front.is_behind(&self.front) {
+            return Reading::Apart;
+        }
+        if reader.count == count {
+            Reading::All
+        } else {
+            Reading::Part
+        }
     }
 }
 

@@ -14,7 +14,7 @@ use Rattle.sl_live_machine.specs.ThreadSeats.{IsCaseOfRun, IsRun}
 use Rattle.sl_live_machine.specs.declared.machine.CloseError.TheVariants as close
 use Rattle.sl_live_machine.specs.declared.machine.CloseError.{CloseError}
 use Rattle.sl_live_machine.specs.declared.machine.Ran.{Ran}
-use Rattle.sl_output.specs.Outputs.{flat}
+use Rattle.std.specs.List.{concat}
 use Rattle.sl_trace.specs.Traces.{Setting, Trace}
 use Rattle.sl_trace.specs.declared.effects.Entry.{Entry}
 use Rattle.sl_world_state.specs.Daemons.{Stood}
@@ -58,7 +58,7 @@ EndsSo stands st a p end = EndsWith stands st a (entries p.mine) (lines_read p.r
 pub record HasTold (a : AlongState) (h : List Entry) (reader : ReaderState GivenLine) (writer : SeatState (List ℕ)) (replies : ℕ) : Type 0 where
   pub texts : List (List ℕ)
   pub mine : IsMine writer texts
-  pub text : flat texts ≡ history_text (reader.by + 1) a h
+  pub text : concat texts ≡ history_text (reader.by + 1) a h
   pub count : replies ≡ count_replies a h
 
 abbrev pub Told : AlongState → List Entry → ReaderState GivenLine → SeatState (List ℕ) → ℕ → Result Unit CloseError → Type 0

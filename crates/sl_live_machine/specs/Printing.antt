@@ -9,7 +9,7 @@ use Rattle.sl_live_lines.specs.LocksAlong.{AlongState, along, due_ask, line_give
 use Rattle.sl_live_lines.specs.declared.audit.Audit.{Audit}
 use Rattle.sl_live_lines.specs.declared.given_lines.GivenLine.{GivenLine}
 use Rattle.sl_trace.specs.declared.effects.Entry.{Entry}
-use Rattle.sl_output.specs.Outputs.{flat}
+use Rattle.std.specs.List.{concat}
 use Rattle.std.specs.Option.{option_to_list}
 use Rattle.std.specs.Prelude.{List, None, Option, Some, if◌then◌else◌, length, [], ℕ, ◌++◌, ◌+◌, ◌∷◌, ◌≡◌}
 
@@ -52,4 +52,4 @@ pub record IsPrinting (a : AlongState) (h : List Entry) (p : PrinterState) : Typ
   pub by : p.writer.by ≡ p.reader.by
   pub texts : List (List ℕ)
   pub mine : IsMine p.writer texts
-  pub goes : Goes a h p (flat texts ++ p.text) p.wrong
+  pub goes : Goes a h p (concat texts ++ p.text) p.wrong

@@ -15,11 +15,9 @@ use Rattle.sl_live_play.specs.declared.play.Lived.{Lived}
 use Rattle.sl_reader.specs.ScriptReading.{ReadsScript}
 use Rattle.sl_reader.specs.declared.script_reading.ScriptEnd.TheVariants as script
 use Rattle.sl_reader.specs.declared.script_reading.ScriptEnd.{ScriptEnd}
-use Rattle.sl_book.specs.Logs.{entries}
-use Rattle.sl_book.specs.declared.signed.Signed.{Signed}
 use Rattle.sl_live_lines.specs.LiveTexts.{IsWoven, count_replies, last_text}
 use Rattle.sl_live_lines.specs.declared.live_texts.Ending.{Ending}
-use Rattle.sl_output.specs.Outputs.{flat}
+use Rattle.sl_output.specs.Pieces.{Piece, text_of}
 use Rattle.std.specs.List.{sum_by}
 use Rattle.sl_live_lines.specs.declared.live_texts.Ending.TheVariants as ending
 use Rattle.sl_live_run.specs.Runs.{AreLiveHistories, LiveCaseOf}
@@ -61,8 +59,8 @@ pub record Lives {D : Type 0} (stands : D → Setting → Trace → Type 0) (com
   pub histories : AreLiveHistories stands commands begun.header begun.sites [] given hs
 
 -- What is put out of such histories: pieces, of which each machine's are what is told of its history, and how the script ended.
-abbrev pub told_text : AlongState → List (List Entry) → List (Signed (List ℕ)) → Ending → List ℕ
-told_text a hs pieces e = flat (entries pieces) ++ last_text (length hs) (sum_by (count_replies a) hs) e
+abbrev pub told_text : AlongState → List (List Entry) → List Piece → Ending → List ℕ
+told_text a hs pieces e = text_of pieces ++ last_text (length hs) (sum_by (count_replies a) hs) e
 
 -- lvmlockd's locks on each machine, before the first entry.
 abbrev pub first_locks : Header → AlongState
@@ -93,21 +91,21 @@ disk_there_text path = codes "disk there " ++ path ++ 10 ∷ []
 pub data Due {D : Type 0} (stands : D → Setting → Trace → Type 0) (commands : Header → List (Form Command)) (f : Asked) (left after : Option (List ℕ))
     (faults later device_faults device_later : ℕ) : List ℕ → Lived → Type 0 where
   -- the script was read to its end
-  Ends : (h : Header) (given : List LiveLine) (hs : List (List Entry)) (pieces : List (Signed (List ℕ))) → ReadsScript left after faults later h given (Some script.End)
+  Ends : (h : Header) (given : List LiveLine) (hs : List (List Entry)) (pieces : List Piece) → ReadsScript left after faults later h given (Some script.End)
       → Lives stands commands h given hs → IsWoven (first_locks h) hs pieces → IsVacant f h
       → Due stands commands f left after faults later device_faults device_later (told_text (first_locks h) hs pieces ending.Whole) Done
   -- a line of its header is refused
   Stops_early : (r : ReaderState) (number : ℕ) (why : Refusal) → HeaderStops left after r number why
       → Due stands commands f left after faults later device_faults device_later (as_bytes (refusal_line number why ∷ [])) Refused
   -- .. or a line behind it
-  Stops : (h : Header) (given : List LiveLine) (hs : List (List Entry)) (pieces : List (Signed (List ℕ))) (number : ℕ) (why : Refusal)
+  Stops : (h : Header) (given : List LiveLine) (hs : List (List Entry)) (pieces : List Piece) (number : ℕ) (why : Refusal)
       → ReadsScript left after faults later h given (Some (script.Refused number why)) → Lives stands commands h given hs → IsWoven (first_locks h) hs pieces → IsVacant f h
       → Due stands commands f left after faults later device_faults device_later (told_text (first_locks h) hs pieces (ending.Refused number why)) Refused
   -- a read failed within the header
   Breaks_early : HeaderBreaks left after → Rose faults later
       → Due stands commands f left after faults later device_faults device_later [] ReadFault
   -- .. or behind it: what the machines did is put out
-  Breaks : (h : Header) (given : List LiveLine) (hs : List (List Entry)) (pieces : List (Signed (List ℕ))) → ReadsScript left after faults later h given (Some script.ReadFault)
+  Breaks : (h : Header) (given : List LiveLine) (hs : List (List Entry)) (pieces : List Piece) → ReadsScript left after faults later h given (Some script.ReadFault)
       → Lives stands commands h given hs → IsWoven (first_locks h) hs pieces → IsVacant f h
       → Due stands commands f left after faults later device_faults device_later (told_text (first_locks h) hs pieces ending.Cut) ReadFault
   -- a disk can't be made, or a sector of an area can't be written before the threads begin
@@ -145,17 +143,17 @@ abbrev pub PutsPart : Option (List ℕ) → Option (List ℕ) → Type 0
 PutsPart taken now = (part : List ℕ) × Appends taken now part
 
 -- What was put out of so many machines behind these pieces, which have so many replies, whose script ended so; and how the play then ended.
-abbrev pub PutsEnded : Option (List ℕ) → Option (List ℕ) → ℕ → ℕ → List (Signed (List ℕ)) → ℕ → ℕ → Option ScriptEnd → Lived → Type 0
-PutsEnded taken now faults later ps machines replies (Some script.End) s = Puts taken now faults later (flat (entries ps) ++ last_text machines replies ending.Whole) Done s
+abbrev pub PutsEnded : Option (List ℕ) → Option (List ℕ) → ℕ → ℕ → List Piece → ℕ → ℕ → Option ScriptEnd → Lived → Type 0
+PutsEnded taken now faults later ps machines replies (Some script.End) s = Puts taken now faults later (text_of ps ++ last_text machines replies ending.Whole) Done s
 PutsEnded taken now faults later ps machines replies (Some (script.Refused number why)) s =
-    Puts taken now faults later (flat (entries ps) ++ last_text machines replies (ending.Refused number why)) Refused s
-PutsEnded taken now faults later ps machines replies (Some script.ReadFault) s = Puts taken now faults later (flat (entries ps) ++ last_text machines replies ending.Cut) ReadFault s
+    Puts taken now faults later (text_of ps ++ last_text machines replies (ending.Refused number why)) Refused s
+PutsEnded taken now faults later ps machines replies (Some script.ReadFault) s = Puts taken now faults later (text_of ps ++ last_text machines replies ending.Cut) ReadFault s
 PutsEnded taken now faults later ps machines replies (Some script.NoMemory) s = (s ≡ NoMemory) × PutsPart taken now
 PutsEnded taken now faults later ps machines replies None s = (s ≡ NoMemory) × PutsPart taken now
 
 -- .. of why there are no histories.
-abbrev pub PutsStop : Option (List ℕ) → Option (List ℕ) → ℕ → ℕ → List (Signed (List ℕ)) → LiveStop → Lived → Type 0
-PutsStop taken now faults later ps (stop.Differ machine d) s = Puts taken now faults later (flat (entries ps) ++ differ_text machine d) Differs s
+abbrev pub PutsStop : Option (List ℕ) → Option (List ℕ) → ℕ → ℕ → List Piece → LiveStop → Lived → Type 0
+PutsStop taken now faults later ps (stop.Differ machine d) s = Puts taken now faults later (text_of ps ++ differ_text machine d) Differs s
 PutsStop taken now faults later ps stop.NoMemory s = (s ≡ NoMemory) × PutsPart taken now
 
 -- .. where a run can't begin.

@@ -3,10 +3,9 @@
 ghost use Rattle.sl_live_play.specs.DifferenceLines.{differ_text};
 ghost use Rattle.sl_live_play.specs.LiveOwed.{Puts, area_fault_text, disk_there_text, in_use_text};
 ghost use Rattle.sl_live_play.specs.declared.play.Lived.TheVariants as lived;
-ghost use Rattle.sl_book.specs.Logs.{entries};
-ghost use Rattle.sl_book.specs.declared.signed.Signed.{Signed};
 ghost use Rattle.sl_live_lines.specs.LiveTexts.{last_text};
-ghost use Rattle.sl_output.specs.Outputs.{IsPut, flat};
+ghost use Rattle.sl_output.specs.Outputs.{IsPut};
+ghost use Rattle.sl_output.specs.Pieces.{Piece, text_of};
 ghost use Rattle.sl_report.specs.RefusalLines.{refusal_line};
 ghost use Rattle.sl_text.specs.Forms.{as_bytes};
 ghost use Rattle.std.specs.Prelude.{List, OnOk, Option, [], ℕ, ◌++◌, ◌∷◌, ◌≡◌};
@@ -83,9 +82,9 @@ fn put_behind<K: Sink>(
     text: &[u8],
     whole: Lived,
 ) -> Lived
-    ensures { (taken : Option (List ℕ)) → (faults : ℕ) → (pieces : List (Signed (List ℕ))) → (all : List ℕ)
-        → IsPut taken faults (K.taken sink.old) (K.faults sink.old) pieces cut → OnOk pushed (text.now ≡ all)
-        → Puts taken (K.taken sink.new) faults (K.faults sink.new) (flat (entries pieces) ++ all) whole result }
+    ensures { (taken : Option (List ℕ)) → (faults : ℕ) → (pieces : List Piece) → (all : List ℕ)
+        → IsPut taken (K.taken sink.old) faults (K.faults sink.old) pieces cut → OnOk pushed (text.now ≡ all)
+        → Puts taken (K.taken sink.new) faults (K.faults sink.new) (text_of pieces ++ all) whole result }
 {
     if cut {
         return Lived::WriteFault;
@@ -103,9 +102,9 @@ pub(crate) fn put_last<K: Sink>(
     ending: Ending,
     whole: Lived,
 ) -> Lived
-    ensures { (taken : Option (List ℕ)) → (faults : ℕ) → (pieces : List (Signed (List ℕ)))
-        → IsPut taken faults (K.taken sink.old) (K.faults sink.old) pieces cut
-        → Puts taken (K.taken sink.new) faults (K.faults sink.new) (flat (entries pieces) ++ last_text machines replies ending) whole result }
+    ensures { (taken : Option (List ℕ)) → (faults : ℕ) → (pieces : List Piece)
+        → IsPut taken (K.taken sink.old) faults (K.faults sink.old) pieces cut
+        → Puts taken (K.taken sink.new) faults (K.faults sink.new) (text_of pieces ++ last_text machines replies ending) whole result }
 {
     let mut out = Vec::new(alloc);
     let pushed = push_last(&mut out, machines, replies, ending);
@@ -120,9 +119,9 @@ pub(crate) fn put_differ<K: Sink>(
     machine: usize,
     differ: &LiveDiffer,
 ) -> Lived
-    ensures { (taken : Option (List ℕ)) → (faults : ℕ) → (pieces : List (Signed (List ℕ)))
-        → IsPut taken faults (K.taken sink.old) (K.faults sink.old) pieces cut
-        → Puts taken (K.taken sink.new) faults (K.faults sink.new) (flat (entries pieces) ++ differ_text machine differ.now) lived.Differs result }
+    ensures { (taken : Option (List ℕ)) → (faults : ℕ) → (pieces : List Piece)
+        → IsPut taken (K.taken sink.old) faults (K.faults sink.old) pieces cut
+        → Puts taken (K.taken sink.new) faults (K.faults sink.new) (text_of pieces ++ differ_text machine differ.now) lived.Differs result }
 {
     let mut out = Vec::new(alloc);
     let pushed = push_differ_line(&mut out, machine, differ);

@@ -5,11 +5,11 @@ ghost use Rattle.sl_world_state.specs.SaneWorlds.{ReadsCommands};
 ghost use Rattle.sl_live_run.specs.Folders.{Asked, IsVacant};
 ghost use Rattle.sl_live_run.specs.Grounds.{IsGroundOf};
 ghost use Rattle.sl_reader.specs.Scopes.{scope_of};
-ghost use Rattle.sl_book.specs.declared.signed.Signed.{Signed};
 ghost use Rattle.sl_live_play.specs.LiveOwed.{Owes, PutsEnded, PutsNoEntry, PutsNoGround, PutsStop};
 ghost use Rattle.sl_run.specs.Headers.{IsHeader};
 ghost use Rattle.sl_run.specs.Lawful.{IsSetting};
 ghost use Rattle.sl_output.specs.Outputs.{IsPut};
+ghost use Rattle.sl_output.specs.Pieces.{Piece};
 ghost use Rattle.sl_run.specs.declared.header.Header.{Header as HeaderOf};
 ghost use Rattle.sl_reader.specs.HeaderBegins.{HeaderBegins};
 ghost use Rattle.sl_reader.specs.LineReads.{EndStands};
@@ -71,8 +71,8 @@ fn put_ended<K: Sink>(
     replies: u64,
     end: Option<ScriptEnd>,
 ) -> Lived
-    ensures { (taken : Option (List ℕ)) → (faults : ℕ) → (pieces : List (Signed (List ℕ)))
-        → IsPut taken faults (K.taken sink.old) (K.faults sink.old) pieces cut
+    ensures { (taken : Option (List ℕ)) → (faults : ℕ) → (pieces : List Piece)
+        → IsPut taken (K.taken sink.old) faults (K.faults sink.old) pieces cut
         → PutsEnded taken (K.taken sink.new) faults (K.faults sink.new) pieces machines replies end result }
 {
     match end {
@@ -127,11 +127,11 @@ fn put_run<K: Sink>(
     replies: Result<u64, LiveStop>,
     end: Option<ScriptEnd>,
 ) -> Lived
-    ensures ok { (taken : Option (List ℕ)) → (faults : ℕ) → (pieces : List (Signed (List ℕ)))
-        → IsPut taken faults (K.taken sink.old) (K.faults sink.old) pieces cut
+    ensures ok { (taken : Option (List ℕ)) → (faults : ℕ) → (pieces : List Piece)
+        → IsPut taken (K.taken sink.old) faults (K.faults sink.old) pieces cut
         → IfOk replies (λ n. PutsEnded taken (K.taken sink.new) faults (K.faults sink.new) pieces machines n end result) }
-    ensures stop { (taken : Option (List ℕ)) → (faults : ℕ) → (pieces : List (Signed (List ℕ)))
-        → IsPut taken faults (K.taken sink.old) (K.faults sink.old) pieces cut
+    ensures stop { (taken : Option (List ℕ)) → (faults : ℕ) → (pieces : List Piece)
+        → IsPut taken (K.taken sink.old) faults (K.faults sink.old) pieces cut
         → IfErr replies (λ why. PutsStop taken (K.taken sink.new) faults (K.faults sink.new) pieces why result) }
 {
     match replies {

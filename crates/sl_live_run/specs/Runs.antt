@@ -1,16 +1,16 @@
 -- What a live run leaves: histories that daemons stood for, whose lines are the script's; or a case that holds of a machine.
 use Rattle.sl_book.specs.Logs.{entries, given_by as given_in}
 use Rattle.sl_book.specs.Mails.{LedgerState}
-use Rattle.sl_book.specs.declared.signed.Signed.{Signed}
 use Rattle.sl_live_lines.specs.AuditedHistory.{AreLines, IsAnswered, IsUnanswered, LineDiffers}
 use Rattle.sl_book.specs.Closings.{AreBelow}
-use Rattle.sl_live_lines.specs.LiveTexts.{count_replies, history_text, text_by}
+use Rattle.sl_live_lines.specs.LiveTexts.{count_replies, history_text}
 use Rattle.sl_live_machine.specs.MachineEnds.{HasRun, IsWhole}
 use Rattle.sl_live_machine.specs.Printing.{lines_read}
 use Rattle.sl_live_machine.specs.ThreadSeats.{IsCaseOfRun}
 use Rattle.sl_live_run.specs.declared.machine_runs.Work.{Work}
 use Rattle.sl_live_run.specs.declared.run.LiveRun.{LiveRun}
 use Rattle.sl_output.specs.Outputs.{IsPut}
+use Rattle.sl_output.specs.Pieces.{Piece, text_by}
 use Rattle.sl_world_state.specs.Daemons.{Stood, begun_with}
 use Rattle.sl_world_state.specs.declared.daemon.Site.{Site}
 use Rattle.sl_live_lines.specs.declared.audit.Left.TheVariants.{Call as CallLeft, Start as StartLeft}
@@ -134,7 +134,7 @@ IsLiveStop stands commands header sites before after (Differ machine d) = LiveCa
 IsLiveStop stands commands header sites before after NoMemory = Unit {0}
 
 -- The pieces of a place are what is told of this history.
-abbrev pub IsTold : AlongState → ℕ → List Entry → List (Signed (List ℕ)) → Type 0
+abbrev pub IsTold : AlongState → ℕ → List Entry → List Piece → Type 0
 IsTold a place h pieces = text_by place pieces ≡ history_text (place + 1) a h
 
 -- How many replies these histories have, of machines with these sites.
@@ -145,7 +145,7 @@ replies_of header (s ∷ ss) (h ∷ hs) = count_replies (begun_on header s) h + 
 
 -- All machines have such histories, with so many replies; and these pieces are what is told of them.
 pub record HasToldAll {D : Type 0} (stands : D → Setting → Trace → Type 0) (commands : Header → List (Form Command)) (header : Header) (sites : List Site)
-    (before after : List LiveLine) (pieces : List (Signed (List ℕ))) (machines replies : ℕ) : Type 0 where
+    (before after : List LiveLine) (pieces : List Piece) (machines replies : ℕ) : Type 0 where
   pub histories : List (List Entry)
   pub live : AreLiveHistories stands commands header sites before after histories
   pub texts : (place : ℕ) (site : Site) (h : List Entry) → slice_get sites place ≡ Some site → slice_get histories place ≡ Some h
@@ -156,8 +156,8 @@ pub record HasToldAll {D : Type 0} (stands : D → Setting → Trace → Type 0)
 
 -- What a run leaves: such histories, or why there are none; and a sink that has taken pieces behind what it had, or a front of them after a fault.
 pub record HasRunAll {D K A : Type 0} (stands : D → Setting → Trace → Type 0) (commands : Header → List (Form Command)) (header : Header) (sites : List Site)
-    (before after : List LiveLine) (taken : Option (List ℕ)) (faults : ℕ) (now : Option (List ℕ)) (later : ℕ) (r : LiveRun K A) : Type 0 where
-  pub pieces : List (Signed (List ℕ))
-  pub put : IsPut taken faults now later pieces r.cut
+    (before after : List LiveLine) (taken now : Option (List ℕ)) (faults later : ℕ) (r : LiveRun K A) : Type 0 where
+  pub pieces : List Piece
+  pub put : IsPut taken now faults later pieces r.cut
   pub ok : IfOk r.replies (HasToldAll stands commands header sites before after pieces r.machines)
   pub stop : IfErr r.replies (IsLiveStop stands commands header sites before after)
