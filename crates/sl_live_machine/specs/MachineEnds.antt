@@ -9,7 +9,8 @@ use Rattle.sl_live_lines.specs.LocksAlong.{AlongState, along, runs_line}
 use Rattle.sl_live_lines.specs.declared.audit.Left.TheVariants.{Line as LineLeft}
 use Rattle.sl_live_lines.specs.declared.audit.Left.{Left}
 use Rattle.sl_live_lines.specs.declared.given_lines.GivenLine.{GivenLine}
-use Rattle.sl_live_machine.specs.Printing.{IsWrong, PrinterState, lines_read}
+use Rattle.sl_live_machine.specs.Printing.{IsWrong, lines_read}
+use Rattle.sl_live_machine.specs.declared.printer.Printer.{Printer}
 use Rattle.sl_live_machine.specs.ThreadSeats.{IsCaseOfRun, IsRun}
 use Rattle.sl_live_machine.specs.declared.machine.CloseError.TheVariants as close
 use Rattle.sl_live_machine.specs.declared.machine.CloseError.{CloseError}
@@ -28,7 +29,7 @@ Finds a h read (Err (close.Left left)) = (lines_along a h ≡ read) × KeepsAsks
 Finds a h read (Err (close.Differ d)) = ⊥
 Finds a h read (Err close.NoMemory) = ⊥
 
-abbrev pub Checks : AlongState → List Entry → PrinterState → Result Unit CloseError → Type 0
+abbrev pub Checks : {J O T : Type 0} → AlongState → List Entry → Printer J O T → Result Unit CloseError → Type 0
 Checks a h p end = Finds a h (lines_read p.reader) end
 
 -- A whole history of a daemon of this setting.
@@ -51,7 +52,7 @@ EndsWith stands st a h read (Err (close.Left left)) = IsWhole stands st h × Fin
 EndsWith stands st a h read (Err (close.Differ d)) = IsCaseOfRun st d
 EndsWith stands st a h read (Err close.NoMemory) = Unit {0}
 
-abbrev pub EndsSo : {D : Type 0} → (D → Setting → Trace → Type 0) → Setting → AlongState → PrinterState → Result Unit CloseError → Type 0
+abbrev pub EndsSo : {D J O T : Type 0} → (D → Setting → Trace → Type 0) → Setting → AlongState → Printer J O T → Result Unit CloseError → Type 0
 EndsSo stands st a p end = EndsWith stands st a (entries p.mine) (lines_read p.reader) end
 
 -- The pieces of the writer are what is told of the history, which has so many replies.

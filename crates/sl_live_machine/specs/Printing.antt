@@ -1,26 +1,15 @@
 -- What a machine's printer knows of the history that it has seen.
 use Rattle.sl_book.specs.Logs.{entries, given_by}
 use Rattle.sl_book.specs.Mails.{ReaderState}
-use Rattle.sl_book.specs.Seats.{IsMine, SeatState}
-use Rattle.sl_cell.specs.Histories.{Signed}
+use Rattle.sl_book.specs.Seats.{IsMine}
 use Rattle.sl_live_lines.specs.AuditedHistory.{DiffersBehind, IsAudit, lines_along}
 use Rattle.sl_live_lines.specs.LiveTexts.{history_text}
 use Rattle.sl_live_lines.specs.LocksAlong.{AlongState}
-use Rattle.sl_live_lines.specs.declared.audit.Audit.{Audit}
+use Rattle.sl_live_machine.specs.declared.printer.Printer.{Printer}
 use Rattle.sl_live_lines.specs.declared.given_lines.GivenLine.{GivenLine}
 use Rattle.sl_trace.specs.declared.effects.Entry.{Entry}
 use Rattle.std.specs.List.{concat}
 use Rattle.std.specs.Prelude.{List, None, Option, Some, length, ℕ, ◌++◌, ◌+◌, ◌≡◌}
-
--- How much of the history it has seen, what it found along it, the script's lines that it met there, the pieces that it put out, the text that it
--- has not put out yet, and the entry whose line is not the one due, if there is one.
-pub record PrinterState : Type 0 where
-  pub mine : List Signed
-  pub audit : Audit
-  pub reader : ReaderState GivenLine
-  pub writer : SeatState (List ℕ)
-  pub text : List ℕ
-  pub wrong : Option ℕ
 
 -- The script's lines that a reader has met.
 abbrev pub lines_read : ReaderState GivenLine → List GivenLine
@@ -31,13 +20,13 @@ abbrev pub IsWrong : AlongState → List Entry → List GivenLine → ℕ → Ty
 IsWrong a h read number = (before : List Entry) × (number ≡ length before + 1) × DiffersBehind a h read before
 
 -- Where no line was wrong, the history's lines are those of the script that were met, and what is told of it was put out, or is to be.
-abbrev pub Goes : AlongState → List Entry → PrinterState → List ℕ → Option ℕ → Type 0
+abbrev pub Goes : {J O T : Type 0} → AlongState → List Entry → Printer J O T → List ℕ → Option ℕ → Type 0
 Goes a h p out None = IsAudit a h p.audit × (lines_along a h ≡ lines_read p.reader) × (out ≡ history_text (p.reader.by + 1) a h)
 Goes a h p out (Some number) = IsWrong a h (lines_read p.reader) number
 
 -- It went along this history.
-pub record IsPrinting (a : AlongState) (h : List Entry) (p : PrinterState) : Type 0 where
+pub record IsPrinting {J O T : Type 0} (a : AlongState) (h : List Entry) (p : Printer J O T) : Type 0 where
   pub by : p.writer.by ≡ p.reader.by
   pub texts : List (List ℕ)
   pub mine : IsMine p.writer texts
-  pub goes : Goes a h p (concat texts ++ p.text) p.wrong
+  pub goes : Goes a h p (concat texts ++ p.text.items) p.wrong

@@ -20,14 +20,13 @@ use crate::script_waits::Post;
 use crate::threads::{Clocks, Printed, Stand, Threaded, run_beside};
 use sl_area::Area;
 use sl_book::{Reader, Shelf};
-use sl_cell::{Differ, HostCell, Seat, Teller};
-use sl_cell::{Front, Opened, Station};
+use sl_cell::{Differ, Front, HostCell, Opened, Seat, Station, Teller};
 use sl_io::Sink;
 use sl_live::{Children, Disk};
 use sl_live_lines::{Audit, GivenLine, Left};
 use sl_locks::LvmLocks;
-use sl_outside::{Device, Gate, Spawner};
 use sl_output::{Press, Seat as Writer};
+use sl_outside::{Device, Gate, Spawner};
 use sl_run::Header;
 use sl_time::Clock;
 use sl_world_state::Site;
@@ -116,9 +115,7 @@ fn close_early<D: Teller, J: Station>(
 }
 
 /// Whether what the printer found along a whole history is as it should be.
-fn check_lines<J: Station, O: Press, T: Shelf>(
-    printer: &Printer<J, O, T>,
-) -> Result<(), CloseError>
+fn check_lines<J: Station, O: Press, T: Shelf>(printer: &Printer<J, O, T>) -> Result<(), CloseError>
     ensures { (a : AlongState) → (h : List EntryOf) → IsPrinting a h printer.now → Checks a h printer.now result }
 {
     if let Some(number) = printer.wrong {
@@ -157,7 +154,7 @@ fn print_last<D: Teller, J: Station, K: Sink, O: Press, T: Shelf, R: Wait, P: Sp
 ) -> Result<Vec<Seat<J>>, AllocError>
     ensures seats { IfOk result (λ v. seats ≡ Ok v) }
     ensures goes { (a : AlongState) → OnOk printed.old.end (IsPrinting a (entries printed.old.printer.mine) printed.old.printer)
-        → OnOk result (IsPrinting a (entries printed.new.printer.mine) printed.new.printer × (printed.new.printer.text ≡ [])) }
+        → OnOk result (IsPrinting a (entries printed.new.printer.mine) printed.new.printer × (printed.new.printer.text.items ≡ [])) }
     ensures by { printed.new.printer.reader.by ≡ printed.old.printer.reader.by }
 {
     let seats = seats?;
@@ -248,7 +245,9 @@ fn run_room<
     ensures goes { (a : AlongState) → IsPrinting a (entries printer.mine) printer → HasRun D.Daemon.stands J.setting a result }
     ensures by { result.reader.by ≡ printer.reader.by }
 {
-    let (threaded, mut printed) = run_beside(rt, &room, stand, gate, desk, clocks, device, printer, delta, resource);
+    let (threaded, mut printed) = run_beside(
+        rt, &room, stand, gate, desk, clocks, device, printer, delta, resource,
+    );
     let Threaded {
         seats,
         delta,
@@ -337,5 +336,7 @@ pub fn run_machine<
         children: Mutex::new(Children::new(alloc, spawner)),
         locks: Mutex::new(LvmLocks::fresh(alloc, header)),
     };
-    run_room(rt, room, stand, gate, desk, clocks, device, printer, delta, resource)
+    run_room(
+        rt, room, stand, gate, desk, clocks, device, printer, delta, resource,
+    )
 }

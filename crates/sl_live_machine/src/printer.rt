@@ -17,15 +17,13 @@ use sl_book::{Posted, Reader, Shelf};
 use sl_cell::{Front, Station, Teller};
 use sl_io::Sink;
 use sl_live_lines::{Audit, GivenLine};
-use sl_outside::Spawner;
 use sl_output::{Output, Press, Seat as Writer};
+use sl_outside::Spawner;
 use sl_text::Bytes;
 use sl_trace::Entry;
 use std::alloc::{AllocError, Global};
-use std::marker::Model;
-use std::mem;
 use std::sync::Wait;
-use std::time;
+use std::{mem, time};
 
 /// Where a machine's printer gets the script's lines, and where it puts out what it tells.
 #[derive(Clone, Copy)]
@@ -48,14 +46,6 @@ pub(crate) struct Printer<J: Station, O: Press, T: Shelf> {
     pub wrong: Option<u64>,
 }
 
-impl<J: Station, O: Press, T: Shelf> Model for Printer<J, O, T> {
-    ghost use Rattle.sl_live_machine.specs.Printing.{PrinterState};
-
-    ghost Value = { PrinterState };
-
-    ghost view = { λ p. record { mine = p.mine; audit = p.audit; reader = p.reader; writer = p.writer; text = p.text.items; wrong = p.wrong } };
-}
-
 impl<J: Station, O: Press, T: Shelf> Printer<J, O, T> {
     /// One that has seen this of the history.
     pub(crate) fn new(
@@ -65,7 +55,12 @@ impl<J: Station, O: Press, T: Shelf> Printer<J, O, T> {
         reader: Reader<T, GivenLine>,
         writer: Writer<O>,
     ) -> Printer<J, O, T>
-        ensures { result ≡ record { mine = mine; audit = audit; reader = reader; writer = writer; text = []; wrong = None } }
+        ensures mine { result.mine ≡ mine }
+        ensures audit { result.audit ≡ audit }
+        ensures reader { result.reader ≡ reader }
+        ensures writer { result.writer ≡ writer }
+        ensures text { result.text.items ≡ [] }
+        ensures wrong { result.wrong ≡ None }
     {
         Printer {
             mine,
@@ -114,11 +109,7 @@ impl<J: Station, O: Press, T: Shelf> Printer<J, O, T> {
     }
 
     /// Whether the entry's line, if it has one, is the one that is due, where this is the script's next. An `Err` is want of memory.
-    fn fits(
-        &self,
-        entry: &Entry,
-        next: &Option<Posted<T, GivenLine>>,
-    ) -> Result<bool, AllocError> {
+    fn fits(&self, entry: &Entry, next: &Option<Posted<T, GivenLine>>) -> Result<bool, AllocError> {
         match next {
             Some(posted) => self.audit.fits(entry, Some(posted.element())),
             None => self.audit.fits(entry, None),
@@ -171,7 +162,7 @@ impl<J: Station, O: Press, T: Shelf> Printer<J, O, T> {
 
     /// Puts out the text that it has. An `Err` is an output of which nobody knows any more what was put there.
     fn put<K: Sink, R: Wait>(&mut self, rt: &R, output: &Output<K, O>) -> Result<(), AllocError>
-        ensures goes { (a : AlongState) → (h : List EntryOf) → IsPrinting a h self.old → OnOk result (IsPrinting a h self.new × (self.new.text ≡ [])) }
+        ensures goes { (a : AlongState) → (h : List EntryOf) → IsPrinting a h self.old → OnOk result (IsPrinting a h self.new × (self.new.text.items ≡ [])) }
         ensures mine { self.new.mine ≡ self.old.mine }
         ensures by { self.new.reader.by ≡ self.old.reader.by }
     {
@@ -187,19 +178,14 @@ impl<J: Station, O: Press, T: Shelf> Printer<J, O, T> {
     }
 
     /// Takes what the cell hands out, and puts out what is told of it. An `Err` is want of memory, or a history that is longer than the daemon's.
-    pub(crate) fn print<
-        D: Teller,
-        K: Sink,
-        R: Wait,
-        P: Spawner,
-    >(
+    pub(crate) fn print<D: Teller, K: Sink, R: Wait, P: Spawner>(
         &mut self,
         rt: &R,
         room: &Room<D, J, P>,
         post: &Post,
         desk: &Desk<'_, K, O, T>,
     ) -> Result<(), AllocError>
-        ensures goes { (a : AlongState) → IsPrinting a (entries self.old.mine) self.old → OnOk result (IsPrinting a (entries self.new.mine) self.new × (self.new.text ≡ [])) }
+        ensures goes { (a : AlongState) → IsPrinting a (entries self.old.mine) self.old → OnOk result (IsPrinting a (entries self.new.mine) self.new × (self.new.text.items ≡ [])) }
         ensures by { self.new.reader.by ≡ self.old.reader.by }
     {
         let Ok(handed) = room.cell.hand_out(rt, &mut self.mine) else {
