@@ -1,5 +1,5 @@
 -- What goes along a history, by one entry more, and what it finds left.
-use Rattle.sl_live_lines.proofs.AnswerLaws.{all_answered, calls_more, is_left_open, keeps_none, starts_more}
+use Rattle.sl_live_lines.proofs.AnswerLaws.{all_answered, calls_more, is_left_open, starts_more}
 use Rattle.sl_live_lines.proofs.LineLaws.{asks_push}
 use Rattle.sl_live_lines.proofs.LiveLaws.{along_push, count_push}
 use Rattle.sl_live_lines.specs.AuditedHistory.{IsAnswered, IsAudit, IsLeft, IsOpenIn, KeepsAsk, NothingOpenIn, after_entry, answered_by, calls_made, open_calls, open_starts, opened_at, starts_made, told_by}
@@ -9,7 +9,7 @@ use Rattle.sl_live_lines.specs.declared.audit.Audit.{Audit}
 use Rattle.sl_live_lines.specs.declared.audit.Left.TheVariants.{Call as CallLeft, Line as LineLeft, Start as StartLeft}
 use Rattle.sl_live_lines.specs.declared.audit.Left.{Left}
 use Rattle.sl_trace.specs.declared.effects.Entry.{Entry}
-use Rattle.std.proofs.Common.{List, None, Option, Some, [], ap, ap₂, arith, length, reverse, subst, sym, ℕ, ◌++◌, ◌+◌, ◌∙◌, ◌∷◌, ◌≡◌}
+use Rattle.std.proofs.Common.{List, None, Option, Some, [], ap, ap₂, length, reverse, subst, sym, ℕ, ◌++◌, ◌+◌, ◌∙◌, ◌∷◌, ◌≡◌}
 use Rattle.std.proofs.lemmas.List.{length-append}
 use Rattle.std.specs.Prelude.{IfNone, IfSome, false}
 

@@ -1,13 +1,12 @@
 -- The lines of a history with one entry more, and the script's own.
-use Rattle.sl_live_lines.specs.AuditedHistory.{IsOther, IsThat, KeepsAsk, KeepsAsks, due_line, lines_along, own_lines}
-use Rattle.sl_live_lines.specs.LocksAlong.{AlongState, along, due_ask, line_given, runs_line, step_along}
+use Rattle.sl_live_lines.specs.AuditedHistory.{KeepsAsk, KeepsAsks, lines_along, own_lines}
+use Rattle.sl_live_lines.specs.LocksAlong.{AlongState, along, line_given, runs_line, step_along}
 use Rattle.sl_live_lines.specs.declared.given_lines.GivenLine.{GivenLine}
 use Rattle.sl_trace.specs.declared.effects.Entry.{Entry}
-use Rattle.sl_words.proofs.CaseLaws.{not_both}
 use Rattle.std.proofs.Common.{ap, append_assoc, if◌then◌else◌, refl, rules, sym, ◌++◌, ◌∙◌, ◌∷◌, ◌≡◌, []}
 use Rattle.std.proofs.lemmas.List.{append-nil}
 use Rattle.std.specs.Option.{option_to_list}
-use Rattle.std.specs.Prelude.{Bool, List, None, Option, Some, false, is_some, true}
+use Rattle.std.specs.Prelude.{List, None, Option, Some, false, is_some, true}
 
 -- ---- one entry more
 

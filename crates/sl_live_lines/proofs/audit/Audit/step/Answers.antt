@@ -13,6 +13,6 @@ returns-clause-on c = λ a h so asks.
       number = c.in_ok-number.ensures;
       calls = λ n. c.in_ok-note_calls.ensures n ∙ ap (λ m. after_entry (calls_made e) (answered_by e.input) m n (opened_at x.calls n)) c.in_ok-number.ensures;
       starts = λ n. c.in_ok-note_starts.ensures n ∙ ap (λ m. after_entry (starts_made e) (told_by e.input) m n (opened_at x.starts n)) c.in_ok-number.ensures;
-      replies = jobs_counted x.locks e x.replies c.in_ok-self.field-0 c.len-before.result c.args.jobs.now.items c.push_step.new.jobs.items
-          (c.len-before.ensures ∙ ap length c.as_slice.ensures.value) c.in_ok-push_step.ensures.jobs (c.in_ok-self.ensures ∙ ap (λ js. x.replies + length js) c.deref.ensures.value);
+      replies = jobs_counted x.locks e x.replies c.in_ok-self.field-0 _ c.args.jobs.now.items c.push_step.new.jobs.items
+          (ap length c.as_slice-before.ensures.value) c.in_ok-push_step.ensures.jobs (c.in_ok-self.ensures ∙ ap (λ js. x.replies + length js) c.deref.ensures.value);
     }) so asks
