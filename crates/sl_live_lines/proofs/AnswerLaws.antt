@@ -1,8 +1,6 @@
 -- What is open, one entry longer at a time.
-use Rattle.sl_live_lines.specs.AuditedHistory.{IsAnswered, IsOpenIn, IsUnanswered, Keeps, MadeAt, after_entry, answered_by, calls_made, has, open_calls, open_starts, opened_at, starting, starts_made, told_by}
+use Rattle.sl_live_lines.specs.AuditedHistory.{IsAnswered, Keeps, MadeAt, after_entry, answered_by, calls_made, has, open_calls, open_starts, opened_at, starting, starts_made, told_by}
 use Rattle.sl_live_lines.specs.declared.open_numbers.Open.{Open}
-use Rattle.sl_live_lines.specs.declared.unanswered.Unanswered.TheVariants.{Call as CallLeft, Start as StartLeft}
-use Rattle.sl_live_lines.specs.declared.unanswered.Unanswered.{Unanswered}
 use Rattle.sl_trace.specs.Traces.{Answered, Child, Submitted, Trace, answer_of, answered_in, child_after, children, mark, new_call, new_child, outstanding, submitted}
 use Rattle.sl_trace.specs.declared.effects.Call.{Call}
 use Rattle.sl_trace.specs.declared.effects.Entry.{Entry}
@@ -12,7 +10,7 @@ use Rattle.sl_trace.specs.declared.input.Input.TheVariants.{Answer as Told, Exit
 use Rattle.sl_trace.specs.declared.input.Input.{Input}
 use Rattle.sl_words.proofs.CaseLaws.{none_some, some_value}
 use Rattle.sl_words.specs.Words.{some_is}
-use Rattle.std.proofs.Common.{ap, ap₂, arith, cond, length, refl, reverse, rules, slice_index_or, subst, suc, sym, take, zero, ◌+◌, ◌-◌, ◌<◌, ◌∙◌, ◌∷◌, ◌≡◌, [], ℕ}
+use Rattle.std.proofs.Common.{ap, ap₂, arith, cond, length, refl, reverse, rules, slice_index_or, subst, suc, sym, take, zero, ◌++◌, ◌+◌, ◌-◌, ◌<◌, ◌∙◌, ◌∷◌, ◌≡◌, [], ℕ}
 use Rattle.std.proofs.lemmas.List.Folds.{list_any-append}
 use Rattle.std.proofs.lemmas.List.{map-append, reverse-append, take_more}
 use Rattle.std.specs.List.{list_any}
@@ -39,10 +37,15 @@ turned true false = refl
 turned false true = refl
 turned false false = refl
 
-got : {A : Type 0} (xs : List A) (k : ℕ) (d : A) → k < length xs → slice_get xs k ≡ Some (slice_index_or xs k d)
-got [] k d lt = absurd (omega (arith, lt))
-got (x ∷ xs) zero d lt = refl
-got (x ∷ xs) (suc k) d lt = got xs k d (omega (arith, lt))
+-- The entry behind a history, and those of the history, where one more comes.
+got_behind : (h : List Entry) (e : Entry) → slice_get (h ++ e ∷ []) (length h) ≡ Some e
+got_behind [] e = refl
+got_behind (x ∷ h) e = got_behind h e
+
+got_before : (h more : List Entry) (k : ℕ) (x : Entry) → slice_get h k ≡ Some x → slice_get (h ++ more) k ≡ Some x
+got_before [] more k x at = absurd (none_some x at)
+got_before (y ∷ h) more zero x at = at
+got_before (y ∷ h) more (suc k) x at = got_before h more k x at
 
 none_has : (ns : List ℕ) → ((n : ℕ) → has ns n ≡ false) → ns ≡ []
 none_has [] none = refl
@@ -234,52 +237,58 @@ keeps_none made h o none = record {
   where_from = λ n number is. absurd (none_some number (sym (none n) ∙ is));
 }
 
+made_on : (made : Entry → List ℕ) (h : List Entry) (e : Entry) (number n : ℕ) → MadeAt made h number n → MadeAt made (h ++ e ∷ []) number n
+made_on made h e number n so = record {
+  entry = so.entry;
+  numbered = so.numbered;
+  stands = got_before h (e ∷ []) (number - 1) so.entry so.stands;
+  is_made = so.is_made;
+}
+
 -- What is open behind an entry, of which each number is opened by it or was open and is not closed.
-keeps_more : (made : Entry → List ℕ) (closed : Option ℕ) (h : List Entry) (k : ℕ) (e : Entry) (was now : List ℕ) (o o' : Open) → k < length h → e ≡ slice_index_or h k e
+keeps_more : (made : Entry → List ℕ) (closed : Option ℕ) (h : List Entry) (e : Entry) (m : ℕ) (was now : List ℕ) (o o' : Open) → m ≡ length h + 1
     → ((n : ℕ) → has now n ≡ (has (made e) n || (has was n && not (some_is (λ j. j == n) closed))))
-    → ((n : ℕ) → opened_at o' n ≡ after_entry (made e) closed (k + 1) n (opened_at o n)) → Keeps made h was o → Keeps made h now o'
-keeps_more made closed h k e was now o o' lt here next after so = record {
+    → ((n : ℕ) → opened_at o' n ≡ after_entry (made e) closed m n (opened_at o n)) → Keeps made h was o → Keeps made (h ++ e ∷ []) now o'
+keeps_more made closed h e m was now o o' behind next after so = record {
   marked = λ n. ap (some_is (λ j. true)) (after n) ∙ test n (has (made e) n) (some_is (λ j. j == n) closed) ∙ ap (λ b. has (made e) n || (b && not (some_is (λ j. j == n) closed))) (so.marked n) ∙ sym (next n);
   where_from = λ n number is. from n number (has (made e) n) refl (some_is (λ j. j == n) closed) (sym (after n) ∙ is);
 }
   where
-    test : (n : ℕ) (a b : Bool) → some_is (λ j. true) (cond a (Some (k + 1)) (cond b None (opened_at o n))) ≡ (a || (some_is (λ j. true) (opened_at o n) && not b))
+    test : (n : ℕ) (a b : Bool) → some_is (λ j. true) (cond a (Some m) (cond b None (opened_at o n))) ≡ (a || (some_is (λ j. true) (opened_at o n) && not b))
     test n true b = refl
     test n false true = sym (and_false_is (some_is (λ j. true) (opened_at o n)))
     test n false false = sym (and_true_is (some_is (λ j. true) (opened_at o n)))
 
-    back : (n : ℕ) → n ≡ (n + 1) - 1
-    back n = omega arith
-
-    from : (n number : ℕ) (a : Bool) → has (made e) n ≡ a → (b : Bool) → cond a (Some (k + 1)) (cond b None (opened_at o n)) ≡ Some number → MadeAt made h number n
+    from : (n number : ℕ) (a : Bool) → has (made e) n ≡ a → (b : Bool) → cond a (Some m) (cond b None (opened_at o n)) ≡ Some number
+        → MadeAt made (h ++ e ∷ []) number n
     from n number true is_made b is =
-        let at : k + 1 ≡ number = some_value (k + 1) number is in
-        subst (λ m. MadeAt made h m n) at (record {
+        let at : number ≡ length h + 1 = sym (some_value m number is) ∙ behind in
+        let back : length h ≡ number - 1 = omega (arith, at) in
+        record {
           entry = e;
-          numbered = omega arith;
-          stands = subst (λ m. slice_get h m ≡ Some e) (back k) (got h k e lt ∙ ap Some (sym here));
+          numbered = omega (arith, at);
+          stands = subst (λ k. slice_get (h ++ e ∷ []) k ≡ Some e) back (got_behind h e);
           is_made = is_made;
-        })
+        }
     from n number false is_made true is = absurd (none_some number is)
-    from n number false is_made false is = so.where_from n number is
+    from n number false is_made false is = made_on made h e number n (so.where_from n number is)
 
-front_next : (h : List Entry) (k : ℕ) (e : Entry) → k < length h → e ≡ slice_index_or h k e → reverse (take (k + 1) h) ≡ e ∷ reverse (take k h)
-front_next h k e lt here =
-    ap reverse (take_more h k e lt) ∙ reverse-append (take k h) (slice_index_or h k e ∷ []) ∙ ap (λ x. x ∷ reverse (take k h)) (sym here)
+newest : (h : List Entry) (e : Entry) → reverse (h ++ e ∷ []) ≡ e ∷ reverse h
+newest h e = reverse-append h (e ∷ [])
 
-pub calls_more : (h : List Entry) (k : ℕ) (e : Entry) (o o' : Open) → k < length h → e ≡ slice_index_or h k e
-    → ((n : ℕ) → opened_at o' n ≡ after_entry (calls_made e) (answered_by e.input) (k + 1) n (opened_at o n))
-    → Keeps calls_made h (open_calls (reverse (take k h))) o → Keeps calls_made h (open_calls (reverse (take (k + 1) h))) o'
-calls_more h k e o o' lt here after so =
-    subst (λ es. Keeps calls_made h (open_calls es) o') (sym (front_next h k e lt here))
-    (keeps_more calls_made (answered_by e.input) h k e (open_calls (reverse (take k h))) (open_calls (e ∷ reverse (take k h))) o o' lt here (λ n. calls_next n (reverse (take k h)) e) after so)
+pub calls_more : (h : List Entry) (e : Entry) (m : ℕ) (o o' : Open) → m ≡ length h + 1
+    → ((n : ℕ) → opened_at o' n ≡ after_entry (calls_made e) (answered_by e.input) m n (opened_at o n)) → Keeps calls_made h (open_calls (reverse h)) o
+    → Keeps calls_made (h ++ e ∷ []) (open_calls (reverse (h ++ e ∷ []))) o'
+calls_more h e m o o' behind after so =
+    subst (λ es. Keeps calls_made (h ++ e ∷ []) (open_calls es) o') (sym (newest h e))
+    (keeps_more calls_made (answered_by e.input) h e m (open_calls (reverse h)) (open_calls (e ∷ reverse h)) o o' behind (λ n. calls_next n (reverse h) e) after so)
 
-pub starts_more : (h : List Entry) (k : ℕ) (e : Entry) (o o' : Open) → k < length h → e ≡ slice_index_or h k e
-    → ((n : ℕ) → opened_at o' n ≡ after_entry (starts_made e) (told_by e.input) (k + 1) n (opened_at o n))
-    → Keeps starts_made h (open_starts (reverse (take k h))) o → Keeps starts_made h (open_starts (reverse (take (k + 1) h))) o'
-starts_more h k e o o' lt here after so =
-    subst (λ es. Keeps starts_made h (open_starts es) o') (sym (front_next h k e lt here))
-    (keeps_more starts_made (told_by e.input) h k e (open_starts (reverse (take k h))) (open_starts (e ∷ reverse (take k h))) o o' lt here (λ n. starts_next n (reverse (take k h)) e) after so)
+pub starts_more : (h : List Entry) (e : Entry) (m : ℕ) (o o' : Open) → m ≡ length h + 1
+    → ((n : ℕ) → opened_at o' n ≡ after_entry (starts_made e) (told_by e.input) m n (opened_at o n)) → Keeps starts_made h (open_starts (reverse h)) o
+    → Keeps starts_made (h ++ e ∷ []) (open_starts (reverse (h ++ e ∷ []))) o'
+starts_more h e m o o' behind after so =
+    subst (λ es. Keeps starts_made (h ++ e ∷ []) (open_starts es) o') (sym (newest h e))
+    (keeps_more starts_made (told_by e.input) h e m (open_starts (reverse h)) (open_starts (e ∷ reverse h)) o o' behind (λ n. starts_next n (reverse h) e) after so)
 
 -- ---- the end
 
@@ -294,8 +303,7 @@ all_answered h calls starts cs ss no_call no_start = record {
   starts = none_of (λ (k : Child). k.process) (starting (reverse h)) (keeps_nothing starts_made h (open_starts (reverse h)) starts ss no_start);
 }
 
--- Something is.
-pub is_unanswered : (h : List Entry) (calls starts : Open) (u : Unanswered) → Keeps calls_made h (open_calls (reverse h)) calls → Keeps starts_made h (open_starts (reverse h)) starts
-    → IsOpenIn calls starts u → IsUnanswered h u
-is_unanswered h calls starts (CallLeft number call) cs ss is = (cs.where_from call number is, sym (cs.marked call) ∙ ap (some_is (λ k. true)) is)
-is_unanswered h calls starts (StartLeft number process) cs ss is = (ss.where_from process number is, sym (ss.marked process) ∙ ap (some_is (λ k. true)) is)
+-- One that is open was made, and is not answered.
+pub is_left_open : (made : Entry → List ℕ) (h : List Entry) (now : List ℕ) (o : Open) (number n : ℕ) → Keeps made h now o → opened_at o n ≡ Some number
+    → MadeAt made h number n × (has now n ≡ true)
+is_left_open made h now o number n so is = (so.where_from n number is, sym (so.marked n) ∙ ap (some_is (λ k. true)) is)

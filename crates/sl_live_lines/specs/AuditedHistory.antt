@@ -1,12 +1,12 @@
--- What a closed history is compared with.
+-- What a history is compared with, and what is kept of it along its entries.
 use Rattle.indexmap.specs.IndexMap.{get}
-use Rattle.sl_live_lines.specs.declared.audited_lines.Looked.TheVariants.{Fits, Wrong}
-use Rattle.sl_live_lines.specs.declared.audited_lines.Looked.{Looked}
-use Rattle.sl_live_lines.specs.declared.open_numbers.Open.{Open}
-use Rattle.sl_live_lines.specs.declared.unanswered.Unanswered.TheVariants.{Call as CallLeft, Start as StartLeft}
-use Rattle.sl_live_lines.specs.declared.unanswered.Unanswered.{Unanswered}
+use Rattle.sl_live_lines.specs.LiveTexts.{count_replies}
 use Rattle.sl_live_lines.specs.LocksAlong.{AlongState, along, due_ask, line_given, runs_line, step_along}
+use Rattle.sl_live_lines.specs.declared.audit.Audit.{Audit}
+use Rattle.sl_live_lines.specs.declared.audit.Left.TheVariants.{Call as CallLeft, Line as LineLeft, Start as StartLeft}
+use Rattle.sl_live_lines.specs.declared.audit.Left.{Left}
 use Rattle.sl_live_lines.specs.declared.given_lines.GivenLine.{GivenLine}
+use Rattle.sl_live_lines.specs.declared.open_numbers.Open.{Open}
 use Rattle.sl_trace.specs.Traces.{Child, Submitted, Trace, children, outstanding}
 use Rattle.sl_trace.specs.declared.effects.Call.{Call}
 use Rattle.sl_trace.specs.declared.effects.Entry.{Entry}
@@ -15,19 +15,25 @@ use Rattle.sl_trace.specs.declared.input.Input.TheVariants.{Answer as Told, Spaw
 use Rattle.sl_trace.specs.declared.input.Input.{Input}
 use Rattle.sl_words.specs.Words.{some_is}
 use Rattle.std.specs.List.{list_any}
-use Rattle.std.specs.Option.{option_and_then, option_to_list}
-use Rattle.std.specs.Prelude.{Bool, IsSome, List, None, Option, Some, cond, false, filter, if◌then◌else◌, is_none, length, map, nat_eq, reverse, slice_get, take, true, [], ℕ, ◌++◌, ◌+◌, ◌-◌, ◌<◌, ◌==◌, ◌∷◌, ◌≡◌, ◌≤◌}
+use Rattle.std.specs.Option.{option_to_list}
+use Rattle.std.specs.Prelude.{Bool, List, None, Option, Some, cond, false, filter, if◌then◌else◌, is_none, length, map, nat_eq, reverse, slice_get, true, [], ℕ, ◌++◌, ◌+◌, ◌-◌, ◌<◌, ◌==◌, ◌∷◌, ◌≡◌, ◌⊎◌}
+use mathlib.Core.List.{IsPrefix}
 
 -- ---- lines
 
--- The line that may come where so many of the script's came: while a line for lvmlockd runs, its next ask, if one is due; else the script's
--- next, if one is left.
-abbrev pub due_line : List GivenLine → ℕ → AlongState → Option GivenLine
-due_line due at a = if runs_line a then due_ask a else slice_get due at
+-- The line that is due, where this is the script's next, if it is there: while a line for lvmlockd runs, its next ask, if one is due.
+abbrev pub due_line : AlongState → Option GivenLine → Option GivenLine
+due_line a next = if runs_line a then due_ask a else next
 
--- How many of the script's lines came by a line that is the one due.
-abbrev pub next_at : ℕ → AlongState → ℕ
-next_at at a = if runs_line a then at else at + 1
+-- The line that is given, if one is, is the one that is due.
+abbrev pub IsThat : Option GivenLine → Option GivenLine → Type 0
+IsThat given due = (l : GivenLine) → given ≡ Some l → due ≡ Some l
+
+-- A line is given, and it is not the one that is due.
+pub record IsOther (given due : Option GivenLine) : Type 0 where
+  pub line : GivenLine
+  pub is : given ≡ Some line
+  pub differs : due ≡ Some line → ⊥
 
 -- The script's lines in the entry: none while a line for lvmlockd runs.
 abbrev pub own_lines : AlongState → Entry → List GivenLine
@@ -53,48 +59,26 @@ pub record AreLines (a : AlongState) (h : List Entry) (given : List GivenLine) :
   pub asks : KeepsAsks a h
   pub over : runs_line (along a h) ≡ false
 
--- The line behind so many entries, if the next one has one.
-abbrev pub line_behind : ℕ → List Entry → Option GivenLine
-line_behind entries h = option_and_then (λ (e : Entry). line_given e.input) (slice_get h entries)
+-- These lines are the first of the given ones, and this is the next, if it is there.
+abbrev pub IsNext : List GivenLine → Option GivenLine → List GivenLine → Type 0
+IsNext past None given = IsPrefix past given
+IsNext past (Some l) given = IsPrefix (past ++ l ∷ []) given
 
--- The line that is asked is not the one that is due; where none is asked any more, a line for lvmlockd runs, or one is due.
-abbrev pub Differ : Bool → Option GivenLine → Option GivenLine → Type 0
-Differ runs None due = runs ≡ false → IsSome due
-Differ runs (Some l) due = due ≡ Some l → ⊥
+-- The entry behind these has a line, and it is not the one due there, where the script's next is this, or none was there.
+pub record DiffersBehind (a : AlongState) (h : List Entry) (given : List GivenLine) (before : List Entry) : Type 0 where
+  pub entry : Entry
+  pub more : List Entry
+  pub parts : h ≡ before ++ entry ∷ more
+  pub asks : KeepsAsks a before
+  pub next : Option GivenLine
+  pub comes : IsNext (lines_along a before) next given
+  pub other : IsOther (line_given entry.input) (due_line (along a before) next)
 
--- The lines of so many entries are the first of those due. The next entry has a line, or there is none, and it is not the line due there.
-pub record Parts (a : AlongState) (h : List Entry) (due : List GivenLine) (entries lines : ℕ) : Type 0 where
-  pub within : entries ≤ length h
-  pub alike : lines_along a (take entries h) ≡ take lines due
-  pub asks : KeepsAsks a (take entries h)
-  pub counted : lines ≡ length (lines_along a (take entries h))
-  pub last : line_behind entries h ≡ None → entries ≡ length h
-  pub differ : Differ (runs_line (along a (take entries h))) (line_behind entries h) (due_line due lines (along a (take entries h)))
-
--- So it is at the entry of this number, whose line is asked.
-pub record LineDiffers (a : AlongState) (h : List Entry) (due : List GivenLine) (number : ℕ) (asked expected : Option GivenLine) : Type 0 where
-  pub lines : ℕ
-  pub parts : Parts a h due (number - 1) lines
-  pub numbered : 0 < number
-  pub asked_is : asked ≡ line_behind (number - 1) h
-  pub expected_is : expected ≡ due_line due lines (along a (take (number - 1) h))
-
--- A line that the entry has is the one that is due, and so many of the script's lines came by its end.
-abbrev pub Passes : List GivenLine → ℕ → AlongState → Option GivenLine → ℕ → Type 0
-Passes due at a None next = next ≡ at
-Passes due at a (Some l) next = (due_line due at a ≡ Some l) × (next ≡ next_at at a)
-
--- What was found at an entry.
-abbrev pub Looks : List GivenLine → ℕ → AlongState → Entry → Looked → Type 0
-Looks due at a e (Fits next) = Passes due at a (line_given e.input) next
-Looks due at a e (Wrong asked expected) = (line_given e.input ≡ Some asked) × (expected ≡ due_line due at a) × (expected ≡ Some asked → ⊥)
-
--- .. at the end of so many.
-pub record EndsAt (due : List GivenLine) (at : ℕ) (a : AlongState) (entries number : ℕ) (asked expected : Option GivenLine) : Type 0 where
-  pub numbered : number ≡ entries + 1
-  pub asked_is : asked ≡ None
-  pub expected_is : expected ≡ due_line due at a
-  pub left : runs_line a ≡ false → at < length due
+-- The line of the entry of this number, counted from 1, is not the one due there; or the history is over, the number is one past its last entry, and
+-- a line for lvmlockd runs, or one of the script's is left.
+pub data LineDiffers (a : AlongState) (h : List Entry) (given : List GivenLine) (number : ℕ) : Type 0 where
+  Differs_at : (before : List Entry) → number ≡ length before + 1 → DiffersBehind a h given before → LineDiffers a h given number
+  Differs_at_end : number ≡ length h + 1 → KeepsAsks a h → (runs_line (along a h) ≡ true) ⊎ (length (lines_along a h) < length given) → LineDiffers a h given number
 
 -- ---- what is open
 
@@ -133,10 +117,11 @@ pub record MadeAt (made : Entry → List ℕ) (h : List Entry) (number n : ℕ) 
   pub stands : slice_get h (number - 1) ≡ Some entry
   pub is_made : has (made entry) n ≡ true
 
--- The call of that entry, or its start, is not answered by the end of the history.
-abbrev pub IsUnanswered : List Entry → Unanswered → Type 0
-IsUnanswered h (CallLeft number call) = MadeAt calls_made h number call × (has (open_calls (reverse h)) call ≡ true)
-IsUnanswered h (StartLeft number process) = MadeAt starts_made h number process × (has (open_starts (reverse h)) process ≡ true)
+-- This is left at the end of the history: a line for lvmlockd runs; or the call of that entry, or its start, is not answered.
+abbrev pub IsLeft : AlongState → List Entry → Left → Type 0
+IsLeft a h LineLeft = runs_line (along a h) ≡ true
+IsLeft a h (CallLeft number call) = MadeAt calls_made h number call × (has (open_calls (reverse h)) call ≡ true)
+IsLeft a h (StartLeft number process) = MadeAt starts_made h number process × (has (open_starts (reverse h)) process ≡ true)
 
 -- ---- what is kept along the entries
 
@@ -163,7 +148,25 @@ pub record Keeps (made : Entry → List ℕ) (h : List Entry) (open_now : List �
   pub marked : (n : ℕ) → some_is (λ k. true) (opened_at o n) ≡ has open_now n
   pub where_from : (n number : ℕ) → opened_at o n ≡ Some number → MadeAt made h number n
 
--- This one is open, of the calls or of the starts.
-abbrev pub IsOpenIn : Open → Open → Unanswered → Type 0
-IsOpenIn calls starts (CallLeft number call) = opened_at calls call ≡ Some number
-IsOpenIn calls starts (StartLeft number process) = opened_at starts process ≡ Some number
+-- ---- what goes along
+
+-- It has come along this history, whose asks were those due.
+pub record IsAudit (a : AlongState) (h : List Entry) (x : Audit) : Type 0 where
+  pub locks : x.locks ≡ along a h
+  pub number : x.number ≡ length h
+  pub asks : KeepsAsks a h
+  pub calls : Keeps calls_made h (open_calls (reverse h)) x.calls
+  pub starts : Keeps starts_made h (open_starts (reverse h)) x.starts
+  pub replies : x.replies ≡ count_replies a h
+
+-- This is open.
+abbrev pub IsOpenIn : Audit → Left → Type 0
+IsOpenIn x LineLeft = runs_line x.locks ≡ true
+IsOpenIn x (CallLeft number call) = opened_at x.calls call ≡ Some number
+IsOpenIn x (StartLeft number process) = opened_at x.starts process ≡ Some number
+
+-- Nothing is.
+pub record NothingOpenIn (x : Audit) : Type 0 where
+  pub line : runs_line x.locks ≡ false
+  pub calls : (n : ℕ) → opened_at x.calls n ≡ None
+  pub starts : (n : ℕ) → opened_at x.starts n ≡ None

@@ -1,3 +1,3 @@
 pub mod LocksAlong
-pub mod AuditedHistory
 pub mod LiveTexts
+pub mod AuditedHistory

@@ -1,4 +1,7 @@
--- What is put out of live machines, when all have ended.
+-- What is put out of live machines.
+use Rattle.sl_book.specs.Closings.{AreBelow}
+use Rattle.sl_book.specs.Logs.{entries, given_by}
+use Rattle.sl_book.specs.declared.signed.Signed.{Signed}
 use Rattle.sl_command.specs.OutputLines.{class_text, line_text}
 use Rattle.sl_live_lines.specs.LocksAlong.{AlongState, is_told, replies_along, step_along, told_along}
 use Rattle.sl_live_lines.specs.declared.live_texts.Ending.TheVariants.{Cut, Refused, Whole}
@@ -10,7 +13,8 @@ use Rattle.sl_text.specs.Forms.{as_bytes, spaced}
 use Rattle.sl_trace.specs.EffectTexts.{answer_words}
 use Rattle.sl_trace.specs.declared.effects.Entry.{Entry}
 use Rattle.sl_trace.specs.declared.effects.JobReply.{JobReply}
-use Rattle.std.specs.Prelude.{List, None, Option, Some, codes, decimal, if◌then◌else◌, length, sum_by, [], ℕ, ◌++◌, ◌+◌, ◌∷◌}
+use Rattle.std.specs.List.{concat}
+use Rattle.std.specs.Prelude.{List, None, Option, Some, codes, decimal, if◌then◌else◌, length, map, slice_get, [], ℕ, ◌++◌, ◌+◌, ◌∷◌, ◌≡◌}
 
 -- ---- what is told of a machine, as lvmlockd's locks go along its history
 
@@ -24,12 +28,15 @@ abbrev pub history_text : ℕ → AlongState → List Entry → List ℕ
 history_text m a [] = []
 history_text m a (e ∷ h) = step_text m a e ++ history_text m (step_along a e) h
 
--- .. of the histories of the machines behind so many, in order.
-abbrev pub machine_texts : AlongState → ℕ → List (List Entry) → List ℕ
-machine_texts a before [] = []
-machine_texts a before (h ∷ hs) = history_text (before + 1) a h ++ machine_texts a (before + 1) hs
+-- The jobs whose replies these are: the line for lvmlockd is one.
+abbrev pub line_jobs : Told → List ℕ
+line_jobs None = []
+line_jobs (Some p) = p.0 ∷ []
 
--- How many lines these are.
+abbrev pub step_jobs : AlongState → Entry → List ℕ
+step_jobs a e = map (λ (r : JobReply). r.job) (replies_along a e) ++ line_jobs (told_along a e)
+
+-- How many lines a step's are, and a history's.
 abbrev pub count_told : Told → ℕ
 count_told None = 0
 count_told (Some p) = 1
@@ -41,7 +48,7 @@ abbrev pub count_replies : AlongState → List Entry → ℕ
 count_replies a [] = 0
 count_replies a (e ∷ h) = count_step a e + count_replies (step_along a e) h
 
--- ---- all that is put out
+-- ---- what machines put out together
 
 -- The last line.
 abbrev pub live_line : ℕ → ℕ → List ℕ
@@ -54,15 +61,20 @@ last_text machines replies Whole = live_line machines replies ++ 10 ∷ []
 last_text machines replies (Refused number why) = as_bytes (refusal_line number why ∷ [])
 last_text machines replies Cut = []
 
--- All that is put out of machines whose locks begin so.
-abbrev pub live_text : AlongState → List (List Entry) → Ending → List ℕ
-live_text a hs ending = machine_texts a 0 hs ++ last_text (length hs) (sum_by (count_replies a) hs) ending
+-- The bytes of the pieces of the machine at this place, in order.
+abbrev pub text_by : ℕ → List (Signed (List ℕ)) → List ℕ
+text_by place pieces = concat (entries (given_by place pieces))
+
+-- Machines with these histories, whose locks begin so, put out these pieces, signed by their places: each what is told of its own, in order.
+pub record IsWoven (a : AlongState) (hs : List (List Entry)) (pieces : List (Signed (List ℕ))) : Type 0 where
+  pub below : AreBelow (length hs) pieces
+  pub each : (place : ℕ) (h : List Entry) → slice_get hs place ≡ Some h → text_by place pieces ≡ history_text (place + 1) a h
 
 -- ---- one reply
 
--- The line of a reply, unless it is that to this ask; and whether it is one.
+-- The line of a reply, unless it is that to this ask; and its job.
 abbrev pub answer_text : ℕ → Option ℕ → JobReply → List ℕ
 answer_text m asked r = if is_told asked r then line_text m (answer_words r) else []
 
-abbrev pub count_answer : Option ℕ → JobReply → ℕ
-count_answer asked r = if is_told asked r then 1 else 0
+abbrev pub answer_jobs : Option ℕ → JobReply → List ℕ
+answer_jobs asked r = if is_told asked r then r.job ∷ [] else []

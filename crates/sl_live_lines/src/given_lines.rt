@@ -1,11 +1,13 @@
 //! Lines that are given to a machine.
 
+ghost use Rattle.sl_live_lines.specs.AuditedHistory.{IsOther, IsThat};
 ghost use Rattle.sl_live_lines.specs.LocksAlong.{line_given};
-ghost use Rattle.std.specs.Prelude.{IfOk, IsTrue, ◌↔◌, ◌≡◌};
+ghost use Rattle.sl_live_lines.specs.declared.given_lines.GivenLine.TheVariants.{ForHost as ForHostOf, ForLocks as ForLocksOf};
+ghost use Rattle.std.specs.Option.{option_copied};
+ghost use Rattle.std.specs.Prelude.{IsFalse, IsTrue, Some, is_some, ◌↔◌, ◌≡◌};
 
 use sl_text::Bytes;
 use sl_trace::Input;
-use std::alloc::{AllocError, Global};
 
 /// A line that is given to a machine: for its daemon, or for lvmlockd.
 #[derive(Drop, PartialEq, Eq)]
@@ -21,38 +23,68 @@ pub fn same_line(a: &GivenLine, b: &GivenLine) -> bool
     a == b
 }
 
-/// A copy of a line. An `Err` is want of memory.
-pub fn copy_line(alloc: Global, line: &GivenLine) -> Result<GivenLine, AllocError>
-    ensures { IfOk result (λ copy. copy ≡ line.now) }
+/// Whether an input gives a line.
+pub(crate) fn has_line(input: &Input) -> bool
+    ensures { result ≡ is_some (line_given input.now) }
 {
-    match line {
-        GivenLine::ForHost(text) => Ok(GivenLine::ForHost(Bytes::from_slice(
-            alloc,
-            text.as_slice(),
-        )?)),
-        GivenLine::ForLocks(text) => Ok(GivenLine::ForLocks(Bytes::from_slice(
-            alloc,
-            text.as_slice(),
-        )?)),
+    match input {
+        Input::Line(_) => true,
+        Input::Number(_) => true,
+        Input::Answer { .. } => false,
+        Input::Wake => false,
+        Input::Exit { .. } => false,
+        Input::Spawned { .. } => false,
     }
 }
 
-/// The line that an input gives, if it gives one, as a copy. An `Err` is want of memory.
-pub fn copy_line_in(alloc: Global, input: &Input) -> Result<Option<GivenLine>, AllocError>
-    ensures { IfOk result (λ copy. copy ≡ line_given input.now) }
+/// Whether an input gives the daemon this line.
+fn gives_host(input: &Input, due: &Bytes) -> bool
+    ensures { IsTrue result ↔ (line_given input.now ≡ Some (ForHostOf due.now)) }
 {
     match input {
-        Input::Line(text) => Ok(Some(GivenLine::ForHost(Bytes::from_slice(
-            alloc,
-            text.as_slice(),
-        )?))),
-        Input::Number(text) => Ok(Some(GivenLine::ForLocks(Bytes::from_slice(
-            alloc,
-            text.as_slice(),
-        )?))),
-        Input::Answer { .. } => Ok(None),
-        Input::Wake => Ok(None),
-        Input::Exit { .. } => Ok(None),
-        Input::Spawned { .. } => Ok(None),
+        Input::Line(text) => text == due,
+        Input::Number(_) => false,
+        Input::Answer { .. } => false,
+        Input::Wake => false,
+        Input::Exit { .. } => false,
+        Input::Spawned { .. } => false,
+    }
+}
+
+/// Whether it gives lvmlockd this line.
+fn gives_locks(input: &Input, due: &Bytes) -> bool
+    ensures { IsTrue result ↔ (line_given input.now ≡ Some (ForLocksOf due.now)) }
+{
+    match input {
+        Input::Number(text) => text == due,
+        Input::Line(_) => false,
+        Input::Answer { .. } => false,
+        Input::Wake => false,
+        Input::Exit { .. } => false,
+        Input::Spawned { .. } => false,
+    }
+}
+
+/// Whether it gives this line.
+fn gives(input: &Input, due: &GivenLine) -> bool
+    ensures { IsTrue result ↔ (line_given input.now ≡ Some due.now) }
+{
+    match due {
+        GivenLine::ForHost(text) => gives_host(input, text),
+        GivenLine::ForLocks(text) => gives_locks(input, text),
+    }
+}
+
+/// Whether the line that an input gives, if it gives one, is the one that is due.
+pub(crate) fn is_due(input: &Input, due: Option<&GivenLine>) -> bool
+    ensures that { IsTrue result → IsThat (line_given input.now) (option_copied due.entry) }
+    ensures other { IsFalse result → IsOther (line_given input.now) (option_copied due.entry) }
+{
+    if !has_line(input) {
+        return true;
+    }
+    match due {
+        Some(line) => gives(input, line),
+        None => false,
     }
 }

@@ -11,7 +11,7 @@ use std::alloc::{AllocError, Global};
 /// Numbers that are open, each with the number of the entry that opened it last.
 #[derive(Drop)]
 pub(crate) struct Open {
-    entries: IndexMap<u64, usize>,
+    entries: IndexMap<u64, u64>,
 }
 
 impl Open {
@@ -25,7 +25,7 @@ impl Open {
     }
 
     /// Opens a number at this entry. An `Err` is want of memory.
-    pub(crate) fn open(&mut self, number: u64, entry: usize) -> Result<(), AllocError>
+    pub(crate) fn open(&mut self, number: u64, entry: u64) -> Result<(), AllocError>
         ensures { OnOk result ((n : ℕ) → opened_at self.new n ≡ cond (number == n) (Some entry) (opened_at self.old n)) }
     {
         self.entries.insert(number, entry)?;
@@ -42,7 +42,7 @@ impl Open {
     }
 
     /// One that is open, with the entry that opened it.
-    pub(crate) fn first(&self) -> Option<(u64, usize)>
+    pub(crate) fn first(&self) -> Option<(u64, u64)>
         ensures some { IfSome result (λ p. opened_at self.now p.0 ≡ Some p.1) }
         ensures none { IfNone result ((n : ℕ) → opened_at self.now n ≡ None) }
     {

@@ -1,4 +1,4 @@
-use Rattle.sl_live_lines.proofs.unanswered.open_calls.Given as goal
+use Rattle.sl_live_lines.proofs.marks.open_calls.Given as goal
 use Rattle.sl_live_lines.specs.AuditedHistory.{has, opened_at}
 use Rattle.sl_trace.specs.declared.effects.Call.{Call}
 use Rattle.std.proofs.Common.{Some, cond, map, take, ℕ, ◌≡◌}
