@@ -8,8 +8,7 @@ ghost use Rattle.std.specs.Prelude.{IfOk, ◌≡◌};
 
 use crate::cell_starts::{Begun, begin};
 use crate::steps::{Fronts, Outcome, act, read_step};
-use sl_cell::{Differ, HostCell, Seat, Teller};
-use sl_cell::{Front, Opened, Station};
+use sl_cell::{Differ, Front, HostCell, Opened, Seat, Station, Teller};
 use sl_live_play::LiveHost;
 use std::alloc::{AllocError, Global};
 use std::marker::Brand;

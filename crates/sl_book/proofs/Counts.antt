@@ -107,4 +107,3 @@ seen_cons k s ss h by pre few rest =
     let more : length (given_by s.by s.front) ≤ length (given_by s.by h) = given_more s.by s.front h pre in
     let here : s.count ≤ length (given_by s.by h) = omega (arith, more, few) in
     ((by, pre, subst (λ (n : ℕ). s.count ≤ length (given_by n h)) by here), rest)
-

@@ -11,8 +11,7 @@ ghost use Rattle.std.specs.Prelude.{IfErr, IfOk, reverse, [], ◌++◌, ◌≡�
 use crate::room::{Pace, Room};
 use crate::threads::{Clocks, Stand, Threaded, run_threads};
 use sl_area::Area;
-use sl_cell::{Differ, HostCell, Seat, Teller};
-use sl_cell::{Front, Opened, Station};
+use sl_cell::{Differ, Front, HostCell, Opened, Seat, Station, Teller};
 use sl_live::{Children, Disk};
 use sl_locks::LvmLocks;
 use sl_outside::{Device, Gate, Spawner};

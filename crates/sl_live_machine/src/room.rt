@@ -4,8 +4,7 @@
 //! the first, none is held while a sector call or a start is made, or anything else that may take any time.
 
 use sl_area::Geometry;
-use sl_cell::{HostCell, Teller};
-use sl_cell::{Front, Station};
+use sl_cell::{Front, HostCell, Station, Teller};
 use sl_live::Children;
 use sl_locks::LvmLocks;
 use sl_outside::Spawner;

@@ -4,8 +4,7 @@ ghost use Rattle.sl_live_machine.specs.ThreadSeats.{GaveTurn};
 ghost use Rattle.std.specs.Prelude.{OnOk};
 
 use crate::room::Room;
-use sl_cell::{Seat, Teller};
-use sl_cell::Station;
+use sl_cell::{Seat, Station, Teller};
 use sl_live::laws::give_step;
 use sl_outside::Spawner;
 use sl_time::Clock;

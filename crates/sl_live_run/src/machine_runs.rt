@@ -8,8 +8,7 @@ ghost use Rattle.sl_run.specs.Lawful.{IsSetting};
 ghost use Rattle.std.specs.Prelude.{Err, Some, ◌≡◌};
 
 use sl_area::Area;
-use sl_cell::Teller;
-use sl_cell::{Opened, Station};
+use sl_cell::{Opened, Station, Teller};
 use sl_live_machine::{CloseError, Parts, Post, Ran, Roll, Stand, fail_all, run_machine};
 use sl_outside::{Device, Gate, Spawner};
 use sl_run::Header;
