@@ -2,7 +2,7 @@
 use Rattle.sl_book.proofs.Fronts.{prefix_length, prefix_map}
 use Rattle.sl_book.specs.Logs.{IsWithin, entries, given_by, is_by}
 use Rattle.sl_book.specs.declared.signed.Signed.{Signed}
-use Rattle.std.proofs.Common.{Bool, List, [], ap, arith, false, inl, inr, length, length-append, map, refl, subst, sym, true, ℕ, ◌++◌, ◌+◌, ◌<◌, ◌==◌, ◌∙◌, ◌∷◌, ◌≡◌, ◌≤◌}
+use Rattle.std.proofs.Common.{Bool, List, [], ap, arith, false, inl, inr, length, refl, sym, true, ℕ, ◌++◌, ◌==◌, ◌∙◌, ◌∷◌, ◌≡◌, ◌≤◌}
 use Rattle.std.proofs.lemmas.Bool.Decides.{Decides-eqb}
 use Rattle.std.proofs.lemmas.List.Elements.{filter-append}
 use Rattle.std.proofs.lemmas.List.{length-map, map-append}
@@ -68,7 +68,7 @@ given_most by (x ∷ xs) = counted (given_most by xs) (is_by by x) refl
     counted rest true is = rw is (omega (arith, rest))
     counted rest false is = rw is (omega (arith, rest))
 
-not_true : (a b : ℕ) → a ≢ b → (r : Bool) → (a == b) ≡ r → r ≡ false
+pub not_true : (a b : ℕ) → a ≢ b → (r : Bool) → (a == b) ≡ r → r ≡ false
 not_true a b apart true is = absurd (apart ((Decides-eqb a b).0 is))
 not_true a b apart false is = refl
 

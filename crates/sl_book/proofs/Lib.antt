@@ -3,3 +3,4 @@ pub mod Adding
 pub mod Givens
 pub mod SeatLaws
 pub mod Counts
+pub mod MailLaws

@@ -3,3 +3,4 @@ pub mod Logs
 pub mod Books
 pub mod Seats
 pub mod Closings
+pub mod Mails

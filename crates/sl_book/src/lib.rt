@@ -10,12 +10,14 @@
 
 mod book;
 mod closing;
+mod mail;
 mod seat;
 mod shelf;
 mod signed;
 
 pub use book::{Book, Front, Opened};
 pub use closing::{Miscount, check};
+pub use mail::{Broken, Ledger, Posted, Reader, Reading};
 pub use seat::Seat;
 pub use shelf::Shelf;
 pub use signed::Signed;

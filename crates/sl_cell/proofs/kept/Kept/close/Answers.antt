@@ -17,5 +17,5 @@ pub returns-clause-whole : goal.returns-clause-whole
 returns-clause-whole g c =
     let t = c.is_torn.ensures.whole c.if-is_torn.false in
     let out = all_out g.J.Station.setting c.self.inside.lead.history c.self.inside.handed c.args.mine.now c.end-all.result.0 c.self.inside.rest c.self.invariant c.end-all.ensures.history t.1 t.2 in
-    on_ok c.check.result ((c.args.self.history ≡ c.args.mine.now) × (c.args.self.waiting ≡ []))
+    on_ok c.check_seats.result ((c.args.self.history ≡ c.args.mine.now) × (c.args.self.waiting ≡ []))
     (sym (ap (λ (k : KeptState). k.history) c.self.view_is) ∙ out.0, sym (ap (λ (k : KeptState). k.waiting) c.self.view_is) ∙ out.1)
