@@ -13,7 +13,7 @@ use crate::host_acts::{Act, HostStep, mark, read_steps};
 use crate::host_disks::{HostDisk, first_disk};
 use sl_cell::{Broken, HostCell, NotApplied, Part, Seat, Teller};
 use sl_command::push_effect_lines;
-use sl_history::{Opened, Station};
+use sl_history::{Front, Opened, Station};
 use sl_live_play::LiveHost;
 use sl_trace::{Call, Effects, Input};
 use std::alloc::{AllocError, Global};
@@ -145,7 +145,24 @@ fn text_of(alloc: Global, came: &[Came]) -> Result<String, AllocError> {
     lines.trim_end().replace(alloc, "\n", "; ")
 }
 
-/// What comes of steps on a cell that is still to be made, and on this disk.
+/// What comes of steps on a cell to which nothing came yet, and on this disk.
+fn told_by<D: Teller, J: Station, R: Wait>(
+    rt: &R,
+    alloc: Global,
+    cell: HostCell<D, J>,
+    front: Front<J>,
+    mut disk: HostDisk,
+    steps: Vec<HostStep>,
+) -> Result<String, AllocError> {
+    let mut seats = Seats {
+        delta: cell.seat(0, &front),
+        resource: cell.seat(1, &front),
+    };
+    let came = make_all(rt, alloc, &cell, &mut seats, &mut disk, steps)?;
+    text_of(alloc, &came)
+}
+
+/// The same, where the cell is still to be made.
 fn told_of<D: Teller, J: Station, R: Wait>(
     rt: &R,
     alloc: Global,
@@ -161,13 +178,7 @@ fn told_of<D: Teller, J: Station, R: Wait>(
 {
     let Begun { header, site } = begun;
     let (cell, front) = HostCell::<D, J>::new(alloc, &header, site, opened)?;
-    let mut seats = Seats {
-        delta: cell.seat(0, &front),
-        resource: cell.seat(1, &front),
-    };
-    let mut disk = disk;
-    let came = make_all(rt, alloc, &cell, &mut seats, &mut disk, steps)?;
-    text_of(alloc, &came)
+    told_by(rt, alloc, cell, front, disk, steps)
 }
 
 /// What comes of steps on a cell of the daemon of the script `cell`, whose calls are made on a disk.
