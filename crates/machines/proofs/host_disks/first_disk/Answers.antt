@@ -1,4 +1,4 @@
-use Rattle.machines.proofs.host_steps.first_disk.Goals as goal
+use Rattle.machines.proofs.host_disks.first_disk.Goals as goal
 use Rattle.sl_live_run.proofs.WriteLaws.{item_inside}
 
 pub write_there-requires-clause-line : goal.write_there-requires-clause-line

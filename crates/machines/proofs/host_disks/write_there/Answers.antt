@@ -1,4 +1,4 @@
-use Rattle.machines.proofs.host_steps.write_there.Goals as goal
+use Rattle.machines.proofs.host_disks.write_there.Goals as goal
 use Rattle.sl_live_run.proofs.WriteLaws.{resource_named}
 
 pub write_resource-requires-clause-named : goal.write_resource-requires-clause-named
