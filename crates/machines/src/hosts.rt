@@ -94,9 +94,10 @@ fn make<D: Teller, J: Station, R: Wait>(
     disk: &mut HostDisk,
     step: HostStep,
 ) -> Result<Came, AllocError> {
-    match step.act {
-        Act::Give(input) => Ok(give(rt, cell, &mut seats.resource, step.reading, input)),
-        Act::Serve => serve(rt, alloc, cell, seats, disk, step.reading),
+    let HostStep { reading, act } = step;
+    match act {
+        Act::Give(input) => Ok(give(rt, cell, &mut seats.resource, reading, input)),
+        Act::Serve => serve(rt, alloc, cell, seats, disk, reading),
         Act::Mark(bytes) => {
             mark(alloc, bytes);
             Ok(Came::Marked)
