@@ -1,2 +1,1 @@
 mod BeginLaws
-mod LoneLaws

@@ -14,8 +14,9 @@ use sl_run::Header;
 use sl_world::{first_site, session_of};
 use sl_world_state::Site;
 use std::alloc::Global;
-use std::io;
 use std::io::ErrorKind;
+use std::rt::Files;
+use std::{fs, io};
 
 /// A header, and with what the daemon of its machine 1 begins.
 #[derive(Drop)]
@@ -56,11 +57,20 @@ fn site_of(alloc: Global, header: &Header) -> io::Result<Site>
 }
 
 /// A header that is read, and with what the daemon of its machine 1 begins.
-pub fn begin(alloc: Global, script: &[u8]) -> io::Result<Begun>
+fn begin(alloc: Global, script: &[u8]) -> io::Result<Begun>
     ensures header { IfOk result (λ b. IsHeader b.header) }
     ensures setting { IfOk result (λ b. IsSetting (begun_with whole_commands b.header b.site)) }
 {
     let header = header_of(alloc, script)?;
     let site = site_of(alloc, &header)?;
     Ok(Begun { header, site })
+}
+
+/// With what the cell of the daemon of the script `cell` begins.
+pub fn begin_cell<R: Files + AllocGlobal>(rt: &R) -> io::Result<Begun>
+    ensures header { IfOk result (λ b. IsHeader b.header) }
+    ensures setting { IfOk result (λ b. IsSetting (begun_with whole_commands b.header b.site)) }
+{
+    let script = fs::read(rt, "cell.script")?;
+    begin(rt.alloc(), &script)
 }

@@ -1,21 +1,19 @@
 //! A cell of one machine's daemon, and seats on it.
 
-ghost use Rattle.sl_host_step.specs.HostServes.{whole_commands};
 ghost use Rattle.sl_run.specs.Headers.{IsHeader};
 ghost use Rattle.sl_run.specs.Lawful.{IsSetting};
 ghost use Rattle.sl_world_state.specs.Daemons.{begun_with};
-ghost use Rattle.std.specs.Prelude.{IfOk, ◌≡◌};
+ghost use Rattle.std.specs.Prelude.{◌≡◌};
 
-use crate::cell_starts::{Begun, begin};
+use crate::cell_starts::{Begun, begin_cell};
 use crate::steps::{Fronts, Outcome, act, read_step};
-use sl_cell::{Differ, HostCell, Seat, Teller};
-use sl_cell::{Front, Opened, Station};
+use sl_cell::{Differ, Front, HostCell, Opened, Seat, Station, Teller};
 use sl_live_play::LiveHost;
 use std::alloc::{AllocError, Global};
+use std::io;
 use std::marker::Brand;
 use std::rt::Files;
 use std::sync::Wait;
-use std::{fs, io};
 
 /// What comes of a cell's close with these seats, once what waits is handed out to this front.
 fn closed<D: Teller, J: Station, R: Wait>(
@@ -130,15 +128,6 @@ fn push_told_of<D: Teller, J: Station, R: Wait>(
     let Begun { header, site } = begun;
     let (cell, front) = HostCell::<D, J>::new(alloc, &header, site, opened)?;
     push_told(rt, alloc, cell, front, steps.as_str(), text)
-}
-
-/// With what the cell of the daemon of the script `cell` begins.
-fn begin_cell<R: Files + AllocGlobal>(rt: &R) -> io::Result<Begun>
-    ensures header { IfOk result (λ b. IsHeader b.header) }
-    ensures setting { IfOk result (λ b. IsSetting (begun_with whole_commands b.header b.site)) }
-{
-    let script = fs::read(rt, "cell.script")?;
-    begin(rt.alloc(), &script)
 }
 
 /// What comes of steps on a cell of the daemon of the script `cell`.

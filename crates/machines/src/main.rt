@@ -5,7 +5,8 @@
 //! `cell STEPS` makes a cell of a machine's daemon and two seats that it is closed with, `a` and `b`, and one that is left out, `c`. Steps are
 //! divided by `, `; each is `SEAT READING ACT`, and says what its seat does. Behind what each step gave stands what came of the close (`cells`).
 //!
-//! `host STEPS` makes a daemon with no cell round it, and tells what each step gives, in the lines of a report (`host_steps`).
+//! `host STEPS` makes such a cell over a disk in memory, and tells what each step gives, in the lines of a report (`hosts`). A step is `READING ACT`;
+//! an act may also tell that memory is refused from here on (`host_acts`).
 //!
 //! Any other line is a live script `NAME.script` that is played, with what is peculiar to the outside told in front of its name (`outside`). How it
 //! ended is printed, then its output; of replies only the machine, the number of the job and the first word.
@@ -13,8 +14,9 @@
 
 mod cell_starts;
 mod cells;
-mod host_steps;
-mod lone_daemon;
+mod host_acts;
+mod host_disks;
+mod hosts;
 mod outside;
 mod played_scripts;
 mod steps;
@@ -35,7 +37,7 @@ fn told<R: Files + Clock + Wait + Threads + AllocGlobal + Copy + Drop + Send + S
         return cells::told(rt, steps);
     }
     match line.strip_prefix("host ") {
-        Some(steps) => host_steps::told(&rt, steps),
+        Some(steps) => hosts::told(rt, steps),
         None => played_scripts::told(rt, &read_case(line)),
     }
 }

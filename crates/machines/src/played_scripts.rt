@@ -119,16 +119,16 @@ fn play<R: Clock + Wait + Threads + Copy + Drop + Send + Sync>(
     plan: SharedPlan<R>,
 ) -> Result<(Lived, Vec<u8>), AllocError> {
     let source = MemSource::new(script, Vec::new(alloc), Vec::new(alloc));
-    let mut sink = MemSink::new(alloc, ROOM, Vec::new(alloc), Vec::new(alloc))?;
+    let sink = MemSink::new(alloc, ROOM, Vec::new(alloc), Vec::new(alloc))?;
     let mut devices = SharedDevices::new(rt, alloc, plan);
     whole_language_may_play();
-    let (lived, _source) = play_live::<LiveHost, MemSource, MemSink, SharedDevices<R>, R>(
+    let (lived, _source, sink) = play_live::<LiveHost, MemSource, MemSink, SharedDevices<R>, R>(
         &rt,
         alloc,
         "f",
         false,
         source,
-        &mut sink,
+        sink,
         &mut devices,
     );
     Ok((lived, sink.into_taken()))

@@ -3,8 +3,7 @@
 //! An act is `wake`, `line TEXT`, `failed N` (an answer of call N), `written N`, `test`, `take delta` or `take resource`; or `hand` or `hand other`:
 //! what waits is handed out to the front that the cell is closed with, or to another one.
 
-use sl_cell::{HostCell, NotApplied, Part, Seat, Teller};
-use sl_cell::{Front, Station};
+use sl_cell::{Front, HostCell, NotApplied, Part, Seat, Station, Teller};
 use sl_text::Bytes;
 use sl_trace::{Answer, Input};
 use std::alloc::{AllocError, Global};

@@ -50,8 +50,8 @@ where
     let (pieces, failing) = plan(alloc, case.reads, READ)?;
     let source = MemSource::new(case.source.clone()?, pieces, failing);
     let (pieces, failing) = plan(alloc, case.writes, WRITTEN)?;
-    let mut sink = MemSink::new(alloc, ROOM, pieces, failing)?;
-    let (status, _source, _devices) = run(rt, alloc, &case.words, source, &mut sink, devices);
+    let sink = MemSink::new(alloc, ROOM, pieces, failing)?;
+    let (status, _source, sink, _devices) = run(rt, alloc, &case.words, source, sink, devices);
     Ok(Outcome {
         code: status.code(),
         output: sink.into_taken(),

@@ -15,9 +15,9 @@ ghost use Rattle.sl_world_state.specs.Daemons.{IsNumbered, IsStep, MayCome, begu
 ghost use Rattle.sl_world_state.specs.declared.daemon.Most.{Most};
 ghost use Rattle.std.specs.Prelude.{Err, IfOk, IsFalse, IsOk, IsTrue, OnErr, OnOk, false, if◌then◌else◌, length, map, true, [], ℕ, ◌++◌, ◌+◌, ◌<◌, ◌∷◌, ◌≡◌, ◌≤◌};
 
+use crate::station::{Book, Front, Signed, Station};
 use crate::step_copies::Spare;
 use crate::teller::Teller;
-use crate::station::{Book, Front, Signed, Station};
 use sl_run::Header;
 use sl_trace::{Effects, Entry, Given, Input, Numbers};
 use sl_world_state::{Daemon, Most, Site};

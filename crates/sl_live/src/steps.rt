@@ -10,8 +10,7 @@ ghost use Rattle.sl_live.specs.Turns.{GivesUp, Guards, Looks, MakesTurn, Starts,
 ghost use Rattle.std.specs.Prelude.{Bool, IfOk, OnErr, OnOk, ◌≡◌, ◌≤◌};
 
 use crate::children::{Awaited, Children};
-use sl_cell::{HostCell, NotApplied, Seat, Teller};
-use sl_cell::Station;
+use sl_cell::{HostCell, NotApplied, Seat, Station, Teller};
 use sl_outside::{Device, Spawner, StartedChild};
 use sl_time::Clock;
 use sl_trace::{Effects, Input};

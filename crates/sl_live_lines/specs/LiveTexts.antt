@@ -61,15 +61,6 @@ last_text machines replies Whole = live_line machines replies ++ 10 ∷ []
 last_text machines replies (Refused number why) = as_bytes (refusal_line number why ∷ [])
 last_text machines replies Cut = []
 
--- The bytes of the pieces of the machine at this place, in order.
-abbrev pub text_by : ℕ → List (Signed (List ℕ)) → List ℕ
-text_by place pieces = concat (entries (given_by place pieces))
-
--- Machines with these histories, whose locks begin so, put out these pieces, signed by their places: each what is told of its own, in order.
-pub record IsWoven (a : AlongState) (hs : List (List Entry)) (pieces : List (Signed (List ℕ))) : Type 0 where
-  pub below : AreBelow (length hs) pieces
-  pub each : (place : ℕ) (h : List Entry) → slice_get hs place ≡ Some h → text_by place pieces ≡ history_text (place + 1) a h
-
 -- ---- one reply
 
 -- The line of a reply, unless it is that to this ask; and its job.

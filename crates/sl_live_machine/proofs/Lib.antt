@@ -1,2 +1,4 @@
 pub mod SeatLaws
 pub mod RunLaws
+pub mod PrintLaws
+pub mod EndLaws

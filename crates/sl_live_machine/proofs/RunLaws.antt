@@ -22,7 +22,7 @@ use Rattle.sl_trace.specs.declared.input.Input.{Input}
 use Rattle.sl_world_state.specs.Daemons.{Stood}
 use Rattle.sl_run.specs.Lawful.{IsSetting}
 use Rattle.std.proofs.Common.{ap, arith, refl, subst, sym, ◌∙◌}
-use Rattle.std.specs.Prelude.{All, List, length, reverse, take, [], ℕ, ◌++◌, ◌+◌, ◌∷◌, ◌≡◌, ◌≤◌}
+use Rattle.std.specs.Prelude.{All, Err, IfErr, List, Ok, OnOk, Result, length, reverse, take, [], ℕ, ◌++◌, ◌+◌, ◌<◌, ◌^◌, ◌∷◌, ◌≡◌, ◌≤◌}
 use mathlib.Core.List.{IsPrefix}
 
 pub are_seats : (st : Setting) (ticks delta resource exits starts tests lines : SeatState) → IsTicker ticks → Works st Delta delta → Works st Resource resource → IsChildThread exits
@@ -124,14 +124,25 @@ run_so st seats h es same a x below trace = record {
 }
 
 -- These are the entries of a history that the counts of all seats make up.
-pub run_whole : (st : Setting) (seats : List SeatState) (h : List Signed) (es : List Entry) → es ≡ entries h → AreSeats st seats → AreExact 0 seats h → AreBelow (length seats) h
+run_whole : (st : Setting) (seats : List SeatState) (h : List Signed) (es : List Entry) → es ≡ entries h → AreSeats st seats → AreExact 0 seats h → AreBelow (length seats) h
     → IsTrace st (trace_of h) → IsRun st es
 run_whole st seats h es same a exact below trace =
     run_so st seats h es same a (seven st seats h a exact) below (subst (λ (l : List Entry). IsTrace st (reverse l)) (sym same) trace)
 
-pub stood_whole : {D : Type 0} (stands : D → Setting → List Entry → Type 0) (st : Setting) (h : List Signed) (es : List Entry) → es ≡ entries h → IsSetting st
-    → IsTrace st (trace_of h) → (d : D) × stands d st (trace_of h) → Stood stands st (reverse es)
-stood_whole {D} stands st h es same is trace so = subst (λ (l : List Entry). Stood stands st (reverse l)) (sym same) (record { setting = is; trace = trace; daemon = so.0; stood = so.1 })
+-- ---- a close, where it may have failed
+
+pub close_stood : {D E : Type 0} (stands : D → Setting → List Entry → Type 0) (st : Setting) (h : List Signed) (r : Result Unit E) → IsSetting st
+    → OnOk r ((d : D) × stands d st (trace_of h)) → OnOk r (IsTrace st (trace_of h)) → OnOk r (Stood stands st (trace_of h))
+close_stood stands st h (Ok u) is so trace = record { setting = is; trace = trace; daemon = so.0; stood = so.1 }
+close_stood stands st h (Err e) is so trace = tt
+
+pub close_run : {E : Type 0} (st : Setting) (seats : List SeatState) (h : List Signed) (r : Result Unit E) → AreSeats st seats → OnOk r (AreExact 0 seats h)
+    → OnOk r (AreBelow (length seats) h) → OnOk r (IsTrace st (trace_of h)) → OnOk r (IsRun st (entries h))
+close_run st seats h (Ok u) a exact below trace = run_whole st seats h (entries h) refl a exact below trace
+close_run st seats h (Err e) a exact below trace = tt
+
+pub few_seats : (st : Setting) (seats all : List SeatState) → AreSeats st seats → all ≡ seats → length all < 2 ^ 32
+few_seats st seats all a same = let n : length all ≡ 7 = ap length (same ∙ a.all) in omega (arith, n)
 
 -- ---- a case
 
@@ -139,8 +150,13 @@ seats_of : (st : Setting) (seats : List SeatState) (d : Differ) → AreSeats st 
 seats_of st seats (Counted length_is counted) a = a
 seats_of st seats (Broken length_is) a = tt
 
-pub case_run : (st : Setting) (seats : List SeatState) (mine : List Signed) (d : Differ) → AreSeats st seats → IsCaseOfSome st seats mine d → IsCaseOfRun st d
+case_run : (st : Setting) (seats : List SeatState) (mine : List Signed) (d : Differ) → AreSeats st seats → IsCaseOfSome st seats mine d → IsCaseOfRun st d
 case_run st seats mine d a so = record { seats = seats; mine = mine; threads = seats_of st seats d a; case_of = so }
+
+pub close_case : (st : Setting) (seats : List SeatState) (mine : List Signed) (r : Result Unit Differ) → AreSeats st seats → IfErr r (IsCaseOfSome st seats mine)
+    → IfErr r (IsCaseOfRun st)
+close_case st seats mine (Ok u) a so = tt
+close_case st seats mine (Err d) a so = case_run st seats mine d a so
 
 pub case_broken : (st : Setting) (seats : List SeatState) (mine : List Signed) (n : ℕ) → IsCaseOfSome st seats mine (Broken n) → IsCaseOfRun st (Broken n)
 case_broken st seats mine n so = record { seats = seats; mine = mine; threads = tt; case_of = so }

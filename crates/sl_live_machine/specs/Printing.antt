@@ -1,19 +1,29 @@
 -- What a machine's printer knows of the history that it has seen.
 use Rattle.sl_book.specs.Logs.{entries, given_by}
-use Rattle.sl_book.specs.Mails.{ReaderState}
+use Rattle.sl_book.specs.Mails.{PostedState, ReaderState}
 use Rattle.sl_book.specs.Seats.{IsMine}
-use Rattle.sl_live_lines.specs.AuditedHistory.{DiffersBehind, IsAudit, lines_along}
+use Rattle.sl_live_lines.specs.AuditedHistory.{DiffersBehind, IsAudit, lines_along, own_lines}
 use Rattle.sl_live_lines.specs.LiveTexts.{history_text}
 use Rattle.sl_live_lines.specs.LocksAlong.{AlongState}
 use Rattle.sl_live_machine.specs.declared.printer.Printer.{Printer}
 use Rattle.sl_live_lines.specs.declared.given_lines.GivenLine.{GivenLine}
 use Rattle.sl_trace.specs.declared.effects.Entry.{Entry}
 use Rattle.std.specs.List.{concat}
-use Rattle.std.specs.Prelude.{List, None, Option, Some, length, ℕ, ◌++◌, ◌+◌, ◌≡◌}
+use Rattle.std.specs.Prelude.{List, None, Option, Some, length, [], ℕ, ◌++◌, ◌+◌, ◌∷◌, ◌≡◌}
 
 -- The script's lines that a reader has met.
 abbrev pub lines_read : ReaderState GivenLine → List GivenLine
 lines_read r = entries (given_by r.by r.front)
+
+-- The line that is posted, if one is.
+abbrev pub line_of : Option (PostedState GivenLine) → Option GivenLine
+line_of None = None
+line_of (Some p) = Some p.element
+
+-- What was met at an entry: nothing, and the reader is as it was; or a line where the entry has one of the script's own, and the reader has met it.
+abbrev pub Meets : AlongState → Entry → ReaderState GivenLine → ReaderState GivenLine → Option (PostedState GivenLine) → Type 0
+Meets locks e r r' None = r' ≡ r
+Meets locks e r r' (Some p) = (lines_read r' ≡ lines_read r ++ p.element ∷ []) × ((l : GivenLine) × (own_lines locks e ≡ l ∷ []))
 
 -- The line of the entry of this number is not the one due there, where the script had given these lines by then.
 abbrev pub IsWrong : AlongState → List Entry → List GivenLine → ℕ → Type 0

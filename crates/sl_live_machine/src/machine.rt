@@ -12,7 +12,7 @@ ghost use Rattle.sl_trace.specs.declared.effects.Entry.{Entry as EntryOf};
 ghost use Rattle.sl_run.specs.Headers.{IsHeader};
 ghost use Rattle.sl_run.specs.Lawful.{IsSetting};
 ghost use Rattle.sl_world_state.specs.Daemons.{Stood, begun_with};
-ghost use Rattle.std.specs.Prelude.{Err, IfErr, IfOk, List, Ok, OnOk, [], ◌+◌, ◌≡◌};
+ghost use Rattle.std.specs.Prelude.{Err, IfErr, IfOk, IsOk, List, None, Ok, OnOk, [], ◌+◌, ◌≡◌};
 
 use crate::printer::{Desk, Printer};
 use crate::room::{Pace, Room};
@@ -82,7 +82,6 @@ fn pace_of(header: &Header) -> Pace {
 }
 
 /// Closes a cell with the seats of all threads, for a printer that has seen all that was handed out.
-#[tactic(auto, using(crate::proofs::RunLaws::stood_whole, crate::proofs::RunLaws::case_run))]
 fn close_with<D: Teller, J: Station>(
     cell: HostCell<D, J>,
     seats: Vec<Seat<J>>,
@@ -98,7 +97,6 @@ fn close_with<D: Teller, J: Station>(
 }
 
 /// Closes the cell of threads of which one has ended too soon: want of memory, if the daemon stands for its history.
-#[tactic(auto, using(crate::proofs::RunLaws::case_broken))]
 fn close_early<D: Teller, J: Station>(
     alloc: Global,
     cell: HostCell<D, J>,
@@ -116,7 +114,8 @@ fn close_early<D: Teller, J: Station>(
 
 /// Whether what the printer found along a whole history is as it should be.
 fn check_lines<J: Station, O: Press, T: Shelf>(printer: &Printer<J, O, T>) -> Result<(), CloseError>
-    ensures { (a : AlongState) → (h : List EntryOf) → IsPrinting a h printer.now → Checks a h printer.now result }
+    ensures goes { (a : AlongState) → (h : List EntryOf) → IsPrinting a h printer.now → Checks a h printer.now result }
+    ensures right { OnOk result (printer.now.wrong ≡ None) }
 {
     if let Some(number) = printer.wrong {
         return Err(CloseError::Line { number });
@@ -135,7 +134,8 @@ fn close_whole<D: Teller, J: Station, O: Press, T: Shelf>(
 ) -> Result<(), CloseError>
     requires setting { IsSetting J.setting }
     requires seats { AreSeats J.setting seats.items }
-    ensures { (a : AlongState) → IsPrinting a (entries printer.now.mine) printer.now → EndsSo D.Daemon.stands J.setting a printer.now result }
+    ensures goes { (a : AlongState) → IsPrinting a (entries printer.now.mine) printer.now → EndsSo D.Daemon.stands J.setting a printer.now result }
+    ensures right { OnOk result (printer.now.wrong ≡ None) }
 {
     match close_with(cell, seats, &printer.mine) {
         Ok(()) => check_lines(printer),
@@ -156,6 +156,7 @@ fn print_last<D: Teller, J: Station, K: Sink, O: Press, T: Shelf, R: Wait, P: Sp
     ensures goes { (a : AlongState) → OnOk printed.old.end (IsPrinting a (entries printed.old.printer.mine) printed.old.printer)
         → OnOk result (IsPrinting a (entries printed.new.printer.mine) printed.new.printer × (printed.new.printer.text.items ≡ [])) }
     ensures by { printed.new.printer.reader.by ≡ printed.old.printer.reader.by }
+    ensures seat { printed.new.printer.writer.by ≡ printed.old.printer.writer.by }
 {
     let seats = seats?;
     printed.end?;
@@ -173,7 +174,8 @@ fn close<D: Teller, J: Station, O: Press, T: Shelf, P: Spawner>(
 ) -> Result<(), CloseError>
     requires setting { IsSetting J.setting }
     requires seats { IfOk seats (λ v. AreSeats J.setting v.items) }
-    ensures { (a : AlongState) → OnOk seats (IsPrinting a (entries printer.now.mine) printer.now) → EndsSo D.Daemon.stands J.setting a printer.now result }
+    ensures goes { (a : AlongState) → OnOk seats (IsPrinting a (entries printer.now.mine) printer.now) → EndsSo D.Daemon.stands J.setting a printer.now result }
+    ensures right { OnOk result ((printer.now.wrong ≡ None) × IsOk seats) }
 {
     let Room {
         alloc,

@@ -4,11 +4,13 @@
 //! line of the history is compared with the next one that the script gave, or, while a line for lvmlockd runs, with its next ask; where it is another
 //! one, the machines end.
 
-ghost use Rattle.sl_live_lines.specs.LocksAlong.{AlongState};
-ghost use Rattle.sl_live_machine.specs.Printing.{IsPrinting};
+ghost use Rattle.sl_live_lines.specs.AuditedHistory.{IsOther, KeepsAsk, due_line, own_lines};
+ghost use Rattle.sl_live_lines.specs.LocksAlong.{AlongState, line_given};
+ghost use Rattle.sl_live_lines.specs.declared.given_lines.GivenLine.{GivenLine as GivenLineOf};
+ghost use Rattle.sl_live_machine.specs.Printing.{IsPrinting, Meets, line_of};
 ghost use Rattle.sl_book.specs.Logs.{entries};
 ghost use Rattle.sl_trace.specs.declared.effects.Entry.{Entry as EntryOf};
-ghost use Rattle.std.specs.Prelude.{List, None, OnOk, [], ℕ, ◌++◌, ◌+◌, ◌∷◌, ◌≡◌};
+ghost use Rattle.std.specs.Prelude.{IfOk, IsFalse, IsTrue, List, None, OnOk, Some, [], ℕ, ◌++◌, ◌+◌, ◌∷◌, ◌≡◌};
 
 use crate::mail::Mail;
 use crate::room::Room;
@@ -30,6 +32,51 @@ use std::{mem, time};
 pub struct Desk<'a, K: Sink, O: Press, T: Shelf> {
     pub mail: &'a Mail<T>,
     pub output: &'a Output<K, O>,
+}
+
+/// The script's line that is due at this entry, if the entry has one of the script's, and one is there.
+fn next_line<T: Shelf, R: Wait>(
+    rt: &R,
+    mail: &Mail<T>,
+    audit: &Audit,
+    reader: &mut Reader<T, GivenLine>,
+    entry: &Entry,
+) -> Option<Posted<T, GivenLine>>
+    ensures meets { Meets audit.now.locks entry.now reader.old reader.new result }
+    ensures by { reader.new.by ≡ reader.old.by }
+{
+    if !audit.has_own_line(entry) {
+        return None;
+    }
+    let posted = mail.next(rt)?;
+    if reader.take(&posted) {
+        Some(posted)
+    } else {
+        None
+    }
+}
+
+/// Whether the entry's line, if it has one, is the one that is due, where this is the script's next. An `Err` is want of memory.
+fn fits<T: Shelf>(
+    audit: &Audit,
+    entry: &Entry,
+    next: &Option<Posted<T, GivenLine>>,
+) -> Result<bool, AllocError>
+    ensures ask { IfOk result (λ b. IsTrue b → KeepsAsk audit.now.locks entry.now) }
+    ensures own { IfOk result (λ b. IsTrue b → (l : GivenLineOf) → own_lines audit.now.locks entry.now ≡ l ∷ [] → line_of next.now ≡ Some l) }
+    ensures other { IfOk result (λ b. IsFalse b → IsOther (line_given entry.now.input) (due_line audit.now.locks (line_of next.now))) }
+{
+    match next {
+        Some(posted) => audit.fits(entry, Some(posted.element())),
+        None => audit.fits(entry, None),
+    }
+}
+
+/// The number of the entry behind so many. An `Err` is want of a number for it.
+fn number_behind(entries: u64) -> Result<u64, AllocError>
+    ensures { IfOk result (λ n. n ≡ entries + 1) }
+{
+    entries.checked_add(1).ok_or(AllocError)
 }
 
 /// A machine's printer: how much of the history it has seen, what it found along it, the script's lines that it met there, the pieces that it put
@@ -90,33 +137,7 @@ impl<J: Station, O: Press, T: Shelf> Printer<J, O, T> {
         (reader, writer)
     }
 
-    /// The script's line that is due at this entry, if the entry has one of the script's, and one is there.
-    fn next_line<R: Wait>(
-        &mut self,
-        rt: &R,
-        mail: &Mail<T>,
-        entry: &Entry,
-    ) -> Option<Posted<T, GivenLine>> {
-        if !self.audit.has_own_line(entry) {
-            return None;
-        }
-        let posted = mail.next(rt)?;
-        if self.reader.take(&posted) {
-            Some(posted)
-        } else {
-            None
-        }
-    }
-
-    /// Whether the entry's line, if it has one, is the one that is due, where this is the script's next. An `Err` is want of memory.
-    fn fits(&self, entry: &Entry, next: &Option<Posted<T, GivenLine>>) -> Result<bool, AllocError> {
-        match next {
-            Some(posted) => self.audit.fits(entry, Some(posted.element())),
-            None => self.audit.fits(entry, None),
-        }
-    }
-
-    /// Goes on by an entry. After an `Err`, which is want of memory, it is of no use.
+    /// Goes on by an entry. After an `Err`, which is want of memory, or of a number for a count, it is of no use.
     fn go_on<R: Wait>(
         &mut self,
         rt: &R,
@@ -128,17 +149,21 @@ impl<J: Station, O: Press, T: Shelf> Printer<J, O, T> {
             → OnOk result (IsPrinting a (h ++ entry.now ∷ []) self.new) }
         ensures mine { self.new.mine ≡ self.old.mine }
         ensures by { self.new.reader.by ≡ self.old.reader.by }
+        ensures seat { self.new.writer.by ≡ self.old.writer.by }
     {
         if self.wrong.is_some() {
             return Ok(());
         }
-        let next = self.next_line(rt, mail, entry);
-        if !self.fits(entry, &next)? {
-            self.wrong = Some(self.audit.entries() + 1);
+        let next = next_line(rt, mail, &self.audit, &mut self.reader, entry);
+        let fit = fits(&self.audit, entry, &next)?;
+        if fit {
+            self.audit
+                .step(&mut self.text, &mut self.jobs, machine, entry)?;
             return Ok(());
         }
-        self.audit
-            .step(&mut self.text, &mut self.jobs, machine, entry)
+        let number = number_behind(self.audit.entries())?;
+        self.wrong = Some(number);
+        Ok(())
     }
 
     /// Goes on by these, one after another.
@@ -153,6 +178,7 @@ impl<J: Station, O: Press, T: Shelf> Printer<J, O, T> {
             → OnOk result (IsPrinting a (h ++ entries.now) self.new) }
         ensures mine { self.new.mine ≡ self.old.mine }
         ensures by { self.new.reader.by ≡ self.old.reader.by }
+        ensures seat { self.new.writer.by ≡ self.old.writer.by }
     {
         for index in 0..entries.len() {
             self.go_on(rt, mail, machine, &entries[index])?;
@@ -165,6 +191,7 @@ impl<J: Station, O: Press, T: Shelf> Printer<J, O, T> {
         ensures goes { (a : AlongState) → (h : List EntryOf) → IsPrinting a h self.old → OnOk result (IsPrinting a h self.new × (self.new.text.items ≡ [])) }
         ensures mine { self.new.mine ≡ self.old.mine }
         ensures by { self.new.reader.by ≡ self.old.reader.by }
+        ensures seat { self.new.writer.by ≡ self.old.writer.by }
     {
         if self.text.is_empty() {
             return Ok(());
@@ -187,6 +214,7 @@ impl<J: Station, O: Press, T: Shelf> Printer<J, O, T> {
     ) -> Result<(), AllocError>
         ensures goes { (a : AlongState) → IsPrinting a (entries self.old.mine) self.old → OnOk result (IsPrinting a (entries self.new.mine) self.new × (self.new.text.items ≡ [])) }
         ensures by { self.new.reader.by ≡ self.old.reader.by }
+        ensures seat { self.new.writer.by ≡ self.old.writer.by }
     {
         let Ok(handed) = room.cell.hand_out(rt, &mut self.mine) else {
             return Err(AllocError);
@@ -218,6 +246,7 @@ pub(crate) fn print_replies<
 ) -> Result<(), AllocError>
     ensures goes { (a : AlongState) → IsPrinting a (entries printer.old.mine) printer.old → OnOk result (IsPrinting a (entries printer.new.mine) printer.new) }
     ensures by { printer.new.reader.by ≡ printer.old.reader.by }
+    ensures seat { printer.new.writer.by ≡ printer.old.writer.by }
 {
     for _ in rt.forever() {
         let seen = post.printer.moves(rt);

@@ -475,6 +475,7 @@ fn printer_end<
 ) -> Result<(), AllocError>
     ensures goes { (a : AlongState) → IsPrinting a (entries printer.old.mine) printer.old → OnOk result (IsPrinting a (entries printer.new.mine) printer.new) }
     ensures by { printer.new.reader.by ≡ printer.old.reader.by }
+    ensures seat { printer.new.writer.by ≡ printer.old.writer.by }
 {
     stand.enter(rt)?;
     stand.ended(rt, print_replies(rt, room, stand.post, desk, printer))
@@ -498,6 +499,7 @@ pub(crate) fn printer_thread<
 ) -> Printed<J, O, T>
     ensures goes { (a : AlongState) → IsPrinting a (entries printer.mine) printer → OnOk result.end (IsPrinting a (entries result.printer.mine) result.printer) }
     ensures by { result.printer.reader.by ≡ printer.reader.by }
+    ensures seat { result.printer.writer.by ≡ printer.writer.by }
 {
     let mut printer = printer;
     let end = printer_end(rt, room, stand, desk, &mut printer);
@@ -601,6 +603,7 @@ pub(crate) fn run_beside<
     ensures seats { IfOk result.0.seats (λ v. AreSeats J.setting v.items) }
     ensures printer { (a : AlongState) → IsPrinting a (entries printer.mine) printer → OnOk result.1.end (IsPrinting a (entries result.1.printer.mine) result.1.printer) }
     ensures by { result.1.printer.reader.by ≡ printer.reader.by }
+    ensures seat { result.1.printer.writer.by ≡ printer.writer.by }
 {
     join(
         rt,

@@ -1,7 +1,6 @@
 -- What is owed of a play, from what came of its parts.
 use Rattle.sl_reader.specs.declared.live_lines.LiveLine.{LiveLine}
-use Rattle.sl_live_lines.specs.LocksAlong.{begun_along}
-use Rattle.sl_live_play.specs.LiveOwed.{All, Beginnings, Breaks, Breaks_early, Disk_there, Due, Ends, Faults, In_use, Lacks, Lives, Nothing, Of, Owes, Part, Parts, Puts, PutsEnded, PutsNoEntry, PutsNoGround, PutsStop, Stops, Stops_early, area_fault_text, disk_there_text, in_use_text}
+use Rattle.sl_live_play.specs.LiveOwed.{All, Beginnings, Breaks, Breaks_early, Disk_there, Due, Ends, Faults, Front, In_use, IsWoven, Lacks, Lives, Of, Owes, Part, Parts, Puts, PutsEnded, PutsPart, PutsNoEntry, PutsNoGround, PutsStop, Stops, Stops_early, area_fault_text, disk_there_text, first_locks, in_use_text}
 use Rattle.sl_live_play.specs.declared.play.Lived.TheVariants.{AreaFault, Differs, Done, NoMemory, ReadFault, Refused, WriteFault}
 use Rattle.sl_live_play.specs.declared.play.Lived.{Lived}
 use Rattle.sl_reader.specs.ScriptReading.{ReadsScript}
@@ -13,7 +12,21 @@ use Rattle.sl_live_run.specs.declared.folder.NoEntry.TheVariants as no_entry
 use Rattle.sl_live_run.specs.declared.folder.NoEntry.{NoEntry}
 use Rattle.sl_live_run.specs.declared.ground.NoGround.TheVariants as no_ground
 use Rattle.sl_live_run.specs.declared.ground.NoGround.{NoGround}
-use Rattle.sl_live_run.specs.Runs.{AreLiveHistories, IsLiveStop}
+use Rattle.sl_live_run.specs.Runs.{AreLiveHistories, HasToldAll, IsLiveStop, begun_on, replies_of}
+use Rattle.sl_live_run.specs.Grounds.{IsSiteOf}
+use Rattle.sl_live_lines.specs.LiveTexts.{count_replies, history_text}
+use Rattle.sl_live_lines.specs.LocksAlong.{AlongState, begun_along}
+use Rattle.sl_output.specs.Outputs.{IsCut}
+use Rattle.sl_output.specs.Pieces.{Piece, text_by, text_of}
+use Rattle.sl_run.specs.declared.header.SessionLine.{SessionLine}
+use Rattle.sl_trace.specs.declared.input.Numbers.{Numbers}
+use Rattle.sl_world_state.specs.FirstKept.{session_of}
+use Rattle.sl_world_state.specs.declared.daemon.Site.{Site}
+use Rattle.sl_words.proofs.CaseLaws.{none_some}
+use Rattle.sl_words.proofs.Lists.{there_is}
+use Rattle.std.proofs.KnownBytes.{Appends-trans}
+use Rattle.std.proofs.lemmas.List.Sums.{sum_by-cons}
+use Rattle.std.specs.List.{sum_by}
 use Rattle.sl_live_run.specs.declared.compare.LiveStop.TheVariants as stop
 use Rattle.sl_live_run.specs.declared.compare.LiveStop.{LiveStop}
 use Rattle.sl_report.specs.OwedReports.{HeadersAreGood, IsFrontOf}
@@ -30,49 +43,102 @@ use Rattle.sl_trace.specs.Traces.{Setting, Trace}
 use Rattle.sl_trace.specs.declared.command.Command.{Command}
 use Rattle.sl_trace.specs.declared.effects.Entry.{Entry}
 use Rattle.sl_io.specs.FaultCauses.{Rose}
-use Rattle.std.proofs.Common.{ap, Err, List, None, Ok, Option, Result, Some, [], append-nil, arith, drop, length, refl, subst, sym, take, ℕ, ◌++◌, ◌≡◌, ◌≤◌, ◌∙◌, ◌∷◌}
+use Rattle.std.proofs.Common.{ap, Err, List, None, Ok, Option, Result, Some, [], append-nil, append_assoc, arith, drop, length, refl, slice_get, subst, suc, sym, take, zero, ℕ, ◌++◌, ◌+◌, ◌<◌, ◌≡◌, ◌≤◌, ◌∙◌, ◌∷◌}
 use Rattle.std.proofs.lemmas.List.{take-append-drop}
 use Rattle.std.specs.Io.KnownBytes.{Appends}
 use Rattle.std.specs.Prelude.{IfErr, IfOk, OnOk}
 
--- For want of memory nothing was put out.
+-- For want of memory a part may have been put out.
 lacks : {D : Type 0} (stands : D → Setting → Trace → Type 0) (commands : Header → List (Form Command)) (f : Asked) (left after taken now : Option (List ℕ))
+    (faults later sink_faults sink_later device_faults device_later : ℕ) (s : Lived) → s ≡ NoMemory → PutsPart taken now
+    → Owes stands commands f left after taken now faults later sink_faults sink_later device_faults device_later s
+lacks stands commands f left after taken now faults later sink_faults sink_later device_faults device_later s is part =
+    subst (Owes stands commands f left after taken now faults later sink_faults sink_later device_faults device_later) (sym is) (Lacks part.0 part.1)
+
+-- .. or nothing.
+lacks_all : {D : Type 0} (stands : D → Setting → Trace → Type 0) (commands : Header → List (Form Command)) (f : Asked) (left after taken now : Option (List ℕ))
     (faults later sink_faults sink_later device_faults device_later : ℕ) (s : Lived) → s ≡ NoMemory → Appends taken now []
     → Owes stands commands f left after taken now faults later sink_faults sink_later device_faults device_later s
-lacks stands commands f left after taken now faults later sink_faults sink_later device_faults device_later s is nothing =
-    subst (Owes stands commands f left after taken now faults later sink_faults sink_later device_faults device_later) (sym is) (Lacks nothing)
+lacks_all stands commands f left after taken now faults later sink_faults sink_later device_faults device_later s is nothing =
+    lacks stands commands f left after taken now faults later sink_faults sink_later device_faults device_later s is ([], nothing)
 
 -- The histories of machines, by how their script ended.
 owes_ended : {D : Type 0} (stands : D → Setting → Trace → Type 0) (commands : Header → List (Form Command)) (f : Asked) (left after taken now : Option (List ℕ))
-    (faults later sink_faults sink_later device_faults device_later : ℕ) (h : Header) (given : List LiveLine) (hs : List (List Entry)) (end : Option ScriptEnd) (s : Lived)
-    → ReadsScript left after faults later h given end → Lives stands commands h given hs → IsVacant f h → PutsEnded taken now sink_faults sink_later (begun_along h first_numbers.job) hs end s
+    (faults later sink_faults sink_later device_faults device_later : ℕ) (h : Header) (given : List LiveLine) (hs : List (List Entry)) (pieces : List Piece) (end : Option ScriptEnd) (s : Lived)
+    → ReadsScript left after faults later h given end → Lives stands commands h given hs → IsWoven (first_locks h) hs pieces → IsVacant f h
+    → PutsEnded taken now sink_faults sink_later pieces (length hs) (sum_by (count_replies (first_locks h)) hs) end s
     → Owes stands commands f left after taken now faults later sink_faults sink_later device_faults device_later s
-owes_ended stands commands f left after taken now faults later sink_faults sink_later device_faults device_later h given hs (Some script.End) s reads lives vacant puts =
-    Of _ Done s (Ends h given hs reads lives vacant) puts
-owes_ended stands commands f left after taken now faults later sink_faults sink_later device_faults device_later h given hs (Some (script.Refused number why)) s reads lives vacant puts =
-    Of _ Refused s (Stops h given hs number why reads lives vacant) puts
-owes_ended stands commands f left after taken now faults later sink_faults sink_later device_faults device_later h given hs (Some script.ReadFault) s reads lives vacant puts =
-    Of _ ReadFault s (Breaks h given hs reads lives vacant) puts
-owes_ended stands commands f left after taken now faults later sink_faults sink_later device_faults device_later h given hs (Some script.NoMemory) s reads lives vacant puts =
+owes_ended stands commands f left after taken now faults later sink_faults sink_later device_faults device_later h given hs pieces (Some script.End) s reads lives woven vacant puts =
+    Of _ Done s (Ends h given hs pieces reads lives woven vacant) puts
+owes_ended stands commands f left after taken now faults later sink_faults sink_later device_faults device_later h given hs pieces (Some (script.Refused number why)) s reads lives woven vacant puts =
+    Of _ Refused s (Stops h given hs pieces number why reads lives woven vacant) puts
+owes_ended stands commands f left after taken now faults later sink_faults sink_later device_faults device_later h given hs pieces (Some script.ReadFault) s reads lives woven vacant puts =
+    Of _ ReadFault s (Breaks h given hs pieces reads lives woven vacant) puts
+owes_ended stands commands f left after taken now faults later sink_faults sink_later device_faults device_later h given hs pieces (Some script.NoMemory) s reads lives woven vacant puts =
     lacks stands commands f left after taken now faults later sink_faults sink_later device_faults device_later s puts.0 puts.1
-owes_ended stands commands f left after taken now faults later sink_faults sink_later device_faults device_later h given hs None s reads lives vacant puts =
+owes_ended stands commands f left after taken now faults later sink_faults sink_later device_faults device_later h given hs pieces None s reads lives woven vacant puts =
     lacks stands commands f left after taken now faults later sink_faults sink_later device_faults device_later s puts.0 puts.1
 
+-- ---- what was told of all machines
+
+-- A machine's first job has the first number.
+first_job : (h : Header) (m : ℕ) (o : Option SessionLine) (s : Site) → IsSiteOf h m o s → s.first ≡ first_numbers
+first_job h m None s is = ap (λ (x : Site). x.first) is.1
+first_job h m (Some l) s is = ap (λ (x : Site). x.first) is
+
+-- lvmlockd's locks begin on each machine as the header says, whatever its clocks.
+first_on : (h : Header) (begun : Beginnings h) (place : ℕ) (s : Site) → slice_get begun.sites place ≡ Some s → begun_on begun.header s ≡ first_locks h
+first_on h begun place s at =
+    ap (λ (n : Numbers). begun_along begun.header n.job) (first_job begun.header (place + 1) (session_of begun.header (place + 1)) s (begun.begun place s at))
+    ∙ ap (λ (x : Header). begun_along x first_numbers.job) begun.same
+
+inside : {A : Type 0} (xs : List A) (k : ℕ) (x : A) → slice_get xs k ≡ Some x → k < length xs
+inside [] k x at = absurd (none_some x at)
+inside (y ∷ xs) zero x at = omega arith
+inside (y ∷ xs) (suc k) x at = let rest = inside xs k x at in omega (arith, rest)
+
+woven : {D : Type 0} (stands : D → Setting → Trace → Type 0) (commands : Header → List (Form Command)) (h : Header) (begun : Beginnings h) (before given : List LiveLine) (pieces : List Piece)
+    (machines replies : ℕ) → (told : HasToldAll stands commands begun.header begun.sites before given pieces machines replies) → IsWoven (first_locks h) told.histories pieces
+woven stands commands h begun before given pieces machines replies told = record {
+  below = told.below;
+  each = λ place x at.
+      let lt = inside told.histories place x at in
+      let n = told.live.counted in
+      let site = there_is begun.sites place (omega (arith, lt, n)) in
+      subst (λ (a : AlongState). text_by place pieces ≡ history_text (place + 1) a x) (first_on h begun place site.0 site.1) (told.texts place site.0 x site.1 at);
+}
+
+-- the replies of all machines
+replies_same : (header : Header) (a : AlongState) (sites : List Site) (hs : List (List Entry)) → length hs ≡ length sites
+    → ((place : ℕ) (s : Site) → slice_get sites place ≡ Some s → begun_on header s ≡ a) → replies_of header sites hs ≡ sum_by (count_replies a) hs
+replies_same header a [] [] len same = refl
+replies_same header a [] (x ∷ hs) len same = absurd (omega (arith, len))
+replies_same header a (s ∷ sites) [] len same = absurd (omega (arith, len))
+replies_same header a (s ∷ sites) (x ∷ hs) len same =
+    let here : count_replies (begun_on header s) x ≡ count_replies a x = ap (λ (b : AlongState). count_replies b x) (same 0 s refl) in
+    let rest : replies_of header sites hs ≡ sum_by (count_replies a) hs = replies_same header a sites hs (omega (arith, len)) (λ k t at. same (suc k) t at) in
+    omega (arith, here, rest, sum_by-cons (count_replies a) x hs)
+
 -- What came of a run.
-pub owes_run : {D V : Type 0} (stands : D → Setting → Trace → Type 0) (commands : Header → List (Form Command)) (f : Asked) (left after taken now : Option (List ℕ))
-    (faults later sink_faults sink_later device_faults device_later : ℕ) (h : Header) (begun : Beginnings h) (before given : List LiveLine) (items : V → List (List Entry))
-    (histories : Result V LiveStop) (end : Option ScriptEnd) (s : Lived) → before ≡ [] → ReadsScript left after faults later h given end → IsVacant f h
-    → IfOk histories (λ v. AreLiveHistories stands commands begun.header begun.sites before given (items v))
-    → IfErr histories (IsLiveStop stands commands begun.header begun.sites before given)
-    → IfOk histories (λ v. PutsEnded taken now sink_faults sink_later (begun_along h first_numbers.job) (items v) end s)
-    → IfErr histories (λ e. PutsStop taken now sink_faults sink_later e s)
+pub owes_run : {D : Type 0} (stands : D → Setting → Trace → Type 0) (commands : Header → List (Form Command)) (f : Asked) (left after taken now : Option (List ℕ))
+    (faults later sink_faults sink_later device_faults device_later : ℕ) (h : Header) (begun : Beginnings h) (before given : List LiveLine) (pieces : List Piece) (machines : ℕ)
+    (replies : Result ℕ LiveStop) (end : Option ScriptEnd) (s : Lived) → before ≡ [] → ReadsScript left after faults later h given end → IsVacant f h
+    → IfOk replies (HasToldAll stands commands begun.header begun.sites before given pieces machines)
+    → IfErr replies (IsLiveStop stands commands begun.header begun.sites before given)
+    → IfOk replies (λ n. PutsEnded taken now sink_faults sink_later pieces machines n end s)
+    → IfErr replies (λ e. PutsStop taken now sink_faults sink_later pieces e s)
     → Owes stands commands f left after taken now faults later sink_faults sink_later device_faults device_later s
-owes_run stands commands f left after taken now faults later sink_faults sink_later device_faults device_later h begun before given items (Ok v) end s none reads vacant ok err puts stops =
-    owes_ended stands commands f left after taken now faults later sink_faults sink_later device_faults device_later h given (items v) end s reads
-    (record { begun = begun; histories = subst (λ (b : List LiveLine). AreLiveHistories stands commands begun.header begun.sites b given (items v)) none ok }) vacant puts
-owes_run stands commands f left after taken now faults later sink_faults sink_later device_faults device_later h begun before given items (Err (stop.Differ machine d)) end s none reads vacant ok err puts stops =
-    Of _ Differs s (Parts h given end machine d reads (record { begun = begun; differs = subst (λ (b : List LiveLine). IsLiveStop stands commands begun.header begun.sites b given (stop.Differ machine d)) none err }) vacant) stops
-owes_run stands commands f left after taken now faults later sink_faults sink_later device_faults device_later h begun before given items (Err stop.NoMemory) end s none reads vacant ok err puts stops =
+owes_run stands commands f left after taken now faults later sink_faults sink_later device_faults device_later h begun before given pieces machines (Ok n) end s none reads vacant ok err puts stops =
+    let hs = ok.histories in
+    let count : n ≡ sum_by (count_replies (first_locks h)) hs = ok.count ∙ replies_same begun.header (first_locks h) begun.sites hs ok.live.counted (first_on h begun) in
+    let here : PutsEnded taken now sink_faults sink_later pieces (length hs) n end s = subst (λ (m : ℕ). PutsEnded taken now sink_faults sink_later pieces m n end s) ok.machines_are puts in
+    owes_ended stands commands f left after taken now faults later sink_faults sink_later device_faults device_later h given hs pieces end s reads
+    (record { begun = begun; histories = subst (λ (b : List LiveLine). AreLiveHistories stands commands begun.header begun.sites b given hs) none ok.live })
+    (woven stands commands h begun before given pieces machines n ok) vacant
+    (subst (λ (k : ℕ). PutsEnded taken now sink_faults sink_later pieces (length hs) k end s) count here)
+owes_run stands commands f left after taken now faults later sink_faults sink_later device_faults device_later h begun before given pieces machines (Err (stop.Differ machine d)) end s none reads vacant ok err puts stops =
+    Of _ Differs s (Parts h given end (text_of pieces) machine d reads (record { begun = begun; differs = subst (λ (b : List LiveLine). IsLiveStop stands commands begun.header begun.sites b given (stop.Differ machine d)) none err }) vacant) stops
+owes_run stands commands f left after taken now faults later sink_faults sink_later device_faults device_later h begun before given pieces machines (Err stop.NoMemory) end s none reads vacant ok err puts stops =
     lacks stands commands f left after taken now faults later sink_faults sink_later device_faults device_later s stops.0 stops.1
 
 -- A run that can't begin.
@@ -83,7 +149,7 @@ pub owes_no_ground : {D : Type 0} (stands : D → Setting → Trace → Type 0) 
 owes_no_ground stands commands f left after taken now faults later sink_faults sink_later device_faults device_later no_ground.AreaFault s rose puts =
     Of area_fault_text AreaFault s (Faults rose) puts
 owes_no_ground stands commands f left after taken now faults later sink_faults sink_later device_faults device_later no_ground.NoMemory s rose puts =
-    lacks stands commands f left after taken now faults later sink_faults sink_later device_faults device_later s puts.0 puts.1
+    lacks_all stands commands f left after taken now faults later sink_faults sink_later device_faults device_later s puts.0 puts.1
 
 -- A folder that can't be entered.
 pub owes_no_entry : {D : Type 0} (stands : D → Setting → Trace → Type 0) (commands : Header → List (Form Command)) (f : Asked) (left after taken now : Option (List ℕ))
@@ -97,7 +163,7 @@ owes_no_entry stands commands f left after taken now faults later sink_faults si
 owes_no_entry stands commands f left after taken now faults later sink_faults sink_later device_faults device_later h r (no_entry.DiskThere path) s begins bars puts =
     Of (disk_there_text path) AreaFault s (Disk_there r h path begins bars.0 bars.1) puts
 owes_no_entry stands commands f left after taken now faults later sink_faults sink_later device_faults device_later h r no_entry.NoMemory s begins none puts =
-    lacks stands commands f left after taken now faults later sink_faults sink_later device_faults device_later s puts.0 puts.1
+    lacks_all stands commands f left after taken now faults later sink_faults sink_later device_faults device_later s puts.0 puts.1
 
 -- ---- faults before
 
@@ -123,21 +189,21 @@ script_since left after first faults later h given end le r =
 due_since : {D : Type 0} (stands : D → Setting → Trace → Type 0) (commands : Header → List (Form Command)) (f : Asked) (left after : Option (List ℕ))
     (first faults later device_faults device_later : ℕ) (text : List ℕ) (whole : Lived) → first ≤ faults
     → Due stands commands f left after faults later device_faults device_later text whole → Due stands commands f left after first later device_faults device_later text whole
-due_since stands commands f left after first faults later device_faults device_later text whole le (Ends h given hs reads lives vacant) =
-    Ends h given hs (script_since left after first faults later h given _ le reads) lives vacant
+due_since stands commands f left after first faults later device_faults device_later text whole le (Ends h given hs pieces reads lives woven vacant) =
+    Ends h given hs pieces (script_since left after first faults later h given _ le reads) lives woven vacant
 due_since stands commands f left after first faults later device_faults device_later text whole le (Stops_early r number why stops) = Stops_early r number why stops
-due_since stands commands f left after first faults later device_faults device_later text whole le (Stops h given hs number why reads lives vacant) =
-    Stops h given hs number why (script_since left after first faults later h given _ le reads) lives vacant
+due_since stands commands f left after first faults later device_faults device_later text whole le (Stops h given hs pieces number why reads lives woven vacant) =
+    Stops h given hs pieces number why (script_since left after first faults later h given _ le reads) lives woven vacant
 due_since stands commands f left after first faults later device_faults device_later text whole le (Breaks_early breaks rose) =
     Breaks_early breaks (rose_since first faults later le rose)
-due_since stands commands f left after first faults later device_faults device_later text whole le (Breaks h given hs reads lives vacant) =
-    Breaks h given hs (script_since left after first faults later h given _ le reads) lives vacant
+due_since stands commands f left after first faults later device_faults device_later text whole le (Breaks h given hs pieces reads lives woven vacant) =
+    Breaks h given hs pieces (script_since left after first faults later h given _ le reads) lives woven vacant
 due_since stands commands f left after first faults later device_faults device_later text whole le (Faults rose) = Faults rose
 due_since stands commands f left after first faults later device_faults device_later text whole le (In_use rose) = In_use rose
 due_since stands commands f left after first faults later device_faults device_later text whole le (Disk_there r h path begins there rose) =
     Disk_there r h path begins there rose
-due_since stands commands f left after first faults later device_faults device_later text whole le (Parts h given end machine d reads case_of vacant) =
-    Parts h given end machine d (script_since left after first faults later h given end le reads) case_of vacant
+due_since stands commands f left after first faults later device_faults device_later text whole le (Parts h given end before machine d reads case_of vacant) =
+    Parts h given end before machine d (script_since left after first faults later h given end le reads) case_of vacant
 
 pub owes_since : {D : Type 0} (stands : D → Setting → Trace → Type 0) (commands : Header → List (Form Command)) (f : Asked) (left after taken now : Option (List ℕ))
     (first faults later sink_faults sink_later device_faults device_later : ℕ) (s : Lived) → first ≤ faults
@@ -145,22 +211,22 @@ pub owes_since : {D : Type 0} (stands : D → Setting → Trace → Type 0) (com
     → Owes stands commands f left after taken now first later sink_faults sink_later device_faults device_later s
 owes_since stands commands f left after taken now first faults later sink_faults sink_later device_faults device_later s le (Of text whole t due puts) =
     Of text whole s (due_since stands commands f left after first faults later device_faults device_later text whole le due) puts
-owes_since stands commands f left after taken now first faults later sink_faults sink_later device_faults device_later s le (Lacks nothing) = Lacks nothing
+owes_since stands commands f left after taken now first faults later sink_faults sink_later device_faults device_later s le (Lacks part nothing) = Lacks part nothing
 
 -- .. and of the devices.
 due_devices : {D : Type 0} (stands : D → Setting → Trace → Type 0) (commands : Header → List (Form Command)) (f : Asked) (left after : Option (List ℕ))
     (faults later first device_faults device_later : ℕ) (text : List ℕ) (whole : Lived) → first ≤ device_faults
     → Due stands commands f left after faults later device_faults device_later text whole → Due stands commands f left after faults later first device_later text whole
-due_devices stands commands f left after faults later first device_faults device_later text whole le (Ends h given hs reads lives vacant) = Ends h given hs reads lives vacant
+due_devices stands commands f left after faults later first device_faults device_later text whole le (Ends h given hs pieces reads lives woven vacant) = Ends h given hs pieces reads lives woven vacant
 due_devices stands commands f left after faults later first device_faults device_later text whole le (Stops_early r number why stops) = Stops_early r number why stops
-due_devices stands commands f left after faults later first device_faults device_later text whole le (Stops h given hs number why reads lives vacant) = Stops h given hs number why reads lives vacant
+due_devices stands commands f left after faults later first device_faults device_later text whole le (Stops h given hs pieces number why reads lives woven vacant) = Stops h given hs pieces number why reads lives woven vacant
 due_devices stands commands f left after faults later first device_faults device_later text whole le (Breaks_early breaks rose) = Breaks_early breaks rose
-due_devices stands commands f left after faults later first device_faults device_later text whole le (Breaks h given hs reads lives vacant) = Breaks h given hs reads lives vacant
+due_devices stands commands f left after faults later first device_faults device_later text whole le (Breaks h given hs pieces reads lives woven vacant) = Breaks h given hs pieces reads lives woven vacant
 due_devices stands commands f left after faults later first device_faults device_later text whole le (Faults rose) = Faults (rose_since first device_faults device_later le rose)
 due_devices stands commands f left after faults later first device_faults device_later text whole le (In_use rose) = In_use (rose_since first device_faults device_later le rose)
 due_devices stands commands f left after faults later first device_faults device_later text whole le (Disk_there r h path begins there rose) =
     Disk_there r h path begins there (rose_since first device_faults device_later le rose)
-due_devices stands commands f left after faults later first device_faults device_later text whole le (Parts h given end machine d reads case_of vacant) = Parts h given end machine d reads case_of vacant
+due_devices stands commands f left after faults later first device_faults device_later text whole le (Parts h given end before machine d reads case_of vacant) = Parts h given end before machine d reads case_of vacant
 
 pub owes_devices : {D : Type 0} (stands : D → Setting → Trace → Type 0) (commands : Header → List (Form Command)) (f : Asked) (left after taken now : Option (List ℕ))
     (faults later sink_faults sink_later first device_faults device_later : ℕ) (s : Lived) → first ≤ device_faults
@@ -168,7 +234,7 @@ pub owes_devices : {D : Type 0} (stands : D → Setting → Trace → Type 0) (c
     → Owes stands commands f left after taken now faults later sink_faults sink_later first device_later s
 owes_devices stands commands f left after taken now faults later sink_faults sink_later first device_faults device_later s le (Of text whole t due puts) =
     Of text whole s (due_devices stands commands f left after faults later first device_faults device_later text whole le due) puts
-owes_devices stands commands f left after taken now faults later sink_faults sink_later first device_faults device_later s le (Lacks nothing) = Lacks nothing
+owes_devices stands commands f left after taken now faults later sink_faults sink_later first device_faults device_later s le (Lacks part nothing) = Lacks part nothing
 
 -- ---- the header
 
@@ -180,7 +246,7 @@ none_put (Some xs) = sym (append-nil xs)
 pub owes_nothing : {D : Type 0} (stands : D → Setting → Trace → Type 0) (commands : Header → List (Form Command)) (f : Asked) (left after taken : Option (List ℕ))
     (faults later sink_faults device_faults device_later : ℕ)
     → Owes stands commands f left after taken taken faults later sink_faults sink_faults device_faults device_later NoMemory
-owes_nothing stands commands f left after taken faults later sink_faults device_faults device_later = Lacks (none_put taken)
+owes_nothing stands commands f left after taken faults later sink_faults device_faults device_later = Lacks [] (none_put taken)
 
 -- A read failed within it.
 pub owes_break : {D : Type 0} (stands : D → Setting → Trace → Type 0) (commands : Header → List (Form Command)) (f : Asked) (left after taken : Option (List ℕ))
@@ -216,15 +282,28 @@ put_part pushed u a b f g text all whole is told front rose =
     Part (take front.0 text) front.2 (front_of text all front.0 (on_ok pushed u (text ≡ all) is told)) rose
 
 pub put_none : (a : Option (List ℕ)) (f g : ℕ) (all : List ℕ) (whole : Lived) → Puts a a f g all whole NoMemory
-put_none a f g all whole = Nothing (none_put a)
+put_none a f g all whole = Front [] (none_put a) (all, refl)
 
 -- The header that was read is one that a world may begin with.
 pub good_header : (h : Header) (first left : Option (List ℕ)) (r : ReaderState) → HeadersAreGood whole_language → HeaderBegins first left r h → IsHeader h
 good_header h first left r good b = good (b.consumed ++ []) h (lines_left b.consumed [] r) (b.reads [] (λ e. refl))
 
--- A header but for its clocks gives lvmlockd's locks the same beginning.
-pub puts_so : {V : Type 0} (h g : Header) (taken now : Option (List ℕ)) (faults later : ℕ) (items : V → List (List Entry)) (histories : Result V LiveStop) (end : Option ScriptEnd)
-    (s : Lived) → g ≡ record h { clocks = g.clocks } → IfOk histories (λ v. PutsEnded taken now faults later (begun_along g first_numbers.job) (items v) end s)
-    → IfOk histories (λ v. PutsEnded taken now faults later (begun_along h first_numbers.job) (items v) end s)
-puts_so {V} h g taken now faults later items histories end s same puts =
-    subst (λ a. IfOk histories (λ (v : V). PutsEnded taken now faults later a (items v) end s)) (ap (λ x. begun_along x first_numbers.job) same) puts
+-- ---- a text behind pieces
+
+-- A write had failed: nothing more is put out.
+pub behind_cut : (taken now : Option (List ℕ)) (faults later : ℕ) (pieces : List Piece) (all : List ℕ) (whole : Lived) → IsCut taken now faults later pieces
+    → Puts taken now faults later (text_of pieces ++ all) whole WriteFault
+behind_cut taken now faults later pieces all whole cut =
+    let rest = cut.begins in
+    Part cut.part cut.took (rest.0 ++ all, ap (λ (l : List ℕ). l ++ all) (sym rest.1) ∙ append_assoc cut.part rest.0 all) cut.rose
+
+-- What is put out of a text, behind all pieces.
+pub behind : (taken now then : Option (List ℕ)) (faults later last : ℕ) (pieces : List Piece) (all : List ℕ) (whole s : Lived) → faults ≤ later → Appends taken now (text_of pieces)
+    → Puts now then later last all whole s → Puts taken then faults last (text_of pieces ++ all) whole s
+behind taken now then faults later last pieces all whole s le took (All appends) = All (Appends-trans taken now then (text_of pieces) all took appends)
+behind taken now then faults later last pieces all whole s le took (Part front appends begins rose) =
+    Part (text_of pieces ++ front) (Appends-trans taken now then (text_of pieces) front took appends)
+    (begins.0, ap (λ (l : List ℕ). text_of pieces ++ l) begins.1 ∙ sym (append_assoc (text_of pieces) front begins.0)) (rose_since faults later last le rose)
+behind taken now then faults later last pieces all whole s le took (Front front appends begins) =
+    Front (text_of pieces ++ front) (Appends-trans taken now then (text_of pieces) front took appends)
+    (begins.0, ap (λ (l : List ℕ). text_of pieces ++ l) begins.1 ∙ sym (append_assoc (text_of pieces) front begins.0))

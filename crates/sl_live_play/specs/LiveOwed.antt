@@ -15,9 +15,10 @@ use Rattle.sl_live_play.specs.declared.play.Lived.{Lived}
 use Rattle.sl_reader.specs.ScriptReading.{ReadsScript}
 use Rattle.sl_reader.specs.declared.script_reading.ScriptEnd.TheVariants as script
 use Rattle.sl_reader.specs.declared.script_reading.ScriptEnd.{ScriptEnd}
-use Rattle.sl_live_lines.specs.LiveTexts.{IsWoven, count_replies, last_text}
+use Rattle.sl_book.specs.Closings.{AreBelow}
+use Rattle.sl_live_lines.specs.LiveTexts.{count_replies, history_text, last_text}
 use Rattle.sl_live_lines.specs.declared.live_texts.Ending.{Ending}
-use Rattle.sl_output.specs.Pieces.{Piece, text_of}
+use Rattle.sl_output.specs.Pieces.{Piece, text_by, text_of}
 use Rattle.std.specs.List.{sum_by}
 use Rattle.sl_live_lines.specs.declared.live_texts.Ending.TheVariants as ending
 use Rattle.sl_live_run.specs.Runs.{AreLiveHistories, LiveCaseOf}
@@ -57,6 +58,11 @@ pub record Lives {D : Type 0} (stands : D → Setting → Trace → Type 0) (com
     (hs : List (List Entry)) : Type 0 where
   pub begun : Beginnings h
   pub histories : AreLiveHistories stands commands begun.header begun.sites [] given hs
+
+-- Machines with these histories, whose locks begin so, put out these pieces, signed by their places: each what is told of its own, in order.
+pub record IsWoven (a : AlongState) (hs : List (List Entry)) (pieces : List Piece) : Type 0 where
+  pub below : AreBelow (length hs) pieces
+  pub each : (place : ℕ) (h : List Entry) → slice_get hs place ≡ Some h → text_by place pieces ≡ history_text (place + 1) a h
 
 -- What is put out of such histories: pieces, of which each machine's are what is told of its history, and how the script ended.
 abbrev pub told_text : AlongState → List (List Entry) → List Piece → Ending → List ℕ

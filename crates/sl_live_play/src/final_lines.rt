@@ -17,8 +17,8 @@ use sl_live_lines::{Ending, push_last};
 use sl_live_run::LiveDiffer;
 use sl_run::Refusal;
 use sl_schedule::push_refusal_line;
-use sl_text::write::push_line;
 use sl_text::FilePath;
+use sl_text::write::push_line;
 use std::alloc::{AllocError, Global};
 
 /// Puts out a text that stands, or found no memory.

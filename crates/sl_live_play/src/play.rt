@@ -77,7 +77,15 @@ fn put_ended<K: Sink>(
 {
     match end {
         Some(ScriptEnd::End) => {
-            put_last(alloc, sink, cut, machines, replies, Ending::Whole, Lived::Done)
+            put_last(
+                alloc,
+                sink,
+                cut,
+                machines,
+                replies,
+                Ending::Whole,
+                Lived::Done,
+            )
         }
         Some(ScriptEnd::Refused { number, why }) => put_last(
             alloc,
@@ -89,7 +97,15 @@ fn put_ended<K: Sink>(
             Lived::Refused,
         ),
         Some(ScriptEnd::ReadFault) => {
-            put_last(alloc, sink, cut, machines, replies, Ending::Cut, Lived::ReadFault)
+            put_last(
+                alloc,
+                sink,
+                cut,
+                machines,
+                replies,
+                Ending::Cut,
+                Lived::ReadFault,
+            )
         }
         Some(ScriptEnd::NoMemory) => Lived::NoMemory,
         None => Lived::NoMemory,
@@ -175,8 +191,9 @@ where
         (K.faults sink) (K.faults result.2) (V.Devices.faults devices.old) (V.Devices.faults devices.new) result.0 }
 {
     let mut lines: ScriptLines<S, J> = ScriptLines::new(alloc, source, reader, &ground.header);
-    let (run, _header) =
-        run_machines::<D, V, ScriptLines<S, J>, K, R>(rt, alloc, ground, sink, &mut lines);
+    let (run, _header) = run_machines::<D, V, ScriptLines<S, J>, K, R>(
+        rt, alloc, ground, sink, &mut lines,
+    );
     let LiveRun {
         replies,
         machines,

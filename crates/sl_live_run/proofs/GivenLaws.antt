@@ -1,140 +1,115 @@
--- What is kept of the script's lines, one line more at a time.
-use Rattle.sl_reader.specs.declared.live_lines.LiveLine.{LiveLine}
+-- What is noted of the script's lines, one line more at a time.
+use Rattle.sl_book.proofs.Givens.{entries_last, given_last, given_other}
+use Rattle.sl_book.specs.Logs.{entries, given_by as given_in, is_by}
+use Rattle.sl_book.specs.Mails.{LedgerState}
+use Rattle.sl_book.specs.declared.signed.Signed.{Signed}
 use Rattle.sl_live_lines.specs.declared.given_lines.GivenLine.{GivenLine}
-use Rattle.sl_live_run.specs.Runs.{AreGiven, HasTold, given_by, line_for, lines_for, with_line, with_line_at}
-use Rattle.sl_words.proofs.Lists.{got_index, set_length, there_is}
-use Rattle.sl_words.proofs.Places.{Came, PlacedAt, PlacedBehind, Replaced, Stayed, Stood, placed, placed_behind}
-use Rattle.sl_words.proofs.CaseLaws.{none_some}
-use Rattle.std.proofs.Common.{List, ap, append_assoc, arith, if◌then◌else◌, length, map, nat_lt, refl, slice_index_or, subst, suc, sym, zero, ◌++◌, ◌+◌, ◌-◌, ◌<◌, ◌==◌, ◌∙◌, ◌∷◌, ◌≡◌, [], ℕ}
-use Rattle.std.proofs.lemmas.Bool.Decides.{nat_tests}
+use Rattle.sl_live_run.specs.Runs.{AreFirst, AreGiven, HasTold, given_by, line_for, lines_for}
+use Rattle.sl_reader.specs.declared.live_lines.LiveLine.{LiveLine}
+use Rattle.std.proofs.Common.{List, ap, append_assoc, arith, if◌then◌else◌, inl, inr, refl, subst, sym, ◌++◌, ◌+◌, ◌-◌, ◌<◌, ◌==◌, ◌∙◌, ◌∷◌, ◌≡◌, ◌⊎◌, [], ℕ}
 use Rattle.std.proofs.lemmas.List.Concat.{flat_map-append}
-use Rattle.std.proofs.lemmas.List.{append-nil, length-append, length-map}
-use Rattle.std.specs.List.{slice_set}
-use Rattle.std.specs.Prelude.{Bool, Err, None, Option, IsErrAnd, Ok, OnOk, Result, Some, false, slice_get, true}
+use Rattle.std.proofs.lemmas.List.Elements.{filter-append}
+use Rattle.std.proofs.lemmas.List.{append-nil}
+use Rattle.std.specs.Prelude.{Bool, Err, IsErrAnd, None, Ok, OnOk, Option, Result, Some, false, true}
+use mathlib.Core.List.{IsPrefix}
 
 lines_push : (k : ℕ) (ls : List LiveLine) (l : LiveLine) → lines_for k (ls ++ l ∷ []) ≡ lines_for k ls ++ line_for k l
 lines_push k ls l = flat_map-append (line_for k) ls (l ∷ []) ∙ ap (λ t. lines_for k ls ++ t) (append-nil (line_for k l))
 
-inside : {A : Type 0} (xs : List A) (k : ℕ) (x : A) → slice_get xs k ≡ Some x → k < length xs
-inside [] k x at = absurd (none_some x at)
-inside (y ∷ xs) zero x at = omega arith
-inside (y ∷ xs) (suc k) x at = let rest = inside xs k x at in omega (arith, rest)
+-- ---- the first ones
 
--- A machine to which the line gives nothing.
-not_given : (k : ℕ) (ls : List LiveLine) (l : LiveLine) (texts : List GivenLine) → line_for k l ≡ [] → texts ≡ lines_for k ls → texts ≡ lines_for k (ls ++ l ∷ [])
-not_given k ls l texts none is = is ∙ sym (append-nil (lines_for k ls)) ∙ ap (λ t. lines_for k ls ++ t) (sym none) ∙ sym (lines_push k ls l)
+pub first_of : (l : LedgerState GivenLine) (machines : ℕ) (ls : List LiveLine) → AreGiven l machines ls → AreFirst l machines ls
+first_of l machines ls so = record { counted = so.counted; each = λ place lt. ([], append-nil (entries (given_in place l.front)) ∙ so.each place lt) }
 
-nothing_given : (given : List (List GivenLine)) (machines : ℕ) (ls : List LiveLine) (l : LiveLine) → ((k : ℕ) → line_for k l ≡ []) → AreGiven given machines ls
-    → AreGiven given machines (ls ++ l ∷ [])
-nothing_given given machines ls l none so = record {
+-- One line more was read.
+pub first_more : (l : LedgerState GivenLine) (machines : ℕ) (ls : List LiveLine) (line : LiveLine) → AreGiven l machines ls → AreFirst l machines (ls ++ line ∷ [])
+first_more l machines ls line so = record {
   counted = so.counted;
-  each = λ place texts at. not_given (place + 1) ls l texts (none (place + 1)) (so.each place texts at);
+  each = λ place lt. (line_for (place + 1) line, ap (λ t. t ++ line_for (place + 1) line) (so.each place lt) ∙ sym (lines_push (place + 1) ls line));
 }
 
--- What a line with a line for a machine says.
-abbrev Says : ℕ → GivenLine → LiveLine → Type 0
-Says m line l = (k : ℕ) → line_for k l ≡ (if m == k then line ∷ [] else [])
+-- ---- a line that gives a machine nothing
 
-other : (m k : ℕ) (line : GivenLine) (l : LiveLine) → Says m line l → (m ≡ k → ⊥) → line_for k l ≡ []
-other m k line l says apart = says k ∙ go (m == k) refl
-  where
-    go : (b : Bool) → (m == k) ≡ b → (if b then line ∷ [] else []) ≡ []
-    go true is = absurd (apart (grind (arith, is)))
-    go false is = refl
+not_given : (k : ℕ) (ls : List LiveLine) (line : LiveLine) (texts : List GivenLine) → line_for k line ≡ [] → texts ≡ lines_for k ls → texts ≡ lines_for k (ls ++ line ∷ [])
+not_given k ls line texts none is = is ∙ sym (append-nil (lines_for k ls)) ∙ ap (λ t. lines_for k ls ++ t) (sym none) ∙ sym (lines_push k ls line)
 
-own : (m k : ℕ) (line : GivenLine) (l : LiveLine) → Says m line l → m ≡ k → line_for k l ≡ line ∷ []
-own m k line l says same = says k ∙ go (m == k) refl
-  where
-    go : (b : Bool) → (m == k) ≡ b → (if b then line ∷ [] else []) ≡ line ∷ []
-    go true is = refl
-    go false is = absurd (grind (arith, is, same))
-
--- At a place where it gives a line.
-given_at : (given : List (List GivenLine)) (p machines : ℕ) (line : GivenLine) (ls : List LiveLine) (l : LiveLine) → Says (p + 1) line l → AreGiven given machines ls
-    → AreGiven (with_line_at p line given) machines (ls ++ l ∷ [])
-given_at given p machines line ls l says so = go (nat_lt p (length given)) refl
-  where
-    kept : List GivenLine
-    kept = slice_index_or given p [] ++ line ∷ []
-
-    placed_here : (place : ℕ) (texts : List GivenLine) → p < length given → PlacedAt given p kept place texts → texts ≡ lines_for (place + 1) (ls ++ l ∷ [])
-    placed_here place texts lt (Replaced same is) =
-        let there = there_is given p lt in
-        let old : slice_index_or given p [] ≡ lines_for (p + 1) ls = got_index given p there.0 [] there.1 ∙ so.each p there.0 there.1 in
-        let here : p + 1 ≡ place + 1 = omega (arith, same) in
-        is ∙ ap (λ t. t ++ line ∷ []) (old ∙ ap (λ k. lines_for k ls) here) ∙ ap (λ t. lines_for (place + 1) ls ++ t) (sym (own (p + 1) (place + 1) line l says here))
-        ∙ sym (lines_push (place + 1) ls l)
-    placed_here place texts lt (Stayed apart at) =
-        not_given (place + 1) ls l texts (other (p + 1) (place + 1) line l says (λ same. apart (omega (arith, same)))) (so.each place texts at)
-
-    go : (b : Bool) → nat_lt p (length given) ≡ b → AreGiven (if b then slice_set given p kept else given) machines (ls ++ l ∷ [])
-    go true is =
-        let lt : p < length given = grind (arith, nat_tests, is) in
-        record {
-          counted = set_length given p kept ∙ so.counted;
-          each = λ place texts at. placed_here place texts lt (placed given p kept place texts at);
-        }
-    go false is = record {
-      counted = so.counted;
-      each = λ place texts at.
-          let lt = inside given place texts at in
-          let low : place < p = grind (arith, nat_tests, is, lt) in
-          not_given (place + 1) ls l texts (other (p + 1) (place + 1) line l says (λ same. absurd (omega (arith, same, low)))) (so.each place texts at);
-    }
-
-line_given_to : (given : List (List GivenLine)) (m machines : ℕ) (line : GivenLine) (ls : List LiveLine) (l : LiveLine) → Says m line l → AreGiven given machines ls
-    → AreGiven (with_line m line given) machines (ls ++ l ∷ [])
-line_given_to given m machines line ls l says so = go (m == 0) refl
-  where
-    go : (b : Bool) → (m == 0) ≡ b → AreGiven (if b then given else with_line_at (m - 1) line given) machines (ls ++ l ∷ [])
-    go true is = record {
-      counted = so.counted;
-      each = λ place texts at. not_given (place + 1) ls l texts (other m (place + 1) line l says (λ same. absurd (grind (arith, is, same)))) (so.each place texts at);
-    }
-    go false is =
-        let back : m ≡ (m - 1) + 1 = grind (arith, is) in
-        given_at given (m - 1) machines line ls l (subst (λ n. Says n line l) back says) so
+nothing_given : (l : LedgerState GivenLine) (machines : ℕ) (ls : List LiveLine) (line : LiveLine) → ((place : ℕ) → place < machines → line_for (place + 1) line ≡ [])
+    → AreGiven l machines ls → AreGiven l machines (ls ++ line ∷ [])
+nothing_given l machines ls line none so = record {
+  counted = so.counted;
+  each = λ place lt. not_given (place + 1) ls line (entries (given_in place l.front)) (none place lt) (so.each place lt);
+}
 
 abbrev line_of : Option (ℕ × GivenLine) → ℕ → List GivenLine
 line_of o k = elim o as (λ x. List GivenLine) [ None ↦ [] | Some g ↦ if g.0 == k then g.1 ∷ [] else [] ]
 
-pub some_given : (given given' : List (List GivenLine)) (machines : ℕ) (gift : ℕ × GivenLine) (ls : List LiveLine) (l : LiveLine) (o : Option (ℕ × GivenLine)) → o ≡ given_by l
-    → o ≡ Some gift → given' ≡ with_line gift.0 gift.1 given → AreGiven given machines ls → AreGiven given' machines (ls ++ l ∷ [])
-some_given given given' machines gift ls l o by gives is so =
-    subst (λ g. AreGiven g machines (ls ++ l ∷ [])) (sym is) (line_given_to given gift.0 machines gift.1 ls l (λ k. ap (λ x. line_of x k) (sym by ∙ gives)) so)
+-- It gives nothing to any machine.
+pub given_none : (l : LedgerState GivenLine) (machines : ℕ) (ls : List LiveLine) (line : LiveLine) → None ≡ given_by line → AreGiven l machines ls → AreGiven l machines (ls ++ line ∷ [])
+given_none l machines ls line none so = nothing_given l machines ls line (λ place lt. ap (λ x. line_of x (place + 1)) (sym none)) so
 
-pub none_given : (given : List (List GivenLine)) (machines : ℕ) (ls : List LiveLine) (l : LiveLine) (o : Option (ℕ × GivenLine)) → o ≡ given_by l → o ≡ None
-    → AreGiven given machines ls → AreGiven given machines (ls ++ l ∷ [])
-none_given given machines ls l o by gives so = nothing_given given machines ls l (λ k. ap (λ x. line_of x k) (sym by ∙ gives)) so
+other : (m k : ℕ) (text : GivenLine) (line : LiveLine) → Some (m, text) ≡ given_by line → (m ≡ k → ⊥) → line_for k line ≡ []
+other m k text line says apart = ap (λ x. line_of x k) (sym says) ∙ go (m == k) refl
+  where
+    go : (b : Bool) → (m == k) ≡ b → (if b then text ∷ [] else []) ≡ []
+    go true is = absurd (apart (grind (arith, is)))
+    go false is = refl
+
+own : (m k : ℕ) (text : GivenLine) (line : LiveLine) → Some (m, text) ≡ given_by line → m ≡ k → line_for k line ≡ text ∷ []
+own m k text line says same = ap (λ x. line_of x k) (sym says) ∙ go (m == k) refl
+  where
+    go : (b : Bool) → (m == k) ≡ b → (if b then text ∷ [] else []) ≡ text ∷ []
+    go true is = refl
+    go false is = absurd (grind (arith, is, same))
+
+-- It is for no machine of the run.
+pub given_zero : (l : LedgerState GivenLine) (machines m : ℕ) (text : GivenLine) (ls : List LiveLine) (line : LiveLine) → Some (m, text) ≡ given_by line → m ≡ 0 → AreGiven l machines ls
+    → AreGiven l machines (ls ++ line ∷ [])
+given_zero l machines m text ls line says zero_is so =
+    nothing_given l machines ls line (λ place lt. other m (place + 1) text line says (λ same. absurd (omega (arith, same, zero_is)))) so
+
+pub given_away : (l : LedgerState GivenLine) (machines m : ℕ) (text : GivenLine) (ls : List LiveLine) (line : LiveLine) → Some (m, text) ≡ given_by line → l.places < m → AreGiven l machines ls
+    → AreGiven l machines (ls ++ line ∷ [])
+given_away l machines m text ls line says away so =
+    let n = so.counted in
+    nothing_given l machines ls line (λ place lt. other m (place + 1) text line says (λ same. absurd (omega (arith, same, away, n, lt)))) so
+
+-- ---- a line that gives one
+
+-- The mail's log has it as its last.
+pub given_one : (l l' : LedgerState GivenLine) (machines m by : ℕ) (text : GivenLine) (ls : List LiveLine) (line : LiveLine) → Some (m, text) ≡ given_by line → m ≡ by + 1
+    → l'.places ≡ l.places → l'.front ≡ l.front ++ record { by = by; entry = text } ∷ [] → AreGiven l machines ls → AreGiven l' machines (ls ++ line ∷ [])
+given_one l l' machines m by text ls line says number places front so = record {
+  counted = places ∙ so.counted;
+  each = λ place lt. ap (λ (f : List (Signed GivenLine)). entries (given_in place f)) front ∙ go place lt (by == place) refl;
+}
+  where
+    s : Signed GivenLine
+    s = record { by = by; entry = text }
+
+    go : (place : ℕ) → place < machines → (b : Bool) → (by == place) ≡ b → entries (given_in place (l.front ++ s ∷ [])) ≡ lines_for (place + 1) (ls ++ line ∷ [])
+    go place lt true is =
+        let same : by ≡ place = grind (arith, is) in
+        let here : m ≡ place + 1 = omega (arith, number, same) in
+        ap entries (given_last place l.front s same) ∙ entries_last (given_in place l.front) s ∙ ap (λ t. t ++ text ∷ []) (so.each place lt)
+        ∙ ap (λ t. lines_for (place + 1) ls ++ t) (sym (own m (place + 1) text line says here)) ∙ sym (lines_push (place + 1) ls line)
+    go place lt false is =
+        let apart : by ≡ place → ⊥ = λ same. absurd (grind (arith, is, same)) in
+        let none : given_in place (l.front ++ s ∷ []) ≡ given_in place l.front
+        = filter-append (is_by place) l.front (s ∷ []) ∙ ap (λ t. given_in place l.front ++ t) (given_other place s [] apart) ∙ append-nil (given_in place l.front) in
+        not_given (place + 1) ls line (entries (given_in place (l.front ++ s ∷ []))) (other m (place + 1) text line says (λ same. apart (omega (arith, same, number))))
+        (ap entries none ∙ so.each place lt)
 
 -- ---- before the first line
 
--- For no machine.
-pub no_lines : (given : List (List GivenLine)) → given ≡ [] → AreGiven given 0 []
-no_lines given none = record {
-  counted = ap length none;
-  each = λ place texts at. absurd (none_some texts (sym (ap (λ (g : List (List GivenLine)). slice_get g place) none) ∙ at));
-}
-
--- For one machine more.
-pub one_more : {A B : Type 0} (of : A → B) (given given' : List (List GivenLine)) (xs xs' : List A) (y : B) → given' ≡ given ++ [] ∷ [] → map of xs' ≡ map of xs ++ y ∷ []
-    → AreGiven given (length xs) [] → AreGiven given' (length xs') []
-one_more of given given' xs xs' y is more so =
-    subst (λ g. AreGiven g (length xs') []) (sym is) (record {
-      counted = (let n = so.counted in let long = length-append given ([] ∷ []) in let was = length-map xs of in let now = length-map xs' of in
-          let one = length-append (map of xs) (y ∷ []) in let same = ap length more in omega (arith, long, was, now, one, same, n));
-      each = λ place texts at. behind place texts (placed_behind given [] place texts at);
-    })
-  where
-    behind : (place : ℕ) (texts : List GivenLine) → PlacedBehind given [] place texts → texts ≡ []
-    behind place texts (Stood at) = so.each place texts at
-    behind place texts (Came here is_none) = is_none
+-- To no machine anything is given yet.
+pub no_lines : (l : LedgerState GivenLine) (machines : ℕ) → l ≡ record { front = []; places = machines } → AreGiven l machines []
+no_lines l machines is = subst (λ (x : LedgerState GivenLine). AreGiven x machines []) (sym is) (record { counted = refl; each = λ place lt. refl })
 
 -- ---- the script, one answer more
 
--- The lines so far, and what is kept of them.
-abbrev pub Telling : ℕ → List LiveLine → List LiveLine → List (List GivenLine) → Type 0
-Telling machines before now given = (ls : List LiveLine) × (now ≡ before ++ ls) × AreGiven given machines ls
+-- The lines so far, and what is noted of them.
+abbrev pub Telling : ℕ → List LiveLine → List LiveLine → LedgerState GivenLine → Type 0
+Telling machines before now l = (ls : List LiveLine) × (now ≡ before ++ ls) × AreGiven l machines ls
 
 on_all : {T E P : Type 0} (r : Result T E) → P → OnOk r P
 on_all (Ok x) so = so
@@ -144,28 +119,32 @@ on_none : {T E : Type 0} (P : Type 0) (r : Result T E) (Q : E → Type 0) → Is
 on_none P (Ok x) Q err = absurd err
 on_none P (Err e) Q err = tt
 
-pub told_so : {T E : Type 0} (machines : ℕ) (before now : List LiveLine) (given : List (List GivenLine)) (r : Result T E) → Telling machines before now given
-    → HasTold machines before now given r
-told_so machines before now given r so = record { lines = so.0; gave = so.1; texts = on_all r so.2 }
+pub telling_none : (machines : ℕ) (before now : List LiveLine) (l : LedgerState GivenLine) → now ≡ before → AreGiven l machines [] → Telling machines before now l
+telling_none machines before now l same so = ([], same ∙ sym (append-nil before), so)
+
+pub told_so : {T E : Type 0} (machines : ℕ) (before now : List LiveLine) (l : LedgerState GivenLine) (r : Result T E) → Telling machines before now l → HasTold machines before now l r
+told_so machines before now l r so = record { lines = so.0; gave = so.1; first = first_of l machines so.0 so.2; texts = on_all r so.2 }
 
 -- Behind an answer with these lines.
 longer : (before was now ls more : List LiveLine) → was ≡ before ++ ls → now ≡ was ++ more → now ≡ before ++ (ls ++ more)
 longer before was now ls more is step = step ∙ ap (λ l. l ++ more) is ∙ append_assoc before ls more
 
-pub told_none : {T E : Type 0} (machines : ℕ) (before was now more : List LiveLine) (given : List (List GivenLine)) (r : Result T E) → Telling machines before was given
-    → now ≡ was ++ more → more ≡ [] → HasTold machines before now given r
-told_none machines before was now more given r so step none =
-    told_so machines before now given r (so.0, step ∙ ap (λ l. was ++ l) none ∙ append-nil was ∙ so.1, so.2)
+pub told_none : {T E : Type 0} (machines : ℕ) (before was now more : List LiveLine) (l : LedgerState GivenLine) (r : Result T E) → Telling machines before was l
+    → now ≡ was ++ more → more ≡ [] → HasTold machines before now l r
+told_none machines before was now more l r so step none =
+    told_so machines before now l r (so.0, step ∙ ap (λ t. was ++ t) none ∙ append-nil was ∙ so.1, so.2)
 
-pub told_err : {T E : Type 0} (machines : ℕ) (before was now more : List LiveLine) (given given' : List (List GivenLine)) (r : Result T E) (Q : E → Type 0)
-    → Telling machines before was given → now ≡ was ++ more → IsErrAnd r Q → HasTold machines before now given' r
-told_err machines before was now more given given' r Q so step err = record {
-  lines = so.0 ++ more;
-  gave = longer before was now so.0 more so.1 step;
+-- The line could not be noted.
+pub told_err : {T E : Type 0} (machines : ℕ) (before was now more : List LiveLine) (line : LiveLine) (l l' : LedgerState GivenLine) (r : Result T E) (Q : E → Type 0)
+    → (so : Telling machines before was l) → now ≡ was ++ more → more ≡ line ∷ [] → AreFirst l' machines (so.0 ++ line ∷ []) → IsErrAnd r Q → HasTold machines before now l' r
+told_err machines before was now more line l l' r Q so step one first err = record {
+  lines = so.0 ++ line ∷ [];
+  gave = longer before was now so.0 (line ∷ []) so.1 (step ∙ ap (λ k. was ++ k) one);
+  first = first;
   texts = on_none _ r Q err;
 }
 
-pub told_more : (machines : ℕ) (before was now more : List LiveLine) (l : LiveLine) (given given' : List (List GivenLine)) → (so : Telling machines before was given)
-    → now ≡ was ++ more → more ≡ l ∷ [] → AreGiven given' machines (so.0 ++ l ∷ []) → Telling machines before now given'
-told_more machines before was now more l given given' so step one kept =
-    (so.0 ++ l ∷ [], longer before was now so.0 (l ∷ []) so.1 (step ∙ ap (λ k. was ++ k) one), kept)
+pub told_more : (machines : ℕ) (before was now more : List LiveLine) (line : LiveLine) (l l' : LedgerState GivenLine) → (so : Telling machines before was l)
+    → now ≡ was ++ more → more ≡ line ∷ [] → AreGiven l' machines (so.0 ++ line ∷ []) → Telling machines before now l'
+told_more machines before was now more line l l' so step one noted =
+    (so.0 ++ line ∷ [], longer before was now so.0 (line ∷ []) so.1 (step ∙ ap (λ k. was ++ k) one), noted)

@@ -1,6 +1,7 @@
 pub mod GivenLaws
 pub mod CompareLaws
 pub mod RunLaws
+pub mod CaseLaws
 pub mod HeaderLaws
 pub mod SettingLaws
 pub mod WriteLaws

@@ -1,21 +1,32 @@
 -- A whole run, from what its machines, its script and the comparison say.
-use Rattle.sl_live_machine.specs.declared.machine.CloseError.TheVariants.{Differ as Differs}
-use Rattle.sl_live_machine.specs.declared.machine.CloseError.{CloseError}
-use Rattle.sl_world_state.specs.Daemons.{begun_with}
-use Rattle.sl_world_state.specs.declared.daemon.Site.{Site}
-use Rattle.sl_reader.specs.declared.live_lines.LiveLine.{LiveLine}
+use Rattle.sl_book.proofs.SeatLaws.{mine_whole}
+use Rattle.sl_book.specs.Closings.{AreBelow, AreExact}
+use Rattle.sl_book.specs.Logs.{entries, given_by}
+use Rattle.sl_book.specs.Mails.{LedgerState}
+use Rattle.sl_book.specs.Seats.{IsMine, SeatState}
+use Rattle.sl_book.specs.declared.signed.Signed.{Signed}
+use Rattle.sl_live_lines.specs.LiveTexts.{count_replies, history_text}
+use Rattle.sl_live_lines.specs.LocksAlong.{AlongState}
 use Rattle.sl_live_lines.specs.AuditedHistory.{AreLines}
-use Rattle.sl_live_lines.specs.LocksAlong.{AlongState, begun_along}
 use Rattle.sl_live_lines.specs.declared.given_lines.GivenLine.{GivenLine}
-use Rattle.sl_live_machine.specs.ThreadSeats.{IsCaseOfRun, Stops}
-use Rattle.sl_live_run.specs.Runs.{AreLiveHistories, AreSettled, AreGiven, CameTo, CanRun, HasRun, HasTold, IsCaseIn, IsEarlyStop, IsLiveCase, IsLiveStop, Runs, StopsSome, outcome_of, begun_at, begun_on, first_at, lines_at, lines_for, site_of}
-use Rattle.sl_live_run.specs.declared.compare.LiveDiffer.TheVariants.{Cell, Left, Line, Untold}
+use Rattle.sl_live_machine.specs.MachineEnds.{Counts, EndsWith, HasRun, HasTold as HasPutOut, Told}
+use Rattle.sl_live_machine.specs.Printing.{lines_read}
+use Rattle.sl_live_machine.specs.declared.machine.CloseError.TheVariants.{NoMemory as NoMemoryClose}
+use Rattle.sl_live_machine.specs.declared.machine.CloseError.{CloseError}
+use Rattle.sl_live_machine.specs.declared.machine.Ran.{Ran}
+use Rattle.sl_live_run.proofs.CaseLaws.{case_so, met}
+use Rattle.sl_live_run.proofs.GivenLaws.{no_lines}
+use Rattle.sl_live_run.specs.Runs.{AreFirst, AreFresh, AreGiven, AreLiveHistories, CanRun, HasRunAll, HasTold, HasToldAll, IsFresh, IsLiveCase, IsLiveHistory, IsLiveStop, IsTold, Runs, begun_on, lines_for, replies_of, site_of}
+use Rattle.sl_live_run.specs.Settling.{AreAllWhole, AreRansOf, AreWhole, HasLeft, IsCaseOf, StopsOne, come_to}
 use Rattle.sl_live_run.specs.declared.compare.LiveDiffer.{LiveDiffer}
 use Rattle.sl_live_run.specs.declared.compare.LiveStop.TheVariants.{Differ, NoMemory}
 use Rattle.sl_live_run.specs.declared.compare.LiveStop.{LiveStop}
 use Rattle.sl_live_run.specs.declared.machine_runs.Machine.{Machine}
 use Rattle.sl_live_run.specs.declared.machine_runs.Work.{Work}
-use Rattle.sl_words.proofs.Lists.{got_index, there_is}
+use Rattle.sl_live_run.specs.declared.run.LiveRun.{LiveRun}
+use Rattle.sl_output.specs.Outputs.{IsPut}
+use Rattle.sl_output.specs.Pieces.{Piece, text_by}
+use Rattle.sl_reader.specs.declared.live_lines.LiveLine.{LiveLine}
 use Rattle.sl_run.specs.Headers.{IsHeader}
 use Rattle.sl_run.specs.Lawful.{IsSetting}
 use Rattle.sl_run.specs.declared.header.Header.{Header}
@@ -24,9 +35,16 @@ use Rattle.sl_trace.specs.Traces.{Setting, Trace}
 use Rattle.sl_trace.specs.declared.command.Command.{Command}
 use Rattle.sl_trace.specs.declared.effects.Entry.{Entry}
 use Rattle.sl_words.proofs.CaseLaws.{none_some, some_value}
-use Rattle.std.proofs.Common.{List, ap, ap₂, arith, inl, inr, length, map, refl, slice_index_or, rules, subst, suc, sym, zero, ◌++◌, ◌+◌, ◌<◌, ◌∙◌, ◌∷◌, ◌≡◌, ◌⊎◌, [], ℕ}
+use Rattle.sl_words.proofs.Lists.{got_index, there_is}
+use Rattle.sl_words.proofs.Places.{Came, PlacedBehind, Stood, placed_behind}
+use Rattle.sl_world_state.specs.Daemons.{begun_with}
+use Rattle.sl_world_state.specs.declared.daemon.Site.{Site}
+use Rattle.std.proofs.Common.{List, ap, ap₂, arith, inl, inr, length, map, refl, slice_index_or, subst, suc, sym, zero, ◌++◌, ◌+◌, ◌<◌, ◌∙◌, ◌∷◌, ◌≡◌, ◌⊎◌, [], ℕ}
+use Rattle.std.proofs.lemmas.List.Sums.{sum_by-cons}
 use Rattle.std.proofs.lemmas.List.{length-map, map-append}
-use Rattle.std.specs.Prelude.{All, Err, IfErr, IfOk, IfSome, IsOk, None, Ok, Option, Result, Some, option_map, slice_get}
+use Rattle.std.specs.List.{concat, sum_by}
+use Rattle.std.specs.Prelude.{All, Bool, Err, IfErr, IfOk, IfSome, IsOk, None, Ok, OnOk, Option, Result, Some, false, option_map, slice_get}
+use mathlib.Core.List.{IsPrefix}
 
 -- ---- lists
 
@@ -49,201 +67,228 @@ map_got f (y ∷ xs) (suc k) x at = map_got f xs k x at
 pub changed_on : {T : Type 0} (R : T → T → Type 0) (x x' y y' : T) → x' ≡ x → y' ≡ y → R x' y' → R x y
 changed_on R x x' y y' first last so = subst (λ m. R m y) first (subst (λ m. R x' m) last so)
 
+-- For each element there is one that fits it, so there is a list of them.
+chosen_at : {A B : Type 0} (P : ℕ → A → B → Type 0) (x : A) (xs : List A) (y : B) (ys : List B) → P 0 x y
+    → ((k : ℕ) (a : A) (b : B) → slice_get xs k ≡ Some a → slice_get ys k ≡ Some b → P (suc k) a b)
+    → (k : ℕ) (a : A) (b : B) → slice_get (x ∷ xs) k ≡ Some a → slice_get (y ∷ ys) k ≡ Some b → P k a b
+chosen_at P x xs y ys first rest zero a b at at_y = subst (λ u. P 0 u b) (some_value x a at) (subst (λ v. P 0 x v) (some_value y b at_y) first)
+chosen_at P x xs y ys first rest (suc k) a b at at_y = rest k a b at at_y
+
+chosen : {A B : Type 0} (P : ℕ → A → B → Type 0) (xs : List A) → ((k : ℕ) (x : A) → slice_get xs k ≡ Some x → (y : B) × P k x y)
+    → (ys : List B) × (length ys ≡ length xs) × ((k : ℕ) (x : A) (y : B) → slice_get xs k ≡ Some x → slice_get ys k ≡ Some y → P k x y)
+chosen P [] each = ([], refl, λ k x y at at_y. absurd (none_some x at))
+chosen P (x ∷ xs) each =
+    let first = each 0 x refl in
+    let rest = chosen (λ k. P (suc k)) xs (λ k a at. each (suc k) a at) in
+    (first.0 ∷ rest.0, ap suc rest.1, chosen_at P x xs first.0 rest.0 first.1 rest.2)
+
 -- ---- one machine
 
--- What the machine at a place came to, which had this site.
-pub ran_at : {D C P V A : Type 0} (stands : D → Setting → Trace → Type 0) (commands : Header → List (Form Command)) (header : Header) (sites : List Site)
-    (olds news : List (Machine C P V A)) → map site_of olds ≡ map (λ s. Some s) sites
-    → ((k : ℕ) → (d : Machine C P V A) → k < length olds → Runs commands stands header (slice_index_or olds k d) (slice_index_or news k d))
-    → (place : ℕ) (site : Site) (outcome : Result (List Entry) CloseError) → slice_get sites place ≡ Some site → slice_get (map outcome_of news) place ≡ Some outcome
-    → HasRun stands (begun_with commands header site) outcome
-ran_at {D} {C} {P} {V} {A} stands commands header sites olds news same each place site outcome at came =
+-- What is left of the machine at a place, which had this site.
+pub record RanAt {D O T A : Type 0} (stands : D → Setting → Trace → Type 0) (commands : Header → List (Form Command)) (header : Header) (place : ℕ) (site : Site) (r : Ran O T A) : Type 0 where
+  pub run : HasRun stands (begun_with commands header site) (begun_on header site) r
+  pub by : r.reader.by ≡ place
+
+one_ran : {D C P V A O T : Type 0} (stands : D → Setting → Trace → Type 0) (commands : Header → List (Form Command)) (header : Header) (place : ℕ) (site : Site)
+    (before : Option (Work C P V A O T)) (after : Option (Ran O T A)) (r : Ran O T A) → option_map (λ (w : Work C P V A O T). w.site) before ≡ Some site → after ≡ Some r
+    → IfSome before (λ w. (w.reader.by ≡ place) × IsFresh w)
+    → IfSome before (λ w. IfSome after (λ x. HasRun stands (begun_with commands header w.site) (begun_on header w.site) x × (x.reader.by ≡ w.reader.by)))
+    → RanAt stands commands header place site r
+one_ran stands commands header place site None after r at is fresh run = absurd (none_some site at)
+one_ran {D} {C} {P} {V} {A} {O} {T} stands commands header place site (Some w) after r at is fresh run =
+    let same : w.site ≡ site = some_value w.site site at in
+    let here : HasRun stands (begun_with commands header w.site) (begun_on header w.site) r × (r.reader.by ≡ w.reader.by)
+    = subst (λ (o : Option (Ran O T A)). IfSome o (λ x. HasRun stands (begun_with commands header w.site) (begun_on header w.site) x × (x.reader.by ≡ w.reader.by))) is run in
+    record { run = subst (λ s. HasRun stands (begun_with commands header s) (begun_on header s) r) same here.0; by = here.1 ∙ fresh.0 }
+
+ran_at : {D C P V A O T : Type 0} (stands : D → Setting → Trace → Type 0) (commands : Header → List (Form Command)) (header : Header) (sites : List Site)
+    (olds news : List (Machine C P V A O T)) (rans : List (Ran O T A)) → map site_of olds ≡ map (λ s. Some s) sites → AreFresh olds
+    → ((k : ℕ) → (d : Machine C P V A O T) → k < length olds → Runs commands stands header (slice_index_or olds k d) (slice_index_or news k d)) → AreRansOf news rans
+    → (place : ℕ) (site : Site) (r : Ran O T A) → slice_get sites place ≡ Some site → slice_get rans place ≡ Some r → RanAt stands commands header place site r
+ran_at {D} {C} {P} {V} {A} {O} {T} stands commands header sites olds news rans same fresh each left place site r at came =
     let old = got_map site_of olds place (Some site) (ap (λ (xs : List (Option Site)). slice_get xs place) same ∙ map_got (λ s. Some s) sites place site at) in
-    let new = got_map outcome_of news place outcome came in
-    let m : Machine C P V A = old.0 in
+    let new = got_map (λ (m : Machine C P V A O T). m.ran) news place (Some r)
+    (ap (λ (xs : List (Option (Ran O T A))). slice_get xs place) left ∙ map_got (λ (x : Ran O T A). Some x) rans place r came) in
+    let m : Machine C P V A O T = old.0 in
+    let m' : Machine C P V A O T = new.0 in
     let run : Runs commands stands header (slice_index_or olds place m) (slice_index_or news place m) = each place m (inside olds place m old.1) in
-    let first : IfSome (site_of (slice_index_or olds place m)) (λ s. HasRun stands (begun_with commands header s) (outcome_of (slice_index_or news place m))) = run in
-    let second : IfSome (Some site) (λ s. HasRun stands (begun_with commands header s) (outcome_of (slice_index_or news place m)))
-    = subst (λ (o : Option Site). IfSome o (λ s. HasRun stands (begun_with commands header s) (outcome_of (slice_index_or news place m))))
-    (ap site_of (got_index olds place m m old.1) ∙ old.2) first in
-    subst (HasRun stands (begun_with commands header site)) (ap outcome_of (got_index news place new.0 m new.1) ∙ new.2) second
+    let here : Runs commands stands header m m' = changed_on (λ (x y : Machine C P V A O T). Runs commands stands header x y) m (slice_index_or olds place m) m' (slice_index_or news place m)
+    (got_index olds place m m old.1) (got_index news place m' m new.1) run in
+    one_ran stands commands header place site m.work m'.ran r old.2 new.2 (fresh place m old.1) here
+
+-- ---- a whole history
+
+exact_at : {E : Type 0} (k : ℕ) (ss : List (SeatState E)) (h : List (Signed E)) (i : ℕ) (s : SeatState E) → AreExact k ss h → slice_get ss i ≡ Some s
+    → (s.by ≡ k + i) × IsPrefix s.front h × (s.count ≡ length (given_by (k + i) h))
+exact_at k [] h i s so at = absurd (none_some s at)
+exact_at {E} k (x ∷ ss) h zero s so at =
+    let n : k ≡ k + 0 = omega arith in
+    let same : x ≡ s = some_value x s at in
+    subst (λ (y : SeatState E). (y.by ≡ k + 0) × IsPrefix y.front h × (y.count ≡ length (given_by (k + 0) h))) same
+    (so.0.0 ∙ n, so.0.1, so.0.2 ∙ ap (λ j. length (given_by j h)) n)
+exact_at {E} k (x ∷ ss) h (suc i) s so at =
+    let n : (k + 1) + i ≡ k + suc i = omega arith in
+    let rest = exact_at (k + 1) ss h i s so.1 at in
+    (rest.0 ∙ n, rest.1, rest.2 ∙ ap (λ j. length (given_by j h)) n)
+
+-- The pieces of a place are what its printer put.
+told_at : (a : AlongState) (place by : ℕ) (h : List Entry) (writer : SeatState (List ℕ)) (texts : List (List ℕ)) (pieces : List Piece) → by ≡ place → writer.by ≡ place
+    → IsPrefix writer.front pieces → writer.count ≡ length (given_by place pieces) → IsMine writer texts → concat texts ≡ history_text (by + 1) a h
+    → IsTold a place h pieces
+told_at a place by h writer texts pieces is_by is_writer begins count mine text =
+    let mine_all : texts ≡ entries (given_by writer.by pieces)
+    = mine_whole writer pieces texts begins (count ∙ ap (λ k. length (given_by k pieces)) (sym is_writer)) mine in
+    sym (ap concat (mine_all ∙ ap (λ k. entries (given_by k pieces)) is_writer)) ∙ text ∙ ap (λ k. history_text (k + 1) a h) is_by
+
+pub record IsHistoryAt {D O T A : Type 0} (stands : D → Setting → Trace → Type 0) (commands : Header → List (Form Command)) (header : Header) (lines : List LiveLine)
+    (rans : List (Ran O T A)) (pieces : List Piece) (place : ℕ) (site : Site) (h : List Entry) : Type 0 where
+  pub ran : Ran O T A
+  pub there : slice_get rans place ≡ Some ran
+  pub live : IsLiveHistory stands (begun_with commands header site) (begun_on header site) (lines_for (place + 1) lines) h
+  pub told : IsTold (begun_on header site) place h pieces
+  pub replies : ran.replies ≡ count_replies (begun_on header site) h
+
+history_at : {D O T A : Type 0} (stands : D → Setting → Trace → Type 0) (commands : Header → List (Form Command)) (header : Header) (lines : List LiveLine)
+    (rans : List (Ran O T A)) (pieces : List Piece) (l : LedgerState GivenLine) (replies : ℕ) (early : Bool) → AreWhole early l rans pieces replies → (place : ℕ) (site : Site) (r : Ran O T A)
+    → entries (given_by place l.front) ≡ lines_for (place + 1) lines → slice_get rans place ≡ Some r → RanAt stands commands header place site r
+    → (h : List Entry) × IsHistoryAt stands commands header lines rans pieces place site h
+history_at {D} {O} {T} {A} stands commands header lines rans pieces l replies early whole place site r given at so =
+    let st : Setting = begun_with commands header site in
+    let a : AlongState = begun_on header site in
+    let run = so.run in
+    let h : List Entry = run.history in
+    let settled = whole.settled.each place r at in
+    let ends : EndsWith stands st a h (lines_read r.reader) (Ok tt) = subst (EndsWith stands st a h (lines_read r.reader)) settled.0 run.ends in
+    let read : lines_read r.reader ≡ lines_for (place + 1) lines = ap entries settled.1 ∙ ap (λ k. entries (given_by k l.front)) so.by ∙ given in
+    let told : HasPutOut a h r.reader r.writer r.replies = subst (Told a h r.reader r.writer r.replies) settled.0 run.told in
+    let seat = exact_at 0 (map (λ (x : Ran O T A). x.writer) rans) pieces place r.writer whole.exact (map_got (λ (x : Ran O T A). x.writer) rans place r at) in
+    let by_place : r.writer.by ≡ place = run.by ∙ so.by in (
+      h,
+      record {
+        ran = r;
+        there = at;
+        live = record { whole = ends.0; lines = subst (AreLines a h) read ends.1.0; answered = ends.1.1 };
+        told = told_at a place r.reader.by h r.writer told.texts pieces so.by by_place seat.1 (seat.2 ∙ ap (λ k. length (given_by k pieces)) zero_place) told.mine told.text;
+        replies = told.count;
+      },
+    )
 
 -- ---- all machines
 
-counts : {C P V A : Type 0} (sites : List Site) (olds : List (Machine C P V A)) → map site_of olds ≡ map (λ s. Some s) sites → length olds ≡ length sites
-counts {C} {P} {V} {A} sites olds same = sym (length-map olds (λ (m : Machine C P V A). site_of m)) ∙ ap length same ∙ length-map sites (λ s. Some s)
+counts : {C P V A O T : Type 0} (sites : List Site) (olds : List (Machine C P V A O T)) → map site_of olds ≡ map (λ s. Some s) sites → length olds ≡ length sites
+counts {C} {P} {V} {A} {O} {T} sites olds same = sym (length-map olds (λ (m : Machine C P V A O T). site_of m)) ∙ ap length same ∙ length-map sites (λ s. Some s)
 
--- What is kept for a place there is.
-lines_there : (given : List (List GivenLine)) (machines place : ℕ) (ls : List LiveLine) → place < machines → AreGiven given machines ls → lines_at place given ≡ lines_for (place + 1) ls
-lines_there given machines place ls lt so =
-    let n = so.counted in
-    let there = there_is given place (omega (arith, lt, n)) in
-    ap (λ (o : Option (List GivenLine)). elim o as (λ x. List GivenLine) [ None ↦ [] | Some lines ↦ lines ]) there.1 ∙ so.each place there.0 there.1
+rans_count : {C P V A O T : Type 0} (news : List (Machine C P V A O T)) (rans : List (Ran O T A)) → AreRansOf news rans → length rans ≡ length news
+rans_count {C} {P} {V} {A} {O} {T} news rans left =
+    sym (length-map rans (λ (r : Ran O T A). Some r)) ∙ sym (ap length left) ∙ length-map news (λ (m : Machine C P V A O T). m.ran)
 
-told_well : {T E : Type 0} (machines : ℕ) (before after : List LiveLine) (given : List (List GivenLine)) (told : Result T E) → IsOk told → (so : HasTold machines before after given told)
-    → AreGiven given machines so.lines
-told_well machines before after given (Ok t) ok so = so.texts
-told_well machines before after given (Err e) ok so = absurd (search rules)
+replies_at : {O T A : Type 0} (header : Header) (site : Site) (h : List Entry) (r x : Ran O T A) → Some r ≡ Some x → x.replies ≡ count_replies (begun_on header site) h
+    → r.replies ≡ count_replies (begun_on header site) h
+replies_at {O} {T} {A} header site h r x same is = ap (λ (y : Ran O T A). y.replies) (some_value r x same) ∙ is
 
--- The locks of the machine at a place begin as its site says.
-begun_there : (header : Header) (firsts : List ℕ) (sites : List Site) (place : ℕ) (site : Site) → firsts ≡ map (λ (s : Site). s.first.job) sites → slice_get sites place ≡ Some site
-    → begun_at header firsts place ≡ begun_on header site
-begun_there header firsts sites place site numbers at =
-    ap (λ (o : Option ℕ). begun_along header (elim o as (λ x. ℕ) [ None ↦ 0 | Some first ↦ first ]))
-    (ap (λ (ns : List ℕ). slice_get ns place) numbers ∙ map_got (λ (s : Site). s.first.job) sites place site at)
+replies_are : {O T A : Type 0} (header : Header) (sites : List Site) (hs : List (List Entry)) (rans : List (Ran O T A)) → length hs ≡ length sites → length rans ≡ length sites
+    → ((k : ℕ) (s : Site) (h : List Entry) → slice_get sites k ≡ Some s → slice_get hs k ≡ Some h
+    → (r : Ran O T A) × (slice_get rans k ≡ Some r) × (r.replies ≡ count_replies (begun_on header s) h))
+    → sum_by (λ (r : Ran O T A). r.replies) rans ≡ replies_of header sites hs
+replies_are header [] hs [] n m each = refl
+replies_are header [] hs (r ∷ rans) n m each = absurd (omega (arith, m))
+replies_are header (s ∷ sites) [] rans n m each = absurd (omega (arith, n))
+replies_are header (s ∷ sites) (h ∷ hs) [] n m each = absurd (omega (arith, m))
+replies_are {O} {T} {A} header (s ∷ sites) (h ∷ hs) (r ∷ rans) n m each =
+    let first = each 0 s h refl refl in
+    sum_by-cons (λ (x : Ran O T A). x.replies) r rans
+    ∙ ap₂ (λ x y. x + y) (replies_at header s h r first.0 first.1 first.2)
+    (replies_are header sites hs rans (omega (arith, n)) (omega (arith, m)) (λ k t g at at_h. each (suc k) t g at at_h))
 
-pub live_histories : {D C P V A T E : Type 0} (stands : D → Setting → Trace → Type 0) (commands : Header → List (Form Command)) (header : Header) (sites : List Site) (firsts : List ℕ)
-    (olds news : List (Machine C P V A)) (before after : List LiveLine) (given : List (List GivenLine)) (outcomes : List (Result (List Entry) CloseError)) (hs : List (List Entry))
-    (told : Result T E) → map site_of olds ≡ map (λ s. Some s) sites → firsts ≡ map (λ (s : Site). s.first.job) sites → length news ≡ length olds
-    → ((k : ℕ) → (d : Machine C P V A) → k < length olds → Runs commands stands header (slice_index_or olds k d) (slice_index_or news k d)) → outcomes ≡ map outcome_of news
-    → HasTold (length olds) before after given told → IsOk told → AreSettled (begun_at header firsts) outcomes given hs → AreLiveHistories stands commands header sites before after hs
-live_histories {D} {C} {P} {V} {A} stands commands header sites firsts olds news before after given outcomes hs told same numbers len each came tells ok so = record {
-  lines = tells.lines;
-  gave = tells.gave;
-  counted = so.counted ∙ ap length came ∙ length-map news (λ (m : Machine C P V A). outcome_of m) ∙ len ∙ counts sites olds same;
-  each = λ place site h at_site at_h.
-      let settled = so.each place h at_h in
-      let run = ran_at stands commands header sites olds news same each place site (Ok h) at_site (ap (λ (xs : List (Result (List Entry) CloseError)). slice_get xs place) (sym came) ∙ settled.0) in
-      let n = counts sites olds same in
-      let lt = inside sites place site at_site in
-      record {
-        stood = run.stood;
-        run = run.ran;
-        lines = subst (λ ls. AreLines (begun_on header site) h ls)
-            (lines_there given (length olds) place tells.lines (omega (arith, n, lt)) (told_well (length olds) before after given told ok tells))
-            (subst (λ a. AreLines a h (lines_at place given)) (begun_there header firsts sites place site numbers at_site) settled.1);
-        answered = settled.2;
+told_well : {T E : Type 0} (machines : ℕ) (before after : List LiveLine) (l : LedgerState GivenLine) (told : Result T E) → IsOk told → (so : HasTold machines before after l told)
+    → AreGiven l machines so.lines
+told_well machines before after l (Ok t) ok so = so.texts
+told_well machines before after l (Err e) ok so = absurd (cc ok)
+
+pub told_all : {D C P V A O T T' E : Type 0} (stands : D → Setting → Trace → Type 0) (commands : Header → List (Form Command)) (header : Header) (sites : List Site)
+    (olds news : List (Machine C P V A O T)) (before after : List LiveLine) (early : Bool) (l : LedgerState GivenLine) (told : Result T' E) (pieces : List Piece) (machines replies : ℕ)
+    → map site_of olds ≡ map (λ s. Some s) sites → length news ≡ length olds → AreFresh olds
+    → ((k : ℕ) → (d : Machine C P V A O T) → k < length olds → Runs commands stands header (slice_index_or olds k d) (slice_index_or news k d))
+    → HasTold (length olds) before after l told → (early ≡ false → IsOk told) → machines ≡ length news → AreAllWhole early l news pieces replies
+    → HasToldAll stands commands header sites before after pieces machines replies
+told_all {D} {C} {P} {V} {A} {O} {T} stands commands header sites olds news before after early l told pieces machines replies same len fresh each tells in_time many all =
+    let rans : List (Ran O T A) = all.0 in
+    let whole : AreWhole early l rans pieces replies = all.2 in
+    let given = told_well (length olds) before after l told (in_time whole.in_time) tells in
+    let n = counts sites olds same in
+    let m = rans_count news rans all.1 in
+    let found : (k : ℕ) (site : Site) → slice_get sites k ≡ Some site → (h : List Entry) × IsHistoryAt stands commands header tells.lines rans pieces k site h
+    = λ k site at.
+    let lt = inside sites k site at in
+    let there = there_is rans k (omega (arith, lt, n, m, len)) in
+    history_at stands commands header tells.lines rans pieces l replies early whole k site there.0 (given.each k (omega (arith, lt, n))) there.1
+    (ran_at stands commands header sites olds news rans same fresh each all.1 k site there.0 at there.1) in
+    let hs = chosen (λ k site h. IsHistoryAt stands commands header tells.lines rans pieces k site h) sites found in
+    let long : length hs.0 ≡ length sites = hs.1 in
+    record {
+      histories = hs.0;
+      live = record {
+        lines = tells.lines;
+        gave = tells.gave;
+        counted = hs.1;
+        each = λ place site h at at_h. (hs.2 place site h at at_h).live;
       };
-}
+      texts = λ place site h at at_h. (hs.2 place site h at at_h).told;
+      below = subst (λ k. AreBelow k pieces) (omega (arith, m, len, n, long)) whole.below;
+      machines_are = omega (arith, many, len, n, long);
+      count = whole.settled.count ∙ replies_are header sites hs.0 rans long (omega (arith, m, len, n))
+          (λ k s h at at_h. let x = hs.2 k s h at at_h in (x.ran, x.there, x.replies));
+    }
 
--- A case of one machine.
-live_case : {D : Type 0} (stands : D → Setting → Trace → Type 0) (st : Setting) (a : AlongState) (due : List GivenLine) (outcome : Result (List Entry) CloseError) (d : LiveDiffer)
-    → HasRun stands st outcome → IsCaseIn a outcome due d → IsLiveCase stands st a due d
-live_case stands st a due (Ok h) (Cell c) run is = absurd is
-live_case stands st a due (Ok h) (Line number asked expected) run is = (h, run.stood, run.ran, is)
-live_case stands st a due (Ok h) (Left number call) run is = (h, run.stood, run.ran, is.0, is.1)
-live_case stands st a due (Ok h) (Untold number process) run is = (h, run.stood, run.ran, is.0, is.1)
-live_case stands st a due (Err e) d run is =
-    subst (IsLiveCase stands st a due) (sym is.2) (subst (Stops (IsCaseOfRun st)) is.1 run.stops)
+-- ---- a case
 
-stop_there : {D C P V A T E : Type 0} (stands : D → Setting → Trace → Type 0) (commands : Header → List (Form Command)) (header : Header) (sites : List Site) (firsts : List ℕ)
-    (olds news : List (Machine C P V A)) (before after : List LiveLine) (given : List (List GivenLine)) (outcomes : List (Result (List Entry) CloseError)) (stop : LiveStop)
-    (told : Result T E) → map site_of olds ≡ map (λ s. Some s) sites → firsts ≡ map (λ (s : Site). s.first.job) sites → length news ≡ length olds
-    → ((k : ℕ) → (d : Machine C P V A) → k < length olds → Runs commands stands header (slice_index_or olds k d) (slice_index_or news k d)) → outcomes ≡ map outcome_of news
-    → HasTold (length olds) before after given told → IsOk told → StopsSome (begun_at header firsts) outcomes given stop → IsLiveStop stands commands header sites before after stop
-stop_there stands commands header sites firsts olds news before after given outcomes NoMemory told same numbers len each came tells ok so = tt
-stop_there {D} {C} {P} {V} {A} stands commands header sites firsts olds news before after given outcomes (Differ m d) told same numbers len each came tells ok so =
-    let place = so.0 in
-    let outcome = so.1 in
-    let at : slice_get (map outcome_of news) place ≡ Some outcome = ap (λ (xs : List (Result (List Entry) CloseError)). slice_get xs place) (sym came) ∙ so.2 in
-    let lt = inside (map outcome_of news) place outcome at in
-    let long = length-map news (λ (x : Machine C P V A). outcome_of x) in
+stop_at : {D C P V A O T T' E : Type 0} (stands : D → Setting → Trace → Type 0) (commands : Header → List (Form Command)) (header : Header) (sites : List Site)
+    (olds news : List (Machine C P V A O T)) (before after : List LiveLine) (early : Bool) (l : LedgerState GivenLine) (told : Result T' E) (m : ℕ) (d : LiveDiffer) (rans : List (Ran O T A))
+    → map site_of olds ≡ map (λ s. Some s) sites → length news ≡ length olds → AreFresh olds
+    → ((k : ℕ) → (d : Machine C P V A O T) → k < length olds → Runs commands stands header (slice_index_or olds k d) (slice_index_or news k d))
+    → HasTold (length olds) before after l told → (early ≡ false → IsOk told) → AreRansOf news rans → IsCaseOf early l rans m d
+    → IsLiveStop stands commands header sites before after (Differ m d)
+stop_at {D} {C} {P} {V} {A} {O} {T} stands commands header sites olds news before after early l told m d rans same len fresh each tells in_time left so =
+    let place : ℕ = so.place in
+    let r : Ran O T A = so.ran in
+    let lt = inside rans place r so.there in
     let n = counts sites olds same in
-    let there = there_is sites place (omega (arith, lt, long, len, n)) in
-    let run = ran_at stands commands header sites olds news same each place there.0 outcome there.1 at in
-    let number : m ≡ place + 1 = so.3.0 in
-    let texts : lines_at place given ≡ lines_for m tells.lines
-    = lines_there given (length olds) place tells.lines (omega (arith, lt, long, len)) (told_well (length olds) before after given told ok tells) ∙ ap (λ k. lines_for k tells.lines) (sym number) in
+    let c = rans_count news rans left in
+    let there = there_is sites place (omega (arith, lt, c, len, n)) in
+    let site : Site = there.0 in
+    let st : Setting = begun_with commands header site in
+    let a : AlongState = begun_on header site in
+    let inside_olds : place < length olds = omega (arith, lt, c, len) in
+    let at = ran_at stands commands header sites olds news rans same fresh each left place site r there.1 so.there in
+    let run = at.run in
+    let due : List GivenLine = lines_for m tells.lines in
+    let first : IsPrefix (entries (given_by r.reader.by l.front)) due
+    = subst (λ k. IsPrefix (entries (given_by r.reader.by l.front)) (lines_for k tells.lines)) (sym so.numbered)
+    (subst (λ k. IsPrefix (entries (given_by k l.front)) (lines_for (place + 1) tells.lines)) (sym at.by) (tells.first.each place inside_olds)) in
+    let exact : early ≡ false → entries (given_by r.reader.by l.front) ≡ due
+    = λ t. ap (λ k. entries (given_by k l.front)) at.by ∙ (told_well (length olds) before after l told (in_time t) tells).each place inside_olds
+    ∙ ap (λ k. lines_for k tells.lines) (sym so.numbered) in
     record {
       lines = tells.lines;
       gave = tells.gave;
       place = place;
-      site = there.0;
-      numbered = number;
+      site = site;
+      numbered = so.numbered;
       there = there.1;
-      case_of = subst (λ t. IsLiveCase stands (begun_with commands header there.0) (begun_on header there.0) t d) texts
-          (subst (λ a. IsLiveCase stands (begun_with commands header there.0) a (lines_at place given) d) (begun_there header firsts sites place there.0 numbers there.1)
-          (live_case stands (begun_with commands header there.0) (begun_at header firsts place) (lines_at place given) outcome d run so.3.1));
+      case_of = case_so stands st a run.history (lines_read r.reader) due early so.reading r.end r.entries d run.ends run.counted (met early so.reading r.reader l due first exact so.read) so.case_is;
     }
 
--- A case that a cell tells, where threads ended too soon.
-early_stop : {D C P V A T E : Type 0} (stands : D → Setting → Trace → Type 0) (commands : Header → List (Form Command)) (header : Header) (sites : List Site)
-    (olds news : List (Machine C P V A)) (before after : List LiveLine) (given : List (List GivenLine)) (outcomes : List (Result (List Entry) CloseError)) (stop : LiveStop)
-    (told : Result T E) → map site_of olds ≡ map (λ s. Some s) sites → length news ≡ length olds
-    → ((k : ℕ) → (d : Machine C P V A) → k < length olds → Runs commands stands header (slice_index_or olds k d) (slice_index_or news k d)) → outcomes ≡ map outcome_of news
-    → HasTold (length olds) before after given told → IsEarlyStop outcomes stop → IsLiveStop stands commands header sites before after stop
-early_stop stands commands header sites olds news before after given outcomes NoMemory told same len each came tells so = tt
-early_stop {D} {C} {P} {V} {A} stands commands header sites olds news before after given outcomes (Differ m d) told same len each came tells so =
-    let place = so.0 in
-    let outcome : Result (List Entry) CloseError = Err (Differs so.1) in
-    let at : slice_get (map outcome_of news) place ≡ Some outcome = ap (λ (xs : List (Result (List Entry) CloseError)). slice_get xs place) (sym came) ∙ so.2 in
-    let lt = inside (map outcome_of news) place outcome at in
-    let long = length-map news (λ (x : Machine C P V A). outcome_of x) in
-    let n = counts sites olds same in
-    let there = there_is sites place (omega (arith, lt, long, len, n)) in
-    let run = ran_at stands commands header sites olds news same each place there.0 outcome there.1 at in
-    record {
-      lines = tells.lines;
-      gave = tells.gave;
-      place = place;
-      site = there.0;
-      numbered = so.3;
-      there = there.1;
-      case_of = subst (IsLiveCase stands (begun_with commands header there.0) (begun_on header there.0) (lines_for m tells.lines)) (sym so.4) run.stops;
-    }
-
-pub live_stop : {D C P V A T E : Type 0} (stands : D → Setting → Trace → Type 0) (commands : Header → List (Form Command)) (header : Header) (sites : List Site) (firsts : List ℕ)
-    (olds news : List (Machine C P V A)) (before after : List LiveLine) (given : List (List GivenLine)) (outcomes : List (Result (List Entry) CloseError)) (stop : LiveStop)
-    (told : Result T E) → map site_of olds ≡ map (λ s. Some s) sites → firsts ≡ map (λ (s : Site). s.first.job) sites → length news ≡ length olds
-    → ((k : ℕ) → (d : Machine C P V A) → k < length olds → Runs commands stands header (slice_index_or olds k d) (slice_index_or news k d)) → outcomes ≡ map outcome_of news
-    → HasTold (length olds) before after given told → IsEarlyStop outcomes stop ⊎ (IsOk told × StopsSome (begun_at header firsts) outcomes given stop) → IsLiveStop stands commands header sites before after stop
-live_stop stands commands header sites firsts olds news before after given outcomes stop told same numbers len each came tells (inl so) =
-    early_stop stands commands header sites olds news before after given outcomes stop told same len each came tells so
-live_stop stands commands header sites firsts olds news before after given outcomes stop told same numbers len each came tells (inr so) =
-    stop_there stands commands header sites firsts olds news before after given outcomes stop told same numbers len each came tells so.0 so.1
-
--- ---- before the run
-
--- Machines of these sites can run.
-pub can_run : {C P V A : Type 0} (commands : Header → List (Form Command)) (header : Header) (ms : List (Machine C P V A)) (sites : List Site) → map site_of ms ≡ map (λ s. Some s) sites
-    → IsHeader header → All (λ s. IsSetting (begun_with commands header s)) sites → All (CanRun commands header) ms
-can_run commands header ms sites same is so k d lt =
-    let there = there_is ms k lt in
-    let site = got_map (λ s. Some s) sites k (site_of there.0) (ap (λ (xs : List (Option Site)). slice_get xs k) (sym same) ∙ map_got site_of ms k there.0 there.1) in
-    let here : IsSetting (begun_with commands header (slice_index_or sites k site.0)) = so k site.0 (inside sites k site.0 site.1) in
-    let its : IsSetting (begun_with commands header site.0) = subst (λ s. IsSetting (begun_with commands header s)) (got_index sites k site.0 site.0 site.1) here in
-    subst (CanRun commands header) (sym (got_index ms k there.0 d there.1))
-    (is, subst (λ (o : Option Site). IfSome o (λ s. IsSetting (begun_with commands header s))) site.2 its)
-
--- Room was taken, and then one was pushed.
-pub pushed : {A : Type 0} (xs ys zs : List A) (x : A) → ys ≡ xs → zs ≡ ys ++ x ∷ [] → zs ≡ xs ++ x ∷ []
-pushed xs ys zs x same more = more ∙ ap (λ l. l ++ x ∷ []) same
-
-pub site_there : {C P V A : Type 0} (m : Machine C P V A) (w : Work C P V A) → m.work ≡ Some w → site_of m ≡ Some w.site
-site_there {C} {P} {V} {A} m w is = ap (option_map (λ (x : Work C P V A). x.site)) is
-
--- One machine more.
-pub site_behind : {C P V A : Type 0} (ms mid ms' : List (Machine C P V A)) (m : Machine C P V A) (w : Work C P V A) → mid ≡ ms → ms' ≡ mid ++ m ∷ [] → m.work ≡ Some w
-    → map site_of ms' ≡ map site_of ms ++ Some w.site ∷ []
-site_behind {C} {P} {V} {A} ms mid ms' m w same is work =
-    let site : Machine C P V A → Option Site = λ (x : Machine C P V A). site_of x in
-    ap (map site) (pushed ms mid ms' m same is) ∙ map-append site ms (m ∷ []) ∙ ap (λ o. map site ms ++ o ∷ []) (site_there m w work)
-
--- .. of what was ready.
-pub one_begun : {C P V A S : Type 0} (ms ms' : List (Machine C P V A)) (ps : List S) (p : S) (site : S → Site) → map site_of ms' ≡ map site_of ms ++ Some (site p) ∷ []
-    → map site_of ms ≡ map (λ s. Some s) (map site ps) → map site_of ms' ≡ map (λ s. Some s) (map site (ps ++ p ∷ []))
-one_begun ms ms' ps p site is so =
-    is ∙ ap (λ xs. xs ++ Some (site p) ∷ []) so
-    ∙ sym (ap (map (λ s. Some s)) (map-append site ps (p ∷ [])) ∙ map-append (λ s. Some s) (map site ps) (site p ∷ []))
-
--- The numbers of their first jobs.
-pub firsts_are : {S : Type 0} (ns : List ℕ) (ps : List S) (site : S → Site) → ns ≡ map (λ p. (site p).first.job) ps → ns ≡ map (λ (s : Site). s.first.job) (map site ps)
-firsts_are {S} ns ps site is = is ∙ go ps
-  where
-    go : (xs : List S) → map (λ p. (site p).first.job) xs ≡ map (λ (s : Site). s.first.job) (map site xs)
-    go [] = refl
-    go (x ∷ xs) = ap (λ rest. (site x).first.job ∷ rest) (go xs)
-
--- ---- what machines came to
-
-pub came_none : {C P V A : Type 0} (ms : List (Machine C P V A)) (outcomes : List (Result (List Entry) CloseError)) → ms ≡ [] → outcomes ≡ [] → CameTo ms outcomes
-came_none {C} {P} {V} {A} ms outcomes none empty = record { all = empty ∙ sym (ap (map (λ (m : Machine C P V A). outcome_of m)) none) }
-
-pub came_more : {C P V A : Type 0} (ms : List (Machine C P V A)) (m : Machine C P V A) (outcomes outcomes' : List (Result (List Entry) CloseError))
-    (outcome : Result (List Entry) CloseError) → outcomes' ≡ outcomes ++ outcome ∷ [] → outcome ≡ m.ran.history → CameTo ms outcomes → CameTo (ms ++ m ∷ []) outcomes'
-came_more {C} {P} {V} {A} ms m outcomes outcomes' outcome is its so = record {
-  all = is ∙ ap₂ (λ xs x. xs ++ x ∷ []) so.all its ∙ sym (map-append (λ (x : Machine C P V A). outcome_of x) ms (m ∷ []));
-}
+live_stop : {D C P V A O T T' E : Type 0} (stands : D → Setting → Trace → Type 0) (commands : Header → List (Form Command)) (header : Header) (sites : List Site)
+    (olds news : List (Machine C P V A O T)) (before after : List LiveLine) (early : Bool) (l : LedgerState GivenLine) (told : Result T' E) (s : LiveStop)
+    → map site_of olds ≡ map (λ s. Some s) sites → length news ≡ length olds → AreFresh olds
+    → ((k : ℕ) → (d : Machine C P V A O T) → k < length olds → Runs commands stands header (slice_index_or olds k d) (slice_index_or news k d))
+    → HasTold (length olds) before after l told → (early ≡ false → IsOk told) → (s ≡ NoMemory) ⊎ StopsOne early l news s
+    → IsLiveStop stands commands header sites before after s
+live_stop stands commands header sites olds news before after early l told s same len fresh each tells in_time (inl is) =
+    subst (IsLiveStop stands commands header sites before after) (sym is) tt
+live_stop stands commands header sites olds news before after early l told NoMemory same len fresh each tells in_time (inr so) = tt
+live_stop stands commands header sites olds news before after early l told (Differ m d) same len fresh each tells in_time (inr so) =
+    stop_at stands commands header sites olds news before after early l told m d so.0 same len fresh each tells in_time so.1 so.2
 
 -- ---- of a result
 
@@ -254,3 +299,93 @@ if_ok_on (Err e) Was Is f so = tt
 pub if_err_on : {T E : Type 0} (r : Result T E) (Was Is : E → Type 0) → ((e : E) → Was e → Is e) → IfErr r Was → IfErr r Is
 if_err_on (Ok t) Was Is f so = tt
 if_err_on (Err e) Was Is f so = f e so
+
+-- ---- the whole run
+
+pub has_run_all : {D K C P V A O T T' E : Type 0} (stands : D → Setting → Trace → Type 0) (commands : Header → List (Form Command)) (header : Header) (sites : List Site)
+    (olds news : List (Machine C P V A O T)) (before after : List LiveLine) (early : Bool) (l : LedgerState GivenLine) (told : Result T' E) (taken now : Option (List ℕ)) (faults later : ℕ)
+    (r : LiveRun K A) → map site_of olds ≡ map (λ s. Some s) sites → length news ≡ length olds → AreFresh olds
+    → ((k : ℕ) → (d : Machine C P V A O T) → k < length olds → Runs commands stands header (slice_index_or olds k d) (slice_index_or news k d))
+    → HasTold (length olds) before after l told → (early ≡ false → IsOk told) → HasLeft early l news taken now faults later r
+    → HasRunAll stands commands header sites before after taken now faults later r
+has_run_all {D} {K} {C} {P} {V} {A} {O} {T} stands commands header sites olds news before after early l told taken now faults later r same len fresh each tells in_time left = record {
+  pieces = left.pieces;
+  put = left.put;
+  ok = if_ok_on r.replies (AreAllWhole early l news left.pieces) (HasToldAll stands commands header sites before after left.pieces r.machines)
+      (λ n all. told_all stands commands header sites olds news before after early l told left.pieces r.machines n same len fresh each tells in_time left.machines_are all) left.ok;
+  stop = if_err_on r.replies (λ s. (s ≡ NoMemory) ⊎ StopsOne early l news s) (IsLiveStop stands commands header sites before after)
+      (λ s so. live_stop stands commands header sites olds news before after early l told s same len fresh each tells in_time so) left.stop;
+}
+
+-- There was no memory to run.
+pub no_run_all : {D K A : Type 0} (stands : D → Setting → Trace → Type 0) (commands : Header → List (Form Command)) (header : Header) (sites : List Site) (before after : List LiveLine)
+    (taken now : Option (List ℕ)) (faults later : ℕ) (r : LiveRun K A) → r.replies ≡ Err NoMemory → (ps : List Piece) × IsPut taken now faults later ps r.cut
+    → HasRunAll stands commands header sites before after taken now faults later r
+no_run_all stands commands header sites before after taken now faults later r is put = record {
+  pieces = put.0;
+  put = put.1;
+  ok = subst (λ (x : Result ℕ LiveStop). IfOk x (HasToldAll stands commands header sites before after put.0 r.machines)) (sym is) tt;
+  stop = subst (λ (x : Result ℕ LiveStop). IfErr x (IsLiveStop stands commands header sites before after)) (sym is) tt;
+}
+
+-- .. for one machine.
+pub no_run_of : {D O T A : Type 0} (stands : D → Setting → Trace → Type 0) (st : Setting) (a : AlongState) (r : Ran O T A) → r.end ≡ Err NoMemoryClose → r.writer.by ≡ r.reader.by
+    → HasRun stands st a r
+no_run_of stands st a r is by = record {
+  by = by;
+  history = [];
+  ends = subst (EndsWith stands st a [] (lines_read r.reader)) (sym is) tt;
+  told = subst (Told a [] r.reader r.writer r.replies) (sym is) tt;
+  counted = subst (Counts [] r.entries) (sym is) tt;
+}
+
+-- ---- before the run
+
+can_one : {C P V A O T : Type 0} (commands : Header → List (Form Command)) (header : Header) (place : ℕ) (site : Site) (work : Option (Work C P V A O T))
+    → option_map (λ (w : Work C P V A O T). w.site) work ≡ Some site → IsSetting (begun_with commands header site) → IfSome work (λ w. (w.reader.by ≡ place) × IsFresh w)
+    → IfSome work (λ w. IsSetting (begun_with commands header w.site) × IsFresh w)
+can_one commands header place site None at so fresh = tt
+can_one commands header place site (Some w) at so fresh = (subst (λ s. IsSetting (begun_with commands header s)) (sym (some_value w.site site at)) so, fresh.1)
+
+-- Machines of these sites can run.
+pub can_run : {C P V A O T : Type 0} (commands : Header → List (Form Command)) (header : Header) (ms : List (Machine C P V A O T)) (sites : List Site) → map site_of ms ≡ map (λ s. Some s) sites
+    → AreFresh ms → IsHeader header → All (λ s. IsSetting (begun_with commands header s)) sites → All (CanRun commands header) ms
+can_run {C} {P} {V} {A} {O} {T} commands header ms sites same fresh is so k d lt =
+    let there = there_is ms k lt in
+    let m : Machine C P V A O T = there.0 in
+    let site = got_map (λ s. Some s) sites k (site_of m) (ap (λ (xs : List (Option Site)). slice_get xs k) (sym same) ∙ map_got site_of ms k m there.1) in
+    let here : IsSetting (begun_with commands header (slice_index_or sites k site.0)) = so k site.0 (inside sites k site.0 site.1) in
+    let its : IsSetting (begun_with commands header site.0) = subst (λ s. IsSetting (begun_with commands header s)) (got_index sites k site.0 site.0 site.1) here in
+    subst (λ (x : Machine C P V A O T). CanRun commands header x) (sym (got_index ms k m d there.1)) (is, can_one commands header k site.0 m.work (sym site.2) its (fresh k m there.1))
+
+-- Room was taken, and then one was pushed.
+pub pushed : {A : Type 0} (xs ys zs : List A) (x : A) → ys ≡ xs → zs ≡ ys ++ x ∷ [] → zs ≡ xs ++ x ∷ []
+pushed xs ys zs x same more = more ∙ ap (λ l. l ++ x ∷ []) same
+
+-- One machine more has begun, of what was ready.
+pub one_begun : {C P V A O T S : Type 0} (ms ms' : List (Machine C P V A O T)) (m : Machine C P V A O T) (w : Work C P V A O T) (ps : List S) (p : S) (site : S → Site)
+    → ms' ≡ ms ++ m ∷ [] → m.work ≡ Some w → w.site ≡ site p → map site_of ms ≡ map (λ s. Some s) (map site ps) → map site_of ms' ≡ map (λ s. Some s) (map site (ps ++ p ∷ []))
+one_begun {C} {P} {V} {A} {O} {T} ms ms' m w ps p site is work its so =
+    let of : Machine C P V A O T → Option Site = λ (x : Machine C P V A O T). site_of x in
+    ap (map of) is ∙ map-append of ms (m ∷ []) ∙ ap (λ o. map of ms ++ o ∷ []) (ap (option_map (λ (x : Work C P V A O T). x.site)) work ∙ ap Some its)
+    ∙ ap (λ xs. xs ++ Some (site p) ∷ []) so ∙ sym (ap (map (λ s. Some s)) (map-append site ps (p ∷ [])) ∙ map-append (λ s. Some s) (map site ps) (site p ∷ []))
+
+pub none_fresh : {C P V A O T : Type 0} (ms : List (Machine C P V A O T)) → ms ≡ [] → AreFresh ms
+none_fresh {C} {P} {V} {A} {O} {T} ms none place m at = absurd (none_some m (sym (ap (λ (xs : List (Machine C P V A O T)). slice_get xs place) none) ∙ at))
+
+pub fresh_more : {C P V A O T : Type 0} (ms ms' : List (Machine C P V A O T)) (m : Machine C P V A O T) (w : Work C P V A O T) → ms' ≡ ms ++ m ∷ [] → m.work ≡ Some w
+    → w.reader.by ≡ length ms → IsFresh w → AreFresh ms → AreFresh ms'
+fresh_more {C} {P} {V} {A} {O} {T} ms ms' m w is work by fresh so place x at =
+    go place x (placed_behind ms m place x (sym (ap (λ (xs : List (Machine C P V A O T)). slice_get xs place) is) ∙ at))
+  where
+    go : (place : ℕ) (x : Machine C P V A O T) → PlacedBehind ms m place x → IfSome x.work (λ w. (w.reader.by ≡ place) × IsFresh w)
+    go place x (Stood at) = so place x at
+    go place x (Came here same) =
+        subst (λ (o : Option (Work C P V A O T)). IfSome o (λ w. (w.reader.by ≡ place) × IsFresh w)) (sym (ap (λ (y : Machine C P V A O T). y.work) same ∙ work)) (by ∙ sym here, fresh)
+
+-- As many machines have begun as were ready.
+pub ready_given : {C P V A O T S : Type 0} (l : LedgerState GivenLine) (ms : List (Machine C P V A O T)) (ps : List S) (site : S → Site) (places : ℕ)
+    → l ≡ record { front = []; places = places } → places ≡ length ps → map site_of ms ≡ map (λ s. Some s) (map site ps) → AreGiven l (length ms) []
+ready_given l ms ps site places is many same =
+    let n : length ms ≡ length ps = counts (map site ps) ms same ∙ length-map ps site in
+    subst (λ k. AreGiven l k []) (many ∙ sym n) (no_lines l places is)

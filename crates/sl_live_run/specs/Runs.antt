@@ -1,7 +1,7 @@
 -- What a live run leaves: histories that daemons stood for, whose lines are the script's; or a case that holds of a machine.
 use Rattle.sl_book.specs.Logs.{entries, given_by as given_in}
 use Rattle.sl_book.specs.Mails.{LedgerState}
-use Rattle.sl_live_lines.specs.AuditedHistory.{AreLines, IsAnswered, IsUnanswered, LineDiffers}
+use Rattle.sl_live_lines.specs.AuditedHistory.{AreLines, IsAnswered, IsLeft, KeepsAsks, LineDiffers, lines_along}
 use Rattle.sl_book.specs.Closings.{AreBelow}
 use Rattle.sl_live_lines.specs.LiveTexts.{count_replies, history_text}
 use Rattle.sl_live_machine.specs.MachineEnds.{HasRun, IsWhole}
@@ -14,6 +14,7 @@ use Rattle.sl_output.specs.Pieces.{Piece, text_by}
 use Rattle.sl_world_state.specs.Daemons.{Stood, begun_with}
 use Rattle.sl_world_state.specs.declared.daemon.Site.{Site}
 use Rattle.sl_live_lines.specs.declared.audit.Left.TheVariants.{Call as CallLeft, Start as StartLeft}
+use Rattle.sl_live_lines.specs.declared.audit.Left.{Left as LeftOf}
 use Rattle.sl_reader.specs.declared.live_lines.LiveLine.TheVariants.{Command as CommandLine, Exits, Locks as LocksLine, Post}
 use Rattle.sl_reader.specs.declared.live_lines.LiveLine.{LiveLine}
 use Rattle.sl_live_lines.specs.LocksAlong.{AlongState, begun_along}
@@ -33,6 +34,7 @@ use Rattle.sl_trace.specs.declared.command.Command.{Command}
 use Rattle.sl_trace.specs.declared.effects.Entry.{Entry}
 use Rattle.std.specs.List.{flat_map}
 use Rattle.std.specs.Prelude.{IfErr, IfOk, IfSome, List, None, OnOk, Option, Result, Some, if◌then◌else◌, length, option_map, slice_get, [], ℕ, ◌++◌, ◌+◌, ◌<◌, ◌==◌, ◌∷◌, ◌≡◌}
+use mathlib.Core.List.{IsPrefix}
 
 -- ---- what the script gives
 
@@ -56,10 +58,16 @@ pub record AreGiven (l : LedgerState GivenLine) (machines : ℕ) (ls : List Live
   pub counted : l.places ≡ machines
   pub each : (place : ℕ) → place < machines → entries (given_in place l.front) ≡ lines_for (place + 1) ls
 
--- The script gave some lines; where it ended well, what is noted are those that they give.
+-- .. or the first ones of them.
+pub record AreFirst (l : LedgerState GivenLine) (machines : ℕ) (ls : List LiveLine) : Type 0 where
+  pub counted : l.places ≡ machines
+  pub each : (place : ℕ) → place < machines → IsPrefix (entries (given_in place l.front)) (lines_for (place + 1) ls)
+
+-- The script gave some lines: what is noted are the first ones of those that they give; where it ended well, all of them.
 pub record HasTold {A E : Type 0} (machines : ℕ) (before after : List LiveLine) (l : LedgerState GivenLine) (result : Result A E) : Type 0 where
   pub lines : List LiveLine
   pub gave : after ≡ before ++ lines
+  pub first : AreFirst l machines lines
   pub texts : OnOk result (AreGiven l machines lines)
 
 -- ---- a machine's run
@@ -109,13 +117,19 @@ pub record AreLiveHistories {D : Type 0} (stands : D → Setting → Trace → T
   pub each : (place : ℕ) (site : Site) (h : List Entry) → slice_get sites place ≡ Some site → slice_get hs place ≡ Some h
       → IsLiveHistory stands (begun_with commands header site) (begun_on header site) (lines_for (place + 1) lines) h
 
+-- The lines of a history are these, each for lvmlockd with its asks, and this is left at its end.
+pub record LeavesOpen (a : AlongState) (h : List Entry) (given : List GivenLine) (l : LeftOf) : Type 0 where
+  pub lines : lines_along a h ≡ given
+  pub asks : KeepsAsks a h
+  pub left : IsLeft a h l
+
 -- A case holds of a machine of this setting, to which the script gave these lines. Where a call or a start is left unanswered, its history has just
 -- these lines.
 abbrev pub IsLiveCase : {D : Type 0} → (D → Setting → Trace → Type 0) → Setting → AlongState → List GivenLine → LiveDiffer → Type 0
 IsLiveCase stands st a given (Cell d) = IsCaseOfRun st d
 IsLiveCase stands st a given (Line number) = (h : List Entry) × IsWhole stands st h × LineDiffers a h given number
-IsLiveCase stands st a given (Left number call) = (h : List Entry) × IsWhole stands st h × AreLines a h given × IsUnanswered h (CallLeft number call)
-IsLiveCase stands st a given (Untold number process) = (h : List Entry) × IsWhole stands st h × AreLines a h given × IsUnanswered h (StartLeft number process)
+IsLiveCase stands st a given (Left number call) = (h : List Entry) × IsWhole stands st h × LeavesOpen a h given (CallLeft number call)
+IsLiveCase stands st a given (Untold number process) = (h : List Entry) × IsWhole stands st h × LeavesOpen a h given (StartLeft number process)
 
 -- .. of the machine of this number, counted from 1, which the stop names.
 pub record LiveCaseOf {D : Type 0} (stands : D → Setting → Trace → Type 0) (commands : Header → List (Form Command)) (header : Header) (sites : List Site)

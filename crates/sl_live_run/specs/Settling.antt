@@ -1,6 +1,7 @@
 -- What machines came to, compared with what the script gave them.
-use Rattle.sl_book.specs.Logs.{entries, given_by}
-use Rattle.sl_book.specs.Mails.{LedgerState, ReaderState}
+use Rattle.sl_book.specs.Logs.{given_by}
+use Rattle.sl_book.specs.Closings.{AreBelow, AreExact}
+use Rattle.sl_book.specs.Mails.{IsReading, LedgerState}
 use Rattle.sl_book.specs.declared.mail.Reading.TheVariants as reading
 use Rattle.sl_book.specs.declared.mail.Reading.{Reading}
 use Rattle.sl_live_lines.specs.declared.audit.Left.TheVariants.{Call as CallLeft, Line as LineLeft, Start as StartLeft}
@@ -15,9 +16,12 @@ use Rattle.sl_live_run.specs.declared.compare.LiveStop.TheVariants.{Differ, NoMe
 use Rattle.sl_live_run.specs.declared.compare.LiveStop.{LiveStop}
 use Rattle.sl_live_run.specs.declared.compare.Settled.TheVariants.{Case, Lost, Whole}
 use Rattle.sl_live_run.specs.declared.compare.Settled.{Settled}
+use Rattle.sl_live_run.specs.declared.machine_runs.Machine.{Machine}
+use Rattle.sl_live_run.specs.declared.run.LiveRun.{LiveRun}
+use Rattle.sl_output.specs.Outputs.{IsPut}
+use Rattle.sl_output.specs.Pieces.{Piece}
 use Rattle.std.specs.List.{sum_by}
-use Rattle.std.specs.Prelude.{Err, List, Ok, Result, Some, length, slice_get, ℕ, ◌+◌, ◌<◌, ◌×◌, ◌≡◌, ◌⊎◌}
-use mathlib.Core.List.{IsPrefix}
+use Rattle.std.specs.Prelude.{Bool, Err, IfErr, IfOk, List, Ok, Option, Result, Some, false, length, map, slice_get, true, ℕ, ◌+◌, ◌≡◌, ◌⊎◌}
 
 -- The case of what is left at the end of a history, behind whose last entry this number comes.
 abbrev pub left_case : LeftOf → ℕ → LiveDiffer
@@ -49,28 +53,55 @@ settled_early r (Err (close.Left left)) = Lost
 settled_early r (Err close.NoMemory) = Lost
 settled_early r (Ok u) = Lost
 
--- How much of the elements of its number a reader has read.
-abbrev pub IsReading : Reading → ReaderState GivenLine → LedgerState GivenLine → Type 0
-IsReading reading.All r l = given_by r.by r.front ≡ given_by r.by l.front
-IsReading reading.Part r l = IsPrefix r.front l.front × (length (given_by r.by r.front) < length (given_by r.by l.front))
-IsReading reading.Apart r l = Unit {0}
+-- What a machine comes to, where threads ended too soon or not.
+abbrev pub come_to : Bool → Reading → Result Unit CloseError → ℕ → Settled
+come_to true r end next = settled_early r end
+come_to false r end next = settled r end next
 
 -- All have whole histories and have read all their lines, and were given so many replies together.
 pub record AreSettled {O T A : Type 0} (l : LedgerState GivenLine) (rans : List (Ran O T A)) (replies : ℕ) : Type 0 where
   pub each : (place : ℕ) (r : Ran O T A) → slice_get rans place ≡ Some r → (r.end ≡ Ok tt) × (given_by r.reader.by r.reader.front ≡ given_by r.reader.by l.front)
   pub count : replies ≡ sum_by (λ (r : Ran O T A). r.replies) rans
 
+-- .. and threads ended in time, and these pieces are just those that they put.
+pub record AreWhole {O T A : Type 0} (early : Bool) (l : LedgerState GivenLine) (rans : List (Ran O T A)) (pieces : List Piece) (replies : ℕ) : Type 0 where
+  pub in_time : early ≡ false
+  pub settled : AreSettled l rans replies
+  pub exact : AreExact 0 (map (λ (r : Ran O T A). r.writer) rans) pieces
+  pub below : AreBelow (length rans) pieces
+
 -- The case is that of the machine at this place, as it was read.
-pub record IsCaseOf {O T A : Type 0} (l : LedgerState GivenLine) (rans : List (Ran O T A)) (machine : ℕ) (d : LiveDiffer) : Type 0 where
+pub record IsCaseOf {O T A : Type 0} (early : Bool) (l : LedgerState GivenLine) (rans : List (Ran O T A)) (machine : ℕ) (d : LiveDiffer) : Type 0 where
   pub place : ℕ
   pub ran : Ran O T A
   pub reading : Reading
   pub numbered : machine ≡ place + 1
   pub there : slice_get rans place ≡ Some ran
   pub read : IsReading reading ran.reader l
-  pub case_is : (settled reading ran.end (ran.entries + 1) ≡ Case d) ⊎ (settled_early reading ran.end ≡ Case d)
+  pub case_is : come_to early reading ran.end (ran.entries + 1) ≡ Case d
 
 -- Why there are no histories: a case of a machine, or want of memory.
-abbrev pub StopsSome : {O T A : Type 0} → LedgerState GivenLine → List (Ran O T A) → LiveStop → Type 0
-StopsSome l rans (Differ machine d) = IsCaseOf l rans machine d
-StopsSome l rans NoMemory = Unit {0}
+abbrev pub StopsSome : {O T A : Type 0} → Bool → LedgerState GivenLine → List (Ran O T A) → LiveStop → Type 0
+StopsSome early l rans (Differ machine d) = IsCaseOf early l rans machine d
+StopsSome early l rans NoMemory = Unit {0}
+
+-- These are what is left of these machines, which all have run.
+abbrev pub AreRansOf : {C P V A O T : Type 0} → List (Machine C P V A O T) → List (Ran O T A) → Type 0
+AreRansOf {C} {P} {V} {A} {O} {T} machines rans = map (λ (m : Machine C P V A O T). m.ran) machines ≡ map (λ r. Some r) rans
+
+-- So many replies were given to machines that have whole histories.
+abbrev pub AreAllWhole : {C P V A O T : Type 0} → Bool → LedgerState GivenLine → List (Machine C P V A O T) → List Piece → ℕ → Type 0
+AreAllWhole {C} {P} {V} {A} {O} {T} early l machines pieces n = (rans : List (Ran O T A)) × AreRansOf machines rans × AreWhole early l rans pieces n
+
+-- Why machines have no histories.
+abbrev pub StopsOne : {C P V A O T : Type 0} → Bool → LedgerState GivenLine → List (Machine C P V A O T) → LiveStop → Type 0
+StopsOne {C} {P} {V} {A} {O} {T} early l machines stop = (rans : List (Ran O T A)) × AreRansOf machines rans × StopsSome early l rans stop
+
+-- What is left of machines whose threads have all ended.
+pub record HasLeft {K C P V A O T : Type 0} (early : Bool) (l : LedgerState GivenLine) (machines : List (Machine C P V A O T)) (taken now : Option (List ℕ)) (faults later : ℕ)
+    (r : LiveRun K A) : Type 0 where
+  pub pieces : List Piece
+  pub put : IsPut taken now faults later pieces r.cut
+  pub machines_are : r.machines ≡ length machines
+  pub ok : IfOk r.replies (AreAllWhole early l machines pieces)
+  pub stop : IfErr r.replies (λ s. (s ≡ NoMemory) ⊎ StopsOne early l machines s)

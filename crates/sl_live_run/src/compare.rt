@@ -2,7 +2,7 @@
 
 ghost use Rattle.sl_book.specs.Closings.{AreBelow, AreExact};
 ghost use Rattle.sl_live_run.specs.Settling.{AreSettled, StopsSome, left_case, settled, settled_early};
-ghost use Rattle.std.specs.Prelude.{IfErr, IfOk, IsTrue, length, ◌<◌, ◌^◌, ◌≡◌};
+ghost use Rattle.std.specs.Prelude.{IfErr, IfOk, IsTrue, false, length, true, ◌≡◌};
 
 use sl_area::Area;
 use sl_book::{Ledger, Reading, Shelf, check};
@@ -19,19 +19,11 @@ pub enum LiveDiffer {
     Cell(Differ),
     /// The line of the entry of this number, counted from 1, is not the one that was due there: the script's next, or the next ask of a line for
     /// lvmlockd; or the history has no such entry, and one was due.
-    Line {
-        number: u64,
-    },
+    Line { number: u64 },
     /// A call of the entry of this number is not answered.
-    Left {
-        number: u64,
-        call: u64,
-    },
+    Left { number: u64, call: u64 },
     /// The start of a child, by its number, of the entry of this number is not answered.
-    Untold {
-        number: u64,
-        process: u64,
-    },
+    Untold { number: u64, process: u64 },
 }
 
 /// Why a live run has no histories.
@@ -77,7 +69,7 @@ fn left_case(left: Left, next: u64) -> LiveDiffer
 
 /// What a machine comes to that ended so, whose printer has met all of the script's lines, or the first ones; where the history is whole and a line is
 /// left, it is due behind the last entry.
-fn settled(reading: Reading, end: Result<(), CloseError>, next: u64) -> Settled
+fn settle_one(reading: Reading, end: Result<(), CloseError>, next: u64) -> Settled
     ensures { result ≡ settled reading end next }
 {
     match end {
@@ -102,7 +94,7 @@ fn settled(reading: Reading, end: Result<(), CloseError>, next: u64) -> Settled
 }
 
 /// .. that ended too soon, since another machine had no memory or a line that was not due: what is left open then is no case.
-fn settled_early(reading: Reading, end: Result<(), CloseError>) -> Settled
+fn settle_early(reading: Reading, end: Result<(), CloseError>) -> Settled
     ensures { result ≡ settled_early reading end }
 {
     match end {
@@ -119,19 +111,18 @@ fn settled_early(reading: Reading, end: Result<(), CloseError>) -> Settled
 }
 
 /// How many replies all machines were given, the first of which has this place, where all have whole histories. Else the first case, or want of memory.
-#[tactic(auto, using(crate::proofs::CompareLaws::none_settled, crate::proofs::CompareLaws::settled_more, crate::proofs::CompareLaws::stops_here))]
 pub(crate) fn settle_all<O: Press, T: Shelf, A: Area>(
     ledger: &Ledger<T, GivenLine>,
     rans: &[Ran<O, T, A>],
 ) -> Result<u64, LiveStop>
     ensures ok { IfOk result (AreSettled ledger.now rans.now) }
-    ensures err { IfErr result (StopsSome ledger.now rans.now) }
+    ensures err { IfErr result (StopsSome false ledger.now rans.now) }
 {
     let mut replies = 0u64;
     for place in 0..rans.len() {
         let ran = &rans[place];
         let next = ran.entries.checked_add(1).ok_or(AllocError)?;
-        match settled(ledger.reading(&ran.reader), ran.end, next) {
+        match settle_one(ledger.reading(&ran.reader), ran.end, next) {
             Settled::Whole => replies = replies.checked_add(ran.replies).ok_or(AllocError)?,
             Settled::Case(differ) => {
                 return Err(LiveStop::Differ {
@@ -150,11 +141,11 @@ pub(crate) fn stop_early<O: Press, T: Shelf, A: Area>(
     ledger: &Ledger<T, GivenLine>,
     rans: &[Ran<O, T, A>],
 ) -> LiveStop
-    ensures { StopsSome ledger.now rans.now result }
+    ensures { StopsSome true ledger.now rans.now result }
 {
     for place in 0..rans.len() {
         let ran = &rans[place];
-        if let Settled::Case(differ) = settled_early(ledger.reading(&ran.reader), ran.end) {
+        if let Settled::Case(differ) = settle_early(ledger.reading(&ran.reader), ran.end) {
             return LiveStop::Differ {
                 machine: place + 1,
                 differ,
@@ -166,9 +157,8 @@ pub(crate) fn stop_early<O: Press, T: Shelf, A: Area>(
 
 /// Whether the pieces that were put out are just those that the machines' printers put.
 pub(crate) fn are_pieces<O: Press>(writers: &[Writer<O>], pieces: &Pieces<O>) -> bool
-    requires { length writers.now < 2 ^ 32 }
     ensures exact { IsTrue result → AreExact 0 writers.now pieces.now }
     ensures below { IsTrue result → AreBelow (length writers.now) pieces.now }
 {
-    check(writers, pieces).is_ok()
+    writers.len() <= u32::MAX as usize && check(writers, pieces).is_ok()
 }

@@ -12,14 +12,20 @@
 //!
 //! Each machine is a closed unit: it makes its cell, runs its threads over it and closes it, and no other thread sees the cell. So each run of a
 //! machine picks the setting that its cell is of, and its history is one of that setting. The script reaches a machine through its post. A
-//! post stands under a lock, of which nothing is known afterwards; so the script keeps the texts that it gave to each machine, and the lines
-//! of the closed histories are compared with them. What comes out are histories that daemons stood for, whose lines are the script's, and of
-//! which nothing is unanswered; or a case in which that fails, for some machine; or want of memory.
+//! post stands under a lock, of which nothing is known afterwards; so the script also writes each line that it gives into a log, and what the
+//! machine's printer has met of its own lines is told by that log (`sl_book`'s mail). The printer compares the lines of the history with them as
+//! the entries come, and puts what it tells of them out, so that nobody keeps a history. What is left at the end (`ends`) are counts: how each
+//! machine ended, how much of its lines its printer has met, and how many pieces it put out. From them it is told (`compare`) that there are
+//! histories that daemons stood for, whose lines are the script's, of which nothing is unanswered, and of which just the pieces that were put out
+//! are told; or a case in which that fails, for some machine; or want of memory.
 #![tactic(auto)]
 
+mod begun;
+mod beside;
 mod clocks;
 mod compare;
 mod disks;
+mod ends;
 mod folder;
 mod ground;
 mod initial;

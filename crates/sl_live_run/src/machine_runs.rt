@@ -109,12 +109,12 @@ fn run_as<
     opened: Opened,
     work: Work<C, P, V, A, O, T>,
 ) -> Ran<O, T, A>
-    requires header { IsHeader shared.now.header }
+    requires header { IsHeader shared.now.header.now }
     requires setting { IsSetting J.setting }
-    requires site { J.setting ≡ begun_with D.Daemon.commands shared.now.header work.site }
+    requires site { J.setting ≡ begun_with D.Daemon.commands shared.now.header.now work.site }
     requires book { opened.seen.book ≡ J.book }
     requires fresh { IsFresh work }
-    ensures goes { HasRun D.Daemon.stands J.setting (begun_along shared.now.header work.site.first.job) result }
+    ensures goes { HasRun D.Daemon.stands J.setting (begun_along shared.now.header.now work.site.first.job) result }
     ensures by { result.reader.by ≡ work.reader.by }
 {
     let (Some(post), Some(mail)) = (shared.posts.get(place), shared.mails.get(place)) else {
@@ -172,10 +172,10 @@ fn run_work<
     place: usize,
     work: Work<C, P, V, A, O, T>,
 ) -> Ran<O, T, A>
-    requires header { IsHeader shared.now.header }
-    requires setting { IsSetting (begun_with D.Daemon.commands shared.now.header work.site) }
+    requires header { IsHeader shared.now.header.now }
+    requires setting { IsSetting (begun_with D.Daemon.commands shared.now.header.now work.site) }
     requires fresh { IsFresh work }
-    ensures goes { HasRun D.Daemon.stands (begun_with D.Daemon.commands shared.now.header work.site) (begun_along shared.now.header work.site.first.job) result }
+    ensures goes { HasRun D.Daemon.stands (begun_with D.Daemon.commands shared.now.header.now work.site) (begun_along shared.now.header.now work.site.first.job) result }
     ensures by { result.reader.by ≡ work.reader.by }
 {
     run_as::<D, Brand, K, O, T, R, C, P, V, A, G>(
@@ -215,16 +215,9 @@ impl<
         K: Sink + Send,
         R: Threads + Wait + time::Clock + Sync,
         G: Gate + Sync,
-    >(
-        &mut self,
-        rt: &R,
-        alloc: Global,
-        gate: &G,
-        shared: &Shared<'_, K, O, T>,
-        place: usize,
-    )
-        requires { CanRun D.Daemon.commands shared.now.header self.old }
-        ensures { Runs D.Daemon.commands D.Daemon.stands shared.now.header self.old self.new }
+    >(&mut self, rt: &R, alloc: Global, gate: &G, shared: &Shared<'_, K, O, T>, place: usize)
+        requires { CanRun D.Daemon.commands shared.now.header.now self.old }
+        ensures { Runs D.Daemon.commands D.Daemon.stands shared.now.header.now self.old self.new }
     {
         if let Some(work) = self.work.take() {
             self.ran = Some(run_work::<D, K, O, T, R, C, P, V, A, G>(

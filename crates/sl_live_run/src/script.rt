@@ -1,11 +1,11 @@
 //! The script's thread: it reads the lines one after another and gives each to its machine's post.
 
 ghost use Rattle.sl_reader.specs.declared.live_lines.LiveLine.{LiveLine as LineOf};
-ghost use Rattle.sl_live_run.specs.Runs.{AreGiven, HasTold};
+ghost use Rattle.sl_live_run.specs.Runs.{AreFirst, AreGiven, HasTold};
 ghost use Rattle.std.specs.Prelude.{List, OnOk, [], ◌++◌, ◌∷◌, ◌≡◌, ℕ};
 
 use crate::script_lines::given_by;
-use sl_book::{Book, Ledger, Shelf};
+use sl_book::{Book, Ledger, Posted, Shelf};
 use sl_live_lines::GivenLine;
 use sl_live_machine::{Mail, Post, Roll, fail_all};
 use sl_reader::{LiveLine, LiveLines, NoLine};
@@ -53,8 +53,20 @@ pub(crate) fn has_failed<R: Wait>(rt: &R, posts: &[Post]) -> bool {
     posts.iter().any(|post| post.has_failed(rt))
 }
 
+/// Gives a line that was noted to the printer of the machine at this place. An `Err` is want of memory.
+fn send<T: Shelf, R: Wait>(
+    rt: &R,
+    ways: &Ways<'_, T>,
+    place: u32,
+    posted: Posted<T, GivenLine>,
+) -> Result<(), AllocError> {
+    match ways.mails.get(place as usize) {
+        Some(mail) => mail.put(rt, posted),
+        None => Ok(()),
+    }
+}
+
 /// Notes what a line of the script gives, for the printer of its machine, before it is given. An `Err` is want of memory.
-#[tactic(auto, using(crate::proofs::GivenLaws::some_given, crate::proofs::GivenLaws::none_given))]
 fn note<T: Shelf, R: Wait>(
     rt: &R,
     alloc: Global,
@@ -62,7 +74,8 @@ fn note<T: Shelf, R: Wait>(
     ledger: &mut Ledger<T, GivenLine>,
     line: &LiveLine,
 ) -> Result<(), AllocError>
-    ensures { (ls : List LineOf) → (machines : ℕ) → AreGiven ledger.old machines ls → OnOk result (AreGiven ledger.new machines (ls ++ line.now ∷ [])) }
+    ensures given { (ls : List LineOf) → (machines : ℕ) → AreGiven ledger.old machines ls → OnOk result (AreGiven ledger.new machines (ls ++ line.now ∷ [])) }
+    ensures first { (ls : List LineOf) → (machines : ℕ) → AreGiven ledger.old machines ls → AreFirst ledger.new machines (ls ++ line.now ∷ []) }
 {
     let Some((machine, copy)) = given_by(alloc, line)? else {
         return Ok(());
@@ -70,12 +83,9 @@ fn note<T: Shelf, R: Wait>(
     if machine == 0 || ledger.places() < machine as usize {
         return Ok(());
     }
-    let Ok(posted) = ledger.post(ways.book, machine - 1, copy) else {
-        return Err(AllocError);
-    };
-    match ways.mails.get(machine as usize - 1) {
-        Some(mail) => mail.put(rt, posted),
-        None => Ok(()),
+    match ledger.post(ways.book, machine - 1, copy) {
+        Ok(posted) => send(rt, ways, machine - 1, posted),
+        Err(_) => Err(AllocError),
     }
 }
 

@@ -16,7 +16,10 @@ fn copy(alloc: Global, text: &Bytes) -> Result<Bytes, AllocError>
 }
 
 /// What a line of the script gives, and to which machine, if it gives anything. An `Err` is want of memory.
-pub(crate) fn given_by(alloc: Global, line: &LiveLine) -> Result<Option<(u32, GivenLine)>, AllocError>
+pub(crate) fn given_by(
+    alloc: Global,
+    line: &LiveLine,
+) -> Result<Option<(u32, GivenLine)>, AllocError>
     ensures { IfOk result (λ given. given ≡ given_by line.now) }
 {
     match line {

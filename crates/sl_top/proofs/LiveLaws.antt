@@ -3,7 +3,7 @@ use Rattle.sl_world_state.specs.Daemons.{begun_with}
 use Rattle.sl_due_law.proofs.DueIsLawful.{due_is_lawful}
 use Rattle.sl_host_step.specs.HostServes.{Serves, whole_commands}
 use Rattle.sl_live_play.specs.DifferenceLines.{differ_text}
-use Rattle.sl_live_play.specs.LiveOwed.{All, Breaks, Breaks_early, Differing, Disk_there, Due, Ends, Faults, In_use, Lacks, Nothing, Of, Owes as OwesLive, Part, Parts, Puts, Stops, Stops_early}
+use Rattle.sl_live_play.specs.LiveOwed.{All, Breaks, Breaks_early, Differing, Disk_there, Due, Ends, Faults, Front, In_use, Lacks, Of, Owes as OwesLive, Part, Parts, Puts, Stops, Stops_early}
 use Rattle.sl_live_play.specs.declared.play.Lived.TheVariants as lived
 use Rattle.sl_live_play.specs.declared.play.Lived.{Lived}
 use Rattle.sl_live_run.specs.Folders.{Asked}
@@ -23,7 +23,7 @@ use Rattle.sl_top.specs.declared.status.Status.TheVariants.{AreaFault, BadWords,
 use Rattle.sl_top.specs.declared.status.Status.{Status}
 use Rattle.sl_io.specs.FaultCauses.{Rose}
 use Rattle.sl_words.proofs.CaseLaws.{some_value}
-use Rattle.std.proofs.Common.{Bool, List, None, Option, Some, ap, ap₂, refl, subst, sym, ℕ, ◌∙◌, ◌≡◌}
+use Rattle.std.proofs.Common.{Bool, List, None, Option, Some, [], ap, ap₂, refl, subst, sym, ℕ, ◌++◌, ◌∙◌, ◌≡◌}
 use Rattle.std.specs.Io.KnownBytes.{Appends}
 
 -- ---- histories
@@ -31,14 +31,14 @@ use Rattle.std.specs.Io.KnownBytes.{Appends}
 pub live_histories_are_good : LiveHistoriesAreGood
 live_histories_are_good h given hs l place site history at there =
     let it = l.histories.each place site history at there in
-    let good = due_is_lawful (begun_with whole_commands l.begun.header site) _ it.stood.setting it.stood.stood.stands.past in
+    let good = due_is_lawful (begun_with whole_commands l.begun.header site) _ it.whole.stood.setting it.whole.stood.stood.stands.past in
     (good.0, good.1)
 
 -- ---- statuses
 
 -- For want of memory, before anything was done.
 pub never_run : (folder : List ℕ) (anew : Bool) (x : Outside) → RunsLive folder anew x x NoMemory
-never_run folder anew x = record { ended = lived.NoMemory; owes = Lacks (nothing_put x.taken); status = refl }
+never_run folder anew x = record { ended = lived.NoMemory; owes = Lacks [] (nothing_put x.taken); status = refl }
 
 pub not_bad : (l : Lived) → status_of_live l ≡ BadWords → ⊥
 not_bad lived.Done e = absurd cc
@@ -105,7 +105,8 @@ pub record Differed (left after : Option (List ℕ)) (faults later : ℕ) (P : L
   pub differ : LiveDiffer
   pub read : ReadsScript left after faults later header given ended
   pub holds : Differing Serves whole_commands header given machine differ
-  pub told : P (differ_text machine differ)
+  pub before : List ℕ
+  pub told : P (before ++ differ_text machine differ)
 
 -- What each ending tells: of a read fault, of an area fault, and of records that differ, whose text is due.
 pub record Tells (left after : Option (List ℕ)) (faults later device_faults device_later : ℕ) (text : List ℕ) (whole : Lived) : Type 0 where
@@ -116,15 +117,15 @@ pub record Tells (left after : Option (List ℕ)) (faults later device_faults de
 
 due_tells : (f : Asked) (left after : Option (List ℕ)) (faults later device_faults device_later : ℕ) (text : List ℕ) (whole : Lived)
     → Due Serves whole_commands f left after faults later device_faults device_later text whole → Tells left after faults later device_faults device_later text whole
-due_tells f left after faults later device_faults device_later text whole (Ends h given hs reads lives vacant) =
+due_tells f left after faults later device_faults device_later text whole (Ends h given hs pieces reads lives woven vacant) =
     record { read = λ e. absurd cc; area = λ e. absurd cc; written = λ e. absurd cc; differs = λ e. absurd cc }
 due_tells f left after faults later device_faults device_later text whole (Stops_early r number why stops) =
     record { read = λ e. absurd cc; area = λ e. absurd cc; written = λ e. absurd cc; differs = λ e. absurd cc }
-due_tells f left after faults later device_faults device_later text whole (Stops h given hs number why reads lives vacant) =
+due_tells f left after faults later device_faults device_later text whole (Stops h given hs pieces number why reads lives woven vacant) =
     record { read = λ e. absurd cc; area = λ e. absurd cc; written = λ e. absurd cc; differs = λ e. absurd cc }
 due_tells f left after faults later device_faults device_later text whole (Breaks_early breaks rose) =
     record { read = λ e. rose; area = λ e. absurd cc; written = λ e. absurd cc; differs = λ e. absurd cc }
-due_tells f left after faults later device_faults device_later text whole (Breaks h given hs reads lives vacant) =
+due_tells f left after faults later device_faults device_later text whole (Breaks h given hs pieces reads lives woven vacant) =
     record { read = λ e. (reads.fault refl).0; area = λ e. absurd cc; written = λ e. absurd cc; differs = λ e. absurd cc }
 due_tells f left after faults later device_faults device_later text whole (Faults rose) =
     record { read = λ e. absurd cc; area = λ e. rose; written = λ e. absurd cc; differs = λ e. absurd cc }
@@ -132,12 +133,12 @@ due_tells f left after faults later device_faults device_later text whole (In_us
     record { read = λ e. absurd cc; area = λ e. rose; written = λ e. absurd cc; differs = λ e. absurd cc }
 due_tells f left after faults later device_faults device_later text whole (Disk_there r h path begins there rose) =
     record { read = λ e. absurd cc; area = λ e. rose; written = λ e. absurd cc; differs = λ e. absurd cc }
-due_tells f left after faults later device_faults device_later text whole (Parts h given end machine d reads case_of vacant) =
+due_tells f left after faults later device_faults device_later text whole (Parts h given end before machine d reads case_of vacant) =
     record {
       read = λ e. absurd cc;
       area = λ e. absurd cc;
       written = λ e. absurd cc;
-      differs = λ e. (record { header = h; given = given; ended = end; machine = machine; differ = d; read = reads; holds = case_of; told = refl });
+      differs = λ e. (record { header = h; given = given; ended = end; machine = machine; differ = d; read = reads; holds = case_of; before = before; told = refl });
     }
 
 -- ---- what was put out
@@ -165,12 +166,13 @@ put_caused left after taken now faults later sink_faults sink_later device_fault
         differ = x.differ;
         read = x.read;
         holds = x.holds;
+        before = x.before;
         told = subst (Appends taken now) x.told appends;
       });
     }
 put_caused left after taken now faults later sink_faults sink_later device_faults device_later text whole s tells (Part front appends begins rose) =
     record { read = λ e. absurd cc; written = λ e. rose; area = λ e. absurd cc; differs = λ e. absurd cc }
-put_caused left after taken now faults later sink_faults sink_later device_faults device_later text whole s tells (Nothing appends) =
+put_caused left after taken now faults later sink_faults sink_later device_faults device_later text whole s tells (Front front appends begins) =
     record { read = λ e. absurd cc; written = λ e. absurd cc; area = λ e. absurd cc; differs = λ e. absurd cc }
 
 owes_caused : (f : Asked) (left after taken now : Option (List ℕ)) (faults later sink_faults sink_later device_faults device_later : ℕ) (s : Lived)
@@ -179,7 +181,7 @@ owes_caused : (f : Asked) (left after taken now : Option (List ℕ)) (faults lat
 owes_caused f left after taken now faults later sink_faults sink_later device_faults device_later s (Of text whole t due puts) =
     put_caused left after taken now faults later sink_faults sink_later device_faults device_later text whole s
     (due_tells f left after faults later device_faults device_later text whole due) puts
-owes_caused f left after taken now faults later sink_faults sink_later device_faults device_later s (Lacks nothing) =
+owes_caused f left after taken now faults later sink_faults sink_later device_faults device_later s (Lacks part nothing) =
     record { read = λ e. absurd cc; written = λ e. absurd cc; area = λ e. absurd cc; differs = λ e. absurd cc }
 
 -- So of a live run.
@@ -205,6 +207,7 @@ live_caused folder anew x y s run =
             machine = d.machine;
             differ = d.differ;
             holds = d.holds;
+            before = d.before;
             told = d.told;
           });
     }

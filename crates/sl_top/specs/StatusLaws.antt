@@ -21,7 +21,7 @@ use Rattle.sl_top.specs.declared.status.Status.{Status}
 use Rattle.sl_trace.specs.declared.command.ResourceArg.{ResourceArg}
 use Rattle.sl_io.specs.FaultCauses.{Rose}
 use Rattle.std.specs.Io.KnownBytes.{Appends}
-use Rattle.std.specs.Prelude.{Bool, List, None, Option, Some, false, ℕ, ◌≡◌, ◌⊎◌}
+use Rattle.std.specs.Prelude.{Bool, List, None, Option, Some, false, ℕ, ◌++◌, ◌≡◌, ◌⊎◌}
 
 -- Whether the disk's sector of so many bytes at a resource's offset spells its leader.
 abbrev pub has_leader : ResourceArg → ℕ → List ℕ → Bool
@@ -42,7 +42,7 @@ pub record CantBeUpgraded (w : Option Words) (x : Outside) : Type 0 where
   pub asked : w ≡ Some (Direct (Upgrade resource geometry))
   pub other : (content : List ℕ) → x.disks resource.path ≡ Some content → can_upgrade resource geometry content ≡ false
 
--- A case was put out that holds of a machine of a live run, whose header and lines are those of the script that was read.
+-- A case was put out, behind what machines replied, that holds of a machine of a live run, whose header and lines are those of the script that was read.
 pub record SomeDiffer (x y : Outside) : Type 0 where
   pub header : Header
   pub given : List LiveLine
@@ -51,7 +51,8 @@ pub record SomeDiffer (x y : Outside) : Type 0 where
   pub machine : ℕ
   pub differ : LiveDiffer
   pub holds : Differing Serves whole_commands header given machine differ
-  pub told : Appends x.taken y.taken (differ_text machine differ)
+  pub before : List ℕ
+  pub told : Appends x.taken y.taken (before ++ differ_text machine differ)
 
 -- Each status but 0 and want of memory comes only with its cause.
 pub record HasItsCause (w : Option Words) (x y : Outside) (s : Status) : Type 0 where

@@ -1,6 +1,7 @@
 use Rattle.sl_live_run.proofs.compare.settle_all.Given as goal
-use Rattle.sl_live_run.specs.Runs.{AreSettled, begun_at}
+use Rattle.sl_live_run.specs.Settling.{AreSettled}
+use Rattle.std.proofs.Common.{take}
 
--- those before this one are settled
-abbrev pub invariant-loop-outcome : goal.invariant-loop-outcome
-invariant-loop-outcome l = AreSettled (begun_at l.header l.firsts) l.yielded l.given l.histories.items
+-- those before this one have whole histories
+abbrev pub invariant-loop-place : goal.invariant-loop-place
+invariant-loop-place g l = AreSettled l.ledger (take l.place l.rans) l.replies

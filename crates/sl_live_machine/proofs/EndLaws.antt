@@ -1,0 +1,106 @@
+-- How a machine ends, from what its printer found and its cell says.
+use Rattle.sl_book.specs.Logs.{entries}
+use Rattle.sl_book.specs.Mails.{ReaderState}
+use Rattle.sl_book.specs.Seats.{SeatState}
+use Rattle.sl_book.specs.declared.signed.Signed.{Signed}
+use Rattle.sl_live_lines.specs.AuditedHistory.{IsAudit}
+use Rattle.sl_live_lines.specs.LiveTexts.{count_replies}
+use Rattle.sl_live_lines.specs.LocksAlong.{AlongState}
+use Rattle.sl_live_lines.specs.declared.given_lines.GivenLine.{GivenLine}
+use Rattle.sl_live_machine.proofs.PrintLaws.{goes_right}
+use Rattle.sl_live_machine.specs.MachineEnds.{Counts, EndsEarly, EndsSo, EndsWith, Finds, HasRun, HasTold, IsWhole, Told}
+use Rattle.sl_live_machine.specs.Printing.{IsPrinting, lines_read}
+use Rattle.sl_live_machine.specs.declared.machine.CloseError.TheVariants as close
+use Rattle.sl_live_machine.specs.declared.machine.CloseError.{CloseError}
+use Rattle.sl_live_machine.specs.declared.machine.Ran.{Ran}
+use Rattle.sl_live_machine.specs.declared.printer.Printer.{Printer}
+use Rattle.sl_trace.specs.Traces.{Setting, Trace}
+use Rattle.sl_trace.specs.declared.effects.Entry.{Entry}
+use Rattle.std.proofs.Common.{ap, append-nil, subst, sym, ◌∙◌}
+use Rattle.std.proofs.lemmas.List.{length-map}
+use Rattle.std.specs.List.{concat}
+use Rattle.std.specs.Prelude.{Err, IfOk, IsOk, List, None, Ok, OnOk, Result, length, map, [], ℕ, ◌++◌, ◌+◌, ◌≡◌}
+
+-- what was found along a whole history
+pub ends_whole : {D : Type 0} (stands : D → Setting → Trace → Type 0) (st : Setting) (a : AlongState) (h : List Entry) (read : List GivenLine) (end : Result Unit CloseError)
+    → IsWhole stands st h → Finds a h read end → EndsWith stands st a h read end
+ends_whole stands st a h read (Ok u) whole found = (whole, found)
+ends_whole stands st a h read (Err (close.Line number)) whole found = (whole, found)
+ends_whole stands st a h read (Err (close.Left left)) whole found = (whole, found)
+ends_whole stands st a h read (Err (close.Differ d)) whole found = absurd found
+ends_whole stands st a h read (Err close.NoMemory) whole found = absurd found
+
+pub ends_early : {D : Type 0} (stands : D → Setting → Trace → Type 0) (st : Setting) (a : AlongState) (h : List Entry) (read : List GivenLine) (e : CloseError)
+    → EndsEarly st e → EndsWith stands st a h read (Err e)
+ends_early stands st a h read (close.Line number) early = absurd early
+ends_early stands st a h read (close.Left left) early = absurd early
+ends_early stands st a h read (close.Differ d) early = early
+ends_early stands st a h read close.NoMemory early = tt
+
+-- ---- what is left of a machine's run
+
+pub counts_entries : (signed : List (Signed Entry)) (n : ℕ) (end : Result Unit CloseError) → n ≡ length signed → Counts (entries signed) n end
+counts_entries signed n (Ok u) is = is ∙ sym (length-map signed (λ (s : Signed Entry). s.entry))
+counts_entries signed n (Err (close.Line number)) is = is ∙ sym (length-map signed (λ (s : Signed Entry). s.entry))
+counts_entries signed n (Err (close.Left left)) is = is ∙ sym (length-map signed (λ (s : Signed Entry). s.entry))
+counts_entries signed n (Err (close.Differ d)) is = tt
+counts_entries signed n (Err close.NoMemory) is = tt
+
+-- all that is told was put out
+told_all : {J O T : Type 0} (a : AlongState) (h : List Entry) (p : Printer J O T) (n : ℕ) → IsPrinting a h p → p.text.items ≡ [] → p.wrong ≡ None
+    → ((b : AlongState) → (g : List Entry) → IsAudit b g p.audit → n ≡ count_replies b g) → HasTold a h p.reader p.writer n
+told_all a h p n so text right count =
+    let g = goes_right a h p so right in
+    record {
+      texts = so.texts;
+      mine = so.mine;
+      text = sym (append-nil (concat so.texts)) ∙ ap (λ t. concat so.texts ++ t) (sym text) ∙ g.2;
+      count = count a h g.0;
+    }
+
+told_so : {J O T S E : Type 0} (a : AlongState) (p : Printer J O T) (n : ℕ) (seats : Result S E) (end : Result Unit CloseError)
+    → OnOk seats (IsPrinting a (entries p.mine) p × (p.text.items ≡ [])) → OnOk end ((p.wrong ≡ None) × IsOk seats)
+    → ((b : AlongState) → (g : List Entry) → IsAudit b g p.audit → n ≡ count_replies b g) → Told a (entries p.mine) p.reader p.writer n end
+told_so a p n (Ok v) (Ok u) all right count = told_all a (entries p.mine) p n all.0 all.1 right.0 count
+told_so a p n (Err e) (Ok u) all right count = absurd cc
+told_so a p n (Ok v) (Err e) all right count = tt
+told_so a p n (Err e) (Err f) all right count = tt
+
+on_first : {S E : Type 0} (X Y : Type 0) (seats : Result S E) → OnOk seats (X × Y) → OnOk seats X
+on_first X Y (Ok v) both = both.0
+on_first X Y (Err e) both = tt
+
+pub on_ok_with : {S E : Type 0} (X Y : Type 0) (r : Result S E) → OnOk r X → Y → OnOk r (X × Y)
+on_ok_with X Y (Ok v) x y = (x, y)
+on_ok_with X Y (Err e) x y = tt
+
+-- what holds of those before holds of these, which are they
+pub if_ok_kept : {S E : Type 0} (r first : Result S E) (P : S → Type 0) → IfOk r (λ v. first ≡ Ok v) → IfOk first P → IfOk r P
+if_ok_kept {S} {E} (Ok v) first P is so = subst (λ (x : Result S E). IfOk x P) is so
+if_ok_kept {S} {E} (Err e) first P is so = tt
+
+-- threads have run, and the printer has put out all unless there was no memory
+pub has_run : {D J O T A S E : Type 0} (stands : D → Setting → Trace → Type 0) (st : Setting) (a : AlongState) (p : Printer J O T) (seats : Result S E) (r : Ran O T A)
+    → r.reader ≡ p.reader → r.writer ≡ p.writer → p.writer.by ≡ p.reader.by
+    → (OnOk seats (IsPrinting a (entries p.mine) p) → EndsSo stands st a p r.end)
+    → OnOk seats (IsPrinting a (entries p.mine) p × (p.text.items ≡ [])) → OnOk r.end ((p.wrong ≡ None) × IsOk seats)
+    → ((b : AlongState) → (g : List Entry) → IsAudit b g p.audit → r.replies ≡ count_replies b g) → r.entries ≡ length p.mine → HasRun stands st a r
+has_run stands st a p seats r reader writer by ends all right count long = record {
+  by = ap (λ (s : SeatState (List ℕ)). s.by) writer ∙ by ∙ sym (ap (λ (x : ReaderState GivenLine). x.by) reader);
+  history = entries p.mine;
+  ends = subst (λ (x : ReaderState GivenLine). EndsWith stands st a (entries p.mine) (lines_read x) r.end) (sym reader) (ends (on_first _ _ seats all));
+  told = subst (λ (s : SeatState (List ℕ)). Told a (entries p.mine) r.reader s r.replies r.end) (sym writer)
+      (subst (λ (x : ReaderState GivenLine). Told a (entries p.mine) x p.writer r.replies r.end) (sym reader) (told_so a p r.replies seats r.end all right count));
+  counted = counts_entries p.mine r.entries r.end long;
+}
+
+-- they have not
+pub has_not_run : {D O T A : Type 0} (stands : D → Setting → Trace → Type 0) (st : Setting) (a : AlongState) (r : Ran O T A) → r.end ≡ Err close.NoMemory → r.writer.by ≡ r.reader.by
+    → HasRun stands st a r
+has_not_run stands st a r end by = record {
+  by = by;
+  history = [];
+  ends = subst (EndsWith stands st a [] (lines_read r.reader)) (sym end) tt;
+  told = subst (Told a [] r.reader r.writer r.replies) (sym end) tt;
+  counted = subst (Counts [] r.entries) (sym end) tt;
+}

@@ -1,0 +1,29 @@
+use Rattle.sl_book.specs.Logs.{entries}
+use Rattle.sl_book.specs.Mails.{ReaderState}
+use Rattle.sl_book.specs.Seats.{SeatState}
+use Rattle.sl_book.specs.declared.signed.Signed.{Signed}
+use Rattle.sl_live_lines.specs.AuditedHistory.{IsAudit}
+use Rattle.sl_live_lines.specs.LocksAlong.{begun_along}
+use Rattle.sl_live_lines.specs.declared.given_lines.GivenLine.{GivenLine}
+use Rattle.sl_live_machine.proofs.EndLaws.{has_not_run}
+use Rattle.sl_live_machine.proofs.PrintLaws.{begins_printing}
+use Rattle.sl_live_machine.proofs.machine.run_machine.Goals as goal
+use Rattle.sl_live_machine.specs.Printing.{lines_read}
+use Rattle.sl_trace.specs.declared.effects.Entry.{Entry}
+use Rattle.std.proofs.Common.{List, [], ap, refl, subst, sym, ℕ, ◌∙◌}
+
+pub returns-in-Err-clause-goes : goal.returns-in-Err-clause-goes
+returns-in-Err-clause-goes g c =
+    has_not_run g.D.Daemon.stands g.J.Station.setting (begun_along c.args.header.now c.args.site.first.job) _ c.not_run.ensures.end
+    (ap (λ (s : SeatState (List ℕ)). s.by) c.not_run.ensures.writer ∙ c.requires.writer.0 ∙ sym (ap (λ (r : ReaderState GivenLine). r.by) c.not_run.ensures.reader))
+
+pub returns-clause-goes : goal.returns-clause-goes
+returns-clause-goes g c =
+    let a = begun_along c.args.header.now c.args.site.first.job in
+    let p = c.new-printer.result in
+    c.run_room.ensures.goes a
+    (begins_printing a (entries p.mine) p (ap (λ (h : List (Signed Entry)). entries h) (c.new-printer.ensures.mine ∙ c.again.ensures ∙ c.in-Ok.ensures))
+    (subst (IsAudit a []) (sym c.new-printer.ensures.audit) c.new-audit.ensures)
+    (ap (λ (s : SeatState (List ℕ)). s.by) c.new-printer.ensures.writer ∙ c.requires.writer.0 ∙ sym (ap (λ (r : ReaderState GivenLine). r.by) c.new-printer.ensures.reader))
+    (ap (λ (s : SeatState (List ℕ)). s.count) c.new-printer.ensures.writer ∙ c.requires.writer.1)
+    (ap (λ (r : ReaderState GivenLine). lines_read r) c.new-printer.ensures.reader ∙ c.requires.reader) c.new-printer.ensures.text c.new-printer.ensures.wrong)

@@ -1,0 +1,14 @@
+use Rattle.sl_live_machine.proofs.EndLaws.{has_run, if_ok_kept}
+use Rattle.sl_live_machine.proofs.machine.run_room.Goals as goal
+use Rattle.sl_live_machine.specs.ThreadSeats.{AreSeats}
+use Rattle.std.proofs.Common.{sym, ◌∙◌}
+
+pub close-end-requires-clause-seats : goal.close-end-requires-clause-seats
+close-end-requires-clause-seats g c =
+    if_ok_kept c.print_last-seats.result c.run_beside-threaded.result.0.seats (λ v. AreSeats g.J.Station.setting v.items) c.print_last-seats.ensures.seats c.run_beside-threaded.ensures.seats
+
+pub returns-clause-goes : goal.returns-clause-goes
+returns-clause-goes g c = λ a so.
+    has_run g.D.Daemon.stands g.J.Station.setting a c.print_last-seats.new.printed.printer c.print_last-seats.result _ c.into_parts-reader.ensures.reader c.into_parts-reader.ensures.writer
+    (c.print_last-seats.ensures.seat ∙ c.run_beside-threaded.ensures.seat ∙ so.by ∙ sym (c.print_last-seats.ensures.by ∙ c.run_beside-threaded.ensures.by)) (c.close-end.ensures.goes a)
+    (c.print_last-seats.ensures.goes a (c.run_beside-threaded.ensures.printer a so)) c.close-end.ensures.right c.replies-replies.ensures c.len-entries.ensures

@@ -1,0 +1,151 @@
+//! What is left of a run once all its threads have ended.
+
+ghost use Rattle.sl_live_run.specs.Settling.{AreAllWhole, AreRansOf, AreSettled, AreWhole, HasLeft, StopsOne, StopsSome};
+ghost use Rattle.sl_live_run.specs.declared.compare.LiveStop.TheVariants.{NoMemory as NoMemoryStop};
+ghost use Rattle.std.specs.Prelude.{IfErr, IfOk, false, map, ◌≡◌, ◌⊎◌};
+
+use crate::compare::{LiveStop, are_pieces, settle_all, stop_early};
+use crate::machine_runs::Machine;
+use crate::run::{Disks, LiveRun};
+use sl_area::Area;
+use sl_book::{Ledger, Shelf};
+use sl_io::Sink;
+use sl_live_lines::GivenLine;
+use sl_live_machine::Ran;
+use sl_output::{Front as Pieces, Output, Press, Put, Seat as Writer};
+use sl_outside::{Device, Spawner};
+use sl_reader::NoLine;
+use sl_time::Clock;
+use std::alloc::{AllocError, Global};
+
+/// Takes machines that have run apart. An `Err` is want of memory.
+fn take_apart<C: Clock, P: Spawner, V: Device, A: Area, O: Press, T: Shelf>(
+    alloc: Global,
+    machines: Vec<Machine<C, P, V, A, O, T>>,
+) -> Result<Vec<Ran<O, T, A>>, AllocError>
+    ensures { IfOk result (λ rans. AreRansOf machines.items rans.items) }
+{
+    let mut rans = Vec::new(alloc);
+    for machine in machines {
+        let Machine { work: _, ran } = machine;
+        let Some(ran) = ran else {
+            return Err(AllocError);
+        };
+        rans.push(ran)?;
+    }
+    Ok(rans)
+}
+
+/// Who put out the pieces of all machines, and their disks.
+#[derive(Drop)]
+struct Ends<O: Press, A: Area> {
+    writers: Vec<Writer<O>>,
+    disks: Vec<Disks<A>>,
+}
+
+/// Takes what machines have left apart. An `Err` is want of memory.
+fn take_ends<O: Press, T: Shelf, A: Area>(
+    alloc: Global,
+    rans: Vec<Ran<O, T, A>>,
+) -> Result<Ends<O, A>, AllocError>
+    ensures { IfOk result (λ e. e.writers.items ≡ map (λ r. r.writer) rans.items) }
+{
+    let mut writers = Vec::new(alloc);
+    let mut disks = Vec::new(alloc);
+    for ran in rans {
+        let Ran {
+            end: _,
+            reader: _,
+            writer,
+            replies: _,
+            entries: _,
+            delta,
+            resource,
+        } = ran;
+        writers.push(writer)?;
+        disks.push(Disks { delta, resource })?;
+    }
+    Ok(Ends { writers, disks })
+}
+
+/// How many replies machines were given that have run, or why they have no histories: where threads ended too soon, a case goes before want of memory,
+/// by which all machines end.
+fn settle<O: Press, T: Shelf, A: Area>(
+    early: bool,
+    ledger: &Ledger<T, GivenLine>,
+    rans: &[Ran<O, T, A>],
+) -> Result<u64, LiveStop>
+    ensures ok { IfOk result (λ n. (early ≡ false) × AreSettled ledger.now rans.now n) }
+    ensures err { IfErr result (StopsSome early ledger.now rans.now) }
+{
+    if early {
+        Err(stop_early(ledger, rans))
+    } else {
+        settle_all(ledger, rans)
+    }
+}
+
+/// What machines came to whose threads have all ended: with the script's lines, and with the pieces that were put out.
+fn finish<O: Press, T: Shelf, A: Area>(
+    alloc: Global,
+    early: bool,
+    ledger: &Ledger<T, GivenLine>,
+    pieces: &Pieces<O>,
+    rans: Vec<Ran<O, T, A>>,
+) -> (Result<u64, LiveStop>, Vec<Disks<A>>)
+    ensures ok { IfOk result.0 (AreWhole early ledger.now rans.items pieces.now) }
+    ensures err { IfErr result.0 (StopsSome early ledger.now rans.items) }
+{
+    let settled = settle(early, ledger, &rans);
+    match take_ends(alloc, rans) {
+        Ok(Ends { writers, disks }) => {
+            if settled.is_ok() && !are_pieces(&writers, pieces) {
+                (Err(LiveStop::NoMemory), disks)
+            } else {
+                (settled, disks)
+            }
+        }
+        Err(_) => (Err(LiveStop::NoMemory), Vec::new(alloc)),
+    }
+}
+
+/// What machines came to whose threads have all ended.
+fn end_all<C: Clock, P: Spawner, V: Device, A: Area, O: Press, T: Shelf>(
+    alloc: Global,
+    early: bool,
+    ledger: &Ledger<T, GivenLine>,
+    pieces: &Pieces<O>,
+    machines: Vec<Machine<C, P, V, A, O, T>>,
+) -> (Result<u64, LiveStop>, Vec<Disks<A>>)
+    ensures ok { IfOk result.0 (AreAllWhole early ledger.now machines.items pieces.now) }
+    ensures err { IfErr result.0 (λ s. (s ≡ NoMemoryStop) ⊎ StopsOne early ledger.now machines.items s) }
+{
+    match take_apart(alloc, machines) {
+        Ok(rans) => finish(alloc, early, ledger, pieces, rans),
+        Err(_) => (Err(LiveStop::NoMemory), Vec::new(alloc)),
+    }
+}
+
+/// What is left of a run whose threads have all ended: too soon, or not; and whose script ended so.
+pub(crate) fn leave<K: Sink, C: Clock, P: Spawner, V: Device, A: Area, O: Press, T: Shelf>(
+    alloc: Global,
+    early: bool,
+    ended: Option<NoLine>,
+    ledger: &Ledger<T, GivenLine>,
+    output: Output<K, O>,
+    machines: Vec<Machine<C, P, V, A, O, T>>,
+) -> LiveRun<K, A>
+    ensures { HasLeft early ledger.now machines.items O.taken (K.taken result.sink) O.faults (K.faults result.sink) result }
+{
+    let count = machines.len();
+    let Put { sink, front, cut } = output.into_parts();
+    let (replies, disks) = end_all(alloc, early, ledger, &front, machines);
+    LiveRun {
+        replies,
+        machines: count,
+        sink,
+        cut,
+        disks,
+        ended,
+    }
+}
