@@ -1,7 +1,4 @@
 -- What is put out of live machines.
-use Rattle.sl_book.specs.Closings.{AreBelow}
-use Rattle.sl_book.specs.Logs.{entries, given_by}
-use Rattle.sl_book.specs.declared.signed.Signed.{Signed}
 use Rattle.sl_command.specs.OutputLines.{class_text, line_text}
 use Rattle.sl_live_lines.specs.LocksAlong.{AlongState, is_told, replies_along, step_along, told_along}
 use Rattle.sl_live_lines.specs.declared.live_texts.Ending.TheVariants.{Cut, Refused, Whole}
@@ -13,8 +10,7 @@ use Rattle.sl_text.specs.Forms.{as_bytes, spaced}
 use Rattle.sl_trace.specs.EffectTexts.{answer_words}
 use Rattle.sl_trace.specs.declared.effects.Entry.{Entry}
 use Rattle.sl_trace.specs.declared.effects.JobReply.{JobReply}
-use Rattle.std.specs.List.{concat}
-use Rattle.std.specs.Prelude.{List, None, Option, Some, codes, decimal, if◌then◌else◌, length, map, slice_get, [], ℕ, ◌++◌, ◌+◌, ◌∷◌, ◌≡◌}
+use Rattle.std.specs.Prelude.{List, None, Option, Some, codes, decimal, if◌then◌else◌, length, map, [], ℕ, ◌++◌, ◌+◌, ◌∷◌, ◌≡◌}
 
 -- ---- what is told of a machine, as lvmlockd's locks go along its history
 
