@@ -617,7 +617,13 @@ pub(crate) fn run_beside<
             requires device { IsSend V.row }
             requires area { IsSend A.row }
             requires gate { IsSync G.row }
+            ensures { IfOk result.seats (λ v. AreSeats J.setting v.items) }
         { run_threads(rt, room, stand, gate, clocks, device, delta, resource) },
-        || printer_thread(rt, room, stand, desk, printer),
+        ||
+            ensures goes { (a : AlongState) → IsPrinting a (entries printer.mine) printer
+                → OnOk result.end (IsPrinting a (entries result.printer.mine) result.printer) }
+            ensures by { result.printer.reader.by ≡ printer.reader.by }
+            ensures seat { result.printer.writer.by ≡ printer.writer.by }
+        { printer_thread(rt, room, stand, desk, printer) },
     )
 }
