@@ -69,10 +69,12 @@ all_read r reader l is so = (subst (λ x. IsReading x reader l) is so).1
 -- The next machine has a whole history.
 pub settled_more : {O T A : Type 0} (l : LedgerState GivenLine) (rans : List (Ran O T A)) (place : ℕ) (r : Ran O T A) (how : Reading) (s : Settled) (n n' next : ℕ) → place < length rans
     → r ≡ get_or rans place r → IsReading how r.reader l → s ≡ settled how r.end next → s ≡ Whole → n' ≡ n + r.replies → AreSettled l (take place rans) n
-    → AreSettled l (take (suc place) rans) n'
+    → AreSettled l (take (place + 1) rans) n'
 settled_more l rans place r how s n n' next lt is read come whole more so =
     let both = whole_only how r.end next (sym come ∙ whole) in
-    subst (λ done. AreSettled l done n') (sym (next_taken rans place r lt is)) (settled_on l (take place rans) r n n' more both.1 (all_read how r.reader l both.0 read) so)
+    let one : suc place ≡ place + 1 = omega arith in
+    subst (λ k. AreSettled l (take k rans) n') one
+    (subst (λ done. AreSettled l done n') (sym (next_taken rans place r lt is)) (settled_on l (take place rans) r n n' more both.1 (all_read how r.reader l both.0 read) so))
 
 -- It has a case.
 pub case_here : {O T A : Type 0} (l : LedgerState GivenLine) (rans : List (Ran O T A)) (place : ℕ) (r : Ran O T A) (how : Reading) (s : Settled) (next : ℕ) (d : LiveDiffer) → place < length rans

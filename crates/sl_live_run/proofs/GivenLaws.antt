@@ -111,7 +111,7 @@ no_lines l machines is = subst (λ (x : LedgerState GivenLine). AreGiven x machi
 abbrev pub Telling : ℕ → List LiveLine → List LiveLine → LedgerState GivenLine → Type 0
 Telling machines before now l = (ls : List LiveLine) × (now ≡ before ++ ls) × AreGiven l machines ls
 
-on_all : {T E P : Type 0} (r : Result T E) → P → OnOk r P
+pub on_all : {T E P : Type 0} (r : Result T E) → P → OnOk r P
 on_all (Ok x) so = so
 on_all (Err e) so = tt
 

@@ -17,7 +17,7 @@ use Rattle.sl_live_machine.specs.declared.machine.Ran.{Ran}
 use Rattle.sl_live_run.proofs.CaseLaws.{case_so, met}
 use Rattle.sl_live_run.proofs.GivenLaws.{no_lines}
 use Rattle.sl_live_run.specs.Runs.{AreFirst, AreFresh, AreGiven, AreLiveHistories, CanRun, HasRunAll, HasTold, HasToldAll, IsFresh, IsLiveCase, IsLiveHistory, IsLiveStop, IsTold, Runs, begun_on, lines_for, replies_of, site_of}
-use Rattle.sl_live_run.specs.Settling.{AreAllWhole, AreRansOf, AreWhole, HasLeft, IsCaseOf, StopsOne, come_to}
+use Rattle.sl_live_run.specs.Settling.{AreAllWhole, AreRansOf, AreWhole, HasLeft, IsCaseOf, StopsOne, StopsSome, come_to}
 use Rattle.sl_live_run.specs.declared.compare.LiveDiffer.{LiveDiffer}
 use Rattle.sl_live_run.specs.declared.compare.LiveStop.TheVariants.{Differ, NoMemory}
 use Rattle.sl_live_run.specs.declared.compare.LiveStop.{LiveStop}
@@ -162,6 +162,7 @@ history_at {D} {O} {T} {A} stands commands header lines rans pieces l replies ea
     let read : lines_read r.reader ≡ lines_for (place + 1) lines = ap entries settled.1 ∙ ap (λ k. entries (given_by k l.front)) so.by ∙ given in
     let told : HasPutOut a h r.reader r.writer r.replies = subst (Told a h r.reader r.writer r.replies) settled.0 run.told in
     let seat = exact_at 0 (map (λ (x : Ran O T A). x.writer) rans) pieces place r.writer whole.exact (map_got (λ (x : Ran O T A). x.writer) rans place r at) in
+    let zero_place : 0 + place ≡ place = omega arith in
     let by_place : r.writer.by ≡ place = run.by ∙ so.by in (
       h,
       record {
@@ -382,6 +383,26 @@ fresh_more {C} {P} {V} {A} {O} {T} ms ms' m w is work by fresh so place x at =
     go place x (Stood at) = so place x at
     go place x (Came here same) =
         subst (λ (o : Option (Work C P V A O T)). IfSome o (λ w. (w.reader.by ≡ place) × IsFresh w)) (sym (ap (λ (y : Machine C P V A O T). y.work) same ∙ work)) (by ∙ sym here, fresh)
+
+-- All that were ready have begun.
+pub begun_all : {C P V A O T S : Type 0} (ms : List (Machine C P V A O T)) (ps qs : List S) (site : S → Site) → map site_of ms ≡ map (λ s. Some s) (map site ps) → ps ≡ qs
+    → map site_of ms ≡ map (λ s. Some s) (map site qs)
+begun_all {C} {P} {V} {A} {O} {T} {S} ms ps qs site so same = so ∙ ap (λ (xs : List S). map (λ s. Some s) (map site xs)) same
+
+-- ---- behind the run
+
+pub rans_all : {C P V A O T : Type 0} (ms all : List (Machine C P V A O T)) (rans : List (Ran O T A)) → AreRansOf ms rans → ms ≡ all → AreRansOf all rans
+rans_all {C} {P} {V} {A} {O} {T} ms all rans so same = subst (λ (xs : List (Machine C P V A O T)). AreRansOf xs rans) same so
+
+pub all_whole : {C P V A O T E : Type 0} (r : Result ℕ E) (early : Bool) (l : LedgerState GivenLine) (machines : List (Machine C P V A O T)) (rans : List (Ran O T A)) (pieces : List Piece)
+    → AreRansOf machines rans → IfOk r (AreWhole early l rans pieces) → IfOk r (AreAllWhole early l machines pieces)
+all_whole (Ok n) early l machines rans pieces left so = (rans, left, so)
+all_whole (Err e) early l machines rans pieces left so = tt
+
+pub all_stop : {C P V A O T N : Type 0} (r : Result N LiveStop) (early : Bool) (l : LedgerState GivenLine) (machines : List (Machine C P V A O T)) (rans : List (Ran O T A))
+    → AreRansOf machines rans → IfErr r (StopsSome early l rans) → IfErr r (λ s. (s ≡ NoMemory) ⊎ StopsOne early l machines s)
+all_stop (Ok n) early l machines rans left so = tt
+all_stop (Err s) early l machines rans left so = inr (rans, left, so)
 
 -- As many machines have begun as were ready.
 pub ready_given : {C P V A O T S : Type 0} (l : LedgerState GivenLine) (ms : List (Machine C P V A O T)) (ps : List S) (site : S → Site) (places : ℕ)

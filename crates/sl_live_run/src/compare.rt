@@ -2,7 +2,7 @@
 
 ghost use Rattle.sl_book.specs.Closings.{AreBelow, AreExact};
 ghost use Rattle.sl_live_run.specs.Settling.{AreSettled, StopsSome, left_case, settled, settled_early};
-ghost use Rattle.std.specs.Prelude.{IfErr, IfOk, IsTrue, false, length, true, ◌≡◌};
+ghost use Rattle.std.specs.Prelude.{IfErr, IfOk, IsTrue, false, length, true, ◌+◌, ◌≡◌};
 
 use sl_area::Area;
 use sl_book::{Ledger, Reading, Shelf, check};
@@ -110,6 +110,16 @@ fn settle_early(reading: Reading, end: Result<(), CloseError>) -> Settled
     }
 }
 
+/// The sum. An `Err` says that it has too many bits.
+fn plus(count: u64, more: u64) -> Result<u64, AllocError>
+    ensures { IfOk result (λ all. all ≡ count + more) }
+{
+    match count.checked_add(more) {
+        Some(sum) => Ok(sum),
+        None => Err(AllocError),
+    }
+}
+
 /// How many replies all machines were given, the first of which has this place, where all have whole histories. Else the first case, or want of memory.
 pub(crate) fn settle_all<O: Press, T: Shelf, A: Area>(
     ledger: &Ledger<T, GivenLine>,
@@ -121,9 +131,9 @@ pub(crate) fn settle_all<O: Press, T: Shelf, A: Area>(
     let mut replies = 0u64;
     for place in 0..rans.len() {
         let ran = &rans[place];
-        let next = ran.entries.checked_add(1).ok_or(AllocError)?;
+        let next = plus(ran.entries, 1)?;
         match settle_one(ledger.reading(&ran.reader), ran.end, next) {
-            Settled::Whole => replies = replies.checked_add(ran.replies).ok_or(AllocError)?,
+            Settled::Whole => replies = plus(replies, ran.replies)?,
             Settled::Case(differ) => {
                 return Err(LiveStop::Differ {
                     machine: place + 1,
