@@ -1,8 +1,8 @@
-//! A live script played: its header read from a source, its machines run beside each other and beside the script, and what they did put out
-//! when all have ended.
+//! A live script played: its header read from a source, its machines run beside each other and beside the script, and what they reply put out as it
+//! comes.
 //!
-//! Nothing is put out before the end: each printed line is a reply of a closed history, which was compared with what the threads of its machine
-//! did. Where records of a machine differ, the case is put out in place of all. The clause of `play_live` is `Owes` in
+//! What is put out are pieces: each machine's are what is told of its history, in its order, and between machines they stand as they came. Behind
+//! them stands a last line by how the script ended; where records of a machine differ, the case. The clause of `play_live` is `Owes` in
 //! specs/LiveOwed.antt: what is due by what was read, and how much of it was put out.
 //!
 //! A host runs in it as the daemon of a cell (`LiveHost`). A cell writes each step down twice, so before a step it asks its daemon how long a
