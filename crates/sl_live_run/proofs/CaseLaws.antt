@@ -10,19 +10,18 @@ use Rattle.sl_live_lines.specs.LocksAlong.{AlongState}
 use Rattle.sl_live_lines.specs.declared.audit.Left.TheVariants.{Call as CallLeft, Line as LineLeft, Start as StartLeft}
 use Rattle.sl_live_lines.specs.declared.audit.Left.{Left as LeftOf}
 use Rattle.sl_live_lines.specs.declared.given_lines.GivenLine.{GivenLine}
-use Rattle.sl_live_machine.specs.MachineEnds.{Counts, EndsWith, IsWhole}
+use Rattle.sl_live_machine.specs.MachineEnds.{Counts, EndsWith}
 use Rattle.sl_live_machine.specs.Printing.{IsWrong, lines_read}
 use Rattle.sl_live_machine.specs.declared.machine.CloseError.TheVariants as close
 use Rattle.sl_live_machine.specs.declared.machine.CloseError.{CloseError}
-use Rattle.sl_live_run.specs.Runs.{IsLiveCase, LeavesOpen}
-use Rattle.sl_live_run.specs.Settling.{come_to, left_case, settled, settled_early}
-use Rattle.sl_live_run.specs.declared.compare.LiveDiffer.TheVariants.{Cell, Left, Line, Untold}
+use Rattle.sl_live_run.specs.Runs.{IsLiveCase}
+use Rattle.sl_live_run.specs.Settling.{come_to, left_case}
+use Rattle.sl_live_run.specs.declared.compare.LiveDiffer.TheVariants.{Cell, Line}
 use Rattle.sl_live_run.specs.declared.compare.LiveDiffer.{LiveDiffer}
-use Rattle.sl_live_run.specs.declared.compare.Settled.TheVariants.{Case, Lost, Whole}
-use Rattle.sl_live_run.specs.declared.compare.Settled.{Settled}
+use Rattle.sl_live_run.specs.declared.compare.Settled.TheVariants.{Case}
 use Rattle.sl_trace.specs.Traces.{Setting, Trace}
 use Rattle.sl_trace.specs.declared.effects.Entry.{Entry}
-use Rattle.std.proofs.Common.{List, ap, arith, inl, inr, length, refl, subst, sym, ◌++◌, ◌+◌, ◌<◌, ◌∙◌, ◌∷◌, ◌≡◌, ◌⊎◌, [], ℕ}
+use Rattle.std.proofs.Common.{List, ap, arith, inl, inr, length, refl, subst, ◌++◌, ◌+◌, ◌<◌, ◌∙◌, ◌∷◌, ◌≡◌, [], ℕ}
 use Rattle.std.specs.Prelude.{Bool, Err, None, Ok, Option, Result, Some, false, true}
 use mathlib.Core.List.{IsPrefix}
 

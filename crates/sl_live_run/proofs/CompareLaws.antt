@@ -7,19 +7,18 @@ use Rattle.sl_live_lines.specs.declared.given_lines.GivenLine.{GivenLine}
 use Rattle.sl_live_machine.specs.declared.machine.CloseError.TheVariants as close
 use Rattle.sl_live_machine.specs.declared.machine.CloseError.{CloseError}
 use Rattle.sl_live_machine.specs.declared.machine.Ran.{Ran}
-use Rattle.sl_live_run.specs.Settling.{AreSettled, IsCaseOf, StopsSome, come_to, settled, settled_early}
+use Rattle.sl_live_run.specs.Settling.{AreSettled, IsCaseOf, StopsSome, settled, settled_early}
 use Rattle.sl_live_run.specs.declared.compare.LiveDiffer.{LiveDiffer}
-use Rattle.sl_live_run.specs.declared.compare.LiveStop.TheVariants.{Differ, NoMemory}
+use Rattle.sl_live_run.specs.declared.compare.LiveStop.TheVariants.{NoMemory}
 use Rattle.sl_live_run.specs.declared.compare.LiveStop.{LiveStop}
-use Rattle.sl_live_run.specs.declared.compare.Settled.TheVariants.{Case, Lost, Whole}
+use Rattle.sl_live_run.specs.declared.compare.Settled.TheVariants.{Case, Whole}
 use Rattle.sl_live_run.specs.declared.compare.Settled.{Settled}
 use Rattle.sl_words.proofs.CaseLaws.{none_some}
 use Rattle.sl_words.proofs.Places.{Came, PlacedBehind, Stood, placed_behind}
 use Rattle.std.proofs.Common.{List, ap, arith, get_or, length, refl, subst, suc, sym, take, zero, ◌++◌, ◌+◌, ◌<◌, ◌∙◌, ◌∷◌, ◌≡◌, [], ℕ}
 use Rattle.std.proofs.Math.Seq.{take-suc}
 use Rattle.std.proofs.lemmas.List.Sums.{sum_by_push}
-use Rattle.std.specs.List.{sum_by}
-use Rattle.std.specs.Prelude.{Bool, Err, Ok, Option, Result, Some, false, slice_get, true}
+use Rattle.std.specs.Prelude.{Bool, Err, Ok, Result, Some, false, slice_get, true}
 
 -- ---- lists
 

@@ -6,12 +6,11 @@ use Rattle.sl_book.specs.declared.signed.Signed.{Signed}
 use Rattle.sl_live_lines.specs.declared.given_lines.GivenLine.{GivenLine}
 use Rattle.sl_live_run.specs.Runs.{AreFirst, AreGiven, HasTold, given_by, line_for, lines_for}
 use Rattle.sl_reader.specs.declared.live_lines.LiveLine.{LiveLine}
-use Rattle.std.proofs.Common.{List, ap, append_assoc, arith, if◌then◌else◌, inl, inr, refl, subst, sym, ◌++◌, ◌+◌, ◌-◌, ◌<◌, ◌==◌, ◌∙◌, ◌∷◌, ◌≡◌, ◌⊎◌, [], ℕ}
+use Rattle.std.proofs.Common.{List, ap, append_assoc, arith, if◌then◌else◌, refl, subst, sym, ◌++◌, ◌+◌, ◌<◌, ◌==◌, ◌∙◌, ◌∷◌, ◌≡◌, [], ℕ}
 use Rattle.std.proofs.lemmas.List.Concat.{flat_map-append}
 use Rattle.std.proofs.lemmas.List.Elements.{filter-append}
 use Rattle.std.proofs.lemmas.List.{append-nil}
 use Rattle.std.specs.Prelude.{Bool, Err, IsErrAnd, None, Ok, OnOk, Option, Result, Some, false, true}
-use mathlib.Core.List.{IsPrefix}
 
 lines_push : (k : ℕ) (ls : List LiveLine) (l : LiveLine) → lines_for k (ls ++ l ∷ []) ≡ lines_for k ls ++ line_for k l
 lines_push k ls l = flat_map-append (line_for k) ls (l ∷ []) ∙ ap (λ t. lines_for k ls ++ t) (append-nil (line_for k l))

@@ -8,8 +8,8 @@ use Rattle.sl_words.proofs.Numbers.{refl_le, trans_le}
 use Rattle.sl_run.specs.declared.header.Disk.{Disk as DiskLine}
 use Rattle.sl_io.specs.FaultCauses.{Rose}
 use Rattle.std.proofs.Common.{ap, arith, refl, subst, sym, ◌∙◌}
-use Rattle.std.proofs.lemmas.List.{take_all, take_more}
-use Rattle.std.specs.Prelude.{List, Option, get_or, length, suc, take, zero, [], ℕ, ◌++◌, ◌+◌, ◌<◌, ◌∷◌, ◌≡◌, ◌≤◌}
+use Rattle.std.proofs.lemmas.List.{take_more}
+use Rattle.std.specs.Prelude.{List, Option, get_or, length, suc, take, zero, [], ℕ, ◌++◌, ◌+◌, ◌<◌, ◌∷◌, ◌≡◌}
 
 -- ---- faults
 

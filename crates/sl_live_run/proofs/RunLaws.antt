@@ -12,12 +12,11 @@ use Rattle.sl_live_lines.specs.declared.given_lines.GivenLine.{GivenLine}
 use Rattle.sl_live_machine.specs.MachineEnds.{Counts, EndsWith, HasRun, HasTold as HasPutOut, Told}
 use Rattle.sl_live_machine.specs.Printing.{lines_read}
 use Rattle.sl_live_machine.specs.declared.machine.CloseError.TheVariants.{NoMemory as NoMemoryClose}
-use Rattle.sl_live_machine.specs.declared.machine.CloseError.{CloseError}
 use Rattle.sl_live_machine.specs.declared.machine.Ran.{Ran}
 use Rattle.sl_live_run.proofs.CaseLaws.{case_so, met}
 use Rattle.sl_live_run.proofs.GivenLaws.{no_lines}
-use Rattle.sl_live_run.specs.Runs.{AreFirst, AreFresh, AreGiven, AreLiveHistories, CanRun, HasRunAll, HasTold, HasToldAll, IsFresh, IsLiveCase, IsLiveHistory, IsLiveStop, IsTold, Runs, begun_on, lines_for, replies_of, site_of}
-use Rattle.sl_live_run.specs.Settling.{AreAllWhole, AreRansOf, AreWhole, HasLeft, IsCaseOf, StopsOne, StopsSome, come_to}
+use Rattle.sl_live_run.specs.Runs.{AreFresh, AreGiven, CanRun, HasRunAll, HasTold, HasToldAll, IsFresh, IsLiveHistory, IsLiveStop, IsTold, Runs, begun_on, lines_for, replies_of, site_of}
+use Rattle.sl_live_run.specs.Settling.{AreAllWhole, AreRansOf, AreWhole, HasLeft, IsCaseOf, StopsOne, StopsSome}
 use Rattle.sl_live_run.specs.declared.compare.LiveDiffer.{LiveDiffer}
 use Rattle.sl_live_run.specs.declared.compare.LiveStop.TheVariants.{Differ, NoMemory}
 use Rattle.sl_live_run.specs.declared.compare.LiveStop.{LiveStop}
@@ -25,7 +24,7 @@ use Rattle.sl_live_run.specs.declared.machine_runs.Machine.{Machine}
 use Rattle.sl_live_run.specs.declared.machine_runs.Work.{Work}
 use Rattle.sl_live_run.specs.declared.run.LiveRun.{LiveRun}
 use Rattle.sl_output.specs.Outputs.{IsPut}
-use Rattle.sl_output.specs.Pieces.{Piece, text_by}
+use Rattle.sl_output.specs.Pieces.{Piece}
 use Rattle.sl_reader.specs.declared.live_lines.LiveLine.{LiveLine}
 use Rattle.sl_run.specs.Headers.{IsHeader}
 use Rattle.sl_run.specs.Lawful.{IsSetting}
@@ -43,7 +42,7 @@ use Rattle.std.proofs.Common.{List, ap, ap₂, arith, inl, inr, length, map, ref
 use Rattle.std.proofs.lemmas.List.Sums.{sum_by-cons}
 use Rattle.std.proofs.lemmas.List.{length-map, map-append}
 use Rattle.std.specs.List.{concat, sum_by}
-use Rattle.std.specs.Prelude.{All, Bool, Err, IfErr, IfOk, IfSome, IsOk, None, Ok, OnOk, Option, Result, Some, false, option_map, slice_get}
+use Rattle.std.specs.Prelude.{All, Bool, Err, IfErr, IfOk, IfSome, IsOk, None, Ok, Option, Result, Some, false, option_map, slice_get}
 use mathlib.Core.List.{IsPrefix}
 
 -- ---- lists

@@ -11,7 +11,7 @@ use Rattle.sl_live_run.specs.declared.machine_runs.Work.{Work}
 use Rattle.sl_live_run.specs.declared.run.LiveRun.{LiveRun}
 use Rattle.sl_output.specs.Outputs.{IsPut}
 use Rattle.sl_output.specs.Pieces.{Piece, text_by}
-use Rattle.sl_world_state.specs.Daemons.{Stood, begun_with}
+use Rattle.sl_world_state.specs.Daemons.{begun_with}
 use Rattle.sl_world_state.specs.declared.daemon.Site.{Site}
 use Rattle.sl_live_lines.specs.declared.audit.Left.TheVariants.{Call as CallLeft, Start as StartLeft}
 use Rattle.sl_live_lines.specs.declared.audit.Left.{Left as LeftOf}
