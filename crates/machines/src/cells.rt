@@ -22,6 +22,9 @@ fn closed<D: Teller, J: Station, R: Wait>(
     seats: &[Seat<J>],
     mine: Front<J>,
 ) -> Outcome {
+    if seats.len() > u32::MAX as usize {
+        return Outcome::word("too many seats");
+    }
     let mut mine = mine;
     let _last = cell.hand_out(rt, &mut mine);
     let entries = mine.len();
