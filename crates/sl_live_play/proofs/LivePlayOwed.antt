@@ -97,9 +97,9 @@ inside [] k x at = absurd (none_some x at)
 inside (y ∷ xs) zero x at = omega arith
 inside (y ∷ xs) (suc k) x at = let rest = inside xs k x at in omega (arith, rest)
 
-woven : {D : Type 0} (stands : D → Setting → Trace → Type 0) (commands : Header → List (Form Command)) (h : Header) (begun : Beginnings h) (before given : List LiveLine) (pieces : List Piece)
-    (machines replies : ℕ) → (told : HasToldAll stands commands begun.header begun.sites before given pieces machines replies) → IsWoven (first_locks h) told.histories pieces
-woven stands commands h begun before given pieces machines replies told = record {
+woven : {D : Type 0} (stands : D → Setting → Trace → Type 0) (commands : Header → List (Form Command)) (h : Header) (begun : Beginnings h) (was is : List LiveLine → Type 0) (pieces : List Piece)
+    (machines replies : ℕ) → (told : HasToldAll stands commands begun.header begun.sites was is pieces machines replies) → IsWoven (first_locks h) told.histories pieces
+woven stands commands h begun was is pieces machines replies told = record {
   below = told.below;
   each = λ place x at.
       let lt = inside told.histories place x at in
@@ -119,26 +119,26 @@ replies_same header a (s ∷ sites) (x ∷ hs) len same =
     let rest : replies_of header sites hs ≡ sum_by (count_replies a) hs = replies_same header a sites hs (omega (arith, len)) (λ k t at. same (suc k) t at) in
     omega (arith, here, rest, sum_by-cons (count_replies a) x hs)
 
--- What came of a run.
+-- What came of a run, of a script that has given nothing before, and of whose source the lines that it has given are read now.
 pub owes_run : {D : Type 0} (stands : D → Setting → Trace → Type 0) (commands : Header → List (Form Command)) (f : Asked) (left after taken now : Option (List ℕ))
-    (faults later sink_faults sink_later device_faults device_later : ℕ) (h : Header) (begun : Beginnings h) (before given : List LiveLine) (pieces : List Piece) (machines : ℕ)
-    (replies : Result ℕ LiveStop) (end : Option ScriptEnd) (s : Lived) → before ≡ [] → ReadsScript left after faults later h given end → IsVacant f h
-    → IfOk replies (HasToldAll stands commands begun.header begun.sites before given pieces machines)
-    → IfErr replies (IsLiveStop stands commands begun.header begun.sites before given)
+    (faults later sink_faults sink_later device_faults device_later : ℕ) (h : Header) (begun : Beginnings h) (was is : List LiveLine → Type 0) (pieces : List Piece) (machines : ℕ)
+    (replies : Result ℕ LiveStop) (end : Option ScriptEnd) (s : Lived) → was [] → ((given : List LiveLine) → is given → ReadsScript left after faults later h given end) → IsVacant f h
+    → IfOk replies (HasToldAll stands commands begun.header begun.sites was is pieces machines)
+    → IfErr replies (IsLiveStop stands commands begun.header begun.sites was is)
     → IfOk replies (λ n. PutsEnded taken now sink_faults sink_later pieces machines n end s)
     → IfErr replies (λ e. PutsStop taken now sink_faults sink_later pieces e s)
     → Owes stands commands f left after taken now faults later sink_faults sink_later device_faults device_later s
-owes_run stands commands f left after taken now faults later sink_faults sink_later device_faults device_later h begun before given pieces machines (Ok n) end s none reads vacant ok err puts stops =
+owes_run stands commands f left after taken now faults later sink_faults sink_later device_faults device_later h begun was is pieces machines (Ok n) end s none reads vacant ok err puts stops =
     let hs = ok.histories in
     let count : n ≡ sum_by (count_replies (first_locks h)) hs = ok.count ∙ replies_same begun.header (first_locks h) begun.sites hs ok.live.counted (first_on h begun) in
     let here : PutsEnded taken now sink_faults sink_later pieces (length hs) n end s = subst (λ (m : ℕ). PutsEnded taken now sink_faults sink_later pieces m n end s) ok.machines_are puts in
-    owes_ended stands commands f left after taken now faults later sink_faults sink_later device_faults device_later h given hs pieces end s reads
-    (record { begun = begun; histories = subst (λ (b : List LiveLine). AreLiveHistories stands commands begun.header begun.sites b given hs) none ok.live })
-    (woven stands commands h begun before given pieces machines n ok) vacant
+    owes_ended stands commands f left after taken now faults later sink_faults sink_later device_faults device_later h ok.lines hs pieces end s (reads ok.lines (ok.gave [] none))
+    (record { begun = begun; histories = ok.live })
+    (woven stands commands h begun was is pieces machines n ok) vacant
     (subst (λ (k : ℕ). PutsEnded taken now sink_faults sink_later pieces (length hs) k end s) count here)
-owes_run stands commands f left after taken now faults later sink_faults sink_later device_faults device_later h begun before given pieces machines (Err (stop.Differ machine d)) end s none reads vacant ok err puts stops =
-    Of _ Differs s (Parts h given end (text_of pieces) machine d reads (record { begun = begun; differs = subst (λ (b : List LiveLine). IsLiveStop stands commands begun.header begun.sites b given (stop.Differ machine d)) none err }) vacant) stops
-owes_run stands commands f left after taken now faults later sink_faults sink_later device_faults device_later h begun before given pieces machines (Err stop.NoMemory) end s none reads vacant ok err puts stops =
+owes_run stands commands f left after taken now faults later sink_faults sink_later device_faults device_later h begun was is pieces machines (Err (stop.Differ machine d)) end s none reads vacant ok err puts stops =
+    Of _ Differs s (Parts h err.0 end (text_of pieces) machine d (reads err.0 (err.1 [] none)) (record { begun = begun; differs = err.2 }) vacant) stops
+owes_run stands commands f left after taken now faults later sink_faults sink_later device_faults device_later h begun was is pieces machines (Err stop.NoMemory) end s none reads vacant ok err puts stops =
     lacks stands commands f left after taken now faults later sink_faults sink_later device_faults device_later s stops.0 stops.1
 
 -- A run that can't begin.

@@ -57,7 +57,7 @@ pub record Beginnings (h : Header) : Type 0 where
 pub record Lives {D : Type 0} (stands : D → Setting → Trace → Type 0) (commands : Header → List (Form Command)) (h : Header) (given : List LiveLine)
     (hs : List (List Entry)) : Type 0 where
   pub begun : Beginnings h
-  pub histories : AreLiveHistories stands commands begun.header begun.sites [] given hs
+  pub histories : AreLiveHistories stands commands begun.header begun.sites given hs
 
 -- Machines with these histories, whose locks begin so, put out these pieces, signed by their places: each what is told of its own, in order.
 pub record IsWoven (a : AlongState) (hs : List (List Entry)) (pieces : List Piece) : Type 0 where
@@ -76,7 +76,7 @@ first_locks h = begun_along h first_numbers.job
 pub record Differing {D : Type 0} (stands : D → Setting → Trace → Type 0) (commands : Header → List (Form Command)) (h : Header) (given : List LiveLine)
     (machine : ℕ) (d : LiveDiffer) : Type 0 where
   pub begun : Beginnings h
-  pub differs : LiveCaseOf stands commands begun.header begun.sites [] given machine d
+  pub differs : LiveCaseOf stands commands begun.header begun.sites given machine d
 
 -- ---- what is due
 

@@ -4,7 +4,7 @@ use Rattle.sl_book.specs.Logs.{entries, given_by as given_in, is_by}
 use Rattle.sl_book.specs.Mails.{LedgerState}
 use Rattle.sl_book.specs.declared.signed.Signed.{Signed}
 use Rattle.sl_live_lines.specs.declared.given_lines.GivenLine.{GivenLine}
-use Rattle.sl_live_run.specs.Runs.{AreFirst, AreGiven, HasTold, given_by, line_for, lines_for}
+use Rattle.sl_live_run.specs.Runs.{AreFirst, AreGiven, Gave, HasTold, given_by, line_for, lines_for}
 use Rattle.sl_reader.specs.declared.live_lines.LiveLine.{LiveLine}
 use Rattle.std.proofs.Common.{List, ap, append_assoc, arith, if◌then◌else◌, refl, subst, sym, ◌++◌, ◌+◌, ◌<◌, ◌==◌, ◌∙◌, ◌∷◌, ◌≡◌, [], ℕ}
 use Rattle.std.proofs.lemmas.List.Concat.{flat_map-append}
@@ -107,8 +107,8 @@ no_lines l machines is = subst (λ (x : LedgerState GivenLine). AreGiven x machi
 -- ---- the script, one answer more
 
 -- The lines so far, and what is noted of them.
-abbrev pub Telling : ℕ → List LiveLine → List LiveLine → LedgerState GivenLine → Type 0
-Telling machines before now l = (ls : List LiveLine) × (now ≡ before ++ ls) × AreGiven l machines ls
+abbrev pub Telling : ℕ → (List LiveLine → Type 0) → (List LiveLine → Type 0) → LedgerState GivenLine → Type 0
+Telling machines before now l = (ls : List LiveLine) × Gave before now ls × AreGiven l machines ls
 
 pub on_all : {T E P : Type 0} (r : Result T E) → P → OnOk r P
 on_all (Ok x) so = so
@@ -118,32 +118,36 @@ on_none : {T E : Type 0} (P : Type 0) (r : Result T E) (Q : E → Type 0) → Is
 on_none P (Ok x) Q err = absurd err
 on_none P (Err e) Q err = tt
 
-pub telling_none : (machines : ℕ) (before now : List LiveLine) (l : LedgerState GivenLine) → now ≡ before → AreGiven l machines [] → Telling machines before now l
-telling_none machines before now l same so = ([], same ∙ sym (append-nil before), so)
+pub telling_none : (machines : ℕ) (before : List LiveLine → Type 0) (l : LedgerState GivenLine) → AreGiven l machines [] → Telling machines before before l
+telling_none machines before l so = ([], λ given b. subst before (sym (append-nil given)) b, so)
 
-pub told_so : {T E : Type 0} (machines : ℕ) (before now : List LiveLine) (l : LedgerState GivenLine) (r : Result T E) → Telling machines before now l → HasTold machines before now l r
+pub told_so : {T E : Type 0} (machines : ℕ) (before now : List LiveLine → Type 0) (l : LedgerState GivenLine) (r : Result T E) → Telling machines before now l → HasTold machines before now l r
 told_so machines before now l r so = record { lines = so.0; gave = so.1; first = first_of l machines so.0 so.2; texts = on_all r so.2 }
 
 -- Behind an answer with these lines.
-longer : (before was now ls more : List LiveLine) → was ≡ before ++ ls → now ≡ was ++ more → now ≡ before ++ (ls ++ more)
-longer before was now ls more is step = step ∙ ap (λ l. l ++ more) is ∙ append_assoc before ls more
+longer : (before was now : List LiveLine → Type 0) (ls more : List LiveLine) → Gave before was ls → Gave was now more → Gave before now (ls ++ more)
+longer before was now ls more so step = λ given b. subst now (append_assoc given ls more) (step (given ++ ls) (so given b))
 
-pub told_none : {T E : Type 0} (machines : ℕ) (before was now more : List LiveLine) (l : LedgerState GivenLine) (r : Result T E) → Telling machines before was l
-    → now ≡ was ++ more → more ≡ [] → HasTold machines before now l r
+same_more : (was now : List LiveLine → Type 0) (more other : List LiveLine) → Gave was now more → more ≡ other → Gave was now other
+same_more was now more other step is = subst (Gave was now) is step
+
+pub told_none : {T E : Type 0} (machines : ℕ) (before was now : List LiveLine → Type 0) (more : List LiveLine) (l : LedgerState GivenLine) (r : Result T E) → Telling machines before was l
+    → Gave was now more → more ≡ [] → HasTold machines before now l r
 told_none machines before was now more l r so step none =
-    told_so machines before now l r (so.0, step ∙ ap (λ t. was ++ t) none ∙ append-nil was ∙ so.1, so.2)
+    told_so machines before now l r
+    (so.0, λ given b. subst now (append-nil (given ++ so.0)) (same_more was now more [] step none (given ++ so.0) (so.1 given b)), so.2)
 
 -- The line could not be noted.
-pub told_err : {T E : Type 0} (machines : ℕ) (before was now more : List LiveLine) (line : LiveLine) (l l' : LedgerState GivenLine) (r : Result T E) (Q : E → Type 0)
-    → (so : Telling machines before was l) → now ≡ was ++ more → more ≡ line ∷ [] → AreFirst l' machines (so.0 ++ line ∷ []) → IsErrAnd r Q → HasTold machines before now l' r
+pub told_err : {T E : Type 0} (machines : ℕ) (before was now : List LiveLine → Type 0) (more : List LiveLine) (line : LiveLine) (l l' : LedgerState GivenLine) (r : Result T E) (Q : E → Type 0)
+    → (so : Telling machines before was l) → Gave was now more → more ≡ line ∷ [] → AreFirst l' machines (so.0 ++ line ∷ []) → IsErrAnd r Q → HasTold machines before now l' r
 told_err machines before was now more line l l' r Q so step one first err = record {
   lines = so.0 ++ line ∷ [];
-  gave = longer before was now so.0 (line ∷ []) so.1 (step ∙ ap (λ k. was ++ k) one);
+  gave = longer before was now so.0 (line ∷ []) so.1 (same_more was now more (line ∷ []) step one);
   first = first;
   texts = on_none _ r Q err;
 }
 
-pub told_more : (machines : ℕ) (before was now more : List LiveLine) (line : LiveLine) (l l' : LedgerState GivenLine) → (so : Telling machines before was l)
-    → now ≡ was ++ more → more ≡ line ∷ [] → AreGiven l' machines (so.0 ++ line ∷ []) → Telling machines before now l'
+pub told_more : (machines : ℕ) (before was now : List LiveLine → Type 0) (more : List LiveLine) (line : LiveLine) (l l' : LedgerState GivenLine) → (so : Telling machines before was l)
+    → Gave was now more → more ≡ line ∷ [] → AreGiven l' machines (so.0 ++ line ∷ []) → Telling machines before now l'
 told_more machines before was now more line l l' so step one noted =
-    (so.0 ++ line ∷ [], longer before was now so.0 (line ∷ []) so.1 (step ∙ ap (λ k. was ++ k) one), noted)
+    (so.0 ++ line ∷ [], longer before was now so.0 (line ∷ []) so.1 (same_more was now more (line ∷ []) step one), noted)

@@ -15,7 +15,7 @@ use Rattle.sl_live_machine.specs.declared.machine.CloseError.TheVariants.{NoMemo
 use Rattle.sl_live_machine.specs.declared.machine.Ran.{Ran}
 use Rattle.sl_live_run.proofs.CaseLaws.{case_so, met}
 use Rattle.sl_live_run.proofs.GivenLaws.{no_lines}
-use Rattle.sl_live_run.specs.Runs.{AreFresh, AreGiven, CanRun, HasRunAll, HasTold, HasToldAll, IsFresh, IsLiveHistory, IsLiveStop, IsTold, Runs, begun_on, lines_for, replies_of, site_of}
+use Rattle.sl_live_run.specs.Runs.{AreFresh, AreGiven, CanRun, HasRunAll, HasTold, HasToldAll, IsFresh, IsLiveHistory, IsLiveStop, IsTold, LiveCaseOf, Runs, begun_on, lines_for, replies_of, site_of}
 use Rattle.sl_live_run.specs.Settling.{AreAllWhole, AreRansOf, AreWhole, HasLeft, IsCaseOf, StopsOne, StopsSome}
 use Rattle.sl_live_run.specs.declared.compare.LiveDiffer.{LiveDiffer}
 use Rattle.sl_live_run.specs.declared.compare.LiveStop.TheVariants.{Differ, NoMemory}
@@ -200,13 +200,13 @@ replies_are {O} {T} {A} header (s ∷ sites) (h ∷ hs) (r ∷ rans) n m each =
     ∙ ap₂ (λ x y. x + y) (replies_at header s h r first.0 first.1 first.2)
     (replies_are header sites hs rans (omega (arith, n)) (omega (arith, m)) (λ k t g at at_h. each (suc k) t g at at_h))
 
-told_well : {T E : Type 0} (machines : ℕ) (before after : List LiveLine) (l : LedgerState GivenLine) (told : Result T E) → IsOk told → (so : HasTold machines before after l told)
+told_well : {T E : Type 0} (machines : ℕ) (before after : List LiveLine → Type 0) (l : LedgerState GivenLine) (told : Result T E) → IsOk told → (so : HasTold machines before after l told)
     → AreGiven l machines so.lines
 told_well machines before after l (Ok t) ok so = so.texts
 told_well machines before after l (Err e) ok so = absurd (cc ok)
 
 pub told_all : {D C P V A O T T' E : Type 0} (stands : D → Setting → Trace → Type 0) (commands : Header → List (Form Command)) (header : Header) (sites : List Site)
-    (olds news : List (Machine C P V A O T)) (before after : List LiveLine) (early : Bool) (l : LedgerState GivenLine) (told : Result T' E) (pieces : List Piece) (machines replies : ℕ)
+    (olds news : List (Machine C P V A O T)) (before after : List LiveLine → Type 0) (early : Bool) (l : LedgerState GivenLine) (told : Result T' E) (pieces : List Piece) (machines replies : ℕ)
     → map site_of olds ≡ map (λ s. Some s) sites → length news ≡ length olds → AreFresh olds
     → ((k : ℕ) → (d : Machine C P V A O T) → k < length olds → Runs commands stands header (slice_index_or olds k d) (slice_index_or news k d))
     → HasTold (length olds) before after l told → (early ≡ false → IsOk told) → machines ≡ length news → AreAllWhole early l news pieces replies
@@ -226,10 +226,10 @@ told_all {D} {C} {P} {V} {A} {O} {T} stands commands header sites olds news befo
     let hs = chosen (λ k site h. IsHistoryAt stands commands header tells.lines rans pieces k site h) sites found in
     let long : length hs.0 ≡ length sites = hs.1 in
     record {
+      lines = tells.lines;
+      gave = tells.gave;
       histories = hs.0;
       live = record {
-        lines = tells.lines;
-        gave = tells.gave;
         counted = hs.1;
         each = λ place site h at at_h. (hs.2 place site h at at_h).live;
       };
@@ -243,7 +243,7 @@ told_all {D} {C} {P} {V} {A} {O} {T} stands commands header sites olds news befo
 -- ---- a case
 
 stop_at : {D C P V A O T T' E : Type 0} (stands : D → Setting → Trace → Type 0) (commands : Header → List (Form Command)) (header : Header) (sites : List Site)
-    (olds news : List (Machine C P V A O T)) (before after : List LiveLine) (early : Bool) (l : LedgerState GivenLine) (told : Result T' E) (m : ℕ) (d : LiveDiffer) (rans : List (Ran O T A))
+    (olds news : List (Machine C P V A O T)) (before after : List LiveLine → Type 0) (early : Bool) (l : LedgerState GivenLine) (told : Result T' E) (m : ℕ) (d : LiveDiffer) (rans : List (Ran O T A))
     → map site_of olds ≡ map (λ s. Some s) sites → length news ≡ length olds → AreFresh olds
     → ((k : ℕ) → (d : Machine C P V A O T) → k < length olds → Runs commands stands header (slice_index_or olds k d) (slice_index_or news k d))
     → HasTold (length olds) before after l told → (early ≡ false → IsOk told) → AreRansOf news rans → IsCaseOf early l rans m d
@@ -268,18 +268,18 @@ stop_at {D} {C} {P} {V} {A} {O} {T} stands commands header sites olds news befor
     let exact : early ≡ false → entries (given_by r.reader.by l.front) ≡ due
     = λ t. ap (λ k. entries (given_by k l.front)) at.by ∙ (told_well (length olds) before after l told (in_time t) tells).each place inside_olds
     ∙ ap (λ k. lines_for k tells.lines) (sym so.numbered) in
-    record {
-      lines = tells.lines;
-      gave = tells.gave;
+    let here : LiveCaseOf stands commands header sites tells.lines m d
+    = record {
       place = place;
       site = site;
       numbered = so.numbered;
       there = there.1;
       case_of = case_so stands st a run.history (lines_read r.reader) due early so.reading r.end r.entries d run.ends run.counted (met early so.reading r.reader l due first exact so.read) so.case_is;
-    }
+    } in
+    (tells.lines, tells.gave, here)
 
 live_stop : {D C P V A O T T' E : Type 0} (stands : D → Setting → Trace → Type 0) (commands : Header → List (Form Command)) (header : Header) (sites : List Site)
-    (olds news : List (Machine C P V A O T)) (before after : List LiveLine) (early : Bool) (l : LedgerState GivenLine) (told : Result T' E) (s : LiveStop)
+    (olds news : List (Machine C P V A O T)) (before after : List LiveLine → Type 0) (early : Bool) (l : LedgerState GivenLine) (told : Result T' E) (s : LiveStop)
     → map site_of olds ≡ map (λ s. Some s) sites → length news ≡ length olds → AreFresh olds
     → ((k : ℕ) → (d : Machine C P V A O T) → k < length olds → Runs commands stands header (slice_index_or olds k d) (slice_index_or news k d))
     → HasTold (length olds) before after l told → (early ≡ false → IsOk told) → (s ≡ NoMemory) ⊎ StopsOne early l news s
@@ -303,7 +303,7 @@ if_err_on (Err e) Was Is f so = f e so
 -- ---- the whole run
 
 pub has_run_all : {D K C P V A O T T' E : Type 0} (stands : D → Setting → Trace → Type 0) (commands : Header → List (Form Command)) (header : Header) (sites : List Site)
-    (olds news : List (Machine C P V A O T)) (before after : List LiveLine) (early : Bool) (l : LedgerState GivenLine) (told : Result T' E) (taken now : Option (List ℕ)) (faults later : ℕ)
+    (olds news : List (Machine C P V A O T)) (before after : List LiveLine → Type 0) (early : Bool) (l : LedgerState GivenLine) (told : Result T' E) (taken now : Option (List ℕ)) (faults later : ℕ)
     (r : LiveRun K A) → map site_of olds ≡ map (λ s. Some s) sites → length news ≡ length olds → AreFresh olds
     → ((k : ℕ) → (d : Machine C P V A O T) → k < length olds → Runs commands stands header (slice_index_or olds k d) (slice_index_or news k d))
     → HasTold (length olds) before after l told → (early ≡ false → IsOk told) → HasLeft early l news taken now faults later r
@@ -318,7 +318,7 @@ has_run_all {D} {K} {C} {P} {V} {A} {O} {T} stands commands header sites olds ne
 }
 
 -- There was no memory to run.
-pub no_run_all : {D K A : Type 0} (stands : D → Setting → Trace → Type 0) (commands : Header → List (Form Command)) (header : Header) (sites : List Site) (before after : List LiveLine)
+pub no_run_all : {D K A : Type 0} (stands : D → Setting → Trace → Type 0) (commands : Header → List (Form Command)) (header : Header) (sites : List Site) (before after : List LiveLine → Type 0)
     (taken now : Option (List ℕ)) (faults later : ℕ) (r : LiveRun K A) → r.replies ≡ Err NoMemory → (ps : List Piece) × IsPut taken now faults later ps r.cut
     → HasRunAll stands commands header sites before after taken now faults later r
 no_run_all stands commands header sites before after taken now faults later r is put = record {

@@ -63,10 +63,14 @@ pub record AreFirst (l : LedgerState GivenLine) (machines : ℕ) (ls : List Live
   pub counted : l.places ≡ machines
   pub each : (place : ℕ) → place < machines → IsPrefix (entries (given_in place l.front)) (lines_for (place + 1) ls)
 
+-- Where a script may have given such lines, it may now have given these behind them.
+abbrev pub Gave : (List LiveLine → Type 0) → (List LiveLine → Type 0) → List LiveLine → Type 0
+Gave before after lines = (given : List LiveLine) → before given → after (given ++ lines)
+
 -- The script gave some lines: what is noted are the first ones of those that they give; where it ended well, all of them.
-pub record HasTold {A E : Type 0} (machines : ℕ) (before after : List LiveLine) (l : LedgerState GivenLine) (result : Result A E) : Type 0 where
+pub record HasTold {A E : Type 0} (machines : ℕ) (before after : List LiveLine → Type 0) (l : LedgerState GivenLine) (result : Result A E) : Type 0 where
   pub lines : List LiveLine
-  pub gave : after ≡ before ++ lines
+  pub gave : Gave before after lines
   pub first : AreFirst l machines lines
   pub texts : OnOk result (AreGiven l machines lines)
 
@@ -108,11 +112,9 @@ pub record IsLiveHistory {D : Type 0} (stands : D → Setting → Trace → Type
   pub lines : AreLines a h given
   pub answered : IsAnswered h
 
--- One for each site, in order, with the lines that the script gave that machine in this run: `before` it had given those, and behind it these.
+-- One for each site, in order, with those of the script's lines that it gave that machine.
 pub record AreLiveHistories {D : Type 0} (stands : D → Setting → Trace → Type 0) (commands : Header → List (Form Command)) (header : Header) (sites : List Site)
-    (before after : List LiveLine) (hs : List (List Entry)) : Type 0 where
-  pub lines : List LiveLine
-  pub gave : after ≡ before ++ lines
+    (lines : List LiveLine) (hs : List (List Entry)) : Type 0 where
   pub counted : length hs ≡ length sites
   pub each : (place : ℕ) (site : Site) (h : List Entry) → slice_get sites place ≡ Some site → slice_get hs place ≡ Some h
       → IsLiveHistory stands (begun_with commands header site) (begun_on header site) (lines_for (place + 1) lines) h
@@ -131,20 +133,18 @@ IsLiveCase stands st a given (Line number) = (h : List Entry) × IsWhole stands 
 IsLiveCase stands st a given (Left number call) = (h : List Entry) × IsWhole stands st h × LeavesOpen a h given (CallLeft number call)
 IsLiveCase stands st a given (Untold number process) = (h : List Entry) × IsWhole stands st h × LeavesOpen a h given (StartLeft number process)
 
--- .. of the machine of this number, counted from 1, which the stop names.
+-- .. of the machine of this number, counted from 1, which the stop names, where the script gave these lines.
 pub record LiveCaseOf {D : Type 0} (stands : D → Setting → Trace → Type 0) (commands : Header → List (Form Command)) (header : Header) (sites : List Site)
-    (before after : List LiveLine) (machine : ℕ) (d : LiveDiffer) : Type 0 where
-  pub lines : List LiveLine
-  pub gave : after ≡ before ++ lines
+    (lines : List LiveLine) (machine : ℕ) (d : LiveDiffer) : Type 0 where
   pub place : ℕ
   pub site : Site
   pub numbered : machine ≡ place + 1
   pub there : slice_get sites place ≡ Some site
   pub case_of : IsLiveCase stands (begun_with commands header site) (begun_on header site) (lines_for machine lines) d
 
--- Why there are no histories: such a case, or want of memory, of which nothing is said.
-abbrev pub IsLiveStop : {D : Type 0} → (D → Setting → Trace → Type 0) → (Header → List (Form Command)) → Header → List Site → List LiveLine → List LiveLine → LiveStop → Type 0
-IsLiveStop stands commands header sites before after (Differ machine d) = LiveCaseOf stands commands header sites before after machine d
+-- Why there are no histories: such a case, for lines that the script gave in this run, or want of memory, of which nothing is said.
+abbrev pub IsLiveStop : {D : Type 0} → (D → Setting → Trace → Type 0) → (Header → List (Form Command)) → Header → List Site → (List LiveLine → Type 0) → (List LiveLine → Type 0) → LiveStop → Type 0
+IsLiveStop stands commands header sites before after (Differ machine d) = (lines : List LiveLine) × Gave before after lines × LiveCaseOf stands commands header sites lines machine d
 IsLiveStop stands commands header sites before after NoMemory = Unit {0}
 
 -- The pieces of a place are what is told of this history.
@@ -157,11 +157,13 @@ replies_of header [] hs = 0
 replies_of header (s ∷ ss) [] = 0
 replies_of header (s ∷ ss) (h ∷ hs) = count_replies (begun_on header s) h + replies_of header ss hs
 
--- All machines have such histories, with so many replies; and these pieces are what is told of them.
+-- All machines have such histories, for the lines that the script gave in this run, with so many replies; and these pieces are what is told of them.
 pub record HasToldAll {D : Type 0} (stands : D → Setting → Trace → Type 0) (commands : Header → List (Form Command)) (header : Header) (sites : List Site)
-    (before after : List LiveLine) (pieces : List Piece) (machines replies : ℕ) : Type 0 where
+    (before after : List LiveLine → Type 0) (pieces : List Piece) (machines replies : ℕ) : Type 0 where
+  pub lines : List LiveLine
+  pub gave : Gave before after lines
   pub histories : List (List Entry)
-  pub live : AreLiveHistories stands commands header sites before after histories
+  pub live : AreLiveHistories stands commands header sites lines histories
   pub texts : (place : ℕ) (site : Site) (h : List Entry) → slice_get sites place ≡ Some site → slice_get histories place ≡ Some h
       → IsTold (begun_on header site) place h pieces
   pub below : AreBelow (length histories) pieces
@@ -170,7 +172,7 @@ pub record HasToldAll {D : Type 0} (stands : D → Setting → Trace → Type 0)
 
 -- What a run leaves: such histories, or why there are none; and a sink that has taken pieces behind what it had, or a front of them after a fault.
 pub record HasRunAll {D K A : Type 0} (stands : D → Setting → Trace → Type 0) (commands : Header → List (Form Command)) (header : Header) (sites : List Site)
-    (before after : List LiveLine) (taken now : Option (List ℕ)) (faults later : ℕ) (r : LiveRun K A) : Type 0 where
+    (before after : List LiveLine → Type 0) (taken now : Option (List ℕ)) (faults later : ℕ) (r : LiveRun K A) : Type 0 where
   pub pieces : List Piece
   pub put : IsPut taken now faults later pieces r.cut
   pub ok : IfOk r.replies (HasToldAll stands commands header sites before after pieces r.machines)

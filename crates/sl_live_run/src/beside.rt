@@ -39,7 +39,7 @@ fn beside<
 ) -> Result<Option<NoLine>, AllocError>
     requires { F.pre rest.old }
     ensures rest { F.step rest.old tt rest.new }
-    ensures told { (count : ℕ) → AreGiven ledger.old count [] → HasTold count (L.given lines.old) (L.given lines.new) ledger.new result }
+    ensures told { (count : ℕ) → AreGiven ledger.old count [] → HasTold count (L.has_given lines.old) (L.has_given lines.new) ledger.new result }
 {
     let ((), told) = join_mut(rt, rest, &mut || tell(rt, alloc, roll, ways, lines, ledger));
     told
@@ -82,7 +82,7 @@ fn run_beside<
     requires { AcceptsEach F.Fn run.now machines.old }
     ensures len { length machines.new ≡ length machines.old }
     ensures each { ChangesEach F.Fn run.now machines.old machines.new }
-    ensures told { (count : ℕ) → AreGiven ledger.old count [] → HasTold count (L.given lines.old) (L.given lines.new) ledger.new result }
+    ensures told { (count : ℕ) → AreGiven ledger.old count [] → HasTold count (L.has_given lines.old) (L.has_given lines.new) ledger.new result }
 {
     beside(
         rt,
@@ -126,7 +126,7 @@ fn run_all<
     ensures len { length machines.new ≡ length machines.old }
     ensures each { (k : ℕ) → (d : MachineOf C P V A O T) → k < length machines.old
         → Runs D.Daemon.commands D.Daemon.stands shared.now.header.now (slice_index_or machines.old k d) (slice_index_or machines.new k d) }
-    ensures told { (count : ℕ) → AreGiven ledger.old count [] → HasTold count (L.given lines.old) (L.given lines.new) ledger.new result }
+    ensures told { (count : ℕ) → AreGiven ledger.old count [] → HasTold count (L.has_given lines.old) (L.has_given lines.new) ledger.new result }
 {
     let ways = Ways {
         posts: shared.posts,
@@ -175,7 +175,7 @@ pub(crate) fn run_list<
     ensures len { length machines.new.items ≡ length machines.old.items }
     ensures each { (k : ℕ) → (d : MachineOf C P V A O T) → k < length machines.old.items
         → Runs D.Daemon.commands D.Daemon.stands shared.now.header.now (slice_index_or machines.old.items k d) (slice_index_or machines.new.items k d) }
-    ensures told { (count : ℕ) → AreGiven ledger.old count [] → HasTold count (L.given lines.old) (L.given lines.new) ledger.new result }
+    ensures told { (count : ℕ) → AreGiven ledger.old count [] → HasTold count (L.has_given lines.old) (L.has_given lines.new) ledger.new result }
 {
     run_all::<D, L, K, O, T, R, C, P, V, A, G>(
         rt,

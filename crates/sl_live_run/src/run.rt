@@ -105,7 +105,7 @@ fn run_begun<
     requires fresh { AreFresh begun.machines.items }
     requires given { AreGiven ledger (length begun.machines.items) [] }
     ensures { (sites : List SiteOf) → map site_of begun.machines.items ≡ map (λ s. Some s) sites
-        → HasRunAll D.Daemon.stands D.Daemon.commands header.now sites (L.given lines.old) (L.given lines.new) O.taken (K.taken result.sink) O.faults (K.faults result.sink) result }
+        → HasRunAll D.Daemon.stands D.Daemon.commands header.now sites (L.has_given lines.old) (L.has_given lines.new) O.taken (K.taken result.sink) O.faults (K.faults result.sink) result }
 {
     let Begun {
         machines,
@@ -190,7 +190,7 @@ where
     requires told { told.seen.book ≡ O.book }
     requires taken { K.taken sink ≡ O.taken }
     requires faults { K.faults sink ≡ O.faults }
-    ensures { HasRunAll D.Daemon.stands D.Daemon.commands header.now (map (λ p. p.site) prepared.items) (L.given lines.old) (L.given lines.new) O.taken (K.taken result.sink) O.faults (K.faults result.sink) result }
+    ensures { HasRunAll D.Daemon.stands D.Daemon.commands header.now (map (λ p. p.site) prepared.items) (L.has_given lines.old) (L.has_given lines.new) O.taken (K.taken result.sink) O.faults (K.faults result.sink) result }
 {
     let (book, unread) = given.named::<T>();
     let (output, pieces) = Output::<K, O>::new(sink, told);
@@ -230,7 +230,7 @@ where
     requires told { told.seen.book ≡ O.book }
     requires taken { K.taken sink ≡ O.taken }
     requires faults { K.faults sink ≡ O.faults }
-    ensures { HasRunAll D.Daemon.stands D.Daemon.commands header.now (map (λ p. p.site) prepared.items) (L.given lines.old) (L.given lines.new) O.taken (K.taken result.sink) O.faults (K.faults result.sink) result }
+    ensures { HasRunAll D.Daemon.stands D.Daemon.commands header.now (map (λ p. p.site) prepared.items) (L.has_given lines.old) (L.has_given lines.new) O.taken (K.taken result.sink) O.faults (K.faults result.sink) result }
 {
     run_ready::<D, V, L, K, O, Brand, R>(
         rt,
@@ -264,7 +264,7 @@ where
     requires header { IsHeader ground.header }
     requires settings { All (λ s. IsSetting (begun_with D.Daemon.commands ground.header s)) (map (λ p. p.site) ground.machines.items) }
     ensures header { result.1 ≡ ground.header }
-    ensures run { HasRunAll D.Daemon.stands D.Daemon.commands ground.header (map (λ p. p.site) ground.machines.items) (L.given lines.old) (L.given lines.new)
+    ensures run { HasRunAll D.Daemon.stands D.Daemon.commands ground.header (map (λ p. p.site) ground.machines.items) (L.has_given lines.old) (L.has_given lines.new)
         (K.taken sink) (K.taken result.0.sink) (K.faults sink) (K.faults result.0.sink) result.0 }
 {
     let Ground {

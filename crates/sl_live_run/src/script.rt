@@ -98,7 +98,7 @@ fn give_all<L: LiveLines, T: Shelf, R: Wait>(
     lines: &mut L,
     ledger: &mut Ledger<T, GivenLine>,
 ) -> Result<Option<NoLine>, AllocError>
-    ensures { (machines : ℕ) → AreGiven ledger.old machines [] → HasTold machines (L.given lines.old) (L.given lines.new) ledger.new result }
+    ensures { (machines : ℕ) → AreGiven ledger.old machines [] → HasTold machines (L.has_given lines.old) (L.has_given lines.new) ledger.new result }
 {
     for _ in rt.forever() {
         if has_failed(rt, ways.posts) {
@@ -133,7 +133,7 @@ pub(crate) fn tell<L: LiveLines, T: Shelf, R: Wait + Clock>(
     lines: &mut L,
     ledger: &mut Ledger<T, GivenLine>,
 ) -> Result<Option<NoLine>, AllocError>
-    ensures { (machines : ℕ) → AreGiven ledger.old machines [] → HasTold machines (L.given lines.old) (L.given lines.new) ledger.new result }
+    ensures { (machines : ℕ) → AreGiven ledger.old machines [] → HasTold machines (L.has_given lines.old) (L.has_given lines.new) ledger.new result }
 {
     if !roll.enter(rt) {
         roll.give_up(rt);

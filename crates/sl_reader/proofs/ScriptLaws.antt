@@ -3,7 +3,7 @@ use Rattle.sl_reader.specs.LiveLines.{checked, live_line, live_line_in}
 use Rattle.sl_reader.specs.Scopes.{scope_of}
 use Rattle.sl_reader.specs.declared.live_lines.LiveLine.{LiveLine}
 use Rattle.sl_reader.specs.declared.scope.Scope.{Scope}
-use Rattle.sl_reader.specs.ScriptReading.{Comes, Ends, IsScript, Leaves, Passes, ReadsScript, Says, ScriptLine, Stands, Tells, TellsComplete, came_of, following, script_lines, spoken}
+use Rattle.sl_reader.specs.ScriptReading.{Comes, Ends, IsScript, Leaves, Passes, ReadsScript, Says, ScriptLine, ScriptState, Stands, Tells, TellsComplete, came_of, following, script_lines, spoken}
 use Rattle.sl_reader.specs.declared.script_reading.Came.{Came}
 use Rattle.sl_reader.specs.declared.script_reading.ScriptEnd.TheVariants.{End, NoMemory, ReadFault, Refused}
 use Rattle.sl_reader.specs.declared.script_reading.ScriptEnd.{ScriptEnd}
@@ -62,16 +62,16 @@ passes_none s first r =
     }
 
 -- So a script begins.
-pub begins : (s scope : Scope) (first now : Option (List ℕ)) (faults later : ℕ) (began r : ReaderState) (given : List LiveLine) → now ≡ first → later ≡ faults → r ≡ began → scope ≡ s → given ≡ [] → EndStands now r
-    → IsScript first now faults later began s scope r given None
-begins s scope first now faults later began r given left_is faults_are began_is scope_is none ends =
-    record {
-      scope_is = scope_is;
-      more = omega (arith, faults_are);
-      numbered = [];
-      given_are = none;
-      stands = (subst (λ n. Passes s first n began r []) (sym left_is) (subst (λ b. Passes s first first b r []) began_is (passes_none s first r)), ends);
-    }
+pub begins : (first : Option (List ℕ)) (faults : ℕ) (began : ReaderState) (scope : Scope) (x : ScriptState) → x.left ≡ first → x.faults ≡ faults → x.reader ≡ began → x.scope ≡ scope → x.end ≡ None
+    → EndStands x.left x.reader → IsScript first faults began scope x []
+begins first faults began scope x left_is faults_are began_is scope_is ongoing ends = record {
+  scope_is = scope_is;
+  more = omega (arith, faults_are);
+  numbered = [];
+  given_are = refl;
+  stands = subst (Stands scope first x.left faults x.faults began x.reader []) (sym ongoing)
+      (subst (λ n. Passes scope first n began x.reader []) (sym left_is) (subst (λ b. Passes scope first first b x.reader []) began_is (passes_none scope first x.reader)), ends);
+}
 
 -- A line more.
 pub passes_line : (s : Scope) (first before after : Option (List ℕ)) (began r n : ReaderState) (told : List ScriptLine) → Passes s first before began r told → ReadsLine before after r n

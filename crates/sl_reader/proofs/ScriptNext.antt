@@ -4,8 +4,8 @@ use Rattle.sl_reader.specs.declared.live_lines.LiveLine.{LiveLine}
 use Rattle.sl_reader.specs.declared.live_lines.NoLine.TheVariants as no_line_for
 use Rattle.sl_reader.specs.declared.live_lines.NoLine.{NoLine}
 use Rattle.sl_reader.specs.declared.scope.Scope.{Scope}
-use Rattle.sl_reader.proofs.ScriptLaws.{ends_since, lacks_behind}
-use Rattle.sl_reader.specs.ScriptReading.{Comes, Ends, IsScript, Keeps, Passes, ScriptLine, Stands, spoken}
+use Rattle.sl_reader.proofs.ScriptLaws.{ends_since}
+use Rattle.sl_reader.specs.ScriptReading.{Answers, Comes, Ends, IsScript, Passes, ScriptLine, ScriptState, Stands, spoken}
 use Rattle.sl_reader.specs.declared.script_reading.Came.TheVariants as came
 use Rattle.sl_reader.specs.declared.script_reading.Came.{Came}
 use Rattle.sl_reader.specs.declared.script_reading.ScriptEnd.TheVariants.{End, NoMemory, ReadFault, Refused}
@@ -13,69 +13,68 @@ use Rattle.sl_reader.specs.declared.script_reading.ScriptEnd.{ScriptEnd}
 use Rattle.sl_reader.specs.LineReads.{EndStands, ReaderState}
 use Rattle.sl_reader.specs.declared.reader.ReadError.TheVariants as read_error
 use Rattle.sl_reader.specs.declared.reader.ReadError.{ReadError}
-use Rattle.std.proofs.Common.{List, None, Option, Some, [], ap, arith, inl, inr, map, subst, sym, ℕ, ◌++◌, ◌≡◌, ◌≤◌, ◌∙◌, ◌∷◌}
+use Rattle.std.proofs.Common.{List, None, Option, Some, [], ap, arith, map, refl, subst, sym, ℕ, ◌++◌, ◌≡◌, ◌≤◌, ◌∙◌, ◌∷◌}
 use Rattle.std.proofs.lemmas.List.{append-nil, map-append}
 use Rattle.std.specs.Prelude.{Err, Ok, Result}
 
--- What a script was before, and what is read of it since.
-record Before (s : Scope) (first now : Option (List ℕ)) (faults since later : ℕ) (began r : ReaderState) (given : List LiveLine) (numbered : List (ℕ × LiveLine)) : Type 0 where
+-- What a script was before, and what it is behind a read.
+record Before (s : Scope) (first : Option (List ℕ)) (faults since : ℕ) (x : ScriptState) (given : List LiveLine) (numbered : List (ℕ × LiveLine)) : Type 0 where
+  scope_is : x.scope ≡ s
   given_are : given ≡ map (λ x. x.1) numbered
-  ends : EndStands now r
+  ends : EndStands x.left x.reader
   earlier : faults ≤ since
-  more : since ≤ later
+  more : since ≤ x.faults
 
-ended_so : (s scope : Scope) (first now : Option (List ℕ)) (faults since later : ℕ) (began r : ReaderState) (given has : List LiveLine) (numbered : List (ℕ × LiveLine)) (why : ScriptEnd) (end : Option ScriptEnd)
-    → Before s first now faults since later began r given numbered → scope ≡ s → has ≡ given ++ [] → end ≡ Some why → Ends s first now since later began (map spoken numbered) why
-    → IsScript first now faults later began s scope r has end
-ended_so s scope first now faults since later began r given has numbered why end b scope_is has_are end_is e =
+ended_so : (s : Scope) (first : Option (List ℕ)) (faults since : ℕ) (began : ReaderState) (x : ScriptState) (given has : List LiveLine) (numbered : List (ℕ × LiveLine)) (why : ScriptEnd)
+    → Before s first faults since x given numbered → has ≡ given ++ [] → x.end ≡ Some why → Ends s first x.left since x.faults began (map spoken numbered) why
+    → IsScript first faults began s x has
+ended_so s first faults since began x given has numbered why b has_are end_is e =
     record {
-      scope_is = scope_is;
+      scope_is = b.scope_is;
       more = omega (arith, b.earlier, b.more);
       numbered = numbered;
       given_are = has_are ∙ append-nil given ∙ b.given_are;
-      stands = subst (Stands s first now faults later began r (map spoken numbered)) (sym end_is) (ends_since s first now faults since later began (map spoken numbered) why b.earlier e);
+      stands = subst (Stands s first x.left faults x.faults began x.reader (map spoken numbered)) (sym end_is) (ends_since s first x.left faults since x.faults began (map spoken numbered) why b.earlier e);
     }
 
-gone_on : (s scope : Scope) (first now : Option (List ℕ)) (faults since later : ℕ) (began r : ReaderState) (given has : List LiveLine) (numbered : List (ℕ × LiveLine)) (number : ℕ) (l : LiveLine)
-    (end : Option ScriptEnd) → Before s first now faults since later began r given numbered → scope ≡ s → has ≡ given ++ l ∷ [] → end ≡ None
-    → Passes s first now began r (map spoken numbered ++ spoken (number, l) ∷ []) → IsScript first now faults later began s scope r has end
-gone_on s scope first now faults since later began r given has numbered number l end b scope_is has_are end_is p =
+gone_on : (s : Scope) (first : Option (List ℕ)) (faults since : ℕ) (began : ReaderState) (x : ScriptState) (given has : List LiveLine) (numbered : List (ℕ × LiveLine)) (number : ℕ) (l : LiveLine)
+    → Before s first faults since x given numbered → has ≡ given ++ l ∷ [] → x.end ≡ None
+    → Passes s first x.left began x.reader (map spoken numbered ++ spoken (number, l) ∷ []) → IsScript first faults began s x has
+gone_on s first faults since began x given has numbered number l b has_are end_is p =
     record {
-      scope_is = scope_is;
+      scope_is = b.scope_is;
       more = omega (arith, b.earlier, b.more);
       numbered = numbered ++ (number, l) ∷ [];
       given_are = has_are ∙ ap (λ xs. xs ++ l ∷ []) b.given_are ∙ sym (map-append (λ x. x.1) numbered ((number, l) ∷ []));
-      stands = subst (Stands s first now faults later began r (map spoken (numbered ++ (number, l) ∷ []))) (sym end_is)
-          (subst (Passes s first now began r) (sym (map-append spoken numbered ((number, l) ∷ []))) p, b.ends);
+      stands = subst (Stands s first x.left faults x.faults began x.reader (map spoken (numbered ++ (number, l) ∷ []))) (sym end_is)
+          (subst (Passes s first x.left began x.reader) (sym (map-append spoken numbered ((number, l) ∷ []))) p, b.ends);
     }
 
 none_given : (given has : List LiveLine) (answer other : Result (Option LiveLine) NoLine) → answer ≡ other → has ≡ given ++ lines_in answer → has ≡ given ++ lines_in other
 none_given given has answer other same is = is ∙ ap (λ a. given ++ lines_in a) same
 
-comes_to : (s scope : Scope) (first now : Option (List ℕ)) (faults since later : ℕ) (began r : ReaderState) (given has : List LiveLine) (numbered : List (ℕ × LiveLine)) (c : Result Came ReadError)
-    (answer : Result (Option LiveLine) NoLine) (end : Option ScriptEnd) → Before s first now faults since later began r given numbered → scope ≡ s → has ≡ given ++ lines_in answer
-    → Comes s first now since later began r (map spoken numbered) c → Keeps c answer end → IsScript first now faults later began s scope r has end
-comes_to s scope first now faults since later began r given has numbered (Ok (came.Line number l)) answer end b scope_is has_are p (inl k) =
-    gone_on s scope first now faults since later began r given has numbered number l end b scope_is (none_given given has answer (Ok (Some l)) k.0 has_are) k.1 p
-comes_to s scope first now faults since later began r given has numbered (Ok (came.Line number l)) answer end b scope_is has_are p (inr k) =
-    ended_so s scope first now faults since later began r given has numbered NoMemory end b scope_is (none_given given has answer (Err no_line_for.NoMemory) k.0 has_are) k.1
-    (lacks_behind s first now since later began r (map spoken numbered) (spoken (number, l) ∷ []) p b.ends)
-comes_to s scope first now faults since later began r given has numbered (Ok came.End) answer end b scope_is has_are e k =
-    ended_so s scope first now faults since later began r given has numbered End end b scope_is (none_given given has answer (Ok None) k.0 has_are) k.1 e
-comes_to s scope first now faults since later began r given has numbered (Ok (came.Refused number why)) answer end b scope_is has_are e k =
-    ended_so s scope first now faults since later began r given has numbered (Refused number why) end b scope_is (none_given given has answer (Err no_line_for.Refused) k.0 has_are) k.1 e
-comes_to s scope first now faults since later began r given has numbered (Err read_error.Failed) answer end b scope_is has_are e k =
-    ended_so s scope first now faults since later began r given has numbered ReadFault end b scope_is (none_given given has answer (Err no_line_for.ReadFault) k.0 has_are) k.1 e
-comes_to s scope first now faults since later began r given has numbered (Err read_error.NoMemory) answer end b scope_is has_are e k =
-    ended_so s scope first now faults since later began r given has numbered NoMemory end b scope_is (none_given given has answer (Err no_line_for.NoMemory) k.0 has_are) k.1 e
+comes_to : (s : Scope) (first : Option (List ℕ)) (faults since : ℕ) (began : ReaderState) (x : ScriptState) (given has : List LiveLine) (numbered : List (ℕ × LiveLine)) (c : Result Came ReadError)
+    (answer : Result (Option LiveLine) NoLine) → Before s first faults since x given numbered → has ≡ given ++ lines_in answer
+    → Comes s first x.left since x.faults began x.reader (map spoken numbered) c → Answers c answer x.end → IsScript first faults began s x has
+comes_to s first faults since began x given has numbered (Ok (came.Line number l)) answer b has_are p k =
+    gone_on s first faults since began x given has numbered number l b (none_given given has answer (Ok (Some l)) k.0 has_are) k.1 p
+comes_to s first faults since began x given has numbered (Ok came.End) answer b has_are e k =
+    ended_so s first faults since began x given has numbered End b (none_given given has answer (Ok None) k.0 has_are) k.1 e
+comes_to s first faults since began x given has numbered (Ok (came.Refused number why)) answer b has_are e k =
+    ended_so s first faults since began x given has numbered (Refused number why) b (none_given given has answer (Err no_line_for.Refused) k.0 has_are) k.1 e
+comes_to s first faults since began x given has numbered (Err read_error.Failed) answer b has_are e k =
+    ended_so s first faults since began x given has numbered ReadFault b (none_given given has answer (Err no_line_for.ReadFault) k.0 has_are) k.1 e
+comes_to s first faults since began x given has numbered (Err read_error.NoMemory) answer b has_are e k =
+    ended_so s first faults since began x given has numbered NoMemory b (none_given given has answer (Err no_line_for.NoMemory) k.0 has_are) k.1 e
 
 -- The script goes on by what came.
-pub script_next : (scope : Scope) (first before now : Option (List ℕ)) (faults since later : ℕ) (began r n : ReaderState) (s : Scope) (given has : List LiveLine) (c : Result Came ReadError)
-    (answer : Result (Option LiveLine) NoLine) (end : Option ScriptEnd) → IsScript first before faults since began s scope r given None → EndStands now n → since ≤ later
-    → ((told : List ScriptLine) → Passes scope first before began r told → Comes scope first now since later began n told c) → Keeps c answer end → has ≡ given ++ lines_in answer
-    → IsScript first now faults later began s scope n has end
-script_next scope first before now faults since later began r n s given has c answer end is ends more comes keeps has_are =
+pub script_next : (first : Option (List ℕ)) (faults : ℕ) (began : ReaderState) (s : Scope) (x y : ScriptState) (given : List LiveLine) (c : Result Came ReadError)
+    (answer : Result (Option LiveLine) NoLine) → IsScript first faults began s x given → x.end ≡ None → EndStands y.left y.reader → x.faults ≤ y.faults → y.scope ≡ x.scope
+    → ((told : List ScriptLine) → Passes x.scope first x.left began x.reader told → Comes x.scope first y.left x.faults y.faults began y.reader told c) → Answers c answer y.end
+    → IsScript first faults began s y (given ++ lines_in answer)
+script_next first faults began s x y given c answer is ongoing ends more scope comes answers =
     let told : List ScriptLine = map spoken is.numbered in
-    comes_to s scope first now faults since later began n given has is.numbered c answer end
-    (record { given_are = is.given_are; ends = ends; earlier = is.more; more = more }) is.scope_is has_are
-    (subst (λ z. Comes z first now since later began n told c) is.scope_is (comes told (subst (λ z. Passes z first before began r told) (sym is.scope_is) is.stands.0))) keeps
+    let stood : Passes s first x.left began x.reader told × EndStands x.left x.reader = subst (Stands s first x.left faults x.faults began x.reader told) ongoing is.stands in
+    comes_to s first faults x.faults began y given (given ++ lines_in answer) is.numbered c answer
+    (record { scope_is = scope ∙ is.scope_is; given_are = is.given_are; ends = ends; earlier = is.more; more = more }) refl
+    (subst (λ z. Comes z first y.left x.faults y.faults began y.reader told c) is.scope_is (comes told (subst (λ z. Passes z first x.left began x.reader told) (sym is.scope_is) stood.0))) answers

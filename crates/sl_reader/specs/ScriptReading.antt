@@ -20,7 +20,7 @@ use Rattle.sl_reader.specs.declared.reader.ReadError.{ReadError}
 use Rattle.sl_text.specs.Forms.{is_free_of, lines_of}
 use Rattle.sl_io.specs.FaultCauses.{Rose}
 use Rattle.std.specs.Io.KnownBytes.{Consumes, IsAtEnd}
-use Rattle.std.specs.Prelude.{Bool, Err, IsTrue, List, None, Ok, Option, Result, Some, false, filter_map, length, map, true, [], ℕ, ◌++◌, ◌+◌, ◌∷◌, ◌≡◌, ◌≤◌, ◌⊎◌}
+use Rattle.std.specs.Prelude.{Bool, Err, IsTrue, List, None, Ok, Option, Result, Some, false, filter_map, length, map, true, [], ℕ, ◌++◌, ◌+◌, ◌∷◌, ◌≡◌, ◌≤◌}
 
 -- ---- what lines say
 
@@ -129,28 +129,37 @@ Comes s first now faults later began r told (Err read_error.Failed) = Ends s fir
 Comes s first now faults later began r told (Err read_error.NoMemory) = Ends s first now faults later began told NoMemory
 
 -- What is answered when this came, and why the script ended, if it did.
-abbrev pub Keeps : Result Came ReadError → Result (Option LiveLine) NoLine → Option ScriptEnd → Type 0
-Keeps (Ok (came.Line number l)) answer end = ((answer ≡ Ok (Some l)) × (end ≡ None)) ⊎ ((answer ≡ Err no_line_for.NoMemory) × (end ≡ Some NoMemory))
-Keeps (Ok came.End) answer end = (answer ≡ Ok None) × (end ≡ Some End)
-Keeps (Ok (came.Refused number why)) answer end = (answer ≡ Err no_line_for.Refused) × (end ≡ Some (Refused number why))
-Keeps (Err read_error.Failed) answer end = (answer ≡ Err no_line_for.ReadFault) × (end ≡ Some ReadFault)
-Keeps (Err read_error.NoMemory) answer end = (answer ≡ Err no_line_for.NoMemory) × (end ≡ Some NoMemory)
+abbrev pub Answers : Result Came ReadError → Result (Option LiveLine) NoLine → Option ScriptEnd → Type 0
+Answers (Ok (came.Line number l)) answer end = (answer ≡ Ok (Some l)) × (end ≡ None)
+Answers (Ok came.End) answer end = (answer ≡ Ok None) × (end ≡ Some End)
+Answers (Ok (came.Refused number why)) answer end = (answer ≡ Err no_line_for.Refused) × (end ≡ Some (Refused number why))
+Answers (Err read_error.Failed) answer end = (answer ≡ Err no_line_for.ReadFault) × (end ≡ Some ReadFault)
+Answers (Err read_error.NoMemory) answer end = (answer ≡ Err no_line_for.NoMemory) × (end ≡ Some NoMemory)
 
 -- ---- a script that is being read
 
--- The lines that were given, and why it ended, if it did.
+-- What is left of its source, how many of its reads have failed, what is read ahead of it, by which names lines are read, and why it ended, if it did.
 pub record ScriptState : Type 0 where
-  pub given : List LiveLine
+  pub left : Option (List ℕ)
+  pub faults : ℕ
+  pub reader : ReaderState
+  pub scope : Scope
   pub end : Option ScriptEnd
+
+-- No fault is forgotten; and while it goes on, its reader may be at its source's end only if that is there.
+pub record IsAhead (before : ℕ) (now : Option (List ℕ)) (faults : ℕ) (r : ReaderState) (end : Option ScriptEnd) : Type 0 where
+  pub more : before ≤ faults
+  pub stands : end ≡ None → EndStands now r
 
 -- How far it is read.
 abbrev pub Stands : Scope → Option (List ℕ) → Option (List ℕ) → ℕ → ℕ → ReaderState → ReaderState → List ScriptLine → Option ScriptEnd → Type 0
 Stands s first now faults later began r told None = Passes s first now began r told × EndStands now r
 Stands s first now faults later began r told (Some end) = Ends s first now faults later began told end
 
-pub record IsScript (first now : Option (List ℕ)) (faults later : ℕ) (began : ReaderState) (s scope : Scope) (r : ReaderState) (given : List LiveLine) (end : Option ScriptEnd) : Type 0 where
-  pub scope_is : scope ≡ s
-  pub more : faults ≤ later
+-- It has given these lines since its reader began with this source.
+pub record IsScript (first : Option (List ℕ)) (faults : ℕ) (began : ReaderState) (scope : Scope) (s : ScriptState) (given : List LiveLine) : Type 0 where
+  pub scope_is : s.scope ≡ scope
+  pub more : faults ≤ s.faults
   pub numbered : List (ℕ × LiveLine)
   pub given_are : given ≡ map (λ x. x.1) numbered
-  pub stands : Stands s first now faults later began r (map spoken numbered) end
+  pub stands : Stands scope first s.left faults s.faults began s.reader (map spoken numbered) s.end

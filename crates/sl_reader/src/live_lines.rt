@@ -30,12 +30,12 @@ pub enum NoLine {
 pub trait LiveLines {
     ghost use Rattle.sl_reader.specs.GivenAnswers.{lines_in};
     ghost use Rattle.sl_reader.specs.declared.live_lines.LiveLine.{LiveLine as LineOf};
-    ghost use Rattle.std.specs.Prelude.{List, ◌++◌, ◌≡◌};
+    ghost use Rattle.std.specs.Prelude.{List, ◌++◌};
 
-    /// The lines that it gave so far, the oldest first.
-    ghost given: { Self → List LineOf };
+    /// Whether these are the lines that it gave so far, the oldest first. Nobody keeps them.
+    ghost has_given: { Self → List LineOf → Type 0 };
 
     /// The next line; none at the end.
     fn next(&mut self) -> Result<Option<LiveLine>, NoLine>
-        ensures { given self.new ≡ given self.old ++ lines_in result };
+        ensures { (given : List LineOf) → has_given self.old given → has_given self.new (given ++ lines_in result) };
 }

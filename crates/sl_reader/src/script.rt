@@ -2,40 +2,40 @@
 
 ghost use Rattle.sl_reader.specs.GivenAnswers.{lines_in};
 ghost use Rattle.sl_reader.specs.Scopes.{scope_of};
-ghost use Rattle.sl_reader.specs.ScriptReading.{ReadsScript};
+ghost use Rattle.sl_reader.specs.ScriptReading.{IsScript, ReadsScript};
+ghost use Rattle.sl_reader.specs.declared.live_lines.LiveLine.{LiveLine as LineOf};
 ghost use Rattle.sl_run.specs.declared.header.Header.{Header as HeaderOf};
 ghost use Rattle.sl_reader.specs.HeaderBegins.{HeaderBegins};
 ghost use Rattle.sl_reader.specs.LineReads.{EndStands};
 ghost use Rattle.std.specs.Prelude.{List, None, Option, [], ℕ, ◌≡◌, ◌≤◌};
 
 use crate::origin::Origin;
-use crate::script_reading::{ScriptEnd, keep, read_on};
+use crate::script_reading::{ScriptEnd, answer_of, read_on};
 use crate::{LineReader, LiveLine, LiveLines, NoLine, Scope};
 use sl_io::Source;
 use sl_run::Header;
 use std::alloc::Global;
 use std::marker::{Model, PhantomData};
 
-/// The lines of a script behind its header: read one at a time, as they are asked for. Contracts see those that were given, and why the script
-/// ended, if it did.
+/// The lines of a script behind its header: read one at a time, as they are asked for, and kept by nobody. Contracts see how far it is read, so
+/// which lines may have been given, and why the script ended, if it did.
 pub struct ScriptLines<S: Source, J: Origin> {
     alloc: Global,
     source: S,
     reader: LineReader,
     scope: Scope,
-    given: Vec<LiveLine>,
     end: Option<ScriptEnd>,
     of: PhantomData<J>,
 }
 
 impl<S: Source, J: Origin> Model for ScriptLines<S, J> {
-    ghost use Rattle.sl_reader.specs.ScriptReading.{IsScript, ScriptState};
+    ghost use Rattle.sl_reader.specs.ScriptReading.{IsAhead, ScriptState};
 
     ghost Value = { ScriptState };
 
-    ghost view = { λ s. record { given = s.given.items; end = s.end } };
+    ghost view = { λ s. record { left = S.left s.source; faults = S.faults s.source; reader = s.reader; scope = s.scope; end = s.end } };
 
-    ghost invariant = { λ s. IsScript J.left (S.left s.source) J.faults (S.faults s.source) J.began J.scope s.scope s.reader s.given.items s.end };
+    ghost invariant = { λ s. IsAhead J.faults (S.left s.source) (S.faults s.source) s.reader s.end };
 }
 
 /// The answer where a script has ended.
@@ -59,33 +59,32 @@ impl<S: Source, J: Origin> ScriptLines<S, J> {
         requires began { reader ≡ J.began }
         requires scope { scope_of header.now ≡ J.scope }
         requires ends { EndStands (S.left source) reader }
-        ensures { result ≡ record { given = []; end = None } }
+        ensures end { result.end ≡ None }
+        ensures none { IsScript J.left J.faults J.began J.scope result [] }
     {
         ScriptLines {
             alloc,
             source,
             reader,
             scope: Scope::of(header),
-            given: Vec::new(alloc),
             end: None,
             of: PhantomData,
         }
     }
 
-    /// The source back, and why the script ended, if it did: what was read of the source is the script's header, the lines that were given, and
-    /// what ended it; where it was not read to its end, whatever may have followed.
+    /// The source back, and why the script ended, if it did: what was read of the source is the script's header, the lines that were given,
+    /// whichever they are, and what ended it; where it was not read to its end, whatever may have followed.
     pub fn close(self) -> (S, Option<ScriptEnd>)
         ensures end { result.1 ≡ self.end }
         ensures later { J.faults ≤ S.faults result.0 }
-        ensures script { (first : Option (List ℕ)) (header : HeaderOf) → HeaderBegins first J.left J.began header → scope_of header ≡ J.scope
-            → ReadsScript first (S.left result.0) J.faults (S.faults result.0) header self.given result.1 }
+        ensures script { (first : Option (List ℕ)) (header : HeaderOf) (given : List LineOf) → HeaderBegins first J.left J.began header → scope_of header ≡ J.scope
+            → IsScript J.left J.faults J.began J.scope self given → ReadsScript first (S.left result.0) J.faults (S.faults result.0) header given result.1 }
     {
         let ScriptLines {
             alloc: _,
             source,
             reader: _,
             scope: _,
-            given: _,
             end,
             of: _,
         } = self;
@@ -94,7 +93,9 @@ impl<S: Source, J: Origin> ScriptLines<S, J> {
 }
 
 impl<S: Source, J: Origin> LiveLines for ScriptLines<S, J> {
-    ghost given = { λ s. s.given };
+    ghost use Rattle.sl_reader.specs.ScriptReading.{IsScript};
+
+    ghost has_given = { IsScript J.left J.faults J.began J.scope };
 
     fn next(&mut self) -> Result<Option<LiveLine>, NoLine> {
         match self.end {
@@ -102,7 +103,7 @@ impl<S: Source, J: Origin> LiveLines for ScriptLines<S, J> {
             None => {}
         }
         let came = read_on(self.alloc, &mut self.source, &mut self.reader, &self.scope);
-        let (answer, end) = keep(&mut self.given, came);
+        let (answer, end) = answer_of(came);
         self.end = end;
         answer
     }

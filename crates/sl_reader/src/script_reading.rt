@@ -1,14 +1,13 @@
 //! The next line of a script that says something.
 
-ghost use Rattle.sl_reader.specs.ScriptReading.{Comes, Keeps, Passes, ScriptLine, came_of};
-ghost use Rattle.sl_reader.specs.GivenAnswers.{lines_in};
+ghost use Rattle.sl_reader.specs.ScriptReading.{Answers, Comes, Passes, ScriptLine, came_of};
 ghost use Rattle.sl_reader.specs.LineReads.{EndStands, ReaderState};
-ghost use Rattle.std.specs.Prelude.{List, OnErr, OnOk, Option, [], ℕ, ◌++◌, ◌∷◌, ◌≡◌, ◌≤◌};
+ghost use Rattle.std.specs.Prelude.{List, Option, ℕ, ◌≡◌, ◌≤◌};
 
 use crate::{LineReader, LiveLine, LiveRead, Next, NoLine, ReadError, Scope, live_line};
 use sl_io::Source;
 use sl_run::Refusal;
-use std::alloc::{AllocError, Global};
+use std::alloc::Global;
 
 /// Why a script ended.
 #[derive(Clone, Copy)]
@@ -76,28 +75,14 @@ pub(crate) fn read_on<S: Source>(
     }
 }
 
-/// One line more, as a copy. An `Err` is want of memory, and changes nothing.
-fn add(given: &mut Vec<LiveLine>, line: &LiveLine) -> Result<(), AllocError>
-    ensures ok { OnOk result (given.new.items ≡ given.old.items ++ line.now ∷ []) }
-    ensures err { OnErr result (given.new.items ≡ given.old.items) }
-{
-    given.push(line.clone()?)?;
-    Ok(())
-}
-
-/// Keeps what came among the lines that were given: the answer to whoever asked for it, and why the script ended, if it did.
-pub(crate) fn keep(
-    given: &mut Vec<LiveLine>,
+/// What came as the answer to whoever asked for it, and why the script ended, if it did.
+pub(crate) fn answer_of(
     came: Result<Came, ReadError>,
 ) -> (Result<Option<LiveLine>, NoLine>, Option<ScriptEnd>)
-    ensures keeps { Keeps came result.0 result.1 }
-    ensures given { given.new.items ≡ given.old.items ++ lines_in result.0 }
+    ensures { Answers came result.0 result.1 }
 {
     match came {
-        Ok(Came::Line { number: _, line }) => match add(given, &line) {
-            Ok(()) => (Ok(Some(line)), None),
-            Err(_) => (Err(NoLine::NoMemory), Some(ScriptEnd::NoMemory)),
-        },
+        Ok(Came::Line { number: _, line }) => (Ok(Some(line)), None),
         Ok(Came::End) => (Ok(None), Some(ScriptEnd::End)),
         Ok(Came::Refused { number, why }) => (
             Err(NoLine::Refused),

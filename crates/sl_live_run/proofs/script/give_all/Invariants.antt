@@ -6,4 +6,4 @@ use Rattle.std.proofs.Common.{[], ℕ}
 -- the lines so far are noted
 abbrev pub invariant-loop : goal.invariant-loop
 invariant-loop g l =
-    (machines : ℕ) → AreGiven l.fn.ledger machines [] → Telling machines (g.L.LiveLines.given l.fn.lines) (g.L.LiveLines.given l.lines) l.ledger
+    (machines : ℕ) → AreGiven l.fn.ledger machines [] → Telling machines (g.L.LiveLines.has_given l.fn.lines) (g.L.LiveLines.has_given l.lines) l.ledger

@@ -1,9 +1,8 @@
 -- A script begins.
 use Rattle.sl_reader.proofs.ScriptLaws.{begins}
 use Rattle.sl_reader.proofs.script.ScriptLines.new.Goals as goal
-use Rattle.std.proofs.Common.{◌∙◌}
+use Rattle.std.proofs.Common.{refl, ◌∙◌}
 
-pub invariant_of-result : goal.invariant_of-result
-invariant_of-result g c =
-    begins g.J.Origin.scope c.of.result g.J.Origin.left (g.S.Source.left c.args.source) g.J.Origin.faults (g.S.Source.faults c.args.source) g.J.Origin.began c.args.reader c.new.result.items
-    c.requires.left c.requires.faults c.requires.began (c.of.ensures ∙ c.requires.scope) c.new.ensures.items c.requires.ends
+pub returns-clause-none : goal.returns-clause-none
+returns-clause-none g c =
+    begins g.J.Origin.left g.J.Origin.faults g.J.Origin.began g.J.Origin.scope _ c.requires.left c.requires.faults c.requires.began (c.of.ensures ∙ c.requires.scope) refl c.requires.ends
