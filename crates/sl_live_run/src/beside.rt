@@ -45,7 +45,11 @@ fn beside<
     ensures told { (count : ℕ) → AreGiven ledger.old count [] → HasPutOut writer.old []
         → HasTold count (L.has_given lines.old) (L.has_given lines.new) ledger.new writer.new result }
 {
-    let ((), told) = join_mut(rt, rest, &mut || tell(rt, alloc, roll, ways, lines, ledger, writer));
+    let ((), told) = join_mut(
+        rt,
+        rest,
+        &mut || tell(rt, alloc, roll, ways, lines, ledger, writer),
+    );
     told
 }
 

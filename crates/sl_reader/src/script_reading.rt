@@ -33,7 +33,10 @@ pub(crate) enum Came {
     /// None is left.
     End,
     /// The line of this number is refused before it is read.
-    Refused { number: u64, why: Refusal },
+    Refused {
+        number: u64,
+        why: Refusal,
+    },
 }
 
 /// What a line says, as what came next.
