@@ -60,7 +60,7 @@ impl<C: Clock, P: Spawner, V: Device, A: Area, O: Press, T: Shelf> Begun<C, P, V
 }
 
 /// A place as a number. An `Err` says that it has too many bits.
-fn place_of(machines: usize) -> Result<u32, AllocError>
+pub(crate) fn place_of(machines: usize) -> Result<u32, AllocError>
     ensures { IfOk result (λ place. place ≡ machines) }
 {
     match u32::try_from(machines) {
