@@ -6,7 +6,7 @@
 
 ghost use Rattle.sl_sector.specs.SectorLayouts.{IsSectorSize};
 ghost use Rattle.std.specs.Arc.{arc_value};
-ghost use Rattle.std.specs.Prelude.{IfOk, OnOk, bytes_eq, length, ◌++◌, ◌<◌, ◌≡◌};
+ghost use Rattle.std.specs.Prelude.{IfOk, IfSome, OnOk, bytes_eq, length, ◌++◌, ◌<◌, ◌≡◌};
 
 use indexmap::IndexMap;
 use sl_area::Geometry;
@@ -95,21 +95,33 @@ impl DiskBefore {
     }
 }
 
+/// Whether the disk has this path.
+fn has_path(disk: &DiskBefore, path: &FilePath) -> bool
+    ensures { result ≡ bytes_eq disk.now.path path.now }
+{
+    disk.path == *path
+}
+
+/// The place of the disk with this path, if it is among these.
+fn disk_at(disks: &[DiskBefore], path: &FilePath) -> Option<usize>
+    ensures { IfSome result (λ k. k < length disks.now) }
+{
+    disks.iter().position(|disk| has_path(disk, path))
+}
+
 /// The place of the disk with this path, which is put behind the others if it is not there. An `Err` is want of memory.
 fn disk_of(alloc: Global, disks: &mut Vec<DiskBefore>, path: &FilePath) -> Result<usize, AllocError>
     ensures { IfOk result (λ k. k < length disks.new.items) }
 {
-    match disks.iter().position(|disk| disk.path == *path) {
-        Some(k) => Ok(k),
-        None => {
-            let k = disks.len();
-            disks.push(DiskBefore {
-                path: *path,
-                sectors: IndexMap::new(alloc),
-            })?;
-            Ok(k)
-        }
+    if let Some(k) = disk_at(disks, path) {
+        return Ok(k);
     }
+    let k = disks.len();
+    disks.push(DiskBefore {
+        path: *path,
+        sectors: IndexMap::new(alloc),
+    })?;
+    Ok(k)
 }
 
 /// The sectors that were read last of each disk.
