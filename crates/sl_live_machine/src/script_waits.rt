@@ -36,10 +36,10 @@ pub struct Post {
 }
 
 impl Post {
-    /// A post with no line. The first line's job has this number.
-    pub fn new(alloc: Global, first_job: u64) -> Post {
+    /// A post with no line. The first line's job has this number; whether the machine's events are told.
+    pub fn new(alloc: Global, first_job: u64, events: bool) -> Post {
         Post {
-            board: Mutex::new(Board::new(alloc, first_job)),
+            board: Mutex::new(Board::new(alloc, first_job, events)),
             ticker: Bell::new(),
             delta: Bell::new(),
             resource: Bell::new(),

@@ -213,7 +213,7 @@ where
     let Ok(ledger) = Ledger::new(alloc, unread.again(), prepared.len()) else {
         return no_run(alloc, output);
     };
-    let Ok(begun) = begin::<V, O, T>(alloc, prepared, &unread, &pieces) else {
+    let Ok(begun) = begin::<V, O, T>(alloc, prepared, &unread, &pieces, events) else {
         return no_run(alloc, output);
     };
     let Ok(writer) = script_writer(begun.machines.len(), &pieces) else {
