@@ -3,7 +3,7 @@ use Rattle.sl_reader.specs.LiveLines.{checked, live_line, live_line_in}
 use Rattle.sl_reader.specs.Scopes.{scope_of}
 use Rattle.sl_reader.specs.declared.live_lines.LiveLine.{LiveLine}
 use Rattle.sl_reader.specs.declared.scope.Scope.{Scope}
-use Rattle.sl_reader.specs.ScriptReading.{ArePlain, Comes, Ends, EndsUnread, IsPlain, IsScript, IsUnread, Leaves, Passes, ReadsScript, Says, ScriptLine, ScriptState, Stands, Tells, TellsComplete, came_of, following, script_lines}
+use Rattle.sl_reader.specs.ScriptReading.{ArePlain, Comes, Ends, EndsUnread, IsPlain, IsScript, Leaves, Passes, ReadsScript, Says, ScriptLine, ScriptState, Stands, Tells, TellsComplete, came_of, following, script_lines}
 use Rattle.sl_reader.specs.ScriptReading.{line_of as given_line}
 use Rattle.sl_reader.specs.declared.script_reading.Came.{Came}
 use Rattle.sl_reader.specs.declared.script_reading.ScriptEnd.TheVariants.{End, NoMemory, ReadFault, Refused}
