@@ -1,9 +1,9 @@
 //! The sectors that a worker has read before.
 //!
 //! What a sector spells takes its digest to know, and most of what a worker reads it has read before: one area's sectors again and again, and blocks
-//! that nobody has used yet, which are the same in every area. So of each place within a read the sector that was read there last is kept, with what
-//! it spells. A sector that has the same bytes is the one that is kept, and only one with other bytes is decoded. What is kept is as large as the
-//! longest read.
+//! that nobody has used yet, which are the same in every area. So for each place within an area the sector that was read there last is kept, whichever
+//! area that was, with what it spells. A sector that has the same bytes is the one that is kept, and only one with other bytes is decoded. What is
+//! kept is as large as an area.
 
 ghost use Rattle.sl_sector.specs.SectorLayouts.{IsSectorSize};
 ghost use Rattle.std.specs.Arc.{arc_value};
@@ -33,20 +33,23 @@ fn decoded(alloc: Global, bytes: &[u8]) -> Result<Arc<Image>, AllocError>
     Ok(Arc::new(alloc, Image::of_bytes(copy))?)
 }
 
-/// Puts a sector at this place, or behind the others where there are not so many. An `Err` is want of memory.
-fn keep(last: &mut Vec<Arc<Image>>, place: usize, image: Arc<Image>) -> Result<(), AllocError> {
-    if place < last.len() {
-        last[place] = image;
-    } else {
-        last.push(image)?;
+/// Keeps a sector for this place. An `Err` is want of memory.
+fn keep(
+    last: &mut Vec<Option<Arc<Image>>>,
+    place: usize,
+    image: Arc<Image>,
+) -> Result<(), AllocError> {
+    while last.len() <= place {
+        last.push(None)?;
     }
+    last[place] = Some(image);
     Ok(())
 }
 
-/// The sectors that were read last, of each place within a read.
+/// The sectors that were read last, of each place within an area.
 #[derive(Drop)]
 pub struct ReadBefore {
-    last: Vec<Arc<Image>>,
+    last: Vec<Option<Arc<Image>>>,
     scratch: Vec<u8>,
 }
 
@@ -59,7 +62,7 @@ impl ReadBefore {
         }
     }
 
-    /// Adds the sector at this place of a read: the one that is kept where it has these bytes, else one that is kept from now on. An `Err` is want of
+    /// Adds the sector that was read at this place: the one that is kept where it has these bytes, else one that is kept from now on. An `Err` is want of
     /// memory.
     fn share(
         &mut self,
@@ -72,7 +75,7 @@ impl ReadBefore {
         requires same { length sector.now ≡ images.old.size }
         ensures { OnOk result (images.new ≡ record images.old { bytes = images.old.bytes ++ sector.now }) }
     {
-        if let Some(before) = self.last.get(place) {
+        if let Some(Some(before)) = self.last.get(place) {
             if has_bytes(&mut self.scratch, before, sector)? {
                 return images.push(before);
             }
@@ -82,19 +85,20 @@ impl ReadBefore {
         keep(&mut self.last, place, image)
     }
 
-    /// The sectors of bytes that were read: those with the bytes that were read at their place last are shared with that read, the others are decoded.
-    /// An `Err` is want of memory, or bytes that are not whole sectors.
+    /// The sectors of bytes that were read from this offset on: those with the bytes that were read last at their place of an area are shared with that
+    /// read, the others are decoded. An `Err` is want of memory, or bytes that are not whole sectors.
     pub fn images(
         &mut self,
         alloc: Global,
         geometry: &Geometry,
+        offset: u64,
         bytes: &[u8],
     ) -> Result<Images, AllocError>
         ensures { IfOk result (λ images. images ≡ record { size = geometry.now.sector; bytes = bytes.now }) }
     {
         let size = geometry.sector();
         let mut images = Images::new(alloc, size);
-        let mut place = 0usize;
+        let mut place = (offset % geometry.area() / u64::from(size)) as usize;
         let mut rest = bytes;
         while !rest.is_empty() {
             if rest.len() < size as usize {

@@ -49,13 +49,14 @@ fn make<D: Teller, J: Station, P: Spawner, A: Area, G: Gate>(
 fn sectors_of<D: Teller, J: Station, P: Spawner>(
     room: &Room<D, J, P>,
     before: &mut ReadBefore,
+    call: &Call,
     answer: &Answer,
 ) -> Result<Option<Images>, AllocError>
     ensures { IfOk result (λ o. IfSome o (λ i. answer.now ≡ Read i.bytes)) }
 {
     match answer {
         Answer::Read(bytes) => {
-            let images = before.images(room.alloc, &room.geometry, bytes.as_slice())?;
+            let images = before.images(room.alloc, &room.geometry, call.offset, bytes.as_slice())?;
             Ok(Some(images))
         }
         Answer::Written => Ok(None),
@@ -79,7 +80,7 @@ fn answer<D: Teller, J: Station, R: Wait, C: Clock, P: Spawner, A: Area, G: Gate
         before after seat.old seat.new)) }
 {
     let answer = make(room, gate, call, disks)?;
-    let sectors = sectors_of(room, before, &answer)?;
+    let sectors = sectors_of(room, before, call, &answer)?;
     let input = Input::Answer {
         call: call.number,
         answer,
