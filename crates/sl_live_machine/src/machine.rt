@@ -299,7 +299,8 @@ fn begin_cell<D: Teller, J: Station>(
 ///
 /// An `Ok` end is a history of the daemon of this setting, which stood for it: its entries are exactly what the machine's threads gave, each once; its
 /// lines are those that the reader has met, each for lvmlockd with its asks and answered; no call and no start is unanswered; and the pieces of the
-/// writer are what is told of it, with its events where the desk tells them. Else a case that holds of it, or want of memory: there, and where threads can't be made, all machines end.
+/// writer are what is told of it, with its events where the desk tells them. Else a case that holds of it, or want of memory: there, and where threads
+/// can't be made, all machines end.
 pub fn run_machine<
     D: Teller + Send,
     J: Station + Send + Sync,
