@@ -275,7 +275,7 @@ fn run_room<
 }
 
 /// A machine's cell with the front of one who has seen nothing, and what goes along its history. An `Err` is want of memory.
-#[tactic(auto, using(crate::proofs::EndLaws::given_below_in))]
+#[tactic(auto, using(sl_cell::proofs::LeadLaws::given_below))]
 fn begin_cell<D: Teller, J: Station>(
     alloc: Global,
     header: &Header,
