@@ -124,6 +124,11 @@ impl Board {
         self.running.contains(&process)
     }
 
+    /// How many children run.
+    pub(crate) fn children(&self) -> usize {
+        self.running.len()
+    }
+
     /// A line to be given, for whose reply the script waits or does not. An `Err` is want of memory.
     pub(crate) fn put(&mut self, line: GivenLine, awaits: bool) -> Result<(), AllocError> {
         self.lines.reserve(1)?;

@@ -105,6 +105,11 @@ fn make_file<R: Files>(
     file.set_len(size)
 }
 
+/// Says on standard error which path the system refused, and why. Where that can't be said either, nothing is.
+fn say<R: Eprint>(rt: &R, folder: &str, path: &str, error: &io::Error) {
+    let _said = eprintln!(rt; "sanlock: {folder}{path}: {error}");
+}
+
 impl<R: Files + Drop> Devices for FileDevices<R> {
     type Area = FileArea<R::File>;
 
@@ -123,7 +128,7 @@ impl<R: Files + Drop> Devices for FileDevices<R> {
 }
 
 impl<
-    R: Files<File = File> + Processes<Started = SystemProcess> + Clock + Copy + Drop + Send,
+    R: Files<File = File> + Processes<Started = SystemProcess> + Clock + Eprint + Copy + Drop + Send,
 > LiveDevices for FileDevices<R> {
     type Clock = RealClock<R>;
 
@@ -145,7 +150,10 @@ impl<
                 self.faults.raise();
                 Err(NotTaken::InUse)
             }
-            Err(TryLockError::Error(_)) => Err(NotTaken::from(self.faults.raise())),
+            Err(TryLockError::Error(error)) => {
+                say(&self.rt, folder, "", &error);
+                Err(NotTaken::from(self.faults.raise()))
+            }
         }
     }
 
@@ -159,8 +167,15 @@ impl<
     fn make(&mut self, folder: &str, path: &str, size: u64, anew: bool) -> Result<(), Failed> {
         match make_file(&self.rt, self.alloc, folder, path, size, anew) {
             Ok(()) => Ok(()),
-            Err(_) => Err(self.faults.raise()),
+            Err(error) => {
+                say(&self.rt, folder, path, &error);
+                Err(self.faults.raise())
+            }
         }
+    }
+
+    fn refused(&self, path: &str) {
+        let _said = eprintln!(&self.rt; "sanlock: {path}: a sector can't be written");
     }
 
     fn clock(&mut self, _machine: u32, _thread: u32) -> RealClock<R> {
