@@ -37,19 +37,15 @@ impl<C: Clock, P: Spawner, V: Device, A: Area, O: Press, T: Shelf> Begun<C, P, V
     }
 
     /// A post and a mail for one machine more, and room for it, before its parts live here. An `Err` is want of memory.
-    fn make_room(
-        &mut self,
-        alloc: Global,
-        first_job: u64,
-        events: bool,
-    ) -> Result<(), AllocError>
+    fn make_room(&mut self, alloc: Global, first_job: u64, events: bool) -> Result<(), AllocError>
         ensures room { OnOk result (vec_len self.new.machines < vec_capacity self.new.machines) }
         ensures machines { self.new.machines.items ≡ self.old.machines.items }
     {
         self.machines.reserve(1)?;
         self.posts.reserve(1)?;
         self.mails.reserve(1)?;
-        self.posts.push_reserved(Post::new(alloc, first_job, events));
+        self.posts
+            .push_reserved(Post::new(alloc, first_job, events));
         self.mails.push_reserved(Mail::new(alloc));
         Ok(())
     }

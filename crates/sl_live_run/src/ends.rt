@@ -43,13 +43,12 @@ struct Ends<O: Press, A: Area> {
     disks: Vec<Disks<A>>,
 }
 
-/// Takes what machines have left apart, with who put out the script's pieces behind theirs. An `Err` is want of memory.
+/// Takes what machines have left apart. An `Err` is want of memory.
 fn take_ends<O: Press, T: Shelf, A: Area>(
     alloc: Global,
     rans: Vec<Ran<O, T, A>>,
-    last: Writer<O>,
 ) -> Result<Ends<O, A>, AllocError>
-    ensures { IfOk result (λ e. e.writers.items ≡ map (λ r. r.writer) rans.items ++ last ∷ []) }
+    ensures { IfOk result (λ e. e.writers.items ≡ map (λ r. r.writer) rans.items) }
 {
     let mut writers = Vec::new(alloc);
     let mut disks = Vec::new(alloc);
@@ -66,6 +65,18 @@ fn take_ends<O: Press, T: Shelf, A: Area>(
         writers.push(writer)?;
         disks.push(Disks { delta, resource })?;
     }
+    Ok(Ends { writers, disks })
+}
+
+/// .. with who put out the script's pieces behind those who put out theirs.
+fn take_all_ends<O: Press, T: Shelf, A: Area>(
+    alloc: Global,
+    rans: Vec<Ran<O, T, A>>,
+    last: Writer<O>,
+) -> Result<Ends<O, A>, AllocError>
+    ensures { IfOk result (λ e. e.writers.items ≡ map (λ r. r.writer) rans.items ++ last ∷ []) }
+{
+    let Ends { mut writers, disks } = take_ends(alloc, rans)?;
     writers.push(last)?;
     Ok(Ends { writers, disks })
 }
@@ -100,7 +111,7 @@ fn finish<O: Press, T: Shelf, A: Area>(
     ensures err { IfErr result.0 (StopsSome early ledger.now rans.items) }
 {
     let settled = settle(early, ledger, &rans);
-    match take_ends(alloc, rans, writer) {
+    match take_all_ends(alloc, rans, writer) {
         Ok(Ends { writers, disks }) => {
             if settled.is_ok() && !are_pieces(&writers, pieces) {
                 (Err(LiveStop::NoMemory), disks)
