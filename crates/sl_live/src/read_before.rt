@@ -39,7 +39,7 @@ fn keep(
     place: usize,
     image: Arc<Image>,
 ) -> Result<(), AllocError> {
-    for _ in last.len()..=place {
+    while last.len() <= place {
         last.push(None)?;
     }
     last[place] = Some(image);
