@@ -12,7 +12,7 @@ use Rattle.sl_cell.specs.Histories.{Signed}
 use Rattle.sl_live.proofs.WorkLaws.{next_within, served_answer, served_more, served_pass, take_next, take_same}
 use Rattle.sl_live.specs.Turns.{AreServed, ChildrenState, Gives, IsAnswerOf, IsChildThread, IsDeviceThread, IsExit, IsIdleTurn, IsLine, IsLineThread, IsPassed, IsSpawned, IsStarterThread, IsTicker, IsWake, Looks, MakesTurn, TellsExit, TellsStart, Works}
 use Rattle.sl_live.specs.declared.steps.Gone.{Gone}
-use Rattle.sl_live_machine.specs.ThreadSeats.{GaveTurn, TestedTurn}
+use Rattle.sl_live_machine.specs.ThreadSeats.{GaveTurn}
 use Rattle.sl_outside.specs.declared.act.Act.{Act}
 use Rattle.sl_trace.specs.Traces.{Setting}
 use Rattle.sl_trace.specs.declared.effects.Call.{Call}

@@ -100,6 +100,9 @@ fn lend_each<V: LiveDevices>(
             path: disk.path,
             area,
         });
+        if written.is_err() {
+            devices.refused(whole.as_str());
+        }
         written?;
     }
     Ok(())

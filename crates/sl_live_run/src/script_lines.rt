@@ -1,10 +1,11 @@
-//! What a line of the script gives.
+//! What a line of the script gives, and what is told of it.
 
-ghost use Rattle.sl_live_run.specs.Runs.{given_by};
+ghost use Rattle.sl_live_run.specs.Runs.{given_by, refusal_text};
 ghost use Rattle.std.specs.Prelude.{IfOk, ◌≡◌};
 
 use sl_live_lines::GivenLine;
 use sl_reader::LiveLine;
+use sl_schedule::push_refusal_line;
 use sl_text::Bytes;
 use std::alloc::{AllocError, Global};
 
@@ -33,5 +34,17 @@ pub(crate) fn given_by(
             Ok(Some((*machine, GivenLine::ForLocks(copy(alloc, line)?))))
         }
         LiveLine::Exits { .. } => Ok(None),
+        LiveLine::Refused { .. } => Ok(None),
     }
+}
+
+/// What is told of a line of the script itself: its refusal, if it is refused. An `Err` is want of memory.
+pub(crate) fn refusal_text(alloc: Global, line: &LiveLine) -> Result<Vec<u8>, AllocError>
+    ensures { IfOk result (λ text. text.items ≡ refusal_text line.now) }
+{
+    let mut text = Vec::new(alloc);
+    if let LiveLine::Refused { number, why } = line {
+        push_refusal_line(&mut text, *number, *why)?;
+    }
+    Ok(text)
 }

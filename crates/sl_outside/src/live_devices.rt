@@ -41,6 +41,9 @@ pub trait LiveDevices: Devices {
         ensures kept { anew ≡ false → Stay (Self.disks self.old) (Self.disks self.new) }
         ensures cause { HasCause (Self.faults self.old) (Self.faults self.new) result };
 
+    /// A sector of the disk at this path could not be written: whoever reads standard error may be told.
+    fn refused(&self, path: &str);
+
     /// A clock for a thread of a machine.
     fn clock(&mut self, machine: u32, thread: u32) -> Self::Clock
         ensures count { Self.faults self.new ≡ Self.faults self.old };

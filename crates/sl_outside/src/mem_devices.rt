@@ -265,6 +265,8 @@ impl LiveDevices for MemDevices {
         }
     }
 
+    fn refused(&self, _path: &str) {}
+
     fn clock(&mut self, _machine: u32, _thread: u32) -> MemClock {
         MemClock::new(Vec::new(self.alloc))
     }

@@ -262,6 +262,8 @@ impl<R: Wait + Clock + Copy + Drop + Send + Sync> LiveDevices for SharedDevices<
         }
     }
 
+    fn refused(&self, _path: &str) {}
+
     fn clock(&mut self, _machine: u32, _thread: u32) -> RealClock<R> {
         RealClock::new(self.rt, self.start)
     }
