@@ -1,6 +1,6 @@
 -- The flags of `live`: they are read wherever they stand before a `--`, and once.
 use Rattle.sl_cli.specs.CommandWords.{Placing, is_plain, live_in, next_placed, nothing_placed, placed_from, placed_in, said_in, with_flag, with_folder}
-use Rattle.sl_cli.specs.Spellings.{FlagsStandAnywhere, FlagsStandOnce, are_single, flags, is_among, live_with}
+use Rattle.sl_cli.specs.Spellings.{FlagsStandAnywhere, FlagsStandOnce, are_single, flags, is_among}
 use Rattle.sl_words.proofs.CaseLaws.{none_some, some_value}
 use Rattle.sl_words.proofs.WordLaws.{and_true}
 use Rattle.sl_words.specs.Words.{choose}
@@ -205,11 +205,12 @@ again : (g : Flag) (ws behind : List (List ℕ)) (p : Placing) → on g p ≡ tr
 again g [] behind p met free = flag_read g p behind ∙ ap (behind_flag g p behind) met
 again g (w ∷ ws) behind p met free =
     let apart = or_parts (bytes_eq w (codes "--")) (is_among (codes "--") ws) free in
-    word_read p w (ws ++ word_of g ∷ behind) apart.0 ∙ by (next_placed p w) refl apart.1
+    word_read p w (ws ++ word_of g ∷ behind) apart.0 ∙ by (next_placed p w) refl (λ q stays. again g ws behind q stays apart.1)
   where
-    by : (o : Option Placing) → next_placed p w ≡ o → is_among (codes "--") ws ≡ false → option_and_then (λ next. placed_from false next (ws ++ word_of g ∷ behind)) o ≡ None
+    by : (o : Option Placing) → next_placed p w ≡ o → ((q : Placing) → on g q ≡ true → placed_from false q (ws ++ word_of g ∷ behind) ≡ None)
+        → option_and_then (λ next. placed_from false next (ws ++ word_of g ∷ behind)) o ≡ None
     by None is later = refl
-    by (Some q) is later = again g ws behind q (word_stays g (is_plain w) p q w is met) later
+    by (Some q) is later = later q (word_stays g (is_plain w) p q w is met)
 
 twice : (g : Flag) (before between behind : List (List ℕ)) (p : Placing) → is_among (codes "--") before ≡ false → is_among (codes "--") between ≡ false
     → placed_from false p (before ++ word_of g ∷ between ++ word_of g ∷ behind) ≡ None
@@ -220,11 +221,12 @@ twice g [] between behind p free open_between = flag_read g p (between ++ word_o
     by false = again g between behind (with_one g p) (on_self g p) open_between
 twice g (w ∷ ws) between behind p free open_between =
     let apart = or_parts (bytes_eq w (codes "--")) (is_among (codes "--") ws) free in
-    word_read p w (ws ++ word_of g ∷ between ++ word_of g ∷ behind) apart.0 ∙ by (next_placed p w) apart.1
+    word_read p w (ws ++ word_of g ∷ between ++ word_of g ∷ behind) apart.0 ∙ by (next_placed p w) (λ q. twice g ws between behind q apart.1 open_between)
   where
-    by : (o : Option Placing) → is_among (codes "--") ws ≡ false → option_and_then (λ next. placed_from false next (ws ++ word_of g ∷ between ++ word_of g ∷ behind)) o ≡ None
+    by : (o : Option Placing) → ((q : Placing) → placed_from false q (ws ++ word_of g ∷ between ++ word_of g ∷ behind) ≡ None)
+        → option_and_then (λ next. placed_from false next (ws ++ word_of g ∷ between ++ word_of g ∷ behind)) o ≡ None
     by None later = refl
-    by (Some q) later = twice g ws between behind q later open_between
+    by (Some q) later = later q
 
 pub flags_stand_once : FlagsStandOnce
 flags_stand_once flag before between behind is_flag free open_between =

@@ -15,7 +15,7 @@ use Rattle.sl_cli.proofs.Letters.{behind, first_char}
 use Rattle.sl_cli.proofs.LiveFlags.{Flag, anew, events, keeps, name_of, word_of}
 use Rattle.sl_cli.proofs.ReaderSteps.{AreTexts, word_cases}
 use Rattle.sl_cli.proofs.ParserTurns.{Fails, Pending, Plain, fails_with, first_fails, is_short, no_dashes, no_long, walk_at}
-use Rattle.sl_cli.specs.CommandWords.{Placing, is_plain, live_in, nothing_placed, placed_from, placed_in, use_of, with_flag}
+use Rattle.sl_cli.specs.CommandWords.{Placing, is_plain, live_in, placed_from, placed_in, use_of}
 use Rattle.sl_cli.specs.ParserMeets.{is_set, placing_of}
 use Rattle.sl_cli.specs.declared.command_words.Words.TheVariants.{Live}
 use Rattle.sl_cli.specs.declared.command_words.Words.{Words}
@@ -323,8 +323,8 @@ long_by : (is_anew is_keeps is_events : Bool) (value : Option Text) (h : Held) (
     → (value ≡ None → (is_anew ≡ false) × (is_keeps ≡ false) × (is_events ≡ false))
     → Fails (or_else (long_fault live_rules false (cond (is_anew || false) (Some (flag_with (codes "anew"))) (cond (is_keeps || false) (Some (flag_with (codes "keep-going"))) (cond (is_events || false) (Some (flag_with (codes "events"))) None))) value h) later)
 long_by true is_keeps is_events None h later other = absurd (clash (other refl).0)
-long_by false true is_events None h later other = absurd (clash (other refl).1.0)
-long_by false false true None h later other = absurd (clash (other refl).1.1)
+long_by false true is_events None h later other = absurd (clash (other refl).1)
+long_by false false true None h later other = absurd (clash (other refl).2)
 long_by false false false None h later other = fails_with _ _
 long_by true is_keeps is_events (Some v) h later other = fails_with _ _
 long_by false true is_events (Some v) h later other = fails_with _ _
@@ -360,7 +360,7 @@ long_fails rows pending position c cs other =
     let name : Text = before_first (λ x. x == 61) (c ∷ cs) in
     long_by (bytes_eq (codes "anew") name) (bytes_eq (codes "keep-going") name) (bytes_eq (codes "events") name) _ _ _ (λ none.
     let whole = all_before (c ∷ cs) (no_value (has_byte 61 (c ∷ cs)) _ none) in
-    (other_name anew c cs name other.0 whole, other_name keeps c cs name other.1.0 whole, other_name events c cs name other.1.1 whole))
+    (other_name anew c cs name other.0 whole, other_name keeps c cs name other.1 whole, other_name events c cs name other.2 whole))
 
 short_fails : (rows : List Row) (pending : Pending) (position c x : ℕ) (cs : Text) → eqb c 45 ≡ false → slice_get (chars (c ∷ cs)) 0 ≡ Some x
     → Fails (turn (walk_at rows pending idle position false) (45 ∷ c ∷ cs))
@@ -532,7 +532,7 @@ flag_agrees g ws later k rows folder o at = flag_by (on g o) g ws later k rows f
 
 other_taken : (c : ℕ) (cs : Text) (folder : Option Text) (o : Flags) (ws : List Text) → bytes_eq (45 ∷ c ∷ cs) (45 ∷ 45 ∷ []) ≡ false → IsOther (45 ∷ c ∷ cs)
     → taken false folder o ((45 ∷ c ∷ cs) ∷ ws) ≡ None
-other_taken c cs folder o ws apart other = rw (apart, other.0, other.1.0, other.1.1) refl
+other_taken c cs folder o ws apart other = rw (apart, other.0, other.1, other.2) refl
 
 -- `--` is taken once.
 dashes_agree : (ws : List Text) → AllAgree true ws → AllAgree false ((45 ∷ 45 ∷ []) ∷ ws)
