@@ -1,4 +1,5 @@
 pub mod SeatLaws
+pub mod WorkChains
 pub mod RunLaws
 pub mod PrintLaws
 pub mod EndLaws

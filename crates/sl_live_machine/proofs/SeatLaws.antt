@@ -10,9 +10,13 @@ use Rattle.sl_book.proofs.Fronts.{prefix_get, prefix_length, prefix_self, prefix
 use Rattle.sl_book.specs.Logs.{entries}
 use Rattle.sl_cell.specs.Histories.{Signed}
 use Rattle.sl_live.proofs.WorkLaws.{next_within, served_answer, served_more, served_pass, take_next, take_same}
-use Rattle.sl_live.specs.Turns.{AreServed, ChildrenState, Gives, IsAnswerOf, IsChildThread, IsDeviceThread, IsExit, IsIdleTurn, IsLine, IsLineThread, IsPassed, IsSpawned, IsStarterThread, IsTicker, IsWake, Looks, MakesTurn, TellsExit, TellsStart, Works}
+use Rattle.sl_live.specs.Turns.{AreServed, ChildrenState, Gives, Guards, IsAnswerOf, IsChildThread, IsDeviceThread, IsExit, IsIdleTurn, IsLine, IsLineThread, IsPassed, IsSpawned, IsStarterThread, IsTicker, IsWake, Looks, MakesTurn, TellsExit, TellsStart, Works}
 use Rattle.sl_live.specs.declared.steps.Gone.{Gone}
-use Rattle.sl_live_machine.specs.ThreadTurns.{LooksTurn, OnChildren}
+use Rattle.sl_live.specs.ServedCalls.{MakesCall}
+use Rattle.sl_live.specs.declared.disks.Disk.{Disk}
+use Rattle.sl_live_machine.specs.ThreadTurns.{LooksTurn, OnChildren, outcome}
+use Rattle.sl_live_machine.specs.declared.children.Found.{Found}
+use Rattle.sl_live_machine.specs.declared.turn.Turn.{Turn}
 use Rattle.sl_outside.specs.declared.act.Act.{Act}
 use Rattle.sl_trace.specs.Traces.{Setting}
 use Rattle.sl_trace.specs.declared.effects.Call.{Call}
@@ -24,7 +28,7 @@ use Rattle.sl_trace.specs.declared.input.Input.{Input}
 use Rattle.std.proofs.Common.{ap, arith, inl, inr, refl, subst, sym, ◌∙◌}
 use Rattle.std.proofs.lemmas.List.Elements.{All-append, All-cons}
 use Rattle.std.specs.declared.alloc.AllocError.{AllocError}
-use Rattle.std.specs.Prelude.{All, Bool, Err, IfOk, List, None, Ok, OnOk, Option, Result, Some, length, slice_get, take, [], ℕ, ◌++◌, ◌+◌, ◌<◌, ◌∷◌, ◌≡◌, ◌≤◌, ◌⊎◌}
+use Rattle.std.specs.Prelude.{All, Bool, Err, IfOk, List, None, Ok, OnErr, OnOk, Option, Result, Some, length, slice_get, take, [], ℕ, ◌++◌, ◌+◌, ◌<◌, ◌==◌, ◌∷◌, ◌≡◌, ◌≤◌, ◌⊎◌}
 use mathlib.Core.List.{IsPrefix}
 
 -- ---- a turn that gives an input
@@ -46,6 +50,10 @@ turn_gave told faults running st now fx i s s' on = made_gave told faults runnin
 pub on_ok : {A E M : Type 0} (r : Result A E) → M → OnOk r M
 on_ok (Ok a) m = m
 on_ok (Err e) m = tt
+
+pub on_err : {A E M : Type 0} (r : Result A E) → M → OnErr r M
+on_err (Ok a) m = tt
+on_err (Err e) m = m
 
 -- ---- threads that only give
 
@@ -94,6 +102,13 @@ looks_on (Some gone) told faults running st now before after s s' looks so =
     gives_on IsExit st (Exit gone.process) s s' (gone.process, refl) (made_gave told faults running st now gone.effects (Exit gone.process) looks.polled after s s' looks.turn) so
 looks_on None told faults running st now before after s s' idle so = subst IsChildThread (sym idle.seat) so
 
+-- what a look came to is what its step came to
+pub looks_so : {P : Type 0} (told : P → Option (List Act)) (faults : P → ℕ) (running : P → List ℕ) (st : Setting) (now : ℕ) (before after : ChildrenState P) (s s' : SeatState)
+    (gone : Option Gone) (came : Found × Option Turn) (idle : Bool) → idle ≡ (length after.numbers == 0) → came ≡ outcome gone idle
+    → Looks {P = P} {E = AllocError} told faults running st now before after s s' (Ok gone)
+    → OnChildren {P = P} (λ b a. LooksTurn {P = P} {E = AllocError} told faults running st now b a s s' (Ok came))
+looks_so told faults running st now before after s s' gone came idle none is looks = (before, after, (gone, is ∙ ap (λ i. outcome gone i) none, looks))
+
 -- what a start came to is told
 pub starts_on : {P C : Type 0} (told : P → Option (List Act)) (faults : P → ℕ) (running : P → List ℕ) (st : Setting) (now process : ℕ) (child : Option C) (ok : Bool)
     (fx : Option Effects) (before after : ChildrenState P) (s s' : SeatState)
@@ -103,104 +118,21 @@ starts_on told faults running st now process child ok fx before after s s' tells
 
 -- ---- the device thread
 
+pub tests_so : {P E : Type 0} (told : P → Option (List Act)) (faults : P → ℕ) (running : P → List ℕ) (st : Setting) (now last last' fire : ℕ) (before after : ChildrenState P)
+    (s s' : SeatState) (r : Result Unit E)
+    → OnOk r ((answer : Bool) × IsTested st s s' now answer × Guards told faults running now last last' fire before after answer)
+    → OnOk r ((answer : Bool) × IsTested st s s' now answer × OnChildren {P = P} (λ b a. Guards told faults running now last last' fire b a answer))
+tests_so told faults running st now last last' fire before after s s' (Ok u) so = (so.0, so.1, (before, after, so.2))
+tests_so told faults running st now last last' fire before after s s' (Err e) so = tt
+
 pub tests_on : (st : Setting) (now : ℕ) (answer : Bool) (s s' : SeatState) → IsTested st s s' now answer → IsDeviceThread s → IsDeviceThread s'
 tests_on st now answer s s' tested none = tested.seen.count ∙ none
 
 -- ---- a worker
 
--- nothing yet
-pub works_none : (st : Setting) (part : Part) (s : SeatState) → s.count ≡ 0 → s.taken ≡ 0 → Works st part s
-works_none st part s none first = record {
-  made = [];
-  mine = mine_none s none;
-  most = omega (arith, first);
-  serves = subst (λ n. AreServed st s.front (take n (calls_of part (entries s.front))) []) (sym first) tt;
-}
-
--- more of the history was seen
-serves_seen : (st : Setting) (part : Part) (h h' : List Signed) (taken : ℕ) (made : List Entry) → IsPrefix h h' → taken ≤ length (calls_of part (entries h))
-    → AreServed st h (take taken (calls_of part (entries h))) made → AreServed st h' (take taken (calls_of part (entries h'))) made
-serves_seen st part h h' taken made p most so =
-    let cs = calls_prefix part h h' p in
-    subst (λ l. AreServed st h' l made) (sym (take_same taken (calls_of part (entries h)) (calls_of part (entries h')) most cs))
-    (served_more st h h' (take taken (calls_of part (entries h))) made p so)
-
-most_seen : (part : Part) (h h' : List Signed) (taken : ℕ) → IsPrefix h h' → taken ≤ length (calls_of part (entries h)) → taken ≤ length (calls_of part (entries h'))
-most_seen part h h' taken p most =
-    let n = prefix_length (calls_of part (entries h)) (calls_of part (entries h')) (calls_prefix part h h' p) in omega (arith, n, most)
-
-works_seen : (st : Setting) (part : Part) (s s' : SeatState) → HasSeen s s' → s'.taken ≡ s.taken → Works st part s → Works st part s'
-works_seen st part s s' seen same w = record {
-  made = w.made;
-  mine = mine_seen s s' w.made seen w.mine;
-  most = subst (λ n. n ≤ length (calls_of part (entries s'.front))) (sym same) (most_seen part s.front s'.front s.taken seen.before w.most);
-  serves = subst (λ n. AreServed st s'.front (take n (calls_of part (entries s'.front))) w.made) (sym same)
-      (serves_seen st part s.front s'.front s.taken w.made seen.before w.most w.serves);
-}
-
--- no call was left
-pub works_idle : (st : Setting) (part : Part) (s s' : SeatState) → TookAll part s s' → Works st part s → Works st part s'
-works_idle st part s s' all w = works_seen st part s s' all.seen all.taken w
-
--- a call was taken: what was answered before it, and the call
-record HasTaken (st : Setting) (part : Part) (s : SeatState) (c : Call) (before : ℕ) (made : List Entry) : Type 0 where
-  there : slice_get (calls_of part (entries s.front)) before ≡ Some c
-  next : s.taken ≡ before + 1
-  serves : AreServed st s.front (take before (calls_of part (entries s.front))) made
-
-took_one : (st : Setting) (part : Part) (s m : SeatState) (c : Call) → Took part s m c → (w : Works st part s) → HasTaken st part m c s.taken w.made
-took_one st part s m c took w = record {
-  there = took.call;
-  next = took.taken;
-  serves = serves_seen st part s.front m.front s.taken w.made took.seen.before w.most w.serves;
-}
-
--- .. and as much more was seen
-taken_seen : (st : Setting) (part : Part) (m s' : SeatState) (c : Call) (n : ℕ) (made : List Entry) → IsPrefix m.front s'.front → s'.taken ≡ m.taken → HasTaken st part m c n made
-    → HasTaken st part s' c n made
-taken_seen st part m s' c n made p same t =
-    let within = next_within n c (calls_of part (entries m.front)) t.there in record {
-      there = prefix_get (calls_of part (entries m.front)) (calls_of part (entries s'.front)) n c (calls_prefix part m.front s'.front p) t.there;
-      next = same ∙ t.next;
-      serves = serves_seen st part m.front s'.front n made p (omega (arith, within)) t.serves;
-    }
-
-taken_most : (st : Setting) (part : Part) (s : SeatState) (c : Call) (n : ℕ) (made : List Entry) → HasTaken st part s c n made → s.taken ≤ length (calls_of part (entries s.front))
-taken_most st part s c n made t = let within = next_within n c (calls_of part (entries s.front)) t.there in let next = t.next in omega (arith, within, next)
-
--- all that was taken, where these are served with the call
-serves_all : (st : Setting) (part : Part) (s : SeatState) (c : Call) (n : ℕ) (made all : List Entry) → HasTaken st part s c n made
-    → AreServed st s.front (take n (calls_of part (entries s.front)) ++ c ∷ []) all → AreServed st s.front (take s.taken (calls_of part (entries s.front))) all
-serves_all st part s c n made all t so =
-    subst (λ k. AreServed st s.front (take k (calls_of part (entries s.front))) all) (sym t.next)
-    (subst (λ l. AreServed st s.front l all) (sym (take_next n c (calls_of part (entries s.front)) t.there)) so)
-
-answers_on : (st : Setting) (part : Part) (s m s' : SeatState) (c : Call) (a : Answer) (now : ℕ) (fx : Effects) → Took part s m c → Gave m s' now (Told c.number a) fx → Works st part s
-    → Works st part s'
-answers_on st part s m s' c a now fx took gave w =
-    let e : Entry = gave.entry.entry in
-    let t : HasTaken st part s' c s.taken w.made
-    = taken_seen st part m s' c s.taken w.made (gave_before m s' now (Told c.number a) fx gave) gave.taken (took_one st part s m c took w) in
-    record {
-      made = w.made ++ e ∷ [];
-      mine = mine_on m s' now (Told c.number a) fx w.made gave (mine_seen s m w.made took.seen w.mine);
-      most = taken_most st part s' c s.taken w.made t;
-      serves = serves_all st part s' c s.taken w.made (w.made ++ e ∷ []) t
-          (served_answer st s'.front (take s.taken (calls_of part (entries s'.front))) w.made c e (a, gave.is.same) t.serves);
-    }
-
-passes_on : (st : Setting) (part : Part) (s m s' : SeatState) (c : Call) (a : Answer) → Took part s m c → IsUnasked st m s' (Told c.number a) → Works st part s → Works st part s'
-passes_on st part s m s' c a took passed w =
-    let t : HasTaken st part s' c s.taken w.made = taken_seen st part m s' c s.taken w.made passed.seen.before passed.taken (took_one st part s m c took w) in
-    let is : IsPassed st s'.front c = record { answer = a; past = s'.front; before = prefix_self s'.front; unasked = passed.unasked } in
-    record {
-      made = w.made;
-      mine = mine_seen m s' w.made passed.seen (mine_seen s m w.made took.seen w.mine);
-      most = taken_most st part s' c s.taken w.made t;
-      serves = serves_all st part s' c s.taken w.made w.made t (served_pass st s'.front (take s.taken (calls_of part (entries s'.front))) w.made c is t.serves);
-    }
-
--- a call that is taken is answered
-pub works_on : (st : Setting) (part : Part) (s m s' : SeatState) (c : Call) (a : Answer) → Took part s m c → GaveTurn st (Told c.number a) m s' → Works st part s → Works st part s'
-works_on st part s m s' c a took (inl gave) w = answers_on st part s m s' c a gave.0 gave.1 took gave.2 w
-works_on st part s m s' c a took (inr passed) w = passes_on st part s m s' c a took passed w
+-- a call that was made is answered
+pub answers_so : {A P E : Type 0} (content : A → Option (List ℕ)) (faults : A → ℕ) (sector : ℕ) (c : Call) (disks later : List (Disk A)) (a : Answer)
+    (Turns : Turn → Answer → Type 0) (r : Result Turn E) → MakesCall content faults sector c disks later a → IfOk r (λ t. Turns t a)
+    → IfOk r (λ t. (x : Answer) × MakesCall content faults sector c disks later x × Turns t x)
+answers_so content faults sector c disks later a Turns (Ok t) makes so = (a, makes, so)
+answers_so content faults sector c disks later a Turns (Err e) makes so = tt

@@ -2,8 +2,8 @@
 //! intervals while one runs: each twice as long as the one before, from 1 to 16 milliseconds, and the shortest again once a child has exited.
 
 ghost use Rattle.sl_live.specs.Turns.{IsChildThread};
-ghost use Rattle.sl_live_machine.specs.ThreadTurns.{LooksTurn, OnChildren, exit_turn, finding};
-ghost use Rattle.std.specs.Prelude.{IfOk, OnOk, length, ◌==◌, ◌≡◌};
+ghost use Rattle.sl_live_machine.specs.ThreadTurns.{LooksTurn, OnChildren, exit_turn, outcome};
+ghost use Rattle.std.specs.Prelude.{IfOk, OnOk, ◌≡◌};
 
 use crate::room::Room;
 use crate::script_waits::Post;
@@ -31,19 +31,6 @@ enum Found {
     NoneRuns,
 }
 
-/// What a look has found that saw an exited child or did not, and that left children running or did not.
-fn finding(exited: bool, idle: bool) -> Found
-    ensures { result ≡ finding exited idle }
-{
-    if exited {
-        Found::Exited
-    } else if idle {
-        Found::NoneRuns
-    } else {
-        Found::AllRun
-    }
-}
-
 /// The turn that told an exit.
 fn turn_of(gone: Gone) -> Turn
     ensures { result ≡ exit_turn gone }
@@ -52,6 +39,16 @@ fn turn_of(gone: Gone) -> Turn
     Turn {
         happened: Happened::Exited { process },
         effects,
+    }
+}
+
+/// What a look came to that told an exit or found none, and that left no child or did: what was found, and the turn.
+fn outcome(gone: Option<Gone>, idle: bool) -> (Found, Option<Turn>)
+    ensures { result ≡ outcome gone idle }
+{
+    match gone {
+        Some(gone) => (Found::Exited, Some(turn_of(gone))),
+        None => (if idle { Found::NoneRuns } else { Found::AllRun }, None),
     }
 }
 
@@ -67,11 +64,9 @@ fn look<D: Teller, J: Station, R: Wait, C: Clock, P: Spawner>(
     ensures thread { OnOk result (IsChildThread seat.old → IsChildThread seat.new) }
 {
     let mut children = room.children.lock(rt);
-    let gone = child_step(rt, &room.cell, seat, clock, &mut *children)?;
-    let found = finding(gone.is_some(), children.is_idle());
-    match gone {
-        Some(gone) => Ok((found, Some(turn_of(gone)))),
-        None => Ok((found, None)),
+    match child_step(rt, &room.cell, seat, clock, &mut *children) {
+        Ok(gone) => Ok(outcome(gone, children.is_idle())),
+        Err(error) => Err(error),
     }
 }
 

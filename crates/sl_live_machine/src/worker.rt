@@ -3,12 +3,13 @@
 
 ghost use Rattle.sl_live.specs.ServedCalls.{CanMake, IsLeft, IsMade, MakesCall, disk_at};
 ghost use Rattle.sl_live.specs.Turns.{MakesTurn, Works};
-ghost use Rattle.sl_live_machine.specs.ThreadTurns.{OnChildren};
+ghost use Rattle.sl_live.specs.declared.disks.Disk.{Disk as DiskOf};
+ghost use Rattle.sl_live_machine.specs.ThreadTurns.{OnChildren, WorksOn};
 ghost use Rattle.sl_trace.specs.Traces.{Setting, is_answer_for};
 ghost use Rattle.sl_trace.specs.declared.input.Answer.TheVariants.{Read};
 ghost use Rattle.sl_trace.specs.declared.input.Answer.{Answer};
 ghost use Rattle.sl_trace.specs.declared.input.Input.TheVariants.{Answer as Told};
-ghost use Rattle.std.specs.Prelude.{IfOk, IfSome, None, OnErr, OnOk, true, ◌≡◌};
+ghost use Rattle.std.specs.Prelude.{IfOk, IfSome, List, None, OnErr, OnOk, true, ◌≡◌};
 
 use crate::room::Room;
 use crate::script_waits::Post;
@@ -89,7 +90,7 @@ fn answer<D: Teller, J: Station, R: Wait, C: Clock, P: Spawner, A: Area, G: Gate
 }
 
 /// Takes a call, if there is one, makes it, and gives its answer: the turn, if there was one. An `Err` is want of memory.
-#[tactic(auto, using(crate::proofs::SeatLaws::works_idle))]
+#[tactic(auto, using(crate::proofs::WorkChains::works_idle))]
 fn serve<D: Teller, J: Station, R: Wait, C: Clock, P: Spawner, A: Area, G: Gate>(
     rt: &R,
     room: &Room<D, J, P>,
@@ -100,7 +101,8 @@ fn serve<D: Teller, J: Station, R: Wait, C: Clock, P: Spawner, A: Area, G: Gate>
     disks: &mut [Disk<A>],
     before: &mut ReadBefore,
 ) -> Result<Option<Turn>, AllocError>
-    ensures { OnOk result (Works J.setting part seat.old → Works J.setting part seat.new) }
+    ensures { OnOk result ((start : List (DiskOf A)) → WorksOn A.content A.faults room.now.geometry.sector J.setting part start disks.old seat.old
+        → WorksOn A.content A.faults room.now.geometry.sector J.setting part start disks.new seat.new) }
 {
     let Ok(taken) = room.cell.take(rt, seat, part) else {
         return Err(AllocError);
@@ -126,7 +128,8 @@ fn turn<D: Teller, J: Station, R: Wait, C: Clock, P: Spawner, A: Area, G: Gate>(
     disks: &mut [Disk<A>],
     before: &mut ReadBefore,
 ) -> Result<bool, AllocError>
-    ensures { OnOk result (Works J.setting part seat.old → Works J.setting part seat.new) }
+    ensures { OnOk result ((start : List (DiskOf A)) → WorksOn A.content A.faults room.now.geometry.sector J.setting part start disks.old seat.old
+        → WorksOn A.content A.faults room.now.geometry.sector J.setting part start disks.new seat.new) }
 {
     let served = serve(rt, room, gate, part, seat, clock, disks, before)?;
     post.end_turn_of(rt, &served)?;
@@ -145,7 +148,8 @@ fn serve_each<D: Teller, J: Station, R: Wait, C: Clock, P: Spawner, A: Area, G: 
     disks: &mut [Disk<A>],
     before: &mut ReadBefore,
 ) -> Result<(), AllocError>
-    ensures { OnOk result (Works J.setting part seat.old → Works J.setting part seat.new) }
+    ensures { OnOk result ((start : List (DiskOf A)) → WorksOn A.content A.faults room.now.geometry.sector J.setting part start disks.old seat.old
+        → WorksOn A.content A.faults room.now.geometry.sector J.setting part start disks.new seat.new) }
 {
     let bell = post.worker(part);
     for _ in rt.forever() {
@@ -160,8 +164,8 @@ fn serve_each<D: Teller, J: Station, R: Wait, C: Clock, P: Spawner, A: Area, G: 
     Ok(())
 }
 
-/// The worker's whole course: what it made. An `Err` is want of memory.
-#[tactic(auto, using(crate::proofs::SeatLaws::works_none))]
+/// The worker's whole course: what it gave, and the calls that it made on its disks. An `Err` is want of memory.
+#[tactic(auto, using(crate::proofs::WorkChains::works_none))]
 pub(crate) fn work<D: Teller, J: Station, R: Wait, C: Clock, P: Spawner, A: Area, G: Gate>(
     rt: &R,
     room: &Room<D, J, P>,
@@ -171,7 +175,8 @@ pub(crate) fn work<D: Teller, J: Station, R: Wait, C: Clock, P: Spawner, A: Area
     mut clock: C,
     disks: &mut [Disk<A>],
 ) -> Result<Seat<J>, AllocError>
-    ensures { IfOk result (λ s. Works J.setting part s) }
+    ensures works { IfOk result (λ s. Works J.setting part s) }
+    ensures made { IfOk result (λ s. WorksOn A.content A.faults room.now.geometry.sector J.setting part disks.old disks.new s) }
 {
     let mut seat = room.cell.seat(worker_number(part), &room.front);
     let mut before = ReadBefore::new(room.alloc);
