@@ -131,7 +131,7 @@ tests_on st now answer s s' tested none = tested.seen.count ∙ none
 -- ---- a worker
 
 -- a call that was made is answered
-pub answers_so : {A P E : Type 0} (content : A → Option (List ℕ)) (faults : A → ℕ) (sector : ℕ) (c : Call) (disks later : List (Disk A)) (a : Answer)
+pub answers_so : {A E : Type 0} (content : A → Option (List ℕ)) (faults : A → ℕ) (sector : ℕ) (c : Call) (disks later : List (Disk A)) (a : Answer)
     (Turns : Turn → Answer → Type 0) (r : Result Turn E) → MakesCall content faults sector c disks later a → IfOk r (λ t. Turns t a)
     → IfOk r (λ t. (x : Answer) × MakesCall content faults sector c disks later x × Turns t x)
 answers_so content faults sector c disks later a Turns (Ok t) makes so = (a, makes, so)
