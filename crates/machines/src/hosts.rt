@@ -44,7 +44,7 @@ fn give<D: Teller, J: Station, R: Wait>(
     reading: u32,
     input: Input,
 ) -> Came {
-    match cell.apply(rt, seat, u64::from(reading), input) {
+    match cell.apply(rt, seat, u64::from(reading), input, None) {
         Ok(effects) => Came::Told(effects),
         Err(NotApplied::Unasked) => Came::Word("unasked"),
         Err(NotApplied::NoMemory) => Came::Word("no memory"),

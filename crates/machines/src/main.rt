@@ -29,7 +29,7 @@ use std::thread::Threads;
 use std::time::Clock;
 
 /// What comes of a case.
-fn told<R: Files + Clock + Wait + Threads + AllocGlobal + Copy + Drop + Send + Sync>(
+fn told<R: Files + Clock + Wait + Threads + Eprint + AllocGlobal + Copy + Drop + Send + Sync>(
     rt: R,
     line: &str,
 ) -> io::Result<String> {

@@ -4,7 +4,7 @@ ghost use Rattle.std.specs.Prelude.{◌≡◌};
 
 use crate::outside::{Case, Ends};
 use sl_io::{MemSink, MemSource};
-use sl_live_play::{LiveHost, Lived, play_live};
+use sl_live_play::{LiveHost, Lived, Manner, play_live};
 use sl_outside::{
     AreaPlan, Census, MemPlan, PlannedSpawner, SharedDevices, SharedPlan, SlowStart, TurnGate,
 };
@@ -112,7 +112,7 @@ fn plan<R>(alloc: Global, case: &Case<'_>) -> Result<SharedPlan<R>, AllocError> 
 }
 
 /// How a script ended, and what it put out.
-fn play<R: Clock + Wait + Threads + Copy + Drop + Send + Sync>(
+fn play<R: Clock + Wait + Threads + Eprint + Copy + Drop + Send + Sync>(
     rt: R,
     alloc: Global,
     script: Vec<u8>,
@@ -126,7 +126,11 @@ fn play<R: Clock + Wait + Threads + Copy + Drop + Send + Sync>(
         &rt,
         alloc,
         "f",
-        false,
+        Manner {
+            anew: false,
+            keeps: false,
+            events: false,
+        },
         source,
         sink,
         &mut devices,
@@ -219,7 +223,7 @@ fn push_seen<R: Clock + Wait + Copy>(
 }
 
 /// What comes of a case with this script.
-fn told_of<R: Clock + Wait + Threads + Copy + Drop + Send + Sync>(
+fn told_of<R: Clock + Wait + Threads + Eprint + Copy + Drop + Send + Sync>(
     rt: R,
     alloc: Global,
     script: Vec<u8>,
@@ -237,7 +241,7 @@ fn told_of<R: Clock + Wait + Threads + Copy + Drop + Send + Sync>(
 }
 
 /// What comes of a case.
-pub fn told<R: Files + Clock + Wait + Threads + AllocGlobal + Copy + Drop + Send + Sync>(
+pub fn told<R: Files + Clock + Wait + Threads + Eprint + AllocGlobal + Copy + Drop + Send + Sync>(
     rt: R,
     case: &Case<'_>,
 ) -> io::Result<String> {

@@ -88,7 +88,7 @@ fn apply<D: Teller, J: Station, R: Wait>(
     step: Step<'_>,
 ) -> Result<Outcome, AllocError> {
     let input = input(alloc, step.act)?;
-    let applied = cell.apply(rt, seat, u64::from(step.reading), input);
+    let applied = cell.apply(rt, seat, u64::from(step.reading), input, None);
     let seen = seat.front().len();
     Ok(match applied {
         Ok(_effects) => Outcome::counted("", seen),

@@ -5,7 +5,7 @@ use sl_io::{ReadSource, WriteSink};
 use sl_top::{FileDevices, Status, run};
 use std::alloc::Alloc;
 use std::env::{self, Env};
-use std::io;
+use std::io::{self, IsTerminal};
 use std::process::ExitCode;
 
 /// The words of the command line, without the program's name.
@@ -26,10 +26,20 @@ fn main(rt: HostRuntime) -> ExitCode {
         // A word that is not UTF-8 is a word of no command, as no words are.
         Err(_) => Vec::new(rt.alloc()),
     };
-    let source = ReadSource::new(rt.stdin());
+    let input = rt.stdin();
+    let at_terminal = input.is_terminal();
+    let source = ReadSource::new(input);
     let sink = WriteSink::new(rt.stdout());
     let devices = FileDevices::new(rt, rt.alloc());
-    let (status, _source, sink, _devices) = run(&rt, rt.alloc(), &words, source, sink, devices);
+    let (status, _source, sink, _devices) = run(
+        &rt,
+        rt.alloc(),
+        &words,
+        at_terminal,
+        source,
+        sink,
+        devices,
+    );
     let mut sink = sink;
     let status = match sink.flush() {
         Ok(()) => status,

@@ -6,7 +6,7 @@
 //!   place of it;
 //! - `behind COUNT NAME TEXT` replays so many lines of that schedule, and behind them the line `TEXT`;
 //! - `lives NAME WORDS` runs live machines by the script `NAME.script`, with these words behind `live`: the folder below which their disks are
-//!   files, and `--anew` where those that stand there are made anew.
+//!   files, and the flags, as `--anew` where those that stand there are made anew.
 //!
 //! `scripted` in front of a schedule has it played by daemons that follow a script (`scripted`), and not by the top call.
 //!

@@ -38,7 +38,7 @@ fn plan(
 }
 
 /// What comes of a case over these disks.
-pub fn run_case<R: Threads + Wait + Clock + Sync, D: LiveDevices>(
+pub fn run_case<R: Threads + Wait + Clock + Eprint + Sync, D: LiveDevices>(
     rt: &R,
     alloc: Global,
     case: &Case,
@@ -51,7 +51,15 @@ where
     let source = MemSource::new(case.source.clone()?, pieces, failing);
     let (pieces, failing) = plan(alloc, case.writes, WRITTEN)?;
     let sink = MemSink::new(alloc, ROOM, pieces, failing)?;
-    let (status, _source, sink, _devices) = run(rt, alloc, &case.words, source, sink, devices);
+    let (status, _source, sink, _devices) = run(
+        rt,
+        alloc,
+        &case.words,
+        false,
+        source,
+        sink,
+        devices,
+    );
     Ok(Outcome {
         code: status.code(),
         output: sink.into_taken(),

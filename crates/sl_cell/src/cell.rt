@@ -10,8 +10,8 @@ ghost use Rattle.sl_run.specs.Headers.{IsHeader};
 ghost use Rattle.sl_run.specs.Lawful.{IsSetting};
 ghost use Rattle.sl_trace.specs.Traces.{IsTrace};
 ghost use Rattle.sl_words.specs.Bounds.{moments};
-ghost use Rattle.sl_world_state.specs.Daemons.{begun_with};
-ghost use Rattle.std.specs.Prelude.{Err, IfErr, IfOk, OnErr, OnOk, length, [], ◌++◌, ◌<◌, ◌^◌, ◌≡◌};
+ghost use Rattle.sl_world_state.specs.Daemons.{begun_with, read_of};
+ghost use Rattle.std.specs.Prelude.{Err, IfErr, IfOk, IfSome, OnErr, OnOk, length, [], ℕ, ◌++◌, ◌<◌, ◌^◌, ◌≡◌};
 ghost use mathlib.Core.List.{IsPrefix};
 
 use crate::closing::Differ;
@@ -21,6 +21,7 @@ use crate::part::Part;
 use crate::station::{Book, Front, Opened, Seat, Station};
 use crate::teller::Teller;
 use sl_run::Header;
+use sl_sector::Images;
 use sl_trace::{Call, Effects, Entry, Input};
 use sl_world_state::{Daemon, Site};
 use std::alloc::{AllocError, Global};
@@ -65,21 +66,26 @@ impl<D: Teller, J: Station> HostCell<D, J> {
 
     /// The input comes to the daemon, at this reading or the last one if that is later. With an answer the seat has given it: its entry is the last
     /// of what the seat has seen now. `Unasked` says that it answers nothing that is open in what the seat has seen now; `NoMemory` is want of
-    /// memory, or of numbers; what `Broken` is says `NotApplied`. With these two the seat is as it was.
+    /// memory, or of numbers; what `Broken` is says `NotApplied`. With these two the seat is as it was. Where the input is the answer of a read, its
+    /// sectors may be given beside it: what they spell is then not worked out under the lock.
     pub fn apply<R: Wait>(
         &self,
         rt: &R,
         seat: &mut Seat<J>,
         now: u64,
         input: Input,
+        sectors: Option<&Images>,
     ) -> Result<Effects, NotApplied>
-        requires { now < moments }
+        requires time { now < moments }
+        requires sectors { IfSome sectors (λ i. (call : ℕ) × (input ≡ read_of call i.now)) }
         ensures gave { IfOk result (λ fx. Gave seat.old seat.new now input fx) }
         ensures unasked { result ≡ Err Why.Unasked → IsUnasked J.setting seat.old seat.new input }
         ensures memory { result ≡ Err Why.NoMemory → seat.new ≡ seat.old }
         ensures broken { result ≡ Err Why.Broken → seat.new ≡ seat.old }
     {
-        self.kept.lock(rt).step(&self.book, seat, now, input)
+        self.kept
+            .lock(rt)
+            .step(&self.book, seat, now, input, sectors)
     }
 
     /// The next call of the part, in the order in which they were made, for a thread that took all before it; and none exactly where all were taken.

@@ -33,6 +33,20 @@ impl Model for Connection {
 }
 
 impl Connection {
+    /// The lockspace's name.
+    pub fn name(&self) -> Name
+        ensures { result ≡ self.now.name }
+    {
+        self.name
+    }
+
+    /// The reading from which on the test fails.
+    pub fn expiry(&self) -> u64
+        ensures { result ≡ self.now.expiry }
+    {
+        self.expiry
+    }
+
     /// Whether it has this name.
     fn is_named(&self, name: Name) -> bool
         ensures { result ≡ bytes_eq self.now.name name }
@@ -58,7 +72,7 @@ impl Connection {
 }
 
 /// The connections that a daemon's given sessions have. An `Err` is want of memory.
-pub(crate) fn given_connections(
+pub fn given_connections(
     alloc: Global,
     timing: &Timing,
     given: &[Given],
@@ -114,7 +128,7 @@ fn make_move(connections: &mut Vec<Connection>, change: &Move)
 }
 
 /// What moves leave, one after another. They take no memory.
-pub(crate) fn make_moves(connections: &mut Vec<Connection>, moves: &[Move])
+pub fn make_moves(connections: &mut Vec<Connection>, moves: &[Move])
     requires { vec_len connections.old + length moves.now ≤ vec_capacity connections.old }
     ensures { connections.new.items ≡ fold after_move connections.old.items moves.now }
 {

@@ -10,8 +10,8 @@ ghost use Rattle.sl_run.specs.Headers.{IsHeader};
 ghost use Rattle.sl_run.specs.Lawful.{IsSetting};
 ghost use Rattle.sl_trace.specs.Traces.{IsTrace};
 ghost use Rattle.sl_words.specs.Bounds.{moments};
-ghost use Rattle.sl_world_state.specs.Daemons.{begun_with};
-ghost use Rattle.std.specs.Prelude.{Err, IfErr, IfOk, OnErr, OnOk, length, true, [], ◌++◌, ◌<◌, ◌^◌, ◌≡◌};
+ghost use Rattle.sl_world_state.specs.Daemons.{begun_with, read_of};
+ghost use Rattle.std.specs.Prelude.{Err, IfErr, IfOk, IfSome, OnErr, OnOk, length, true, [], ℕ, ◌++◌, ◌<◌, ◌^◌, ◌≡◌};
 ghost use mathlib.Core.List.{IsPrefix};
 
 use crate::closing::{Differ, check_seats, is_torn};
@@ -22,6 +22,7 @@ use crate::rest::Rest;
 use crate::station::{Book, Front, Seat, Station};
 use crate::teller::Teller;
 use sl_run::Header;
+use sl_sector::Images;
 use sl_trace::{Call, Effects, Entry, Input};
 use sl_world_state::{Daemon, Site};
 use std::alloc::{AllocError, Global};
@@ -85,8 +86,10 @@ impl<D: Teller, J: Station> Kept<D, J> {
         seat: &mut Seat<J>,
         now: u64,
         input: Input,
+        sectors: Option<&Images>,
     ) -> Result<Effects, NotApplied>
-        requires { now < moments }
+        requires time { now < moments }
+        requires sectors { IfSome sectors (λ i. (call : ℕ) × (input ≡ read_of call i.now)) }
         ensures gave { IfOk result (λ fx. Gave seat.old seat.new now input fx) }
         ensures history { OnOk result (self.new.history ≡ seat.new.front) }
         ensures unasked { result ≡ Err Why.Unasked → IsUnasked J.setting seat.old seat.new input }
@@ -99,7 +102,7 @@ impl<D: Teller, J: Station> Kept<D, J> {
         }
         let most = self.lead.most();
         self.rest.reserve(&most)?;
-        match self.lead.step(book, seat.by(), now, input) {
+        match self.lead.step(book, seat.by(), now, input, sectors) {
             Ok((signed, effects)) => {
                 seat.gave(self.lead.front(), &signed);
                 self.rest.note(signed.into_entry(), &effects);

@@ -8,17 +8,19 @@ ghost use Rattle.sl_book.specs.Logs.{entries};
 ghost use Rattle.sl_cell.specs.Histories.{trace_of};
 ghost use Rattle.sl_run.specs.Headers.{IsHeader};
 ghost use Rattle.sl_run.specs.Lawful.{IsSetting};
+ghost use Rattle.sl_sector.specs.Images.{Run};
 ghost use Rattle.sl_trace.specs.Traces.{IsTrace, Setting, Trace, is_expected, takes_number};
 ghost use Rattle.sl_words.specs.Bounds.{moments};
 ghost use Rattle.sl_words.specs.Words.{greatest};
-ghost use Rattle.sl_world_state.specs.Daemons.{IsNumbered, IsStep, MayCome, begun_with, entry_of};
+ghost use Rattle.sl_world_state.specs.Daemons.{IsNumbered, IsStep, MayCome, begun_with, entry_of, read_of};
 ghost use Rattle.sl_world_state.specs.declared.daemon.Most.{Most};
-ghost use Rattle.std.specs.Prelude.{Err, IfOk, IsFalse, IsOk, IsTrue, OnErr, OnOk, false, if◌then◌else◌, length, map, true, [], ℕ, ◌++◌, ◌+◌, ◌<◌, ◌∷◌, ◌≡◌, ◌≤◌};
+ghost use Rattle.std.specs.Prelude.{Err, IfOk, IfSome, IsFalse, IsOk, IsTrue, OnErr, OnOk, false, if◌then◌else◌, length, map, true, [], ℕ, ◌++◌, ◌+◌, ◌<◌, ◌∷◌, ◌≡◌, ◌≤◌};
 
 use crate::station::{Book, Front, Signed, Station};
 use crate::step_copies::Spare;
 use crate::teller::Teller;
 use sl_run::Header;
+use sl_sector::Images;
 use sl_trace::{Effects, Entry, Given, Input, Numbers};
 use sl_world_state::{Daemon, Most, Site};
 use std::alloc::{AllocError, Global};
@@ -124,14 +126,47 @@ fn advanced(next: Numbers, entry: &Entry) -> Numbers
     }
 }
 
+/// The call that the input answers, and 0 where it answers none.
+fn call_of(input: &Input) -> u64
+    ensures { (call : ℕ) → (sectors : Run) → input.now ≡ read_of call sectors → result ≡ call }
+{
+    match input {
+        Input::Answer { call, answer: _ } => *call,
+        _ => 0,
+    }
+}
+
+/// The daemon's step, by the sectors of the input where they are given. An `Err` is want of memory, and changes nothing.
+fn step_with<D: Daemon>(
+    daemon: &mut D,
+    now: u64,
+    input: &Input,
+    sectors: Option<&Images>,
+) -> Result<Effects, AllocError>
+    requires may { (st : Setting) × (es : Trace) × D.stands daemon.old st es × MayCome st es now input.now }
+    requires sectors { IfSome sectors (λ i. (call : ℕ) × (input.now ≡ read_of call i.now)) }
+    ensures stays { (st : Setting) → (es : Trace) → D.stands daemon.old st es → MayCome st es now input.now
+        → IfOk result (λ fx. D.stands daemon.new st (entry_of now input.now fx ∷ es) × IsNumbered st es fx) }
+    ensures sound { (st : Setting) → (es : Trace) → D.stands daemon.old st es → MayCome st es now input.now
+        → IfOk result (IsStep st (D.makes daemon.old)) }
+    ensures err { OnErr result (daemon.new ≡ daemon.old) }
+{
+    match sectors {
+        Some(sectors) => daemon.read(now, call_of(input), sectors),
+        None => daemon.step(now, input),
+    }
+}
+
 /// The daemon makes a step, and then sees that the memory of one step more stands by, for what can't wait for memory when it comes. What that
 /// gave goes out beside the effects: it is no answer of this step. An `Err` is want of memory for the step, and changes nothing.
 fn step_ready<D: Daemon>(
     daemon: &mut D,
     now: u64,
     input: &Input,
+    sectors: Option<&Images>,
 ) -> Result<(Effects, Result<(), AllocError>), AllocError>
-    requires { (st : Setting) × (es : Trace) × D.stands daemon.old st es × MayCome st es now input.now }
+    requires may { (st : Setting) × (es : Trace) × D.stands daemon.old st es × MayCome st es now input.now }
+    requires sectors { IfSome sectors (λ i. (call : ℕ) × (input.now ≡ read_of call i.now)) }
     ensures stays { (st : Setting) → (es : Trace) → D.stands daemon.old st es → MayCome st es now input.now
         → IfOk result (λ r. D.stands daemon.new st (entry_of now input.now r.0 ∷ es) × IsNumbered st es r.0) }
     ensures sound { (st : Setting) → (es : Trace) → D.stands daemon.old st es → MayCome st es now input.now
@@ -139,7 +174,7 @@ fn step_ready<D: Daemon>(
     ensures ready { IfOk result (λ r. IsOk r.1 → D.spare daemon.new ≡ 1) }
     ensures err { OnErr result (daemon.new ≡ daemon.old) }
 {
-    let effects = daemon.step(now, input)?;
+    let effects = step_with(daemon, now, input, sectors)?;
     let ready = daemon.reserve();
     Ok((effects, ready))
 }
@@ -153,9 +188,11 @@ fn make<D: Teller, J: Station>(
     by: u32,
     reading: u64,
     input: Input,
+    sectors: Option<&Images>,
 ) -> Result<(Signed, Effects), AllocError>
     requires stands { D.Daemon.stands daemon.old J.setting (trace_of front.now) }
     requires may { MayCome J.setting (trace_of front.now) reading input }
+    requires sectors { IfSome sectors (λ i. (call : ℕ) × (input ≡ read_of call i.now)) }
     ensures made { IfOk result (λ r. IsMade D.Daemon.stands J.setting daemon.new front.now r.0) }
     ensures entry { IfOk result (λ r. r.0 ≡ signed_of by reading input r.1) }
     ensures few { IfOk result (λ r. IsFew (D.Daemon.makes daemon.old) r.1) }
@@ -164,7 +201,7 @@ fn make<D: Teller, J: Station>(
     let most = daemon.most();
     let longest = daemon.longest();
     spare.reserve(&most, longest)?;
-    let (effects, _ready) = step_ready(daemon, reading, &input)?;
+    let (effects, _ready) = step_ready(daemon, reading, &input, sectors)?;
     let copy = spare.copy(alloc, &effects);
     // so does the memory for the next copy; a refusal is no answer of this step either
     let _held = spare.reserve(&daemon.most(), daemon.longest());
@@ -253,8 +290,10 @@ impl<D: Teller, J: Station> Lead<D, J> {
         by: u32,
         now: u64,
         input: Input,
+        sectors: Option<&Images>,
     ) -> Result<(Signed, Effects), NotApplied>
-        requires { now < moments }
+        requires time { now < moments }
+        requires sectors { IfSome sectors (λ i. (call : ℕ) × (input ≡ read_of call i.now)) }
         ensures history { IfOk result (λ r. self.new.history ≡ self.old.history ++ r.0 ∷ []) }
         ensures entry { IfOk result (λ r. IsEntry by now input r.0) }
         ensures told { IfOk result (λ r. r.0.entry.effects ≡ r.1) }
@@ -274,6 +313,7 @@ impl<D: Teller, J: Station> Lead<D, J> {
             by,
             reading,
             input,
+            sectors,
         )?;
         if !front.add(book, &signed) {
             self.whole = false;

@@ -23,6 +23,7 @@ mod teller;
 
 pub use cell::HostCell;
 pub use closing::Differ;
+pub use connections::{Connection, given_connections, make_moves};
 pub use lead::{Broken, NotApplied};
 pub use part::Part;
 pub use station::{Book, Front, Opened, Seat, Signed, Station};

@@ -163,42 +163,48 @@ gen_in ws = option_map generated (seeded_in (without_dashes ws))
 
 -- ---- what is given to `live`
 
--- The word of a folder: one that is no option, with a `--` before or behind it; behind `--` it may look like one.
-abbrev pub folder_in : List (List ℕ) → Option (List ℕ)
-folder_in [] = None
-folder_in (w ∷ []) = choose (is_plain w) w
-folder_in (w ∷ v ∷ []) = if bytes_eq w (codes "--") then Some v else choose (is_plain w && bytes_eq v (codes "--")) w
-folder_in (w ∷ v ∷ u ∷ ws) = None
-
--- The words without a flag that stands before any `--`, if there is one.
-abbrev pub without_flag : List ℕ → List (List ℕ) → Option (List (List ℕ))
-without_flag flag [] = None
-without_flag flag (w ∷ ws) =
-    if bytes_eq w (codes "--") then None
-    else if bytes_eq w flag then Some ws
-    else option_map (λ rest. w ∷ rest) (without_flag flag ws)
-
--- A folder, and whether its disks are made anew.
+-- The word of a folder, and the flags: whether its disks are made anew, whether the script goes on behind a refused line, and whether events are told.
 pub record Placing : Type 0 where
   pub folder : Option (List ℕ)
   pub anew : Bool
+  pub keeps : Bool
+  pub events : Bool
 
--- What words give of which these are left without the flag, if it is among them.
-abbrev pub placing_by : List (List ℕ) → Option (List (List ℕ)) → Placing
-placing_by ws None = record { folder = folder_in ws; anew = false }
-placing_by ws (Some left) = record { folder = folder_in left; anew = true }
+-- Before all words.
+abbrev pub nothing_placed : Placing
+nothing_placed = record { folder = None; anew = false; keeps = false; events = false }
 
--- What the words behind `live` give: a flag, wherever it stands, and a folder in what is left, where it can't stand again.
-abbrev pub placing_in : List (List ℕ) → Placing
-placing_in ws = placing_by ws (without_flag (codes "--anew") ws)
+-- A word that is a folder; one is given.
+abbrev pub with_folder : Placing → List ℕ → Option Placing
+with_folder p w = choose (not (is_some p.folder)) (record p { folder = Some w })
+
+-- A word that is a flag; each is given once.
+abbrev pub with_flag : Placing → List ℕ → Option Placing
+with_flag p w =
+    if bytes_eq w (codes "--anew") then choose (not p.anew) (record p { anew = true })
+    else if bytes_eq w (codes "--keep-going") then choose (not p.keeps) (record p { keeps = true })
+    else if bytes_eq w (codes "--events") then choose (not p.events) (record p { events = true })
+    else None
+
+-- One more word, before any `--`.
+abbrev pub next_placed : Placing → List ℕ → Option Placing
+next_placed p w = if is_plain w then with_folder p w else with_flag p w
+
+-- All that the words give, behind `--` or before it: behind it no word is a flag.
+abbrev pub placed_from : Bool → Placing → List (List ℕ) → Option Placing
+placed_from behind p [] = Some p
+placed_from true p (w ∷ ws) = option_and_then (λ next. placed_from true next ws) (with_folder p w)
+placed_from false p (w ∷ ws) =
+    if bytes_eq w (codes "--") then placed_from true p ws
+    else option_and_then (λ next. placed_from false next ws) (next_placed p w)
 
 -- What they ask for, if a folder was given.
 abbrev pub placed_in : Placing → Option Words
-placed_in p = option_map (λ folder. Live folder p.anew) p.folder
+placed_in p = option_map (λ folder. Live folder p.anew p.keeps p.events) p.folder
 
 -- What the words behind `live` say.
 abbrev pub live_in : List (List ℕ) → Option Words
-live_in ws = placed_in (placing_in ws)
+live_in ws = option_and_then placed_in (placed_from false nothing_placed ws)
 
 -- ---- the whole line
 

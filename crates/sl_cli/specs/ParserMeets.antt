@@ -36,9 +36,14 @@ abbrev pub is_set : Option Text → Bool
 is_set None = false
 is_set (Some w) = bytes_eq w (codes "true")
 
--- A folder and whether its disks are made anew, by what was found.
+-- A folder and the flags that were given, by what was found.
 abbrev pub placing_of : List Row → Placing
-placing_of rows = record { folder = first_of (codes "folder") rows; anew = is_set (first_of (codes "anew") rows) }
+placing_of rows = record {
+  folder = first_of (codes "folder") rows;
+  anew = is_set (first_of (codes "anew") rows);
+  keeps = is_set (first_of (codes "keep-going") rows);
+  events = is_set (first_of (codes "events") rows);
+}
 
 -- The command of this name that was met, with what was given to it.
 abbrev pub named_met : Text → List Row → Option Met

@@ -25,9 +25,11 @@ seed_app name =
 abbrev pub flag_rule : List ℕ → Rule
 flag_rule id = record (new_rule id) { long = Some id; action = Some SetTrue }
 
--- `live FOLDER`, with its flag.
+-- `live FOLDER`, with its flags.
 abbrev pub live_app : App
-live_app = with_rule (with_rule (new_app (codes "live")) (new_rule (codes "folder"))) (flag_rule (codes "anew"))
+live_app =
+    with_rule (with_rule (with_rule (with_rule (new_app (codes "live")) (new_rule (codes "folder"))) (flag_rule (codes "anew"))) (flag_rule (codes "keep-going")))
+    (flag_rule (codes "events"))
 
 -- The program, without a name in front of its words, and without what the parser would add of its own.
 abbrev pub bare_shape : Shape

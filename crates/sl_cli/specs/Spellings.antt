@@ -181,11 +181,37 @@ abbrev pub OnlyItsWordsAskForAnAction : Type 0
 OnlyItsWordsAskForAnAction = (ws : List (List ℕ)) (a : Action) → said_in ws ≡ Some (Direct a)
     → IsAsked a × (rest : List (List ℕ)) × (ws ≡ codes "direct" ∷ rest) × AsksFor a rest
 
--- The flag of `live` may stand before or behind its folder, and is given once.
-abbrev pub FlagStandsAnywhere : Type 0
-FlagStandsAnywhere =
-    (folder : List ℕ) → is_plain folder ≡ true
-    → (said_in (codes "live" ∷ folder ∷ []) ≡ Some (Live folder false)) × (said_in (codes "live" ∷ codes "--anew" ∷ folder ∷ []) ≡ Some (Live folder true))
-    × (said_in (codes "live" ∷ folder ∷ codes "--anew" ∷ []) ≡ Some (Live folder true))
-    × (said_in (codes "live" ∷ codes "--anew" ∷ codes "--anew" ∷ folder ∷ []) ≡ None)
-    × (said_in (codes "live" ∷ codes "--anew" ∷ folder ∷ codes "--anew" ∷ []) ≡ None)
+-- ---- the flags of `live`
+
+-- Their words.
+abbrev pub flags : List (List ℕ)
+flags = codes "--anew" ∷ codes "--keep-going" ∷ codes "--events" ∷ []
+
+-- It is one of the words.
+abbrev pub is_among : List ℕ → List (List ℕ) → Bool
+is_among w ws = list_any (λ v. bytes_eq v w) ws
+
+-- No word is among those before, nor stands twice.
+abbrev pub are_single : List (List ℕ) → List (List ℕ) → Bool
+are_single before [] = true
+are_single before (w ∷ ws) = not (is_among w before) && are_single (before ++ w ∷ []) ws
+
+-- Flags, each once.
+abbrev pub AreFlags : List (List ℕ) → Type 0
+AreFlags ws = IsTrue (list_all (λ w. is_among w flags) ws) × IsTrue (are_single [] ws)
+
+-- What a folder and these flags ask for.
+abbrev pub live_with : List ℕ → List (List ℕ) → Words
+live_with folder ws = Live folder (is_among (codes "--anew") ws) (is_among (codes "--keep-going") ws) (is_among (codes "--events") ws)
+
+-- Flags may stand before and behind the folder, any of them and in any order.
+abbrev pub FlagsStandAnywhere : Type 0
+FlagsStandAnywhere =
+    (folder : List ℕ) (before behind : List (List ℕ)) → is_plain folder ≡ true → AreFlags (before ++ behind)
+    → said_in (codes "live" ∷ before ++ folder ∷ behind) ≡ Some (live_with folder (before ++ behind))
+
+-- A flag that stands twice before any `--` says nothing, whatever stands beside it.
+abbrev pub FlagsStandOnce : Type 0
+FlagsStandOnce =
+    (flag : List ℕ) (before between behind : List (List ℕ)) → IsTrue (is_among flag flags) → is_among (codes "--") before ≡ false → is_among (codes "--") between ≡ false
+    → said_in (codes "live" ∷ before ++ flag ∷ between ++ flag ∷ behind) ≡ None

@@ -31,10 +31,13 @@ pub enum Words {
     },
     /// Do this to an area.
     Direct(Action),
-    /// Run live machines by a script, on disks that are files below this folder; `anew`: those that are there are made anew.
+    /// Run live machines by a script, on disks that are files below this folder; `anew`: those that are there are made anew; `keeps`: a line that
+    /// is refused ends nothing; `events`: beside replies what becomes of children, and which connections run out, is told.
     Live {
         folder: Folder,
         anew: bool,
+        keeps: bool,
+        events: bool,
     },
     /// Put out the help.
     Help,

@@ -1,6 +1,6 @@
 //! What the words of the command line are: laws that need no run.
 
-ghost use Rattle.sl_cli.specs.Spellings.{ActionsHaveOneText, FlagStandsAnywhere, OnlyItsWordsAskForAnAction, OptionsComeInAnyOrder};
+ghost use Rattle.sl_cli.specs.Spellings.{ActionsHaveOneText, FlagsStandAnywhere, FlagsStandOnce, OnlyItsWordsAskForAnAction, OptionsComeInAnyOrder};
 
 /// What is given to `direct` asks for an action exactly where it is what the action needs: each word in its one spelling, and no other.
 /// Only the word of sizes may be left out, of sectors of 512 bytes in areas of one mebibyte.
@@ -18,7 +18,12 @@ pub fn only_its_words_ask_for_an_action()
     ensures { OnlyItsWordsAskForAnAction }
 {}
 
-/// The flag of `live` may stand before or behind its folder, and is given once.
-pub fn flag_stands_anywhere()
-    ensures { FlagStandsAnywhere }
+/// The flags of `live` may stand before and behind its folder, any of them and in any order.
+pub fn flags_stand_anywhere()
+    ensures { FlagsStandAnywhere }
+{}
+
+/// None of them stands twice before a `--`.
+pub fn flags_stand_once()
+    ensures { FlagsStandOnce }
 {}

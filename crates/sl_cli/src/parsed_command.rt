@@ -309,11 +309,13 @@ fn is_set(value: Option<&str>) -> bool
     }
 }
 
-/// The word of a folder, where it was given, and whether its disks are made anew.
+/// The word of a folder, where it was given, and which flags were.
 #[derive(Drop)]
 pub(crate) struct Placing<'a> {
     folder: Option<&'a str>,
     anew: bool,
+    keeps: bool,
+    events: bool,
 }
 
 impl<'a> Model for Placing<'a> {
@@ -322,7 +324,7 @@ impl<'a> Model for Placing<'a> {
 
     ghost Value = { words.Placing };
 
-    ghost view = { λ p. record { folder = option_map (λ w. w.now) p.folder; anew = p.anew } };
+    ghost view = { λ p. record { folder = option_map (λ w. w.now) p.folder; anew = p.anew; keeps = p.keeps; events = p.events } };
 }
 
 impl<'a> Placing<'a> {
@@ -333,6 +335,8 @@ impl<'a> Placing<'a> {
         Placing {
             folder: value_of(matches, "folder"),
             anew: is_set(value_of(matches, "anew")),
+            keeps: is_set(value_of(matches, "keep-going")),
+            events: is_set(value_of(matches, "events")),
         }
     }
 
@@ -345,6 +349,8 @@ impl<'a> Placing<'a> {
             Some(word) => Ok(Some(Words::Live {
                 folder: Folder::new(alloc, word)?,
                 anew: self.anew,
+                keeps: self.keeps,
+                events: self.events,
             })),
         }
     }

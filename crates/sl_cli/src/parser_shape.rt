@@ -115,12 +115,14 @@ fn with_flag<'a>(
     command.arg(Arg::new(alloc, id).long(id).action(ArgAction::SetTrue))
 }
 
-/// `live`, with its folder and its flag.
+/// `live`, with its folder and its flags.
 fn live<'a>(alloc: Global) -> Result<Command<'a>, AllocError>
     ensures app { IfOk result (λ c. app_of c ≡ live_app) }
     ensures local { IfOk result (λ c. (fields_of c).has_globals ≡ false) }
 {
-    with_flag(alloc, bare_live(alloc)?, "anew")
+    let command = with_flag(alloc, bare_live(alloc)?, "anew")?;
+    let command = with_flag(alloc, command, "keep-going")?;
+    with_flag(alloc, command, "events")
 }
 
 /// The program without its commands. Its words have no name in front, and no word asks the parser for help.

@@ -9,10 +9,15 @@ usage: sanlock COMMAND
                            run the schedule of a seed, print its words and the
                            last line of its report; with 2 each host's block has
                            a pair of sectors
-  live FOLDER [--anew]     run the live script on standard input, with disks in
-                           files below FOLDER and child programs; it waits for
-                           the children that it starts, and prints at the end;
-                           with --anew disks that are there are made anew
+  live FOLDER [--anew] [--keep-going] [--events]
+                           run the live script on standard input, with disks in
+                           files below FOLDER and child programs; it prints
+                           replies as they come, and waits for the children
+                           that it starts; with --anew disks that are there are
+                           made anew; with --keep-going a line that is refused
+                           is told and ends nothing, as from a terminal; with
+                           --events the exits, signals and ends of children and
+                           the connections that run out are told as well
   direct init -s LOCKSPACE -n N [-g GEOMETRY]
                            write the sectors of a lockspace for N hosts
   direct init -r RESOURCE -n N [-v 2] [-g GEOMETRY]

@@ -4,6 +4,7 @@ use Rattle.sl_area.specs.Sectors.{IsReadAt, KeepsOthers, Replaces, SectorPlace}
 use Rattle.sl_live.specs.declared.disks.Disk.{Disk}
 use Rattle.sl_sector.specs.Records.{IsRecord}
 use Rattle.sl_sector.specs.SectorLayouts.{spelling}
+use Rattle.sl_trace.specs.Traces.{Setting, is_answer_for}
 use Rattle.sl_trace.specs.declared.effects.Call.{Call}
 use Rattle.sl_trace.specs.declared.effects.Op.TheVariants.{ReadSectors, WriteRecord}
 use Rattle.sl_trace.specs.declared.effects.Op.{Op}
@@ -12,7 +13,7 @@ use Rattle.sl_trace.specs.declared.input.Answer.{Answer}
 use Rattle.sl_io.specs.FaultCauses.{Rose}
 use Rattle.std.specs.Io.KnownBytes.{Keeps}
 use Rattle.std.specs.List.{slice_set}
-use Rattle.std.specs.Prelude.{List, Option, Some, bytes_eq, length, position, slice_get, ℕ, ◌%◌, ◌*◌, ◌<◌, ◌^◌, ◌≡◌, ◌≤◌}
+use Rattle.std.specs.Prelude.{IfSome, List, None, Option, Some, bytes_eq, length, position, slice_get, true, ℕ, ◌%◌, ◌*◌, ◌<◌, ◌^◌, ◌≡◌, ◌≤◌}
 
 -- What can be written: a record that keeps its rules.
 abbrev pub IsOp : Op → Type 0
@@ -62,3 +63,11 @@ pub record IsMade {A : Type 0} (content : A → Option (List ℕ)) (faults : A �
 pub record IsLeft {A : Type 0} (disks later : List (Disk A)) (a : Answer) : Type 0 where
   pub same : later ≡ disks
   pub failed : a ≡ Failed
+
+-- The call was made with this answer: on the disk that it names, and on no other; and where there is none, or where it has no bytes, nothing was done.
+pub record MakesCall {A : Type 0} (content : A → Option (List ℕ)) (faults : A → ℕ) (sector : ℕ) (c : Call)
+    (disks later : List (Disk A)) (a : Answer) : Type 0 where
+  pub no_disk : disk_at c.path disks ≡ None → IsLeft disks later a
+  pub no_bytes : (CanMake sector c → ⊥) → IsLeft disks later a
+  pub made : CanMake sector c → IfSome (disk_at c.path disks) (λ k. IsMade content faults sector c k disks later a)
+  pub kind : (st : Setting) → st.layout.sector ≡ sector → is_answer_for st a c.op ≡ true

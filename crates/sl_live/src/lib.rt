@@ -4,8 +4,10 @@
 mod children;
 mod disks;
 pub mod laws;
+mod read_before;
 mod records;
 mod steps;
 
 pub use children::{Awaited, Children};
 pub use disks::Disk;
+pub use read_before::ReadBefore;

@@ -7,18 +7,21 @@
 
 ghost use Rattle.sl_cell.specs.Told.{IsTested};
 ghost use Rattle.sl_live.specs.Turns.{GivesUp, Guards, Looks, MakesTurn, Starts, TellsStart};
-ghost use Rattle.std.specs.Prelude.{Bool, IfOk, OnErr, OnOk, ◌≡◌, ◌≤◌};
+ghost use Rattle.sl_world_state.specs.Daemons.{read_of};
+ghost use Rattle.std.specs.Prelude.{Bool, IfOk, IfSome, OnErr, OnOk, ℕ, ◌≡◌, ◌≤◌};
 
 use crate::children::{Awaited, Children};
 use sl_cell::{HostCell, NotApplied, Seat, Station, Teller};
 use sl_outside::{Device, Spawner, StartedChild};
+use sl_sector::Images;
 use sl_time::Clock;
 use sl_trace::{Effects, Input};
 use std::alloc::AllocError;
 use std::sync::Wait;
 
 /// Gives an input, and does what its step asks of the children: the step's effects, or none where the input answers nothing that is open. An `Err` is
-/// want of memory, or a history that is not the daemon's any more: nothing was done then, though the step may have been made.
+/// want of memory, or a history that is not the daemon's any more: nothing was done then, though the step may have been made. The sectors of a read
+/// may be given beside its answer.
 pub fn give_step<D: Teller, J: Station, R: Wait, C: Clock, P: Spawner>(
     rt: &R,
     cell: &HostCell<D, J>,
@@ -26,13 +29,15 @@ pub fn give_step<D: Teller, J: Station, R: Wait, C: Clock, P: Spawner>(
     clock: &mut C,
     children: &mut Children<P>,
     input: Input,
+    sectors: Option<&Images>,
 ) -> Result<Option<Effects>, AllocError>
+    requires { IfSome sectors (λ i. (call : ℕ) × (input ≡ read_of call i.now)) }
     ensures ok { IfOk result (λ fx. MakesTurn P.acts P.faults P.running J.setting (C.last clock.new) fx input children.old children.new seat.old seat.new) }
     ensures err { OnErr result (GivesUp (C.last clock.new) input children.old children.new seat.old seat.new) }
     ensures clock { C.last clock.old ≤ C.last clock.new }
 {
     let now = clock.now();
-    match cell.apply(rt, seat, now, input) {
+    match cell.apply(rt, seat, now, input, sectors) {
         Ok(effects) => {
             children.carry_out(&effects)?;
             Ok(Some(effects))
@@ -89,7 +94,7 @@ pub fn spawned_step<D: Teller, J: Station, R: Wait, C: Clock, P: Spawner>(
 {
     let ok = children.take_in(process, child);
     let input = Input::Spawned { process, ok };
-    match give_step(rt, cell, seat, clock, children, input) {
+    match give_step(rt, cell, seat, clock, children, input, None) {
         Ok(effects) => Ok(Told { ok, effects }),
         Err(error) => Err(error),
     }
@@ -110,7 +115,8 @@ pub fn child_step<D: Teller, J: Station, R: Wait, C: Clock, P: Spawner>(
     let Some(process) = children.poll() else {
         return Ok(None);
     };
-    match give_step(rt, cell, seat, clock, children, Input::Exit { process }) {
+    let input = Input::Exit { process };
+    match give_step(rt, cell, seat, clock, children, input, None) {
         Ok(effects) => Ok(Some(Gone { process, effects })),
         Err(error) => Err(error),
     }

@@ -1,8 +1,9 @@
 -- Lines that are written one behind another.
 use Rattle.sl_command.proofs.LineLaws.{reply_written}
 use Rattle.sl_command.specs.OutputLines.{class_text, line_text}
+use Rattle.sl_live_lines.specs.EventTexts.{Telling, telling_after, telling_along}
 use Rattle.sl_live_lines.specs.LocksAlong.{AlongState, along, asked_along, is_told, replies_along, step_along, told_along}
-use Rattle.sl_live_lines.specs.LiveTexts.{answer_jobs, answer_text, count_replies, count_step, count_told, history_text, line_jobs, step_jobs, step_text}
+use Rattle.sl_live_lines.specs.LiveTexts.{answer_jobs, answer_text, count_replies, count_step, count_told, history_text, line_jobs, replies_text, step_jobs, step_text}
 use Rattle.sl_report.specs.Reports.{told_lines}
 use Rattle.sl_run.specs.Locks.{Told, told_effects}
 use Rattle.sl_text.specs.Forms.{as_bytes}
@@ -40,7 +41,7 @@ unfolding told_effects
 replies_are a e = refl
 
 pub step_texts : (m : ℕ) (a : AlongState) (e : Entry) (asked : Option ℕ) (told : Told) (first last whole : List ℕ) → asked ≡ asked_along a e → told ≡ told_along a e
-    → last ≡ first ++ flat_map (answer_text m asked) e.effects.replies → whole ≡ last ++ as_bytes (told_lines m told) → whole ≡ first ++ step_text m a e
+    → last ≡ first ++ flat_map (answer_text m asked) e.effects.replies → whole ≡ last ++ as_bytes (told_lines m told) → whole ≡ first ++ replies_text m a e
 step_texts m a e asked told first last whole asked_is told_is replies lines =
     lines
     ∙ ap₂ (λ bs t. bs ++ as_bytes (told_lines m t))
@@ -83,11 +84,16 @@ pub along_push : (a : AlongState) (h : List Entry) (e : Entry) → along a (h ++
 along_push a [] e = refl
 along_push a (x ∷ h) e = along_push (step_along a x) h e
 
-pub text_push : (m : ℕ) (a : AlongState) (h : List Entry) (e : Entry) → history_text m a (h ++ e ∷ []) ≡ history_text m a h ++ step_text m (along a h) e
-text_push m a [] e = append-nil (step_text m a e)
-text_push m a (x ∷ h) e =
-    ap (λ bs. step_text m a x ++ bs) (text_push m (step_along a x) h e)
-    ∙ sym (append_assoc (step_text m a x) (history_text m (step_along a x) h) (step_text m (along (step_along a x) h) e))
+pub telling_push : (t : Telling) (h : List Entry) (e : Entry) → telling_along t (h ++ e ∷ []) ≡ telling_after (telling_along t h) e
+telling_push t [] e = refl
+telling_push t (x ∷ h) e = telling_push (telling_after t x) h e
+
+pub text_push : (m : ℕ) (t : Telling) (a : AlongState) (h : List Entry) (e : Entry)
+    → history_text m t a (h ++ e ∷ []) ≡ history_text m t a h ++ step_text m (telling_along t h) (along a h) e
+text_push m t a [] e = append-nil (step_text m t a e)
+text_push m t a (x ∷ h) e =
+    ap (λ bs. step_text m t a x ++ bs) (text_push m (telling_after t x) (step_along a x) h e)
+    ∙ sym (append_assoc (step_text m t a x) (history_text m (telling_after t x) (step_along a x) h) (step_text m (telling_along (telling_after t x) h) (along (step_along a x) h) e))
 
 pub count_push : (a : AlongState) (h : List Entry) (e : Entry) → count_replies a (h ++ e ∷ []) ≡ count_replies a h + count_step (along a h) e
 count_push a [] e = omega arith

@@ -1,5 +1,6 @@
 -- What a history is compared with, and what is kept of it along its entries.
 use Rattle.indexmap.specs.IndexMap.{get}
+use Rattle.sl_live_lines.specs.EventTexts.{Telling, telling_along}
 use Rattle.sl_live_lines.specs.LiveTexts.{count_replies}
 use Rattle.sl_live_lines.specs.LocksAlong.{AlongState, along, due_ask, line_given, runs_line, step_along}
 use Rattle.sl_live_lines.specs.declared.audit.Audit.{Audit}
@@ -151,7 +152,8 @@ pub record Keeps (made : Entry → List ℕ) (h : List Entry) (open_now : List �
 -- ---- what goes along
 
 -- It has come along this history, whose asks were those due.
-pub record IsAudit (a : AlongState) (h : List Entry) (x : Audit) : Type 0 where
+pub record IsAudit (t : Telling) (a : AlongState) (h : List Entry) (x : Audit) : Type 0 where
+  pub telling : x.telling ≡ telling_along t h
   pub locks : x.locks ≡ along a h
   pub number : x.number ≡ length h
   pub asks : KeepsAsks a h

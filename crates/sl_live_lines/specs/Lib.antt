@@ -1,3 +1,4 @@
 pub mod LocksAlong
+pub mod EventTexts
 pub mod LiveTexts
 pub mod AuditedHistory

@@ -1,5 +1,6 @@
 -- What is put out of live machines.
 use Rattle.sl_command.specs.OutputLines.{class_text, line_text}
+use Rattle.sl_live_lines.specs.EventTexts.{Telling, told_events, telling_after}
 use Rattle.sl_live_lines.specs.LocksAlong.{AlongState, is_told, replies_along, step_along, told_along}
 use Rattle.sl_live_lines.specs.declared.live_texts.Ending.TheVariants.{Cut, Refused, Whole}
 use Rattle.sl_live_lines.specs.declared.live_texts.Ending.{Ending}
@@ -10,21 +11,25 @@ use Rattle.sl_text.specs.Forms.{as_bytes, spaced}
 use Rattle.sl_trace.specs.EffectTexts.{answer_words}
 use Rattle.sl_trace.specs.declared.effects.Entry.{Entry}
 use Rattle.sl_trace.specs.declared.effects.JobReply.{JobReply}
-use Rattle.std.specs.Prelude.{List, None, Option, Some, codes, decimal, if◌then◌else◌, length, map, [], ℕ, ◌++◌, ◌+◌, ◌∷◌, ◌≡◌}
+use Rattle.std.specs.Prelude.{List, None, Option, Some, codes, decimal, if◌then◌else◌, length, map, [], ℕ, ◌++◌, ◌+◌, ◌∷◌}
 
 -- ---- what is told of a machine, as lvmlockd's locks go along its history
 
--- The lines of what is told of a step: the daemon's replies, but not that to an ask; and then the reply to the line for lvmlockd that runs, under
--- that line's number, if the step has brought it.
-abbrev pub step_text : ℕ → AlongState → Entry → List ℕ
-step_text m a e = class_text m (λ r. answer_words r) (replies_along a e) ++ as_bytes (told_lines m (told_along a e))
+-- The lines of a step's replies: the daemon's, but not that to an ask; and then the reply to the line for lvmlockd that runs, under that line's number,
+-- if the step has brought it.
+abbrev pub replies_text : ℕ → AlongState → Entry → List ℕ
+replies_text m a e = class_text m (λ r. answer_words r) (replies_along a e) ++ as_bytes (told_lines m (told_along a e))
+
+-- The lines of what is told of a step: its events, where they are told, and behind them its replies.
+abbrev pub step_text : ℕ → Telling → AlongState → Entry → List ℕ
+step_text m t a e = told_events m t e ++ replies_text m a e
 
 -- .. of a history, the oldest first.
-abbrev pub history_text : ℕ → AlongState → List Entry → List ℕ
-history_text m a [] = []
-history_text m a (e ∷ h) = step_text m a e ++ history_text m (step_along a e) h
+abbrev pub history_text : ℕ → Telling → AlongState → List Entry → List ℕ
+history_text m t a [] = []
+history_text m t a (e ∷ h) = step_text m t a e ++ history_text m (telling_after t e) (step_along a e) h
 
--- The jobs whose replies these are: the line for lvmlockd is one.
+-- The jobs whose replies are among these: the line for lvmlockd is one.
 abbrev pub line_jobs : Told → List ℕ
 line_jobs None = []
 line_jobs (Some p) = p.0 ∷ []
@@ -32,7 +37,7 @@ line_jobs (Some p) = p.0 ∷ []
 abbrev pub step_jobs : AlongState → Entry → List ℕ
 step_jobs a e = map (λ (r : JobReply). r.job) (replies_along a e) ++ line_jobs (told_along a e)
 
--- How many lines a step's are, and a history's.
+-- How many replies a step's are, and a history's.
 abbrev pub count_told : Told → ℕ
 count_told None = 0
 count_told (Some p) = 1

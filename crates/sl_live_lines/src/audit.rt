@@ -1,20 +1,23 @@
 //! A history that nobody keeps, gone along entry by entry.
 
 ghost use Rattle.sl_live_lines.specs.AuditedHistory.{IsAnswered, IsAudit, IsLeft, IsOpenIn, IsOther, KeepsAsk, NothingOpenIn, due_line, own_lines};
+ghost use Rattle.sl_live_lines.specs.EventTexts.{Telling, first_telling};
 ghost use Rattle.sl_live_lines.specs.LiveTexts.{count_replies, step_jobs, step_text};
 ghost use Rattle.sl_live_lines.specs.LocksAlong.{AlongState, along, begun_along, line_given, runs_line};
 ghost use Rattle.sl_live_lines.specs.declared.given_lines.GivenLine.{GivenLine as GivenLineOf};
 ghost use Rattle.sl_trace.specs.declared.effects.Entry.{Entry as EntryOf};
+ghost use Rattle.sl_words.specs.Bounds.{moments};
 ghost use Rattle.std.specs.Option.{option_copied};
-ghost use Rattle.std.specs.Prelude.{IfNone, IfOk, IfSome, IsFalse, IsTrue, List, OnOk, Some, false, length, [], ◌++◌, ◌+◌, ◌∷◌, ◌≡◌, ◌≤◌};
+ghost use Rattle.std.specs.Prelude.{All, IfNone, IfOk, IfSome, IsFalse, IsTrue, List, OnOk, Some, false, length, [], ◌++◌, ◌+◌, ◌<◌, ◌∷◌, ◌≡◌, ◌≤◌};
 
+use crate::event_texts::Events;
 use crate::given_lines::{has_line, is_due};
 use crate::live_texts::push_step;
 use crate::marks::{note_calls, note_starts};
 use crate::open_numbers::Open;
 use crate::{Along, GivenLine};
 use sl_run::Header;
-use sl_trace::Entry;
+use sl_trace::{Entry, Given};
 use std::alloc::{AllocError, Global};
 
 /// What is left at the end of a history: a line for lvmlockd that runs; or a call, or the start of a child, by its number, that nothing answers, with
@@ -26,10 +29,11 @@ pub enum Left {
     Start { number: u64, process: u64 },
 }
 
-/// What is kept of a history to go on along it: lvmlockd's locks, what is open, and how many entries and replies came. It grows with what is open
-/// alone.
+/// What is kept of a history to go on along it: what its events are told by, lvmlockd's locks, what is open, and how many entries and replies came. It
+/// grows with what is open alone, and, where events are told, with the lockspaces that are joined.
 #[derive(Drop)]
 pub struct Audit {
+    telling: Events,
     locks: Along,
     number: u64,
     calls: Open,
@@ -53,17 +57,26 @@ fn count_behind(count: u64, jobs: &[u64], before: usize) -> Result<u64, AllocErr
 }
 
 impl Audit {
-    /// Before the first entry of a daemon of this header, whose first job has this number. It takes no memory.
-    pub fn new(alloc: Global, header: &Header, first_job: u64) -> Audit
-        ensures { IsAudit (begun_along header.now first_job) [] result }
+    /// Before the first entry of a daemon of this header with these sessions, whose first job has this number; whether events are told. An `Err` is
+    /// want of memory: where no events are told it takes none.
+    pub fn new(
+        alloc: Global,
+        header: &Header,
+        first_job: u64,
+        given: &[Given],
+        events: bool,
+    ) -> Result<Audit, AllocError>
+        requires { All (λ g. g.renewed < moments) given.now }
+        ensures { IfOk result (IsAudit (first_telling events header.now.timing given.now) (begun_along header.now first_job) []) }
     {
-        Audit {
+        Ok(Audit {
+            telling: Events::new(alloc, &header.timing, given, events)?,
             locks: Along::new(alloc, header, first_job),
             number: 0,
             calls: Open::new(alloc),
             starts: Open::new(alloc),
             replies: 0,
-        }
+        })
     }
 
     /// Whether the next entry has a line of the script's own: one that comes while no line for lvmlockd runs.
@@ -98,13 +111,15 @@ impl Audit {
         machine: usize,
         entry: &Entry,
     ) -> Result<(), AllocError>
-        ensures text { OnOk result (out.new.items ≡ out.old.items ++ step_text machine self.old.locks entry.now) }
+        ensures text { OnOk result (out.new.items ≡ out.old.items ++ step_text machine self.old.telling self.old.locks entry.now) }
         ensures jobs { OnOk result (jobs.new.items ≡ jobs.old.items ++ step_jobs self.old.locks entry.now) }
-        ensures on { (a : AlongState) → (h : List EntryOf) → IsAudit a h self.old → KeepsAsk self.old.locks entry.now → OnOk result (IsAudit a (h ++ entry.now ∷ []) self.new) }
+        ensures on { (t : Telling) → (a : AlongState) → (h : List EntryOf) → IsAudit t a h self.old → KeepsAsk self.old.locks entry.now → OnOk result (IsAudit t a (h ++ entry.now ∷ []) self.new) }
     {
         let number = sum(self.number, 1)?;
         let before = jobs.as_slice().len();
+        self.telling.push(out, machine, entry)?;
         push_step(out, jobs, machine, &mut self.locks, entry)?;
+        self.telling.step(entry)?;
         self.replies = count_behind(self.replies, jobs, before)?;
         note_calls(&mut self.calls, number, entry)?;
         note_starts(&mut self.starts, number, entry)?;
@@ -129,22 +144,22 @@ impl Audit {
 
     /// What is left where the history ends here, if anything is: a line for lvmlockd that runs, a call or a start that nothing answers.
     pub fn left(&self) -> Option<Left>
-        ensures none { (a : AlongState) → (h : List EntryOf) → IsAudit a h self.now → IfNone result ((runs_line (along a h) ≡ false) × IsAnswered h) }
-        ensures some { (a : AlongState) → (h : List EntryOf) → IsAudit a h self.now → IfSome result (IsLeft a h) }
+        ensures none { (t : Telling) → (a : AlongState) → (h : List EntryOf) → IsAudit t a h self.now → IfNone result ((runs_line (along a h) ≡ false) × IsAnswered h) }
+        ensures some { (t : Telling) → (a : AlongState) → (h : List EntryOf) → IsAudit t a h self.now → IfSome result (IsLeft a h) }
     {
         self.first_open()
     }
 
     /// How many replies were told.
     pub fn replies(&self) -> u64
-        ensures { (a : AlongState) → (h : List EntryOf) → IsAudit a h self.now → result ≡ count_replies a h }
+        ensures { (t : Telling) → (a : AlongState) → (h : List EntryOf) → IsAudit t a h self.now → result ≡ count_replies a h }
     {
         self.replies
     }
 
     /// How many entries came.
     pub fn entries(&self) -> u64
-        ensures { (a : AlongState) → (h : List EntryOf) → IsAudit a h self.now → result ≡ length h }
+        ensures { (t : Telling) → (a : AlongState) → (h : List EntryOf) → IsAudit t a h self.now → result ≡ length h }
     {
         self.number
     }

@@ -2,7 +2,7 @@
 
 ghost use Rattle.sl_command.specs.OutputLines.{line_text};
 ghost use Rattle.sl_live_lines.specs.LocksAlong.{step_along};
-ghost use Rattle.sl_live_lines.specs.LiveTexts.{answer_jobs, answer_text, last_text, line_jobs, live_line, step_jobs, step_text};
+ghost use Rattle.sl_live_lines.specs.LiveTexts.{answer_jobs, answer_text, last_text, line_jobs, live_line, replies_text, step_jobs};
 ghost use Rattle.sl_locks.specs.Replies as locks;
 ghost use Rattle.sl_locks.specs.Replies.{told_as};
 ghost use Rattle.sl_report.specs.Reports.{told_lines};
@@ -123,7 +123,7 @@ fn push_line_told(
     }
 }
 
-/// Adds the lines of what is told of a step, by which the locks go on, and the jobs whose replies they are.
+/// Adds the lines of a step's replies, by which the locks go on, and the jobs whose replies they are.
 pub(crate) fn push_step(
     out: &mut Vec<u8>,
     jobs: &mut Vec<u64>,
@@ -131,7 +131,7 @@ pub(crate) fn push_step(
     locks: &mut Along,
     entry: &Entry,
 ) -> Result<(), AllocError>
-    ensures text { OnOk result (out.new.items ≡ out.old.items ++ step_text machine locks.old entry.now) }
+    ensures text { OnOk result (out.new.items ≡ out.old.items ++ replies_text machine locks.old entry.now) }
     ensures jobs { OnOk result (jobs.new.items ≡ jobs.old.items ++ step_jobs locks.old entry.now) }
     ensures locks { OnOk result (locks.new ≡ step_along locks.old entry.now) }
 {

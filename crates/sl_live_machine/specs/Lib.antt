@@ -1,3 +1,4 @@
 pub mod ThreadSeats
+pub mod ThreadTurns
 pub mod Printing
 pub mod MachineEnds

@@ -4,6 +4,7 @@ use Rattle.sl_book.specs.Mails.{ReaderState}
 use Rattle.sl_book.specs.Seats.{IsMine, SeatState}
 use Rattle.sl_cell.specs.Histories.{trace_of}
 use Rattle.sl_live_lines.specs.AuditedHistory.{AreLines, IsAnswered, IsLeft, KeepsAsks, lines_along}
+use Rattle.sl_live_lines.specs.EventTexts.{Telling}
 use Rattle.sl_live_lines.specs.LiveTexts.{count_replies, history_text}
 use Rattle.sl_live_lines.specs.LocksAlong.{AlongState, along, runs_line}
 use Rattle.sl_live_lines.specs.declared.audit.Left.TheVariants.{Line as LineLeft}
@@ -56,15 +57,15 @@ abbrev pub EndsSo : {D J O T : Type 0} → (D → Setting → Trace → Type 0) 
 EndsSo stands st a p end = EndsWith stands st a (entries p.mine) (lines_read p.reader) end
 
 -- The pieces of the writer are what is told of the history, which has so many replies.
-pub record HasTold (a : AlongState) (h : List Entry) (reader : ReaderState GivenLine) (writer : SeatState (List ℕ)) (replies : ℕ) : Type 0 where
+pub record HasTold (t : Telling) (a : AlongState) (h : List Entry) (reader : ReaderState GivenLine) (writer : SeatState (List ℕ)) (replies : ℕ) : Type 0 where
   pub texts : List (List ℕ)
   pub mine : IsMine writer texts
-  pub text : concat texts ≡ history_text (reader.by + 1) a h
+  pub text : concat texts ≡ history_text (reader.by + 1) t a h
   pub count : replies ≡ count_replies a h
 
-abbrev pub Told : AlongState → List Entry → ReaderState GivenLine → SeatState (List ℕ) → ℕ → Result Unit CloseError → Type 0
-Told a h reader writer replies (Ok u) = HasTold a h reader writer replies
-Told a h reader writer replies (Err e) = Unit {0}
+abbrev pub Told : Telling → AlongState → List Entry → ReaderState GivenLine → SeatState (List ℕ) → ℕ → Result Unit CloseError → Type 0
+Told t a h reader writer replies (Ok u) = HasTold t a h reader writer replies
+Told t a h reader writer replies (Err e) = Unit {0}
 
 -- It has so many entries.
 abbrev pub Counts : List Entry → ℕ → Result Unit CloseError → Type 0
@@ -75,9 +76,9 @@ Counts h entries (Err (close.Differ d)) = Unit {0}
 Counts h entries (Err close.NoMemory) = Unit {0}
 
 -- A machine has run: with a whole history of which all is told; or a case that holds of it, or want of memory.
-pub record HasRun {D O T A : Type 0} (stands : D → Setting → Trace → Type 0) (st : Setting) (a : AlongState) (r : Ran O T A) : Type 0 where
+pub record HasRun {D O T A : Type 0} (stands : D → Setting → Trace → Type 0) (st : Setting) (t : Telling) (a : AlongState) (r : Ran O T A) : Type 0 where
   pub by : r.writer.by ≡ r.reader.by
   pub history : List Entry
   pub ends : EndsWith stands st a history (lines_read r.reader) r.end
-  pub told : Told a history r.reader r.writer r.replies r.end
+  pub told : Told t a history r.reader r.writer r.replies r.end
   pub counted : Counts history r.entries r.end

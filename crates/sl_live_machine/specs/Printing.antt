@@ -3,6 +3,7 @@ use Rattle.sl_book.specs.Logs.{entries, given_by}
 use Rattle.sl_book.specs.Mails.{PostedState, ReaderState}
 use Rattle.sl_book.specs.Seats.{IsMine}
 use Rattle.sl_live_lines.specs.AuditedHistory.{DiffersBehind, IsAudit, lines_along, own_lines}
+use Rattle.sl_live_lines.specs.EventTexts.{Telling}
 use Rattle.sl_live_lines.specs.LiveTexts.{history_text}
 use Rattle.sl_live_lines.specs.LocksAlong.{AlongState}
 use Rattle.sl_live_machine.specs.declared.printer.Printer.{Printer}
@@ -30,13 +31,13 @@ abbrev pub IsWrong : AlongState → List Entry → List GivenLine → ℕ → Ty
 IsWrong a h read number = (before : List Entry) × (number ≡ length before + 1) × DiffersBehind a h read before
 
 -- Where no line was wrong, the history's lines are those of the script that were met, and what is told of it was put out, or is to be.
-abbrev pub Goes : {J O T : Type 0} → AlongState → List Entry → Printer J O T → List ℕ → Option ℕ → Type 0
-Goes a h p out None = IsAudit a h p.audit × (lines_along a h ≡ lines_read p.reader) × (out ≡ history_text (p.reader.by + 1) a h)
-Goes a h p out (Some number) = IsWrong a h (lines_read p.reader) number
+abbrev pub Goes : {J O T : Type 0} → Telling → AlongState → List Entry → Printer J O T → List ℕ → Option ℕ → Type 0
+Goes t a h p out None = IsAudit t a h p.audit × (lines_along a h ≡ lines_read p.reader) × (out ≡ history_text (p.reader.by + 1) t a h)
+Goes t a h p out (Some number) = IsWrong a h (lines_read p.reader) number
 
 -- It went along this history.
-pub record IsPrinting {J O T : Type 0} (a : AlongState) (h : List Entry) (p : Printer J O T) : Type 0 where
+pub record IsPrinting {J O T : Type 0} (t : Telling) (a : AlongState) (h : List Entry) (p : Printer J O T) : Type 0 where
   pub by : p.writer.by ≡ p.reader.by
   pub texts : List (List ℕ)
   pub mine : IsMine p.writer texts
-  pub goes : Goes a h p (concat texts ++ p.text.items) p.wrong
+  pub goes : Goes t a h p (concat texts ++ p.text.items) p.wrong

@@ -82,12 +82,14 @@ pub(crate) struct Board {
     running: Vec<u32>,
     /// The children whose exit was noted before their start.
     ended: Vec<u32>,
+    /// Whether the printer tells events beside replies.
+    events: bool,
     stage: Stage,
 }
 
 impl Board {
-    /// Nothing was done yet. The next line is of this job.
-    pub(crate) fn new(alloc: Global, next_job: u64) -> Board {
+    /// Nothing was done yet. The next line is of this job; whether events are told.
+    pub(crate) fn new(alloc: Global, next_job: u64, events: bool) -> Board {
         Board {
             lines: VecDeque::new(alloc),
             closed: false,
@@ -102,6 +104,7 @@ impl Board {
             started: 0,
             running: Vec::new(alloc),
             ended: Vec::new(alloc),
+            events,
             stage: Stage::Runs,
         }
     }
@@ -119,6 +122,11 @@ impl Board {
     /// Whether this child runs.
     pub(crate) fn is_running(&self, process: u32) -> bool {
         self.running.contains(&process)
+    }
+
+    /// How many children run.
+    pub(crate) fn children(&self) -> usize {
+        self.running.len()
     }
 
     /// A line to be given, for whose reply the script waits or does not. An `Err` is want of memory.
@@ -242,6 +250,7 @@ impl Board {
     fn note_effects(&mut self, news: &mut News, effects: &Effects) -> Result<(), AllocError> {
         self.note_calls(news, effects);
         self.note_starts(news, effects);
+        self.note_events(news, effects);
         self.note_replies(news, effects.replies.as_slice())
     }
 
@@ -261,6 +270,9 @@ impl Board {
             }
             Happened::Exited { process } => {
                 news.script = true;
+                if self.events {
+                    news.printer = true;
+                }
                 self.note_exit(process)
             }
             Happened::Line => Ok(()),
@@ -305,6 +317,13 @@ impl Board {
         for _start in effects.starts.as_slice() {
             self.ordered = self.ordered.wrapping_add(1);
             news.starter = true;
+        }
+    }
+
+    /// Notes ends and signals, where they are told.
+    fn note_events(&self, news: &mut News, effects: &Effects) {
+        if self.events && !(effects.ends.is_empty() && effects.signals.is_empty()) {
+            news.printer = true;
         }
     }
 

@@ -2,7 +2,8 @@
 //! intervals while one runs: each twice as long as the one before, from 1 to 16 milliseconds, and the shortest again once a child has exited.
 
 ghost use Rattle.sl_live.specs.Turns.{IsChildThread};
-ghost use Rattle.std.specs.Prelude.{IfOk, OnOk};
+ghost use Rattle.sl_live_machine.specs.ThreadTurns.{LooksTurn, OnChildren, exit_turn, finding};
+ghost use Rattle.std.specs.Prelude.{IfOk, OnOk, length, ◌==◌, ◌≡◌};
 
 use crate::room::Room;
 use crate::script_waits::Post;
@@ -31,7 +32,9 @@ enum Found {
 }
 
 /// What a look has found that saw an exited child or did not, and that left children running or did not.
-fn finding(exited: bool, idle: bool) -> Found {
+fn finding(exited: bool, idle: bool) -> Found
+    ensures { result ≡ finding exited idle }
+{
     if exited {
         Found::Exited
     } else if idle {
@@ -42,7 +45,9 @@ fn finding(exited: bool, idle: bool) -> Found {
 }
 
 /// The turn that told an exit.
-fn turn_of(gone: Gone) -> Turn {
+fn turn_of(gone: Gone) -> Turn
+    ensures { result ≡ exit_turn gone }
+{
     let Gone { process, effects } = gone;
     Turn {
         happened: Happened::Exited { process },
@@ -50,7 +55,7 @@ fn turn_of(gone: Gone) -> Turn {
     }
 }
 
-/// Tells the exit of one child, if one has exited: what was found, and the turn. An `Err` is want of memory.
+/// Tells the exit of one of the children that stand under their lock, if one has exited: what was found, and the turn. An `Err` is want of memory.
 #[tactic(auto, using(crate::proofs::SeatLaws::looks_on))]
 fn look<D: Teller, J: Station, R: Wait, C: Clock, P: Spawner>(
     rt: &R,
@@ -58,7 +63,8 @@ fn look<D: Teller, J: Station, R: Wait, C: Clock, P: Spawner>(
     seat: &mut Seat<J>,
     clock: &mut C,
 ) -> Result<(Found, Option<Turn>), AllocError>
-    ensures { OnOk result (IsChildThread seat.old → IsChildThread seat.new) }
+    ensures looks { OnChildren (λ before after. LooksTurn P.acts P.faults P.running J.setting (C.last clock.new) before after seat.old seat.new result) }
+    ensures thread { OnOk result (IsChildThread seat.old → IsChildThread seat.new) }
 {
     let mut children = room.children.lock(rt);
     let gone = child_step(rt, &room.cell, seat, clock, &mut *children)?;

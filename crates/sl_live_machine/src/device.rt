@@ -1,8 +1,9 @@
 //! The thread that tests the machine's connections and keeps its watchdog device from firing while they hold.
 
-ghost use Rattle.sl_live.specs.Turns.{IsDeviceThread};
-ghost use Rattle.sl_live_machine.specs.ThreadSeats.{TestedTurn};
-ghost use Rattle.std.specs.Prelude.{IfOk, OnOk};
+ghost use Rattle.sl_cell.specs.Told.{IsTested};
+ghost use Rattle.sl_live.specs.Turns.{Guards, IsDeviceThread};
+ghost use Rattle.sl_live_machine.specs.ThreadTurns.{OnChildren};
+ghost use Rattle.std.specs.Prelude.{Bool, IfOk, OnErr, OnOk, ◌≡◌};
 
 use crate::room::Room;
 use crate::script_waits::Post;
@@ -15,7 +16,8 @@ use std::alloc::AllocError;
 use std::sync::Wait;
 use std::time;
 
-/// Tests once, and gives nothing. An `Err` is a history that is not the daemon's any more.
+/// Tests once, and gives nothing: the device is kept from firing exactly where the test holds, and the children that stand under their lock are killed
+/// exactly where it has fired. An `Err` is a history that is not the daemon's any more.
 #[tactic(auto, using(crate::proofs::SeatLaws::tests_on))]
 fn test<D: Teller, J: Station, R: Wait, C: Clock, P: Spawner, V: Device>(
     rt: &R,
@@ -24,7 +26,11 @@ fn test<D: Teller, J: Station, R: Wait, C: Clock, P: Spawner, V: Device>(
     clock: &mut C,
     device: &mut V,
 ) -> Result<(), AllocError>
-    ensures tested { OnOk result (TestedTurn J.setting seat.old seat.new) }
+    ensures tested { OnOk result ((answer : Bool) × IsTested J.setting seat.old seat.new (C.last clock.new) answer
+        × OnChildren (λ before after. Guards P.acts P.faults P.running (C.last clock.new) (V.last device.old) (V.last device.new)
+        (V.fire device.old) before after answer)) }
+    ensures err { OnErr result ((seat.new ≡ seat.old) × (V.last device.new ≡ V.last device.old)) }
+    ensures fire { V.fire device.new ≡ V.fire device.old }
     ensures thread { OnOk result (IsDeviceThread seat.old → IsDeviceThread seat.new) }
 {
     let mut children = room.children.lock(rt);

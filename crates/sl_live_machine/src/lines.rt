@@ -73,7 +73,7 @@ fn give_line<D: Teller, J: Station, R: Wait, C: Clock, P: Spawner>(
     requires { IsLine input }
     ensures { OnOk result (IsLineThread seat.old → IsLineThread seat.new) }
 {
-    let turn = give(rt, room, seat, clock, input)?;
+    let turn = give(rt, room, seat, clock, input, None)?;
     post.end_turn(rt, &turn)?;
     Ok(turn)
 }

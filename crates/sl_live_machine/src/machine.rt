@@ -3,6 +3,8 @@
 
 ghost use Rattle.sl_book.specs.Logs.{entries};
 ghost use Rattle.sl_cell.specs.Histories.{trace_of};
+ghost use Rattle.sl_live_lines.specs.AuditedHistory.{IsAudit};
+ghost use Rattle.sl_live_lines.specs.EventTexts.{Telling, first_telling};
 ghost use Rattle.sl_live_lines.specs.LocksAlong.{AlongState, begun_along};
 ghost use Rattle.sl_live_machine.specs.MachineEnds.{Checks, EndsEarly, EndsSo, HasRun};
 ghost use Rattle.sl_live_machine.specs.Printing.{IsPrinting, lines_read};
@@ -114,7 +116,7 @@ fn close_early<D: Teller, J: Station>(
 
 /// Whether what the printer found along a whole history is as it should be.
 fn check_lines<J: Station, O: Press, T: Shelf>(printer: &Printer<J, O, T>) -> Result<(), CloseError>
-    ensures goes { (a : AlongState) → (h : List EntryOf) → IsPrinting a h printer.now → Checks a h printer.now result }
+    ensures goes { (t : Telling) → (a : AlongState) → (h : List EntryOf) → IsPrinting t a h printer.now → Checks a h printer.now result }
     ensures right { OnOk result (printer.now.wrong ≡ None) }
 {
     if let Some(number) = printer.wrong {
@@ -134,7 +136,7 @@ fn close_whole<D: Teller, J: Station, O: Press, T: Shelf>(
 ) -> Result<(), CloseError>
     requires setting { IsSetting J.setting }
     requires seats { AreSeats J.setting seats.items }
-    ensures goes { (a : AlongState) → IsPrinting a (entries printer.now.mine) printer.now → EndsSo D.Daemon.stands J.setting a printer.now result }
+    ensures goes { (t : Telling) → (a : AlongState) → IsPrinting t a (entries printer.now.mine) printer.now → EndsSo D.Daemon.stands J.setting a printer.now result }
     ensures right { OnOk result (printer.now.wrong ≡ None) }
 {
     match close_with(cell, seats, &printer.mine) {
@@ -153,8 +155,8 @@ fn print_last<D: Teller, J: Station, K: Sink, O: Press, T: Shelf, R: Wait, P: Sp
     seats: Result<Vec<Seat<J>>, AllocError>,
 ) -> Result<Vec<Seat<J>>, AllocError>
     ensures seats { IfOk result (λ v. seats ≡ Ok v) }
-    ensures goes { (a : AlongState) → OnOk printed.old.end (IsPrinting a (entries printed.old.printer.mine) printed.old.printer)
-        → OnOk result (IsPrinting a (entries printed.new.printer.mine) printed.new.printer × (printed.new.printer.text.items ≡ [])) }
+    ensures goes { (t : Telling) → (a : AlongState) → OnOk printed.old.end (IsPrinting t a (entries printed.old.printer.mine) printed.old.printer)
+        → OnOk result (IsPrinting t a (entries printed.new.printer.mine) printed.new.printer × (printed.new.printer.text.items ≡ [])) }
     ensures by { printed.new.printer.reader.by ≡ printed.old.printer.reader.by }
     ensures seat { printed.new.printer.writer.by ≡ printed.old.printer.writer.by }
 {
@@ -174,7 +176,7 @@ fn close<D: Teller, J: Station, O: Press, T: Shelf, P: Spawner>(
 ) -> Result<(), CloseError>
     requires setting { IsSetting J.setting }
     requires seats { IfOk seats (λ v. AreSeats J.setting v.items) }
-    ensures goes { (a : AlongState) → OnOk seats (IsPrinting a (entries printer.now.mine) printer.now) → EndsSo D.Daemon.stands J.setting a printer.now result }
+    ensures goes { (t : Telling) → (a : AlongState) → OnOk seats (IsPrinting t a (entries printer.now.mine) printer.now) → EndsSo D.Daemon.stands J.setting a printer.now result }
     ensures right { OnOk result ((printer.now.wrong ≡ None) × IsOk seats) }
 {
     let Room {
@@ -244,7 +246,7 @@ fn run_room<
     resource: Vec<Disk<A>>,
 ) -> Ran<O, T, A>
     requires setting { IsSetting J.setting }
-    ensures goes { (a : AlongState) → IsPrinting a (entries printer.mine) printer → HasRun D.Daemon.stands J.setting a result }
+    ensures goes { (t : Telling) → (a : AlongState) → IsPrinting t a (entries printer.mine) printer → HasRun D.Daemon.stands J.setting t a result }
     ensures by { result.reader.by ≡ printer.reader.by }
 {
     let (threaded, mut printed) = run_beside(
@@ -272,11 +274,33 @@ fn run_room<
     }
 }
 
+/// A machine's cell with the front of one who has seen nothing, and what goes along its history. An `Err` is want of memory.
+#[tactic(auto, using(sl_cell::proofs::LeadLaws::given_below))]
+fn begin_cell<D: Teller, J: Station>(
+    alloc: Global,
+    header: &Header,
+    site: Site,
+    opened: Opened,
+    events: bool,
+) -> Result<(HostCell<D, J>, Front<J>, Audit), AllocError>
+    requires header { IsHeader header.now }
+    requires setting { IsSetting J.setting }
+    requires site { J.setting ≡ begun_with D.Daemon.commands header.now site }
+    requires book { opened.seen.book ≡ J.book }
+    ensures front { IfOk result (λ b. b.1 ≡ []) }
+    ensures audit { IfOk result (λ b. IsAudit (first_telling events header.now.timing site.given) (begun_along header.now site.first.job) [] b.2) }
+{
+    let audit = Audit::new(alloc, header, site.first.job, site.given.as_slice(), events)?;
+    let (cell, front) = HostCell::<D, J>::new(alloc, header, site, opened)?;
+    Ok((cell, front, audit))
+}
+
 /// Runs a machine until its script's end: eight threads over one cell, which are all joined before the cell is closed.
 ///
 /// An `Ok` end is a history of the daemon of this setting, which stood for it: its entries are exactly what the machine's threads gave, each once; its
 /// lines are those that the reader has met, each for lvmlockd with its asks and answered; no call and no start is unanswered; and the pieces of the
-/// writer are what is told of it. Else a case that holds of it, or want of memory: there, and where threads can't be made, all machines end.
+/// writer are what is told of it, with its events where the desk tells them. Else a case that holds of it, or want of memory: there, and where threads
+/// can't be made, all machines end.
 pub fn run_machine<
     D: Teller + Send,
     J: Station + Send + Sync,
@@ -308,7 +332,7 @@ pub fn run_machine<
     requires book { opened.seen.book ≡ J.book }
     requires reader { lines_read reader ≡ [] }
     requires writer { (writer.by ≡ reader.by) × (writer.count ≡ 0) }
-    ensures goes { HasRun D.Daemon.stands J.setting (begun_along header.now site.first.job) result }
+    ensures goes { HasRun D.Daemon.stands J.setting (first_telling desk.now.events header.now.timing site.given) (begun_along header.now site.first.job) result }
     ensures by { result.reader.by ≡ reader.by }
 {
     let Parts {
@@ -319,8 +343,7 @@ pub fn run_machine<
         resource,
     } = parts;
     let machine = site.machine;
-    let audit = Audit::new(alloc, header, site.first.job);
-    let (cell, front) = match HostCell::<D, J>::new(alloc, header, site, opened) {
+    let (cell, front, audit) = match begin_cell::<D, J>(alloc, header, site, opened, desk.events) {
         Ok(begun) => begun,
         Err(_) => {
             stand.give_up(rt);

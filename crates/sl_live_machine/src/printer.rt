@@ -5,6 +5,7 @@
 //! one, the machines end.
 
 ghost use Rattle.sl_live_lines.specs.AuditedHistory.{IsOther, KeepsAsk, due_line, own_lines};
+ghost use Rattle.sl_live_lines.specs.EventTexts.{Telling};
 ghost use Rattle.sl_live_lines.specs.LocksAlong.{AlongState, line_given};
 ghost use Rattle.sl_live_lines.specs.declared.given_lines.GivenLine.{GivenLine as GivenLineOf};
 ghost use Rattle.sl_live_machine.specs.Printing.{IsPrinting, Meets, line_of};
@@ -27,11 +28,12 @@ use std::alloc::{AllocError, Global};
 use std::sync::Wait;
 use std::{mem, time};
 
-/// Where a machine's printer gets the script's lines, and where it puts out what it tells.
+/// Where a machine's printer gets the script's lines, where it puts out what it tells, and whether it tells events beside replies.
 #[derive(Clone, Copy)]
 pub struct Desk<'a, K: Sink, O: Press, T: Shelf> {
     pub mail: &'a Mail<T>,
     pub output: &'a Output<K, O>,
+    pub events: bool,
 }
 
 /// The script's line that is due at this entry, if the entry has one of the script's, and one is there.
@@ -145,8 +147,8 @@ impl<J: Station, O: Press, T: Shelf> Printer<J, O, T> {
         machine: usize,
         entry: &Entry,
     ) -> Result<(), AllocError>
-        ensures goes { (a : AlongState) → (h : List EntryOf) → machine ≡ self.old.reader.by + 1 → IsPrinting a h self.old
-            → OnOk result (IsPrinting a (h ++ entry.now ∷ []) self.new) }
+        ensures goes { (t : Telling) → (a : AlongState) → (h : List EntryOf) → machine ≡ self.old.reader.by + 1 → IsPrinting t a h self.old
+            → OnOk result (IsPrinting t a (h ++ entry.now ∷ []) self.new) }
         ensures mine { self.new.mine ≡ self.old.mine }
         ensures by { self.new.reader.by ≡ self.old.reader.by }
         ensures seat { self.new.writer.by ≡ self.old.writer.by }
@@ -174,8 +176,8 @@ impl<J: Station, O: Press, T: Shelf> Printer<J, O, T> {
         machine: usize,
         entries: &[Entry],
     ) -> Result<(), AllocError>
-        ensures goes { (a : AlongState) → (h : List EntryOf) → machine ≡ self.old.reader.by + 1 → IsPrinting a h self.old
-            → OnOk result (IsPrinting a (h ++ entries.now) self.new) }
+        ensures goes { (t : Telling) → (a : AlongState) → (h : List EntryOf) → machine ≡ self.old.reader.by + 1 → IsPrinting t a h self.old
+            → OnOk result (IsPrinting t a (h ++ entries.now) self.new) }
         ensures mine { self.new.mine ≡ self.old.mine }
         ensures by { self.new.reader.by ≡ self.old.reader.by }
         ensures seat { self.new.writer.by ≡ self.old.writer.by }
@@ -188,7 +190,7 @@ impl<J: Station, O: Press, T: Shelf> Printer<J, O, T> {
 
     /// Puts out the text that it has. An `Err` is an output of which nobody knows any more what was put there.
     fn put<K: Sink, R: Wait>(&mut self, rt: &R, output: &Output<K, O>) -> Result<(), AllocError>
-        ensures goes { (a : AlongState) → (h : List EntryOf) → IsPrinting a h self.old → OnOk result (IsPrinting a h self.new × (self.new.text.items ≡ [])) }
+        ensures goes { (t : Telling) → (a : AlongState) → (h : List EntryOf) → IsPrinting t a h self.old → OnOk result (IsPrinting t a h self.new × (self.new.text.items ≡ [])) }
         ensures mine { self.new.mine ≡ self.old.mine }
         ensures by { self.new.reader.by ≡ self.old.reader.by }
         ensures seat { self.new.writer.by ≡ self.old.writer.by }
@@ -212,7 +214,7 @@ impl<J: Station, O: Press, T: Shelf> Printer<J, O, T> {
         post: &Post,
         desk: &Desk<'_, K, O, T>,
     ) -> Result<(), AllocError>
-        ensures goes { (a : AlongState) → IsPrinting a (entries self.old.mine) self.old → OnOk result (IsPrinting a (entries self.new.mine) self.new × (self.new.text.items ≡ [])) }
+        ensures goes { (t : Telling) → (a : AlongState) → IsPrinting t a (entries self.old.mine) self.old → OnOk result (IsPrinting t a (entries self.new.mine) self.new × (self.new.text.items ≡ [])) }
         ensures by { self.new.reader.by ≡ self.old.reader.by }
         ensures seat { self.new.writer.by ≡ self.old.writer.by }
     {
@@ -244,7 +246,7 @@ pub(crate) fn print_replies<
     desk: &Desk<'_, K, O, T>,
     printer: &mut Printer<J, O, T>,
 ) -> Result<(), AllocError>
-    ensures goes { (a : AlongState) → IsPrinting a (entries printer.old.mine) printer.old → OnOk result (IsPrinting a (entries printer.new.mine) printer.new) }
+    ensures goes { (t : Telling) → (a : AlongState) → IsPrinting t a (entries printer.old.mine) printer.old → OnOk result (IsPrinting t a (entries printer.new.mine) printer.new) }
     ensures by { printer.new.reader.by ≡ printer.old.reader.by }
     ensures seat { printer.new.writer.by ≡ printer.old.writer.by }
 {

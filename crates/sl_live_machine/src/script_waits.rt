@@ -10,6 +10,15 @@ use sl_live_lines::GivenLine;
 use sl_trace::Reply;
 use std::alloc::{AllocError, Global};
 use std::sync::{Mutex, Wait};
+use std::time::{Clock, Duration, Instant};
+
+/// How long it is until then; nothing, where the clock tells nothing.
+fn left_until<R: Clock>(rt: &R, until: Instant) -> Duration {
+    match Instant::now(rt) {
+        Ok(now) => until.saturating_duration_since(now),
+        Err(_) => Duration::ZERO,
+    }
+}
 
 /// What the threads of a machine and the script tell one another.
 #[derive(Drop)]
@@ -27,10 +36,10 @@ pub struct Post {
 }
 
 impl Post {
-    /// A post with no line. The first line's job has this number.
-    pub fn new(alloc: Global, first_job: u64) -> Post {
+    /// A post with no line. The first line's job has this number; whether the machine's events are told.
+    pub fn new(alloc: Global, first_job: u64, events: bool) -> Post {
         Post {
-            board: Mutex::new(Board::new(alloc, first_job)),
+            board: Mutex::new(Board::new(alloc, first_job, events)),
             ticker: Bell::new(),
             delta: Bell::new(),
             resource: Bell::new(),
@@ -80,6 +89,23 @@ impl Post {
             self.script.wait_past(rt, seen);
         }
         Ok(())
+    }
+
+    /// How many children of the machine run.
+    pub fn children<R: Wait>(&self, rt: &R) -> usize {
+        self.board.lock(rt).children()
+    }
+
+    /// Waits until no child runs, or the machine ends, but not past this moment.
+    pub fn await_children<R: Wait + Clock>(&self, rt: &R, until: Instant) {
+        for _ in rt.forever() {
+            let seen = self.script.moves(rt);
+            let left = left_until(rt, until);
+            if left == Duration::ZERO || self.children(rt) == 0 || !self.runs(rt) {
+                break;
+            }
+            self.script.wait_at_most(rt, seen, left);
+        }
     }
 
     /// No line comes any more.

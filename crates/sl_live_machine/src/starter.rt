@@ -1,8 +1,10 @@
 //! The thread that starts programs. A start may take any time, as where a program lies on storage that hangs; so it is made with no lock held, and
 //! all else goes on beside it: wakes and renewals, tests, signals and exits. Only other starts wait.
 
-ghost use Rattle.sl_live.specs.Turns.{IsStarterThread};
-ghost use Rattle.std.specs.Prelude.{IfOk, OnOk};
+ghost use Rattle.sl_live.specs.Turns.{IsStarterThread, MakesTurn, TellsStart};
+ghost use Rattle.sl_live_machine.specs.ThreadTurns.{OnChildren};
+ghost use Rattle.sl_live_machine.specs.declared.turn.Happened.TheVariants.{Started};
+ghost use Rattle.std.specs.Prelude.{Bool, IfOk, OnOk, ◌≡◌};
 
 use crate::room::Room;
 use crate::script_waits::Post;
@@ -33,7 +35,10 @@ fn tell<D: Teller, J: Station, R: Wait, C: Clock, P: Spawner>(
     process: u32,
     child: Option<StartedChild>,
 ) -> Result<Turn, AllocError>
-    ensures { OnOk result (IsStarterThread seat.old → IsStarterThread seat.new) }
+    ensures tells { IfOk result (λ t. (ok : Bool) × (t.happened ≡ Started process ok) × OnChildren (λ before after.
+        TellsStart P.acts P.faults P.running process child ok (MakesTurn P.acts P.faults P.running J.setting (C.last clock.new) t.effects)
+        before after seat.old seat.new)) }
+    ensures thread { OnOk result (IsStarterThread seat.old → IsStarterThread seat.new) }
 {
     let mut children = room.children.lock(rt);
     let told = spawned_step(rt, &room.cell, seat, clock, &mut *children, process, child)?;

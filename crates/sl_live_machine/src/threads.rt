@@ -4,6 +4,7 @@
 
 ghost use Rattle.sl_live.specs.Turns.{IsChildThread, IsDeviceThread, IsLineThread, IsStarterThread, IsTicker, Works};
 ghost use Rattle.sl_book.specs.Logs.{entries};
+ghost use Rattle.sl_live_lines.specs.EventTexts.{Telling};
 ghost use Rattle.sl_live_lines.specs.LocksAlong.{AlongState};
 ghost use Rattle.sl_live_machine.specs.Printing.{IsPrinting};
 ghost use Rattle.sl_live_machine.specs.ThreadSeats.{AreSeats};
@@ -473,7 +474,7 @@ fn printer_end<
     desk: &Desk<'_, K, O, T>,
     printer: &mut Printer<J, O, T>,
 ) -> Result<(), AllocError>
-    ensures goes { (a : AlongState) → IsPrinting a (entries printer.old.mine) printer.old → OnOk result (IsPrinting a (entries printer.new.mine) printer.new) }
+    ensures goes { (t : Telling) → (a : AlongState) → IsPrinting t a (entries printer.old.mine) printer.old → OnOk result (IsPrinting t a (entries printer.new.mine) printer.new) }
     ensures by { printer.new.reader.by ≡ printer.old.reader.by }
     ensures seat { printer.new.writer.by ≡ printer.old.writer.by }
 {
@@ -497,7 +498,7 @@ pub(crate) fn printer_thread<
     desk: &Desk<'_, K, O, T>,
     printer: Printer<J, O, T>,
 ) -> Printed<J, O, T>
-    ensures goes { (a : AlongState) → IsPrinting a (entries printer.mine) printer → OnOk result.end (IsPrinting a (entries result.printer.mine) result.printer) }
+    ensures goes { (t : Telling) → (a : AlongState) → IsPrinting t a (entries printer.mine) printer → OnOk result.end (IsPrinting t a (entries result.printer.mine) result.printer) }
     ensures by { result.printer.reader.by ≡ printer.reader.by }
     ensures seat { result.printer.writer.by ≡ printer.writer.by }
 {
@@ -601,7 +602,7 @@ pub(crate) fn run_beside<
     resource: Vec<Disk<A>>,
 ) -> (Threaded<J, A>, Printed<J, O, T>)
     ensures seats { IfOk result.0.seats (λ v. AreSeats J.setting v.items) }
-    ensures printer { (a : AlongState) → IsPrinting a (entries printer.mine) printer → OnOk result.1.end (IsPrinting a (entries result.1.printer.mine) result.1.printer) }
+    ensures printer { (t : Telling) → (a : AlongState) → IsPrinting t a (entries printer.mine) printer → OnOk result.1.end (IsPrinting t a (entries result.1.printer.mine) result.1.printer) }
     ensures by { result.1.printer.reader.by ≡ printer.reader.by }
     ensures seat { result.1.printer.writer.by ≡ printer.writer.by }
 {
@@ -620,8 +621,8 @@ pub(crate) fn run_beside<
             ensures { IfOk result.seats (λ v. AreSeats J.setting v.items) }
         { run_threads(rt, room, stand, gate, clocks, device, delta, resource) },
         ||
-            ensures goes { (a : AlongState) → IsPrinting a (entries printer.mine) printer
-                → OnOk result.end (IsPrinting a (entries result.printer.mine) result.printer) }
+            ensures goes { (t : Telling) → (a : AlongState) → IsPrinting t a (entries printer.mine) printer
+                → OnOk result.end (IsPrinting t a (entries result.printer.mine) result.printer) }
             ensures by { result.printer.reader.by ≡ printer.reader.by }
             ensures seat { result.printer.writer.by ≡ printer.writer.by }
         { printer_thread(rt, room, stand, desk, printer) },

@@ -26,7 +26,7 @@ fn wake<D: Teller, J: Station, R: Wait, C: Clock, P: Spawner>(
 ) -> Result<(), AllocError>
     ensures { OnOk result (IsTicker seat.old → IsTicker seat.new) }
 {
-    let turn = give(rt, room, seat, clock, Input::Wake)?;
+    let turn = give(rt, room, seat, clock, Input::Wake, None)?;
     post.end_turn(rt, &turn)
 }
 

@@ -8,27 +8,25 @@ use Rattle.sl_live_run.specs.declared.folder.NoEntry.{NoEntry}
 use Rattle.sl_live_run.specs.declared.ground.NoGround.TheVariants as no_ground
 use Rattle.sl_live_run.specs.declared.ground.NoGround.{NoGround}
 use Rattle.sl_reader.specs.declared.live_lines.LiveLine.{LiveLine}
-use Rattle.sl_live_lines.specs.LocksAlong.{AlongState, begun_along}
 use Rattle.sl_live_play.specs.DifferenceLines.{differ_text}
 use Rattle.sl_live_play.specs.declared.play.Lived.TheVariants.{AreaFault, Differs, Done, NoMemory, ReadFault, Refused, WriteFault}
 use Rattle.sl_live_play.specs.declared.play.Lived.{Lived}
+use Rattle.sl_live_play.specs.declared.play.Manner.{Manner}
 use Rattle.sl_reader.specs.ScriptReading.{ReadsScript}
 use Rattle.sl_reader.specs.declared.script_reading.ScriptEnd.TheVariants as script
 use Rattle.sl_reader.specs.declared.script_reading.ScriptEnd.{ScriptEnd}
 use Rattle.sl_book.specs.Closings.{AreBelow}
-use Rattle.sl_live_lines.specs.LiveTexts.{count_replies, history_text, last_text}
+use Rattle.sl_live_lines.specs.LiveTexts.{history_text, last_text}
 use Rattle.sl_live_lines.specs.declared.live_texts.Ending.{Ending}
 use Rattle.sl_output.specs.Pieces.{Piece, text_by, text_of}
-use Rattle.std.specs.List.{sum_by}
 use Rattle.sl_live_lines.specs.declared.live_texts.Ending.TheVariants as ending
-use Rattle.sl_live_run.specs.Runs.{AreLiveHistories, LiveCaseOf}
+use Rattle.sl_live_run.specs.Runs.{AreLiveHistories, LiveCaseOf, begun_on, begun_telling, refusals_text, replies_of}
 use Rattle.sl_live_run.specs.declared.compare.LiveDiffer.{LiveDiffer}
 use Rattle.sl_live_run.specs.declared.compare.LiveStop.TheVariants as stop
 use Rattle.sl_live_run.specs.declared.compare.LiveStop.{LiveStop}
 use Rattle.sl_report.specs.OwedReports.{IsFrontOf}
 use Rattle.sl_report.specs.RefusalLines.{refusal_line}
 use Rattle.sl_run.specs.Headers.{IsHeader}
-use Rattle.sl_run.specs.Worlds.{first_numbers}
 use Rattle.sl_run.specs.declared.event.Refusal.{Refusal}
 use Rattle.sl_run.specs.declared.header.Header.{Header}
 use Rattle.sl_reader.specs.HeaderBegins.{HeaderBegins, HeaderBreaks, HeaderStops}
@@ -39,7 +37,7 @@ use Rattle.sl_trace.specs.declared.command.Command.{Command}
 use Rattle.sl_trace.specs.declared.effects.Entry.{Entry}
 use Rattle.sl_io.specs.FaultCauses.{Rose}
 use Rattle.std.specs.Io.KnownBytes.{Appends}
-use Rattle.std.specs.Prelude.{List, None, Option, Some, codes, length, slice_get, [], ℕ, ◌++◌, ◌+◌, ◌∷◌, ◌≡◌}
+use Rattle.std.specs.Prelude.{Bool, List, None, Option, Some, codes, length, slice_get, [], ℕ, ◌++◌, ◌+◌, ◌∷◌, ◌≡◌}
 
 -- ---- what the machines did
 
@@ -59,18 +57,17 @@ pub record Lives {D : Type 0} (stands : D → Setting → Trace → Type 0) (com
   pub begun : Beginnings h
   pub histories : AreLiveHistories stands commands begun.header begun.sites given hs
 
--- Machines with these histories, whose locks begin so, put out these pieces, signed by their places: each what is told of its own, in order.
-pub record IsWoven (a : AlongState) (hs : List (List Entry)) (pieces : List Piece) : Type 0 where
-  pub below : AreBelow (length hs) pieces
-  pub each : (place : ℕ) (h : List Entry) → slice_get hs place ≡ Some h → text_by place pieces ≡ history_text (place + 1) a h
+-- Machines of these sites, with these histories, put out these pieces, signed by their places: each what is told of its own, in order; and the script, signed
+-- by their number, the lines that it gave as refused.
+pub record IsWoven (events : Bool) (header : Header) (sites : List Site) (given : List LiveLine) (hs : List (List Entry)) (pieces : List Piece) : Type 0 where
+  pub below : AreBelow (length hs + 1) pieces
+  pub each : (place : ℕ) (site : Site) (h : List Entry) → slice_get sites place ≡ Some site → slice_get hs place ≡ Some h
+      → text_by place pieces ≡ history_text (place + 1) (begun_telling events header site) (begun_on header site) h
+  pub refused : text_by (length hs) pieces ≡ refusals_text given
 
--- What is put out of such histories: pieces, of which each machine's are what is told of its history, and how the script ended.
-abbrev pub told_text : AlongState → List (List Entry) → List Piece → Ending → List ℕ
-told_text a hs pieces e = text_of pieces ++ last_text (length hs) (sum_by (count_replies a) hs) e
-
--- lvmlockd's locks on each machine, before the first entry.
-abbrev pub first_locks : Header → AlongState
-first_locks h = begun_along h first_numbers.job
+-- What is put out of such histories: these pieces, and how the script ended.
+abbrev pub told_text : Header → List Site → List (List Entry) → List Piece → Ending → List ℕ
+told_text header sites hs pieces e = text_of pieces ++ last_text (length hs) (replies_of header sites hs) e
 
 -- A case holds of this machine, in which its threads, its history and the script differ.
 pub record Differing {D : Type 0} (stands : D → Setting → Trace → Type 0) (commands : Header → List (Form Command)) (h : Header) (given : List LiveLine)
@@ -94,39 +91,39 @@ disk_there_text path = codes "disk there " ++ path ++ 10 ∷ []
 
 -- What is to be put out, and how the play then ended, by what was read of the source. Machines run where no disk is told to stand, or where
 -- disks are to be made anew.
-pub data Due {D : Type 0} (stands : D → Setting → Trace → Type 0) (commands : Header → List (Form Command)) (f : Asked) (left after : Option (List ℕ))
+pub data Due {D : Type 0} (stands : D → Setting → Trace → Type 0) (commands : Header → List (Form Command)) (f : Asked) (w : Manner) (left after : Option (List ℕ))
     (faults later device_faults device_later : ℕ) : List ℕ → Lived → Type 0 where
   -- the script was read to its end
-  Ends : (h : Header) (given : List LiveLine) (hs : List (List Entry)) (pieces : List Piece) → ReadsScript left after faults later h given (Some script.End)
-      → Lives stands commands h given hs → IsWoven (first_locks h) hs pieces → IsVacant f h
-      → Due stands commands f left after faults later device_faults device_later (told_text (first_locks h) hs pieces ending.Whole) Done
+  Ends : (h : Header) (given : List LiveLine) (hs : List (List Entry)) (pieces : List Piece) → ReadsScript w.keeps left after faults later h given (Some script.End)
+      → (l : Lives stands commands h given hs) → IsWoven w.events l.begun.header l.begun.sites given hs pieces → IsVacant f h
+      → Due stands commands f w left after faults later device_faults device_later (told_text l.begun.header l.begun.sites hs pieces ending.Whole) Done
   -- a line of its header is refused
   Stops_early : (r : ReaderState) (number : ℕ) (why : Refusal) → HeaderStops left after r number why
-      → Due stands commands f left after faults later device_faults device_later (as_bytes (refusal_line number why ∷ [])) Refused
-  -- .. or a line behind it
+      → Due stands commands f w left after faults later device_faults device_later (as_bytes (refusal_line number why ∷ [])) Refused
+  -- .. or a line behind it, at which it ends
   Stops : (h : Header) (given : List LiveLine) (hs : List (List Entry)) (pieces : List Piece) (number : ℕ) (why : Refusal)
-      → ReadsScript left after faults later h given (Some (script.Refused number why)) → Lives stands commands h given hs → IsWoven (first_locks h) hs pieces → IsVacant f h
-      → Due stands commands f left after faults later device_faults device_later (told_text (first_locks h) hs pieces (ending.Refused number why)) Refused
+      → ReadsScript w.keeps left after faults later h given (Some (script.Refused number why)) → (l : Lives stands commands h given hs) → IsWoven w.events l.begun.header l.begun.sites given hs pieces → IsVacant f h
+      → Due stands commands f w left after faults later device_faults device_later (told_text l.begun.header l.begun.sites hs pieces (ending.Refused number why)) Refused
   -- a read failed within the header
   Breaks_early : HeaderBreaks left after → Rose faults later
-      → Due stands commands f left after faults later device_faults device_later [] ReadFault
+      → Due stands commands f w left after faults later device_faults device_later [] ReadFault
   -- .. or behind it: what the machines did is put out
-  Breaks : (h : Header) (given : List LiveLine) (hs : List (List Entry)) (pieces : List Piece) → ReadsScript left after faults later h given (Some script.ReadFault)
-      → Lives stands commands h given hs → IsWoven (first_locks h) hs pieces → IsVacant f h
-      → Due stands commands f left after faults later device_faults device_later (told_text (first_locks h) hs pieces ending.Cut) ReadFault
+  Breaks : (h : Header) (given : List LiveLine) (hs : List (List Entry)) (pieces : List Piece) → ReadsScript w.keeps left after faults later h given (Some script.ReadFault)
+      → (l : Lives stands commands h given hs) → IsWoven w.events l.begun.header l.begun.sites given hs pieces → IsVacant f h
+      → Due stands commands f w left after faults later device_faults device_later (told_text l.begun.header l.begun.sites hs pieces ending.Cut) ReadFault
   -- a disk can't be made, or a sector of an area can't be written before the threads begin
   Faults : Rose device_faults device_later
-      → Due stands commands f left after faults later device_faults device_later area_fault_text AreaFault
+      → Due stands commands f w left after faults later device_faults device_later area_fault_text AreaFault
   -- another program has the folder
   In_use : Rose device_faults device_later
-      → Due stands commands f left after faults later device_faults device_later in_use_text AreaFault
+      → Due stands commands f w left after faults later device_faults device_later in_use_text AreaFault
   -- a disk of the header stands there
   Disk_there : (r : ReaderState) (h : Header) (path : List ℕ) → HeaderBegins left after r h → IsDiskThere f.anew h path → Rose device_faults device_later
-      → Due stands commands f left after faults later device_faults device_later (disk_there_text path) AreaFault
+      → Due stands commands f w left after faults later device_faults device_later (disk_there_text path) AreaFault
   -- records of a machine differ, where the script gave these lines, however it ended: the case stands behind what was put out before
   Parts : (h : Header) (given : List LiveLine) (end : Option ScriptEnd) (before : List ℕ) (machine : ℕ) (d : LiveDiffer)
-      → ReadsScript left after faults later h given end → Differing stands commands h given machine d → IsVacant f h
-      → Due stands commands f left after faults later device_faults device_later (before ++ differ_text machine d) Differs
+      → ReadsScript w.keeps left after faults later h given end → Differing stands commands h given machine d → IsVacant f h
+      → Due stands commands f w left after faults later device_faults device_later (before ++ differ_text machine d) Differs
 
 -- What was put out of a text, and how the play ended: all of it, or a front of it, after a fault of the sink or for want of memory.
 pub data Puts (taken now : Option (List ℕ)) (faults later : ℕ) (text : List ℕ) (whole : Lived) : Lived → Type 0 where
@@ -135,12 +132,12 @@ pub data Puts (taken now : Option (List ℕ)) (faults later : ℕ) (text : List 
   Front : (front : List ℕ) → Appends taken now front → IsFrontOf front text → Puts taken now faults later text whole NoMemory
 
 -- What is owed: of what is due what was put out; or want of memory, where what machines replied before stays put out.
-pub data Owes {D : Type 0} (stands : D → Setting → Trace → Type 0) (commands : Header → List (Form Command)) (f : Asked) (left after taken now : Option (List ℕ))
+pub data Owes {D : Type 0} (stands : D → Setting → Trace → Type 0) (commands : Header → List (Form Command)) (f : Asked) (w : Manner) (left after taken now : Option (List ℕ))
     (faults later sink_faults sink_later device_faults device_later : ℕ) : Lived → Type 0 where
-  Of : (text : List ℕ) (whole s : Lived) → Due stands commands f left after faults later device_faults device_later text whole
+  Of : (text : List ℕ) (whole s : Lived) → Due stands commands f w left after faults later device_faults device_later text whole
       → Puts taken now sink_faults sink_later text whole s
-      → Owes stands commands f left after taken now faults later sink_faults sink_later device_faults device_later s
-  Lacks : (part : List ℕ) → Appends taken now part → Owes stands commands f left after taken now faults later sink_faults sink_later device_faults device_later NoMemory
+      → Owes stands commands f w left after taken now faults later sink_faults sink_later device_faults device_later s
+  Lacks : (part : List ℕ) → Appends taken now part → Owes stands commands f w left after taken now faults later sink_faults sink_later device_faults device_later NoMemory
 
 -- ---- step by step
 

@@ -1,8 +1,9 @@
 //! A live script played: its header read from a source, its machines run beside each other and beside the script, and what they reply put out as it
 //! comes.
 //!
-//! What is put out are pieces: each machine's are what is told of its history, in its order, and between machines they stand as they came. Behind
-//! them stands a last line by how the script ended; where records of a machine differ, the case. The clause of `play_live` is `Owes` in
+//! What is put out are pieces: each machine's are what is told of its history, in its order, the script's are the lines that were refused where it
+//! goes on behind them, in their order, and between these they stand as they came. Behind them stands a last line by how the script ended; where
+//! records of a machine differ, the case. The clause of `play_live` is `Owes` in
 //! specs/LiveOwed.antt: what is due by what was read, and how much of it was put out.
 //!
 //! A host runs in it as the daemon of a cell (`LiveHost`). A cell writes each step down twice, so before a step it asks its daemon how long a
@@ -17,4 +18,4 @@ mod live_host;
 mod play;
 
 pub use live_host::LiveHost;
-pub use play::{Lived, play_live};
+pub use play::{Lived, Manner, play_live};

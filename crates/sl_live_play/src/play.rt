@@ -35,10 +35,21 @@ use std::sync::Wait;
 use std::thread::Threads;
 use std::time;
 
+/// How a live script is to be played.
+#[derive(Clone, Copy)]
+pub struct Manner {
+    /// Disks that stand in the folder are made anew.
+    pub anew: bool,
+    /// A line that is refused is told, and the script goes on behind it.
+    pub keeps: bool,
+    /// Beside replies the exits, signals and ends of children and the connections that run out are told.
+    pub events: bool,
+}
+
 /// How a live script ended.
 #[derive(Clone, Copy, Debug, PartialEq, Eq)]
 pub enum Lived {
-    /// It was read to its end; all replies and the last line are put out.
+    /// It was read to its end; all that is told and the last line are put out.
     Done,
     /// A line was refused; the refusal stands at the end.
     Refused,
@@ -166,11 +177,12 @@ fn play_as<
     S: Source + Send,
     K: Sink + Send,
     V: LiveDevices,
-    R: Threads + Wait + time::Clock + Sync,
+    R: Threads + Wait + time::Clock + Eprint + Sync,
 >(
     rt: &R,
     alloc: Global,
     ground: Ground<V>,
+    manner: Manner,
     source: S,
     reader: LineReader,
     sink: K,
@@ -185,14 +197,26 @@ where
     requires faults { S.faults source ≡ J.faults }
     requires began { reader ≡ J.began }
     requires scope { scope_of ground.header ≡ J.scope }
+    requires keeps { manner.keeps ≡ J.keeps }
     ensures { (f : Asked) (first : Option (List ℕ)) (h : HeaderOf) → IsGroundOf V.Clock.last V.Spawner.running V.Device.last V.Device.fire V.Area.content h ground
         → HeaderBegins first (S.left source) reader h → IsVacant f h
-        → Owes D.Daemon.stands D.Daemon.commands f first (S.left result.1) (K.taken sink) (K.taken result.2) (S.faults source) (S.faults result.1)
+        → Owes D.Daemon.stands D.Daemon.commands f manner first (S.left result.1) (K.taken sink) (K.taken result.2) (S.faults source) (S.faults result.1)
         (K.faults sink) (K.faults result.2) (V.Devices.faults devices.old) (V.Devices.faults devices.new) result.0 }
 {
-    let mut lines: ScriptLines<S, J> = ScriptLines::new(alloc, source, reader, &ground.header);
+    let mut lines: ScriptLines<S, J> = ScriptLines::new(
+        alloc,
+        source,
+        reader,
+        &ground.header,
+        manner.keeps,
+    );
     let (run, _header) = run_machines::<D, V, ScriptLines<S, J>, K, R>(
-        rt, alloc, ground, sink, &mut lines,
+        rt,
+        alloc,
+        ground,
+        manner.events,
+        sink,
+        &mut lines,
     );
     let LiveRun {
         replies,
@@ -215,11 +239,12 @@ fn play_ground<
     S: Source + Send,
     K: Sink + Send,
     V: LiveDevices,
-    R: Threads + Wait + time::Clock + Sync,
+    R: Threads + Wait + time::Clock + Eprint + Sync,
 >(
     rt: &R,
     alloc: Global,
     ground: Ground<V>,
+    manner: Manner,
     source: S,
     reader: LineReader,
     sink: K,
@@ -232,10 +257,10 @@ where
     requires ends { EndStands (S.left source) reader }
     ensures { (f : Asked) (first : Option (List ℕ)) (h : HeaderOf) → IsGroundOf V.Clock.last V.Spawner.running V.Device.last V.Device.fire V.Area.content h ground
         → HeaderBegins first (S.left source) reader h → IsVacant f h
-        → Owes D.Daemon.stands D.Daemon.commands f first (S.left result.1) (K.taken sink) (K.taken result.2) (S.faults source) (S.faults result.1)
+        → Owes D.Daemon.stands D.Daemon.commands f manner first (S.left result.1) (K.taken sink) (K.taken result.2) (S.faults source) (S.faults result.1)
         (K.faults sink) (K.faults result.2) (V.Devices.faults devices.old) (V.Devices.faults devices.new) result.0 }
 {
-    play_as::<D, Brand, S, K, V, R>(rt, alloc, ground, source, reader, sink, devices)
+    play_as::<D, Brand, S, K, V, R>(rt, alloc, ground, manner, source, reader, sink, devices)
 }
 
 /// Runs the machines of a header in a folder that was entered.
@@ -244,12 +269,12 @@ fn play_entered<
     S: Source + Send,
     K: Sink + Send,
     V: LiveDevices,
-    R: Threads + Wait + time::Clock + Sync,
+    R: Threads + Wait + time::Clock + Eprint + Sync,
 >(
     rt: &R,
     alloc: Global,
     folder: &str,
-    anew: bool,
+    manner: Manner,
     source: S,
     reader: LineReader,
     header: Header,
@@ -262,12 +287,12 @@ where
     requires reads { (h : HeaderOf) → IsHeader h → ReadsCommands D.Daemon.commands h }
     requires ends { EndStands (S.left source) reader }
     ensures { (f : Asked) (first : Option (List ℕ)) → HeaderBegins first (S.left source) reader header → IsVacant f header
-        → Owes D.Daemon.stands D.Daemon.commands f first (S.left result.1) (K.taken sink) (K.taken result.2) (S.faults source) (S.faults result.1)
+        → Owes D.Daemon.stands D.Daemon.commands f manner first (S.left result.1) (K.taken sink) (K.taken result.2) (S.faults source) (S.faults result.1)
         (K.faults sink) (K.faults result.2) (V.Devices.faults devices.old) (V.Devices.faults devices.new) result.0 }
 {
-    match prepare::<V>(alloc, header, folder, anew, devices) {
+    match prepare::<V>(alloc, header, folder, manner.anew, devices) {
         Ok(ground) => {
-            play_ground::<D, S, K, V, R>(rt, alloc, ground, source, reader, sink, devices)
+            play_ground::<D, S, K, V, R>(rt, alloc, ground, manner, source, reader, sink, devices)
         }
         Err(why) => {
             let mut sink = sink;
@@ -282,12 +307,12 @@ fn play_header<
     S: Source + Send,
     K: Sink + Send,
     V: LiveDevices,
-    R: Threads + Wait + time::Clock + Sync,
+    R: Threads + Wait + time::Clock + Eprint + Sync,
 >(
     rt: &R,
     alloc: Global,
     folder: &str,
-    anew: bool,
+    manner: Manner,
     source: S,
     reader: LineReader,
     header: Header,
@@ -300,12 +325,12 @@ where
     requires reads { (h : HeaderOf) → IsHeader h → ReadsCommands D.Daemon.commands h }
     requires ends { EndStands (S.left source) reader }
     ensures { (first : Option (List ℕ)) → HeaderBegins first (S.left source) reader header
-        → Owes D.Daemon.stands D.Daemon.commands (record { path = folder.now; anew = anew; disks = V.Devices.disks devices.old }) first (S.left result.1) (K.taken sink) (K.taken result.2) (S.faults source) (S.faults result.1)
+        → Owes D.Daemon.stands D.Daemon.commands (record { path = folder.now; anew = manner.anew; disks = V.Devices.disks devices.old }) manner first (S.left result.1) (K.taken sink) (K.taken result.2) (S.faults source) (S.faults result.1)
         (K.faults sink) (K.faults result.2) (V.Devices.faults devices.old) (V.Devices.faults devices.new) result.0 }
 {
-    match enter::<V>(alloc, &header, folder, anew, devices) {
+    match enter::<V>(alloc, &header, folder, manner.anew, devices) {
         Ok(()) => play_entered::<D, S, K, V, R>(
-            rt, alloc, folder, anew, source, reader, header, sink, devices,
+            rt, alloc, folder, manner, source, reader, header, sink, devices,
         ),
         Err(why) => {
             let mut sink = sink;
@@ -317,8 +342,9 @@ where
 /// Plays a live script: reads its header from the source, takes the folder, makes its disks there, runs its machines beside each other, gives
 /// them the script's lines as they are read, and puts out what the machines reply, as it comes.
 ///
-/// Disks that stand there are made anew if that is said; else the first of them is put out, and nothing is done. So it is where another program
-/// has the folder.
+/// Disks that stand there are made anew if the manner says so; else the first of them is put out, and nothing is done. So it is where another program
+/// has the folder. If the manner says so, a line that is refused is put out as it comes, and the script goes on behind it, but where the line is too
+/// long or the source is; and what becomes of children and of connections is put out beside the replies.
 ///
 /// A machine ends when the script has ended, no child of it runs and nothing of it is unanswered. The source and the sink come
 /// back.
@@ -327,12 +353,12 @@ pub fn play_live<
     S: Source + Send,
     K: Sink + Send,
     V: LiveDevices,
-    R: Threads + Wait + time::Clock + Sync,
+    R: Threads + Wait + time::Clock + Eprint + Sync,
 >(
     rt: &R,
     alloc: Global,
     folder: &str,
-    anew: bool,
+    manner: Manner,
     source: S,
     sink: K,
     devices: &mut V,
@@ -341,7 +367,7 @@ where
     V::Area: Send,
     requires reads { (h : HeaderOf) → IsHeader h → ReadsCommands D.Daemon.commands h }
     requires headers { HeadersAreGood whole_language }
-    ensures { Owes D.Daemon.stands D.Daemon.commands (record { path = folder.now; anew = anew; disks = V.Devices.disks devices.old }) (S.left source) (S.left result.1) (K.taken sink) (K.taken result.2) (S.faults source) (S.faults result.1)
+    ensures { Owes D.Daemon.stands D.Daemon.commands (record { path = folder.now; anew = manner.anew; disks = V.Devices.disks devices.old }) manner (S.left source) (S.left result.1) (K.taken sink) (K.taken result.2) (S.faults source) (S.faults result.1)
         (K.faults sink) (K.faults result.2) (V.Devices.faults devices.old) (V.Devices.faults devices.new) result.0 }
 {
     let mut source = source;
@@ -357,7 +383,7 @@ where
             (put_refusal(alloc, &mut sink, number, why), source, sink)
         }
         Ok(Ok(header)) => play_header::<D, S, K, V, R>(
-            rt, alloc, folder, anew, source, reader, header, sink, devices,
+            rt, alloc, folder, manner, source, reader, header, sink, devices,
         ),
     }
 }

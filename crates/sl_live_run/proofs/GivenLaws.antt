@@ -2,14 +2,19 @@
 use Rattle.sl_book.proofs.Givens.{entries_last, given_last, given_other}
 use Rattle.sl_book.specs.Logs.{entries, given_by as given_in, is_by}
 use Rattle.sl_book.specs.Mails.{LedgerState}
+use Rattle.sl_book.specs.Seats.{SeatState}
 use Rattle.sl_book.specs.declared.signed.Signed.{Signed}
 use Rattle.sl_live_lines.specs.declared.given_lines.GivenLine.{GivenLine}
-use Rattle.sl_live_run.specs.Runs.{AreFirst, AreGiven, Gave, HasTold, given_by, line_for, lines_for}
+use Rattle.sl_live_run.specs.Runs.{AreFirst, AreGiven, Gave, HasPutOut, HasTold, given_by, line_for, lines_for, refusal_text, refusals_text}
+use Rattle.sl_output.proofs.PutLaws.{mine_put}
+use Rattle.sl_output.specs.Outputs.{HasPut}
 use Rattle.sl_reader.specs.declared.live_lines.LiveLine.{LiveLine}
 use Rattle.std.proofs.Common.{List, ap, append_assoc, arith, if◌then◌else◌, refl, subst, sym, ◌++◌, ◌+◌, ◌<◌, ◌==◌, ◌∙◌, ◌∷◌, ◌≡◌, [], ℕ}
 use Rattle.std.proofs.lemmas.List.Concat.{flat_map-append}
 use Rattle.std.proofs.lemmas.List.Elements.{filter-append}
+use Rattle.std.proofs.lemmas.List.Folds.{concat-append}
 use Rattle.std.proofs.lemmas.List.{append-nil}
+use Rattle.std.specs.List.{concat}
 use Rattle.std.specs.Prelude.{Bool, Err, IsErrAnd, None, Ok, OnOk, Option, Result, Some, false, true}
 
 lines_push : (k : ℕ) (ls : List LiveLine) (l : LiveLine) → lines_for k (ls ++ l ∷ []) ≡ lines_for k ls ++ line_for k l
@@ -106,9 +111,12 @@ no_lines l machines is = subst (λ (x : LedgerState GivenLine). AreGiven x machi
 
 -- ---- the script, one answer more
 
--- The lines so far, and what is noted of them.
-abbrev pub Telling : ℕ → (List LiveLine → Type 0) → (List LiveLine → Type 0) → LedgerState GivenLine → Type 0
-Telling machines before now l = (ls : List LiveLine) × Gave before now ls × AreGiven l machines ls
+-- The lines so far, what is noted of them, and which of them are refused, as that was put out.
+pub record TellsSo (machines : ℕ) (before now : List LiveLine → Type 0) (l : LedgerState GivenLine) (w : SeatState (List ℕ)) : Type 0 where
+  pub lines : List LiveLine
+  pub gave : Gave before now lines
+  pub given : AreGiven l machines lines
+  pub refused : HasPutOut w (refusals_text lines)
 
 pub on_all : {T E P : Type 0} (r : Result T E) → P → OnOk r P
 on_all (Ok x) so = so
@@ -118,11 +126,19 @@ on_none : {T E : Type 0} (P : Type 0) (r : Result T E) (Q : E → Type 0) → Is
 on_none P (Ok x) Q err = absurd err
 on_none P (Err e) Q err = tt
 
-pub telling_none : (machines : ℕ) (before : List LiveLine → Type 0) (l : LedgerState GivenLine) → AreGiven l machines [] → Telling machines before before l
-telling_none machines before l so = ([], λ given b. subst before (sym (append-nil given)) b, so)
+pub telling_none : (machines : ℕ) (before : List LiveLine → Type 0) (l : LedgerState GivenLine) (w : SeatState (List ℕ)) → AreGiven l machines [] → HasPutOut w []
+    → TellsSo machines before before l w
+telling_none machines before l w so put = record { lines = []; gave = λ given b. subst before (sym (append-nil given)) b; given = so; refused = put }
 
-pub told_so : {T E : Type 0} (machines : ℕ) (before now : List LiveLine → Type 0) (l : LedgerState GivenLine) (r : Result T E) → Telling machines before now l → HasTold machines before now l r
-told_so machines before now l r so = record { lines = so.0; gave = so.1; first = first_of l machines so.0 so.2; texts = on_all r so.2 }
+pub told_so : {T E : Type 0} (machines : ℕ) (before now : List LiveLine → Type 0) (l : LedgerState GivenLine) (w : SeatState (List ℕ)) (r : Result T E) → TellsSo machines before now l w
+    → HasTold machines before now l w r
+told_so machines before now l w r so = record {
+  lines = so.lines;
+  gave = so.gave;
+  first = first_of l machines so.lines so.given;
+  texts = on_all r so.given;
+  refused = on_all r so.refused;
+}
 
 -- Behind an answer with these lines.
 longer : (before was now : List LiveLine → Type 0) (ls more : List LiveLine) → Gave before was ls → Gave was now more → Gave before now (ls ++ more)
@@ -131,23 +147,54 @@ longer before was now ls more so step = λ given b. subst now (append_assoc give
 same_more : (was now : List LiveLine → Type 0) (more other : List LiveLine) → Gave was now more → more ≡ other → Gave was now other
 same_more was now more other step is = subst (Gave was now) is step
 
-pub told_none : {T E : Type 0} (machines : ℕ) (before was now : List LiveLine → Type 0) (more : List LiveLine) (l : LedgerState GivenLine) (r : Result T E) → Telling machines before was l
-    → Gave was now more → more ≡ [] → HasTold machines before now l r
-told_none machines before was now more l r so step none =
-    told_so machines before now l r
-    (so.0, λ given b. subst now (append-nil (given ++ so.0)) (same_more was now more [] step none (given ++ so.0) (so.1 given b)), so.2)
+pub told_none : {T E : Type 0} (machines : ℕ) (before was now : List LiveLine → Type 0) (more : List LiveLine) (l : LedgerState GivenLine) (w : SeatState (List ℕ)) (r : Result T E)
+    → TellsSo machines before was l w → Gave was now more → more ≡ [] → HasTold machines before now l w r
+told_none machines before was now more l w r so step none =
+    told_so machines before now l w r
+    (record {
+      lines = so.lines;
+      gave = λ given b. subst now (append-nil (given ++ so.lines)) (same_more was now more [] step none (given ++ so.lines) (so.gave given b));
+      given = so.given;
+      refused = so.refused;
+    })
 
--- The line could not be noted.
-pub told_err : {T E : Type 0} (machines : ℕ) (before was now : List LiveLine → Type 0) (more : List LiveLine) (line : LiveLine) (l l' : LedgerState GivenLine) (r : Result T E) (Q : E → Type 0)
-    → (so : Telling machines before was l) → Gave was now more → more ≡ line ∷ [] → AreFirst l' machines (so.0 ++ line ∷ []) → IsErrAnd r Q → HasTold machines before now l' r
-told_err machines before was now more line l l' r Q so step one first err = record {
-  lines = so.0 ++ line ∷ [];
-  gave = longer before was now so.0 (line ∷ []) so.1 (same_more was now more (line ∷ []) step one);
+-- The line could not be noted, or its refusal not be put out.
+pub told_err : {T E : Type 0} (machines : ℕ) (before was now : List LiveLine → Type 0) (more : List LiveLine) (line : LiveLine) (l l' : LedgerState GivenLine) (w w' : SeatState (List ℕ))
+    (r : Result T E) (Q : E → Type 0) → (so : TellsSo machines before was l w) → Gave was now more → more ≡ line ∷ [] → AreFirst l' machines (so.lines ++ line ∷ []) → IsErrAnd r Q
+    → HasTold machines before now l' w' r
+told_err machines before was now more line l l' w w' r Q so step one first err = record {
+  lines = so.lines ++ line ∷ [];
+  gave = longer before was now so.lines (line ∷ []) so.gave (same_more was now more (line ∷ []) step one);
   first = first;
   texts = on_none _ r Q err;
+  refused = on_none _ r Q err;
 }
 
-pub told_more : (machines : ℕ) (before was now : List LiveLine → Type 0) (more : List LiveLine) (line : LiveLine) (l l' : LedgerState GivenLine) → (so : Telling machines before was l)
-    → Gave was now more → more ≡ line ∷ [] → AreGiven l' machines (so.0 ++ line ∷ []) → Telling machines before now l'
-told_more machines before was now more line l l' so step one noted =
-    (so.0 ++ line ∷ [], longer before was now so.0 (line ∷ []) so.1 (same_more was now more (line ∷ []) step one), noted)
+-- One that has put nothing out.
+pub nothing_put : (w : SeatState (List ℕ)) → w.count ≡ 0 → HasPutOut w []
+nothing_put w none = record { texts = []; mine = record { count = none; there = tt }; text_is = refl }
+
+-- Nothing is put out.
+pub put_none : (w : SeatState (List ℕ)) (before text : List ℕ) → text ≡ [] → HasPutOut w before → HasPutOut w (before ++ text)
+put_none w before text none so = subst (HasPutOut w) (sym (ap (λ t. before ++ t) none ∙ append-nil before)) so
+
+-- A piece more is put out.
+pub put_more : (w w' : SeatState (List ℕ)) (before text : List ℕ) → HasPutOut w before → HasPut w w' text → HasPutOut w' (before ++ text)
+put_more w w' before text so put = record {
+  texts = so.texts ++ text ∷ [];
+  mine = mine_put w w' text so.texts put so.mine;
+  text_is = concat-append so.texts (text ∷ []) ∙ ap (λ t. t ++ concat (text ∷ [])) so.text_is ∙ ap (λ t. before ++ t) (append-nil text);
+}
+
+refusals_push : (ls : List LiveLine) (l : LiveLine) → refusals_text (ls ++ l ∷ []) ≡ refusals_text ls ++ refusal_text l
+refusals_push ls l = flat_map-append refusal_text ls (l ∷ []) ∙ ap (λ t. refusals_text ls ++ t) (append-nil (refusal_text l))
+
+pub told_more : (machines : ℕ) (before was now : List LiveLine → Type 0) (more : List LiveLine) (line : LiveLine) (l l' : LedgerState GivenLine) (w w' : SeatState (List ℕ))
+    → (so : TellsSo machines before was l w) → Gave was now more → more ≡ line ∷ [] → AreGiven l' machines (so.lines ++ line ∷ [])
+    → HasPutOut w' (refusals_text so.lines ++ refusal_text line) → TellsSo machines before now l' w'
+told_more machines before was now more line l l' w w' so step one noted put = record {
+  lines = so.lines ++ line ∷ [];
+  gave = longer before was now so.lines (line ∷ []) so.gave (same_more was now more (line ∷ []) step one);
+  given = noted;
+  refused = subst (HasPutOut w') (sym (refusals_push so.lines line)) put;
+}

@@ -5,17 +5,18 @@ use Rattle.sl_book.specs.Logs.{entries, given_by}
 use Rattle.sl_book.specs.Mails.{LedgerState}
 use Rattle.sl_book.specs.Seats.{IsMine, SeatState}
 use Rattle.sl_book.specs.declared.signed.Signed.{Signed}
+use Rattle.sl_live_lines.specs.EventTexts.{Telling}
 use Rattle.sl_live_lines.specs.LiveTexts.{count_replies, history_text}
 use Rattle.sl_live_lines.specs.LocksAlong.{AlongState}
 use Rattle.sl_live_lines.specs.AuditedHistory.{AreLines}
 use Rattle.sl_live_lines.specs.declared.given_lines.GivenLine.{GivenLine}
-use Rattle.sl_live_machine.specs.MachineEnds.{Counts, EndsWith, HasRun, HasTold as HasPutOut, Told}
+use Rattle.sl_live_machine.specs.MachineEnds.{Counts, EndsWith, HasRun, HasTold as HasToldOf, Told}
 use Rattle.sl_live_machine.specs.Printing.{lines_read}
 use Rattle.sl_live_machine.specs.declared.machine.CloseError.TheVariants.{NoMemory as NoMemoryClose}
 use Rattle.sl_live_machine.specs.declared.machine.Ran.{Ran}
 use Rattle.sl_live_run.proofs.CaseLaws.{case_so, met}
 use Rattle.sl_live_run.proofs.GivenLaws.{no_lines}
-use Rattle.sl_live_run.specs.Runs.{AreFresh, AreGiven, CanRun, HasRunAll, HasTold, HasToldAll, IsFresh, IsLiveHistory, IsLiveStop, IsTold, LiveCaseOf, Runs, begun_on, lines_for, replies_of, site_of}
+use Rattle.sl_live_run.specs.Runs.{AreFresh, AreGiven, CanRun, HasPutOut, HasRunAll, HasTold, HasToldAll, IsFresh, IsLiveHistory, IsLiveStop, IsTold, LiveCaseOf, Runs, begun_on, begun_telling, lines_for, refusals_text, replies_of, site_of}
 use Rattle.sl_live_run.specs.Settling.{AreAllWhole, AreRansOf, AreWhole, HasLeft, IsCaseOf, StopsOne, StopsSome}
 use Rattle.sl_live_run.specs.declared.compare.LiveDiffer.{LiveDiffer}
 use Rattle.sl_live_run.specs.declared.compare.LiveStop.TheVariants.{Differ, NoMemory}
@@ -24,7 +25,7 @@ use Rattle.sl_live_run.specs.declared.machine_runs.Machine.{Machine}
 use Rattle.sl_live_run.specs.declared.machine_runs.Work.{Work}
 use Rattle.sl_live_run.specs.declared.run.LiveRun.{LiveRun}
 use Rattle.sl_output.specs.Outputs.{IsPut}
-use Rattle.sl_output.specs.Pieces.{Piece}
+use Rattle.sl_output.specs.Pieces.{Piece, text_by}
 use Rattle.sl_reader.specs.declared.live_lines.LiveLine.{LiveLine}
 use Rattle.sl_run.specs.Headers.{IsHeader}
 use Rattle.sl_run.specs.Lawful.{IsSetting}
@@ -84,38 +85,47 @@ chosen P (x ∷ xs) each =
 -- ---- one machine
 
 -- What is left of the machine at a place, which had this site.
-pub record RanAt {D O T A : Type 0} (stands : D → Setting → Trace → Type 0) (commands : Header → List (Form Command)) (header : Header) (place : ℕ) (site : Site) (r : Ran O T A) : Type 0 where
-  pub run : HasRun stands (begun_with commands header site) (begun_on header site) r
+pub record RanAt {D O T A : Type 0} (events : Bool) (stands : D → Setting → Trace → Type 0) (commands : Header → List (Form Command)) (header : Header) (place : ℕ) (site : Site) (r : Ran O T A) : Type 0 where
+  pub run : HasRun stands (begun_with commands header site) (begun_telling events header site) (begun_on header site) r
   pub by : r.reader.by ≡ place
 
-one_ran : {D C P V A O T : Type 0} (stands : D → Setting → Trace → Type 0) (commands : Header → List (Form Command)) (header : Header) (place : ℕ) (site : Site)
+one_ran : {D C P V A O T : Type 0} (events : Bool) (stands : D → Setting → Trace → Type 0) (commands : Header → List (Form Command)) (header : Header) (place : ℕ) (site : Site)
     (before : Option (Work C P V A O T)) (after : Option (Ran O T A)) (r : Ran O T A) → option_map (λ (w : Work C P V A O T). w.site) before ≡ Some site → after ≡ Some r
     → IfSome before (λ w. (w.reader.by ≡ place) × IsFresh w)
-    → IfSome before (λ w. IfSome after (λ x. HasRun stands (begun_with commands header w.site) (begun_on header w.site) x × (x.reader.by ≡ w.reader.by)))
-    → RanAt stands commands header place site r
-one_ran stands commands header place site None after r at is fresh run = absurd (none_some site at)
-one_ran {D} {C} {P} {V} {A} {O} {T} stands commands header place site (Some w) after r at is fresh run =
+    → IfSome before (λ w. IfSome after (λ x. HasRun stands (begun_with commands header w.site) (begun_telling events header w.site) (begun_on header w.site) x × (x.reader.by ≡ w.reader.by)))
+    → RanAt events stands commands header place site r
+one_ran events stands commands header place site None after r at is fresh run = absurd (none_some site at)
+one_ran {D} {C} {P} {V} {A} {O} {T} events stands commands header place site (Some w) after r at is fresh run =
     let same : w.site ≡ site = some_value w.site site at in
-    let here : HasRun stands (begun_with commands header w.site) (begun_on header w.site) r × (r.reader.by ≡ w.reader.by)
-    = subst (λ (o : Option (Ran O T A)). IfSome o (λ x. HasRun stands (begun_with commands header w.site) (begun_on header w.site) x × (x.reader.by ≡ w.reader.by))) is run in
-    record { run = subst (λ s. HasRun stands (begun_with commands header s) (begun_on header s) r) same here.0; by = here.1 ∙ fresh.0 }
+    let here : HasRun stands (begun_with commands header w.site) (begun_telling events header w.site) (begun_on header w.site) r × (r.reader.by ≡ w.reader.by)
+    = subst (λ (o : Option (Ran O T A)). IfSome o (λ x. HasRun stands (begun_with commands header w.site) (begun_telling events header w.site) (begun_on header w.site) x × (x.reader.by ≡ w.reader.by))) is run in
+    record { run = subst (λ s. HasRun stands (begun_with commands header s) (begun_telling events header s) (begun_on header s) r) same here.0; by = here.1 ∙ fresh.0 }
 
-ran_at : {D C P V A O T : Type 0} (stands : D → Setting → Trace → Type 0) (commands : Header → List (Form Command)) (header : Header) (sites : List Site)
+ran_at : {D C P V A O T : Type 0} (events : Bool) (stands : D → Setting → Trace → Type 0) (commands : Header → List (Form Command)) (header : Header) (sites : List Site)
     (olds news : List (Machine C P V A O T)) (rans : List (Ran O T A)) → map site_of olds ≡ map (λ s. Some s) sites → AreFresh olds
-    → ((k : ℕ) → (d : Machine C P V A O T) → k < length olds → Runs commands stands header (slice_index_or olds k d) (slice_index_or news k d)) → AreRansOf news rans
-    → (place : ℕ) (site : Site) (r : Ran O T A) → slice_get sites place ≡ Some site → slice_get rans place ≡ Some r → RanAt stands commands header place site r
-ran_at {D} {C} {P} {V} {A} {O} {T} stands commands header sites olds news rans same fresh each left place site r at came =
+    → ((k : ℕ) → (d : Machine C P V A O T) → k < length olds → Runs events commands stands header (slice_index_or olds k d) (slice_index_or news k d)) → AreRansOf news rans
+    → (place : ℕ) (site : Site) (r : Ran O T A) → slice_get sites place ≡ Some site → slice_get rans place ≡ Some r → RanAt events stands commands header place site r
+ran_at {D} {C} {P} {V} {A} {O} {T} events stands commands header sites olds news rans same fresh each left place site r at came =
     let old = got_map site_of olds place (Some site) (ap (λ (xs : List (Option Site)). slice_get xs place) same ∙ map_got (λ s. Some s) sites place site at) in
     let new = got_map (λ (m : Machine C P V A O T). m.ran) news place (Some r)
     (ap (λ (xs : List (Option (Ran O T A))). slice_get xs place) left ∙ map_got (λ (x : Ran O T A). Some x) rans place r came) in
     let m : Machine C P V A O T = old.0 in
     let m' : Machine C P V A O T = new.0 in
-    let run : Runs commands stands header (slice_index_or olds place m) (slice_index_or news place m) = each place m (inside olds place m old.1) in
-    let here : Runs commands stands header m m' = changed_on (λ (x y : Machine C P V A O T). Runs commands stands header x y) m (slice_index_or olds place m) m' (slice_index_or news place m)
+    let run : Runs events commands stands header (slice_index_or olds place m) (slice_index_or news place m) = each place m (inside olds place m old.1) in
+    let here : Runs events commands stands header m m' = changed_on (λ (x y : Machine C P V A O T). Runs events commands stands header x y) m (slice_index_or olds place m) m' (slice_index_or news place m)
     (got_index olds place m m old.1) (got_index news place m' m new.1) run in
-    one_ran stands commands header place site m.work m'.ran r old.2 new.2 (fresh place m old.1) here
+    one_ran events stands commands header place site m.work m'.ran r old.2 new.2 (fresh place m old.1) here
 
 -- ---- a whole history
+
+got_left : {A : Type 0} (xs ys : List A) (k : ℕ) (x : A) → slice_get xs k ≡ Some x → slice_get (xs ++ ys) k ≡ Some x
+got_left [] ys k x at = absurd (none_some x at)
+got_left (y ∷ xs) ys zero x at = at
+got_left (y ∷ xs) ys (suc k) x at = got_left xs ys k x at
+
+got_last : {A : Type 0} (xs : List A) (x : A) → slice_get (xs ++ x ∷ []) (length xs) ≡ Some x
+got_last [] x = refl
+got_last (y ∷ xs) x = got_last xs x
 
 exact_at : {E : Type 0} (k : ℕ) (ss : List (SeatState E)) (h : List (Signed E)) (i : ℕ) (s : SeatState E) → AreExact k ss h → slice_get ss i ≡ Some s
     → (s.by ≡ k + i) × IsPrefix s.front h × (s.count ≡ length (given_by (k + i) h))
@@ -130,37 +140,60 @@ exact_at {E} k (x ∷ ss) h (suc i) s so at =
     let rest = exact_at (k + 1) ss h i s so.1 at in
     (rest.0 ∙ n, rest.1, rest.2 ∙ ap (λ j. length (given_by j h)) n)
 
--- The pieces of a place are what its printer put.
-told_at : (a : AlongState) (place by : ℕ) (h : List Entry) (writer : SeatState (List ℕ)) (texts : List (List ℕ)) (pieces : List Piece) → by ≡ place → writer.by ≡ place
-    → IsPrefix writer.front pieces → writer.count ≡ length (given_by place pieces) → IsMine writer texts → concat texts ≡ history_text (by + 1) a h
-    → IsTold a place h pieces
-told_at a place by h writer texts pieces is_by is_writer begins count mine text =
+exact_left : {E : Type 0} (k : ℕ) (ss more : List (SeatState E)) (h : List (Signed E)) (i : ℕ) (s : SeatState E) → AreExact k (ss ++ more) h → slice_get ss i ≡ Some s
+    → (s.by ≡ k + i) × IsPrefix s.front h × (s.count ≡ length (given_by (k + i) h))
+exact_left k ss more h i s so at = exact_at k (ss ++ more) h i s so (got_left ss more i s at)
+
+exact_last : {E : Type 0} (k : ℕ) (ss : List (SeatState E)) (s : SeatState E) (h : List (Signed E)) → AreExact k (ss ++ s ∷ []) h
+    → (s.by ≡ k + length ss) × IsPrefix s.front h × (s.count ≡ length (given_by (k + length ss) h))
+exact_last k ss s h so = exact_at k (ss ++ s ∷ []) h (length ss) s so (got_last ss s)
+
+-- The pieces of a place are those that were put with its number.
+put_at : (place : ℕ) (writer : SeatState (List ℕ)) (texts : List (List ℕ)) (pieces : List Piece) → writer.by ≡ place → IsPrefix writer.front pieces
+    → writer.count ≡ length (given_by place pieces) → IsMine writer texts → text_by place pieces ≡ concat texts
+put_at place writer texts pieces is_writer begins count mine =
     let mine_all : texts ≡ entries (given_by writer.by pieces)
     = mine_whole writer pieces texts begins (count ∙ ap (λ k. length (given_by k pieces)) (sym is_writer)) mine in
-    sym (ap concat (mine_all ∙ ap (λ k. entries (given_by k pieces)) is_writer)) ∙ text ∙ ap (λ k. history_text (k + 1) a h) is_by
+    sym (ap concat (mine_all ∙ ap (λ k. entries (given_by k pieces)) is_writer))
 
-pub record IsHistoryAt {D O T A : Type 0} (stands : D → Setting → Trace → Type 0) (commands : Header → List (Form Command)) (header : Header) (lines : List LiveLine)
+-- .. by its printer.
+told_at : (t : Telling) (a : AlongState) (place by : ℕ) (h : List Entry) (writer : SeatState (List ℕ)) (texts : List (List ℕ)) (pieces : List Piece) → by ≡ place → writer.by ≡ place
+    → IsPrefix writer.front pieces → writer.count ≡ length (given_by place pieces) → IsMine writer texts → concat texts ≡ history_text (by + 1) t a h
+    → IsTold t a place h pieces
+told_at t a place by h writer texts pieces is_by is_writer begins count mine text =
+    put_at place writer texts pieces is_writer begins count mine ∙ text ∙ ap (λ k. history_text (k + 1) t a h) is_by
+
+-- .. by the script's thread.
+refused_at : (rans : ℕ) (seats : List (SeatState (List ℕ))) (w : SeatState (List ℕ)) (text : List ℕ) (pieces : List Piece) → length seats ≡ rans → AreExact 0 (seats ++ w ∷ []) pieces
+    → HasPutOut w text → text_by rans pieces ≡ text
+refused_at rans seats w text pieces many exact so =
+    let seat = exact_last 0 seats w pieces exact in
+    let place : 0 + length seats ≡ rans = omega (arith, many) in
+    put_at rans w so.texts pieces (seat.0 ∙ place) seat.1 (seat.2 ∙ ap (λ k. length (given_by k pieces)) place) so.mine ∙ so.text_is
+
+pub record IsHistoryAt {D O T A : Type 0} (events : Bool) (stands : D → Setting → Trace → Type 0) (commands : Header → List (Form Command)) (header : Header) (lines : List LiveLine)
     (rans : List (Ran O T A)) (pieces : List Piece) (place : ℕ) (site : Site) (h : List Entry) : Type 0 where
   pub ran : Ran O T A
   pub there : slice_get rans place ≡ Some ran
   pub live : IsLiveHistory stands (begun_with commands header site) (begun_on header site) (lines_for (place + 1) lines) h
-  pub told : IsTold (begun_on header site) place h pieces
+  pub told : IsTold (begun_telling events header site) (begun_on header site) place h pieces
   pub replies : ran.replies ≡ count_replies (begun_on header site) h
 
-history_at : {D O T A : Type 0} (stands : D → Setting → Trace → Type 0) (commands : Header → List (Form Command)) (header : Header) (lines : List LiveLine)
-    (rans : List (Ran O T A)) (pieces : List Piece) (l : LedgerState GivenLine) (replies : ℕ) (early : Bool) → AreWhole early l rans pieces replies → (place : ℕ) (site : Site) (r : Ran O T A)
-    → entries (given_by place l.front) ≡ lines_for (place + 1) lines → slice_get rans place ≡ Some r → RanAt stands commands header place site r
-    → (h : List Entry) × IsHistoryAt stands commands header lines rans pieces place site h
-history_at {D} {O} {T} {A} stands commands header lines rans pieces l replies early whole place site r given at so =
+history_at : {D O T A : Type 0} (events : Bool) (stands : D → Setting → Trace → Type 0) (commands : Header → List (Form Command)) (header : Header) (lines : List LiveLine)
+    (rans : List (Ran O T A)) (pieces : List Piece) (l : LedgerState GivenLine) (w : SeatState (List ℕ)) (replies : ℕ) (early : Bool) → AreWhole early l w rans pieces replies → (place : ℕ) (site : Site) (r : Ran O T A)
+    → entries (given_by place l.front) ≡ lines_for (place + 1) lines → slice_get rans place ≡ Some r → RanAt events stands commands header place site r
+    → (h : List Entry) × IsHistoryAt events stands commands header lines rans pieces place site h
+history_at {D} {O} {T} {A} events stands commands header lines rans pieces l w replies early whole place site r given at so =
     let st : Setting = begun_with commands header site in
+    let t : Telling = begun_telling events header site in
     let a : AlongState = begun_on header site in
     let run = so.run in
     let h : List Entry = run.history in
     let settled = whole.settled.each place r at in
     let ends : EndsWith stands st a h (lines_read r.reader) (Ok tt) = subst (EndsWith stands st a h (lines_read r.reader)) settled.0 run.ends in
     let read : lines_read r.reader ≡ lines_for (place + 1) lines = ap entries settled.1 ∙ ap (λ k. entries (given_by k l.front)) so.by ∙ given in
-    let told : HasPutOut a h r.reader r.writer r.replies = subst (Told a h r.reader r.writer r.replies) settled.0 run.told in
-    let seat = exact_at 0 (map (λ (x : Ran O T A). x.writer) rans) pieces place r.writer whole.exact (map_got (λ (x : Ran O T A). x.writer) rans place r at) in
+    let told : HasToldOf t a h r.reader r.writer r.replies = subst (Told t a h r.reader r.writer r.replies) settled.0 run.told in
+    let seat = exact_left 0 (map (λ (x : Ran O T A). x.writer) rans) (w ∷ []) pieces place r.writer whole.exact (map_got (λ (x : Ran O T A). x.writer) rans place r at) in
     let zero_place : 0 + place ≡ place = omega arith in
     let by_place : r.writer.by ≡ place = run.by ∙ so.by in (
       h,
@@ -168,7 +201,7 @@ history_at {D} {O} {T} {A} stands commands header lines rans pieces l replies ea
         ran = r;
         there = at;
         live = record { whole = ends.0; lines = subst (AreLines a h) read ends.1.0; answered = ends.1.1 };
-        told = told_at a place r.reader.by h r.writer told.texts pieces so.by by_place seat.1 (seat.2 ∙ ap (λ k. length (given_by k pieces)) zero_place) told.mine told.text;
+        told = told_at t a place r.reader.by h r.writer told.texts pieces so.by by_place seat.1 (seat.2 ∙ ap (λ k. length (given_by k pieces)) zero_place) told.mine told.text;
         replies = told.count;
       },
     )
@@ -200,31 +233,37 @@ replies_are {O} {T} {A} header (s ∷ sites) (h ∷ hs) (r ∷ rans) n m each =
     ∙ ap₂ (λ x y. x + y) (replies_at header s h r first.0 first.1 first.2)
     (replies_are header sites hs rans (omega (arith, n)) (omega (arith, m)) (λ k t g at at_h. each (suc k) t g at at_h))
 
-told_well : {T E : Type 0} (machines : ℕ) (before after : List LiveLine → Type 0) (l : LedgerState GivenLine) (told : Result T E) → IsOk told → (so : HasTold machines before after l told)
-    → AreGiven l machines so.lines
-told_well machines before after l (Ok t) ok so = so.texts
-told_well machines before after l (Err e) ok so = absurd (cc ok)
+told_well : {T E : Type 0} (machines : ℕ) (before after : List LiveLine → Type 0) (l : LedgerState GivenLine) (w : SeatState (List ℕ)) (told : Result T E) → IsOk told
+    → (so : HasTold machines before after l w told) → AreGiven l machines so.lines
+told_well machines before after l w (Ok t) ok so = so.texts
+told_well machines before after l w (Err e) ok so = absurd (cc ok)
 
-pub told_all : {D C P V A O T T' E : Type 0} (stands : D → Setting → Trace → Type 0) (commands : Header → List (Form Command)) (header : Header) (sites : List Site)
-    (olds news : List (Machine C P V A O T)) (before after : List LiveLine → Type 0) (early : Bool) (l : LedgerState GivenLine) (told : Result T' E) (pieces : List Piece) (machines replies : ℕ)
+refused_well : {T E : Type 0} (machines : ℕ) (before after : List LiveLine → Type 0) (l : LedgerState GivenLine) (w : SeatState (List ℕ)) (told : Result T E) → IsOk told
+    → (so : HasTold machines before after l w told) → HasPutOut w (refusals_text so.lines)
+refused_well machines before after l w (Ok t) ok so = so.refused
+refused_well machines before after l w (Err e) ok so = absurd (cc ok)
+
+pub told_all : {D C P V A O T T' E : Type 0} (events : Bool) (stands : D → Setting → Trace → Type 0) (commands : Header → List (Form Command)) (header : Header) (sites : List Site)
+    (olds news : List (Machine C P V A O T)) (before after : List LiveLine → Type 0) (early : Bool) (l : LedgerState GivenLine) (w : SeatState (List ℕ)) (told : Result T' E) (pieces : List Piece) (machines replies : ℕ)
     → map site_of olds ≡ map (λ s. Some s) sites → length news ≡ length olds → AreFresh olds
-    → ((k : ℕ) → (d : Machine C P V A O T) → k < length olds → Runs commands stands header (slice_index_or olds k d) (slice_index_or news k d))
-    → HasTold (length olds) before after l told → (early ≡ false → IsOk told) → machines ≡ length news → AreAllWhole early l news pieces replies
-    → HasToldAll stands commands header sites before after pieces machines replies
-told_all {D} {C} {P} {V} {A} {O} {T} stands commands header sites olds news before after early l told pieces machines replies same len fresh each tells in_time many all =
+    → ((k : ℕ) → (d : Machine C P V A O T) → k < length olds → Runs events commands stands header (slice_index_or olds k d) (slice_index_or news k d))
+    → HasTold (length olds) before after l w told → (early ≡ false → IsOk told) → machines ≡ length news → AreAllWhole early l w news pieces replies
+    → HasToldAll events stands commands header sites before after pieces machines replies
+told_all {D} {C} {P} {V} {A} {O} {T} events stands commands header sites olds news before after early l w told pieces machines replies same len fresh each tells in_time many all =
     let rans : List (Ran O T A) = all.0 in
-    let whole : AreWhole early l rans pieces replies = all.2 in
-    let given = told_well (length olds) before after l told (in_time whole.in_time) tells in
+    let whole : AreWhole early l w rans pieces replies = all.2 in
+    let given = told_well (length olds) before after l w told (in_time whole.in_time) tells in
     let n = counts sites olds same in
     let m = rans_count news rans all.1 in
-    let found : (k : ℕ) (site : Site) → slice_get sites k ≡ Some site → (h : List Entry) × IsHistoryAt stands commands header tells.lines rans pieces k site h
+    let found : (k : ℕ) (site : Site) → slice_get sites k ≡ Some site → (h : List Entry) × IsHistoryAt events stands commands header tells.lines rans pieces k site h
     = λ k site at.
     let lt = inside sites k site at in
     let there = there_is rans k (omega (arith, lt, n, m, len)) in
-    history_at stands commands header tells.lines rans pieces l replies early whole k site there.0 (given.each k (omega (arith, lt, n))) there.1
-    (ran_at stands commands header sites olds news rans same fresh each all.1 k site there.0 at there.1) in
-    let hs = chosen (λ k site h. IsHistoryAt stands commands header tells.lines rans pieces k site h) sites found in
+    history_at events stands commands header tells.lines rans pieces l w replies early whole k site there.0 (given.each k (omega (arith, lt, n))) there.1
+    (ran_at events stands commands header sites olds news rans same fresh each all.1 k site there.0 at there.1) in
+    let hs = chosen (λ k site h. IsHistoryAt events stands commands header tells.lines rans pieces k site h) sites found in
     let long : length hs.0 ≡ length sites = hs.1 in
+    let seats : length (map (λ (x : Ran O T A). x.writer) rans) ≡ length hs.0 = omega (arith, length-map rans (λ (x : Ran O T A). x.writer), m, len, n, long) in
     record {
       lines = tells.lines;
       gave = tells.gave;
@@ -234,6 +273,8 @@ told_all {D} {C} {P} {V} {A} {O} {T} stands commands header sites olds news befo
         each = λ place site h at at_h. (hs.2 place site h at at_h).live;
       };
       texts = λ place site h at at_h. (hs.2 place site h at at_h).told;
+      refused = refused_at (length hs.0) (map (λ (x : Ran O T A). x.writer) rans) w (refusals_text tells.lines) pieces seats whole.exact
+          (refused_well (length olds) before after l w told (in_time whole.in_time) tells);
       below = subst (λ k. AreBelow k pieces) (omega (arith, m, len, n, long)) whole.below;
       machines_are = omega (arith, many, len, n, long);
       count = whole.settled.count ∙ replies_are header sites hs.0 rans long (omega (arith, m, len, n))
@@ -242,13 +283,13 @@ told_all {D} {C} {P} {V} {A} {O} {T} stands commands header sites olds news befo
 
 -- ---- a case
 
-stop_at : {D C P V A O T T' E : Type 0} (stands : D → Setting → Trace → Type 0) (commands : Header → List (Form Command)) (header : Header) (sites : List Site)
-    (olds news : List (Machine C P V A O T)) (before after : List LiveLine → Type 0) (early : Bool) (l : LedgerState GivenLine) (told : Result T' E) (m : ℕ) (d : LiveDiffer) (rans : List (Ran O T A))
+stop_at : {D C P V A O T T' E : Type 0} (events : Bool) (stands : D → Setting → Trace → Type 0) (commands : Header → List (Form Command)) (header : Header) (sites : List Site)
+    (olds news : List (Machine C P V A O T)) (before after : List LiveLine → Type 0) (early : Bool) (l : LedgerState GivenLine) (w : SeatState (List ℕ)) (told : Result T' E) (m : ℕ) (d : LiveDiffer) (rans : List (Ran O T A))
     → map site_of olds ≡ map (λ s. Some s) sites → length news ≡ length olds → AreFresh olds
-    → ((k : ℕ) → (d : Machine C P V A O T) → k < length olds → Runs commands stands header (slice_index_or olds k d) (slice_index_or news k d))
-    → HasTold (length olds) before after l told → (early ≡ false → IsOk told) → AreRansOf news rans → IsCaseOf early l rans m d
+    → ((k : ℕ) → (d : Machine C P V A O T) → k < length olds → Runs events commands stands header (slice_index_or olds k d) (slice_index_or news k d))
+    → HasTold (length olds) before after l w told → (early ≡ false → IsOk told) → AreRansOf news rans → IsCaseOf early l rans m d
     → IsLiveStop stands commands header sites before after (Differ m d)
-stop_at {D} {C} {P} {V} {A} {O} {T} stands commands header sites olds news before after early l told m d rans same len fresh each tells in_time left so =
+stop_at {D} {C} {P} {V} {A} {O} {T} events stands commands header sites olds news before after early l w told m d rans same len fresh each tells in_time left so =
     let place : ℕ = so.place in
     let r : Ran O T A = so.ran in
     let lt = inside rans place r so.there in
@@ -259,14 +300,14 @@ stop_at {D} {C} {P} {V} {A} {O} {T} stands commands header sites olds news befor
     let st : Setting = begun_with commands header site in
     let a : AlongState = begun_on header site in
     let inside_olds : place < length olds = omega (arith, lt, c, len) in
-    let at = ran_at stands commands header sites olds news rans same fresh each left place site r there.1 so.there in
+    let at = ran_at events stands commands header sites olds news rans same fresh each left place site r there.1 so.there in
     let run = at.run in
     let due : List GivenLine = lines_for m tells.lines in
     let first : IsPrefix (entries (given_by r.reader.by l.front)) due
     = subst (λ k. IsPrefix (entries (given_by r.reader.by l.front)) (lines_for k tells.lines)) (sym so.numbered)
     (subst (λ k. IsPrefix (entries (given_by k l.front)) (lines_for (place + 1) tells.lines)) (sym at.by) (tells.first.each place inside_olds)) in
     let exact : early ≡ false → entries (given_by r.reader.by l.front) ≡ due
-    = λ t. ap (λ k. entries (given_by k l.front)) at.by ∙ (told_well (length olds) before after l told (in_time t) tells).each place inside_olds
+    = λ t. ap (λ k. entries (given_by k l.front)) at.by ∙ (told_well (length olds) before after l w told (in_time t) tells).each place inside_olds
     ∙ ap (λ k. lines_for k tells.lines) (sym so.numbered) in
     let here : LiveCaseOf stands commands header sites tells.lines m d
     = record {
@@ -278,17 +319,17 @@ stop_at {D} {C} {P} {V} {A} {O} {T} stands commands header sites olds news befor
     } in
     (tells.lines, tells.gave, here)
 
-live_stop : {D C P V A O T T' E : Type 0} (stands : D → Setting → Trace → Type 0) (commands : Header → List (Form Command)) (header : Header) (sites : List Site)
-    (olds news : List (Machine C P V A O T)) (before after : List LiveLine → Type 0) (early : Bool) (l : LedgerState GivenLine) (told : Result T' E) (s : LiveStop)
+live_stop : {D C P V A O T T' E : Type 0} (events : Bool) (stands : D → Setting → Trace → Type 0) (commands : Header → List (Form Command)) (header : Header) (sites : List Site)
+    (olds news : List (Machine C P V A O T)) (before after : List LiveLine → Type 0) (early : Bool) (l : LedgerState GivenLine) (w : SeatState (List ℕ)) (told : Result T' E) (s : LiveStop)
     → map site_of olds ≡ map (λ s. Some s) sites → length news ≡ length olds → AreFresh olds
-    → ((k : ℕ) → (d : Machine C P V A O T) → k < length olds → Runs commands stands header (slice_index_or olds k d) (slice_index_or news k d))
-    → HasTold (length olds) before after l told → (early ≡ false → IsOk told) → (s ≡ NoMemory) ⊎ StopsOne early l news s
+    → ((k : ℕ) → (d : Machine C P V A O T) → k < length olds → Runs events commands stands header (slice_index_or olds k d) (slice_index_or news k d))
+    → HasTold (length olds) before after l w told → (early ≡ false → IsOk told) → (s ≡ NoMemory) ⊎ StopsOne early l news s
     → IsLiveStop stands commands header sites before after s
-live_stop stands commands header sites olds news before after early l told s same len fresh each tells in_time (inl is) =
+live_stop events stands commands header sites olds news before after early l w told s same len fresh each tells in_time (inl is) =
     subst (IsLiveStop stands commands header sites before after) (sym is) tt
-live_stop stands commands header sites olds news before after early l told NoMemory same len fresh each tells in_time (inr so) = tt
-live_stop stands commands header sites olds news before after early l told (Differ m d) same len fresh each tells in_time (inr so) =
-    stop_at stands commands header sites olds news before after early l told m d so.0 same len fresh each tells in_time so.1 so.2
+live_stop events stands commands header sites olds news before after early l w told NoMemory same len fresh each tells in_time (inr so) = tt
+live_stop events stands commands header sites olds news before after early l w told (Differ m d) same len fresh each tells in_time (inr so) =
+    stop_at events stands commands header sites olds news before after early l w told m d so.0 same len fresh each tells in_time so.1 so.2
 
 -- ---- of a result
 
@@ -302,40 +343,40 @@ if_err_on (Err e) Was Is f so = f e so
 
 -- ---- the whole run
 
-pub has_run_all : {D K C P V A O T T' E : Type 0} (stands : D → Setting → Trace → Type 0) (commands : Header → List (Form Command)) (header : Header) (sites : List Site)
-    (olds news : List (Machine C P V A O T)) (before after : List LiveLine → Type 0) (early : Bool) (l : LedgerState GivenLine) (told : Result T' E) (taken now : Option (List ℕ)) (faults later : ℕ)
+pub has_run_all : {D K C P V A O T T' E : Type 0} (events : Bool) (stands : D → Setting → Trace → Type 0) (commands : Header → List (Form Command)) (header : Header) (sites : List Site)
+    (olds news : List (Machine C P V A O T)) (before after : List LiveLine → Type 0) (early : Bool) (l : LedgerState GivenLine) (w : SeatState (List ℕ)) (told : Result T' E) (taken now : Option (List ℕ)) (faults later : ℕ)
     (r : LiveRun K A) → map site_of olds ≡ map (λ s. Some s) sites → length news ≡ length olds → AreFresh olds
-    → ((k : ℕ) → (d : Machine C P V A O T) → k < length olds → Runs commands stands header (slice_index_or olds k d) (slice_index_or news k d))
-    → HasTold (length olds) before after l told → (early ≡ false → IsOk told) → HasLeft early l news taken now faults later r
-    → HasRunAll stands commands header sites before after taken now faults later r
-has_run_all {D} {K} {C} {P} {V} {A} {O} {T} stands commands header sites olds news before after early l told taken now faults later r same len fresh each tells in_time left = record {
+    → ((k : ℕ) → (d : Machine C P V A O T) → k < length olds → Runs events commands stands header (slice_index_or olds k d) (slice_index_or news k d))
+    → HasTold (length olds) before after l w told → (early ≡ false → IsOk told) → HasLeft early l w news taken now faults later r
+    → HasRunAll events stands commands header sites before after taken now faults later r
+has_run_all {D} {K} {C} {P} {V} {A} {O} {T} events stands commands header sites olds news before after early l w told taken now faults later r same len fresh each tells in_time left = record {
   pieces = left.pieces;
   put = left.put;
-  ok = if_ok_on r.replies (AreAllWhole early l news left.pieces) (HasToldAll stands commands header sites before after left.pieces r.machines)
-      (λ n all. told_all stands commands header sites olds news before after early l told left.pieces r.machines n same len fresh each tells in_time left.machines_are all) left.ok;
+  ok = if_ok_on r.replies (AreAllWhole early l w news left.pieces) (HasToldAll events stands commands header sites before after left.pieces r.machines)
+      (λ n all. told_all events stands commands header sites olds news before after early l w told left.pieces r.machines n same len fresh each tells in_time left.machines_are all) left.ok;
   stop = if_err_on r.replies (λ s. (s ≡ NoMemory) ⊎ StopsOne early l news s) (IsLiveStop stands commands header sites before after)
-      (λ s so. live_stop stands commands header sites olds news before after early l told s same len fresh each tells in_time so) left.stop;
+      (λ s so. live_stop events stands commands header sites olds news before after early l w told s same len fresh each tells in_time so) left.stop;
 }
 
 -- There was no memory to run.
-pub no_run_all : {D K A : Type 0} (stands : D → Setting → Trace → Type 0) (commands : Header → List (Form Command)) (header : Header) (sites : List Site) (before after : List LiveLine → Type 0)
+pub no_run_all : {D K A : Type 0} (events : Bool) (stands : D → Setting → Trace → Type 0) (commands : Header → List (Form Command)) (header : Header) (sites : List Site) (before after : List LiveLine → Type 0)
     (taken now : Option (List ℕ)) (faults later : ℕ) (r : LiveRun K A) → r.replies ≡ Err NoMemory → (ps : List Piece) × IsPut taken now faults later ps r.cut
-    → HasRunAll stands commands header sites before after taken now faults later r
-no_run_all stands commands header sites before after taken now faults later r is put = record {
+    → HasRunAll events stands commands header sites before after taken now faults later r
+no_run_all events stands commands header sites before after taken now faults later r is put = record {
   pieces = put.0;
   put = put.1;
-  ok = subst (λ (x : Result ℕ LiveStop). IfOk x (HasToldAll stands commands header sites before after put.0 r.machines)) (sym is) tt;
+  ok = subst (λ (x : Result ℕ LiveStop). IfOk x (HasToldAll events stands commands header sites before after put.0 r.machines)) (sym is) tt;
   stop = subst (λ (x : Result ℕ LiveStop). IfErr x (IsLiveStop stands commands header sites before after)) (sym is) tt;
 }
 
 -- .. for one machine.
-pub no_run_of : {D O T A : Type 0} (stands : D → Setting → Trace → Type 0) (st : Setting) (a : AlongState) (r : Ran O T A) → r.end ≡ Err NoMemoryClose → r.writer.by ≡ r.reader.by
-    → HasRun stands st a r
-no_run_of stands st a r is by = record {
+pub no_run_of : {D O T A : Type 0} (stands : D → Setting → Trace → Type 0) (st : Setting) (t : Telling) (a : AlongState) (r : Ran O T A) → r.end ≡ Err NoMemoryClose → r.writer.by ≡ r.reader.by
+    → HasRun stands st t a r
+no_run_of stands st t a r is by = record {
   by = by;
   history = [];
   ends = subst (EndsWith stands st a [] (lines_read r.reader)) (sym is) tt;
-  told = subst (Told a [] r.reader r.writer r.replies) (sym is) tt;
+  told = subst (Told t a [] r.reader r.writer r.replies) (sym is) tt;
   counted = subst (Counts [] r.entries) (sym is) tt;
 }
 
@@ -393,10 +434,10 @@ begun_all {C} {P} {V} {A} {O} {T} {S} ms ps qs site so same = so ∙ ap (λ (xs 
 pub rans_all : {C P V A O T : Type 0} (ms all : List (Machine C P V A O T)) (rans : List (Ran O T A)) → AreRansOf ms rans → ms ≡ all → AreRansOf all rans
 rans_all {C} {P} {V} {A} {O} {T} ms all rans so same = subst (λ (xs : List (Machine C P V A O T)). AreRansOf xs rans) same so
 
-pub all_whole : {C P V A O T E : Type 0} (r : Result ℕ E) (early : Bool) (l : LedgerState GivenLine) (machines : List (Machine C P V A O T)) (rans : List (Ran O T A)) (pieces : List Piece)
-    → AreRansOf machines rans → IfOk r (AreWhole early l rans pieces) → IfOk r (AreAllWhole early l machines pieces)
-all_whole (Ok n) early l machines rans pieces left so = (rans, left, so)
-all_whole (Err e) early l machines rans pieces left so = tt
+pub all_whole : {C P V A O T E : Type 0} (r : Result ℕ E) (early : Bool) (l : LedgerState GivenLine) (w : SeatState (List ℕ)) (machines : List (Machine C P V A O T)) (rans : List (Ran O T A))
+    (pieces : List Piece) → AreRansOf machines rans → IfOk r (AreWhole early l w rans pieces) → IfOk r (AreAllWhole early l w machines pieces)
+all_whole (Ok n) early l w machines rans pieces left so = (rans, left, so)
+all_whole (Err e) early l w machines rans pieces left so = tt
 
 pub all_stop : {C P V A O T N : Type 0} (r : Result N LiveStop) (early : Bool) (l : LedgerState GivenLine) (machines : List (Machine C P V A O T)) (rans : List (Ran O T A))
     → AreRansOf machines rans → IfErr r (StopsSome early l rans) → IfErr r (λ s. (s ≡ NoMemory) ⊎ StopsOne early l machines s)

@@ -1,8 +1,10 @@
 -- What a live run leaves: histories that daemons stood for, whose lines are the script's; or a case that holds of a machine.
 use Rattle.sl_book.specs.Logs.{entries, given_by as given_in}
 use Rattle.sl_book.specs.Mails.{LedgerState}
+use Rattle.sl_book.specs.Seats.{IsMine, SeatState}
 use Rattle.sl_live_lines.specs.AuditedHistory.{AreLines, IsAnswered, IsLeft, KeepsAsks, LineDiffers, lines_along}
 use Rattle.sl_book.specs.Closings.{AreBelow}
+use Rattle.sl_live_lines.specs.EventTexts.{Telling, first_telling}
 use Rattle.sl_live_lines.specs.LiveTexts.{count_replies, history_text}
 use Rattle.sl_live_machine.specs.MachineEnds.{HasRun, IsWhole}
 use Rattle.sl_live_machine.specs.Printing.{lines_read}
@@ -15,7 +17,7 @@ use Rattle.sl_world_state.specs.Daemons.{begun_with}
 use Rattle.sl_world_state.specs.declared.daemon.Site.{Site}
 use Rattle.sl_live_lines.specs.declared.audit.Left.TheVariants.{Call as CallLeft, Start as StartLeft}
 use Rattle.sl_live_lines.specs.declared.audit.Left.{Left as LeftOf}
-use Rattle.sl_reader.specs.declared.live_lines.LiveLine.TheVariants.{Command as CommandLine, Exits, Locks as LocksLine, Post}
+use Rattle.sl_reader.specs.declared.live_lines.LiveLine.TheVariants.{Command as CommandLine, Exits, Locks as LocksLine, Post, Refused}
 use Rattle.sl_reader.specs.declared.live_lines.LiveLine.{LiveLine}
 use Rattle.sl_live_lines.specs.LocksAlong.{AlongState, begun_along}
 use Rattle.sl_live_lines.specs.declared.given_lines.GivenLine.TheVariants.{ForHost, ForLocks}
@@ -25,15 +27,16 @@ use Rattle.sl_live_run.specs.declared.compare.LiveDiffer.{LiveDiffer}
 use Rattle.sl_live_run.specs.declared.compare.LiveStop.TheVariants.{Differ, NoMemory}
 use Rattle.sl_live_run.specs.declared.compare.LiveStop.{LiveStop}
 use Rattle.sl_live_run.specs.declared.machine_runs.Machine.{Machine}
+use Rattle.sl_report.specs.RefusalLines.{refusal_line}
 use Rattle.sl_run.specs.Headers.{IsHeader}
 use Rattle.sl_run.specs.Lawful.{IsSetting}
 use Rattle.sl_run.specs.declared.header.Header.{Header}
-use Rattle.sl_text.specs.Forms.{Form}
+use Rattle.sl_text.specs.Forms.{Form, as_bytes}
 use Rattle.sl_trace.specs.Traces.{Setting, Trace}
 use Rattle.sl_trace.specs.declared.command.Command.{Command}
 use Rattle.sl_trace.specs.declared.effects.Entry.{Entry}
-use Rattle.std.specs.List.{flat_map}
-use Rattle.std.specs.Prelude.{IfErr, IfOk, IfSome, List, None, OnOk, Option, Result, Some, if◌then◌else◌, length, option_map, slice_get, [], ℕ, ◌++◌, ◌+◌, ◌<◌, ◌==◌, ◌∷◌, ◌≡◌}
+use Rattle.std.specs.List.{concat, flat_map}
+use Rattle.std.specs.Prelude.{Bool, IfErr, IfOk, IfSome, List, None, OnOk, Option, Result, Some, if◌then◌else◌, length, option_map, slice_get, [], ℕ, ◌++◌, ◌+◌, ◌<◌, ◌==◌, ◌∷◌, ◌≡◌}
 use mathlib.Core.List.{IsPrefix}
 
 -- ---- what the script gives
@@ -44,6 +47,19 @@ given_by (CommandLine machine text) = Some (machine, ForHost text)
 given_by (Post machine text) = Some (machine, ForHost text)
 given_by (LocksLine machine line) = Some (machine, ForLocks line)
 given_by (Exits machine process) = None
+given_by (Refused number why) = None
+
+-- What is told of it itself: that it is refused.
+abbrev pub refusal_text : LiveLine → List ℕ
+refusal_text (CommandLine machine text) = []
+refusal_text (Post machine text) = []
+refusal_text (LocksLine machine line) = []
+refusal_text (Exits machine process) = []
+refusal_text (Refused number why) = as_bytes (refusal_line number why ∷ [])
+
+-- .. of these lines, one behind the other.
+abbrev pub refusals_text : List LiveLine → List ℕ
+refusals_text ls = flat_map refusal_text ls
 
 -- The line that it gives to this machine.
 abbrev pub line_for : ℕ → LiveLine → List GivenLine
@@ -67,12 +83,20 @@ pub record AreFirst (l : LedgerState GivenLine) (machines : ℕ) (ls : List Live
 abbrev pub Gave : (List LiveLine → Type 0) → (List LiveLine → Type 0) → List LiveLine → Type 0
 Gave before after lines = (given : List LiveLine) → before given → after (given ++ lines)
 
--- The script gave some lines: what is noted are the first ones of those that they give; where it ended well, all of them.
-pub record HasTold {A E : Type 0} (machines : ℕ) (before after : List LiveLine → Type 0) (l : LedgerState GivenLine) (result : Result A E) : Type 0 where
+-- The pieces that this one put out are this text.
+pub record HasPutOut (w : SeatState (List ℕ)) (text : List ℕ) : Type 0 where
+  pub texts : List (List ℕ)
+  pub mine : IsMine w texts
+  pub text_is : concat texts ≡ text
+
+-- The script gave some lines: what is noted are the first ones of those that they give; where it ended well, all of them, and which of them are refused
+-- was put out.
+pub record HasTold {A E : Type 0} (machines : ℕ) (before after : List LiveLine → Type 0) (l : LedgerState GivenLine) (w : SeatState (List ℕ)) (result : Result A E) : Type 0 where
   pub lines : List LiveLine
   pub gave : Gave before after lines
   pub first : AreFirst l machines lines
   pub texts : OnOk result (AreGiven l machines lines)
+  pub refused : OnOk result (HasPutOut w (refusals_text lines))
 
 -- ---- a machine's run
 
@@ -98,10 +122,14 @@ AreFresh {C} {P} {V} {A} {O} {T} ms = (place : ℕ) (m : Machine C P V A O T) �
 abbrev pub begun_on : Header → Site → AlongState
 begun_on header site = begun_along header site.first.job
 
+-- With what it begins that is told of events, if they are told.
+abbrev pub begun_telling : Bool → Header → Site → Telling
+begun_telling events header site = first_telling events header.timing site.given
+
 -- It has run.
-abbrev pub Runs : {D C P V A O T : Type 0} → (Header → List (Form Command)) → (D → Setting → Trace → Type 0) → Header → Machine C P V A O T → Machine C P V A O T → Type 0
-Runs commands stands h before after =
-    IfSome before.work (λ w. IfSome after.ran (λ r. HasRun stands (begun_with commands h w.site) (begun_on h w.site) r × (r.reader.by ≡ w.reader.by)))
+abbrev pub Runs : {D C P V A O T : Type 0} → Bool → (Header → List (Form Command)) → (D → Setting → Trace → Type 0) → Header → Machine C P V A O T → Machine C P V A O T → Type 0
+Runs events commands stands h before after =
+    IfSome before.work (λ w. IfSome after.ran (λ r. HasRun stands (begun_with commands h w.site) (begun_telling events h w.site) (begun_on h w.site) r × (r.reader.by ≡ w.reader.by)))
 
 -- ---- a whole run
 
@@ -148,8 +176,8 @@ IsLiveStop stands commands header sites before after (Differ machine d) = (lines
 IsLiveStop stands commands header sites before after NoMemory = Unit {0}
 
 -- The pieces of a place are what is told of this history.
-abbrev pub IsTold : AlongState → ℕ → List Entry → List Piece → Type 0
-IsTold a place h pieces = text_by place pieces ≡ history_text (place + 1) a h
+abbrev pub IsTold : Telling → AlongState → ℕ → List Entry → List Piece → Type 0
+IsTold t a place h pieces = text_by place pieces ≡ history_text (place + 1) t a h
 
 -- How many replies these histories have, of machines with these sites.
 abbrev pub replies_of : Header → List Site → List (List Entry) → ℕ
@@ -157,23 +185,25 @@ replies_of header [] hs = 0
 replies_of header (s ∷ ss) [] = 0
 replies_of header (s ∷ ss) (h ∷ hs) = count_replies (begun_on header s) h + replies_of header ss hs
 
--- All machines have such histories, for the lines that the script gave in this run, with so many replies; and these pieces are what is told of them.
-pub record HasToldAll {D : Type 0} (stands : D → Setting → Trace → Type 0) (commands : Header → List (Form Command)) (header : Header) (sites : List Site)
+-- All machines have such histories, for the lines that the script gave in this run, with so many replies; and these pieces are what is told of them, with
+-- their events or without, and of which lines are refused.
+pub record HasToldAll {D : Type 0} (events : Bool) (stands : D → Setting → Trace → Type 0) (commands : Header → List (Form Command)) (header : Header) (sites : List Site)
     (before after : List LiveLine → Type 0) (pieces : List Piece) (machines replies : ℕ) : Type 0 where
   pub lines : List LiveLine
   pub gave : Gave before after lines
   pub histories : List (List Entry)
   pub live : AreLiveHistories stands commands header sites lines histories
   pub texts : (place : ℕ) (site : Site) (h : List Entry) → slice_get sites place ≡ Some site → slice_get histories place ≡ Some h
-      → IsTold (begun_on header site) place h pieces
-  pub below : AreBelow (length histories) pieces
+      → IsTold (begun_telling events header site) (begun_on header site) place h pieces
+  pub refused : text_by (length histories) pieces ≡ refusals_text lines
+  pub below : AreBelow (length histories + 1) pieces
   pub machines_are : machines ≡ length histories
   pub count : replies ≡ replies_of header sites histories
 
 -- What a run leaves: such histories, or why there are none; and a sink that has taken pieces behind what it had, or a front of them after a fault.
-pub record HasRunAll {D K A : Type 0} (stands : D → Setting → Trace → Type 0) (commands : Header → List (Form Command)) (header : Header) (sites : List Site)
+pub record HasRunAll {D K A : Type 0} (events : Bool) (stands : D → Setting → Trace → Type 0) (commands : Header → List (Form Command)) (header : Header) (sites : List Site)
     (before after : List LiveLine → Type 0) (taken now : Option (List ℕ)) (faults later : ℕ) (r : LiveRun K A) : Type 0 where
   pub pieces : List Piece
   pub put : IsPut taken now faults later pieces r.cut
-  pub ok : IfOk r.replies (HasToldAll stands commands header sites before after pieces r.machines)
+  pub ok : IfOk r.replies (HasToldAll events stands commands header sites before after pieces r.machines)
   pub stop : IfErr r.replies (IsLiveStop stands commands header sites before after)

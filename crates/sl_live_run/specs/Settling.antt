@@ -2,6 +2,7 @@
 use Rattle.sl_book.specs.Logs.{given_by}
 use Rattle.sl_book.specs.Closings.{AreBelow, AreExact}
 use Rattle.sl_book.specs.Mails.{IsReading, LedgerState}
+use Rattle.sl_book.specs.Seats.{SeatState}
 use Rattle.sl_book.specs.declared.mail.Reading.TheVariants as reading
 use Rattle.sl_book.specs.declared.mail.Reading.{Reading}
 use Rattle.sl_live_lines.specs.declared.audit.Left.TheVariants.{Call as CallLeft, Line as LineLeft, Start as StartLeft}
@@ -21,7 +22,7 @@ use Rattle.sl_live_run.specs.declared.run.LiveRun.{LiveRun}
 use Rattle.sl_output.specs.Outputs.{IsPut}
 use Rattle.sl_output.specs.Pieces.{Piece}
 use Rattle.std.specs.List.{sum_by}
-use Rattle.std.specs.Prelude.{Bool, Err, IfErr, IfOk, List, Ok, Option, Result, Some, false, length, map, slice_get, true, ℕ, ◌+◌, ◌≡◌, ◌⊎◌}
+use Rattle.std.specs.Prelude.{Bool, Err, IfErr, IfOk, List, Ok, Option, Result, Some, false, length, map, slice_get, true, [], ℕ, ◌++◌, ◌+◌, ◌∷◌, ◌≡◌, ◌⊎◌}
 
 -- The case of what is left at the end of a history, behind whose last entry this number comes.
 abbrev pub left_case : LeftOf → ℕ → LiveDiffer
@@ -63,12 +64,12 @@ pub record AreSettled {O T A : Type 0} (l : LedgerState GivenLine) (rans : List 
   pub each : (place : ℕ) (r : Ran O T A) → slice_get rans place ≡ Some r → (r.end ≡ Ok tt) × (given_by r.reader.by r.reader.front ≡ given_by r.reader.by l.front)
   pub count : replies ≡ sum_by (λ (r : Ran O T A). r.replies) rans
 
--- .. and threads ended in time, and these pieces are just those that they put.
-pub record AreWhole {O T A : Type 0} (early : Bool) (l : LedgerState GivenLine) (rans : List (Ran O T A)) (pieces : List Piece) (replies : ℕ) : Type 0 where
+-- .. and threads ended in time, and these pieces are just those that they put, and the script's thread.
+pub record AreWhole {O T A : Type 0} (early : Bool) (l : LedgerState GivenLine) (w : SeatState (List ℕ)) (rans : List (Ran O T A)) (pieces : List Piece) (replies : ℕ) : Type 0 where
   pub in_time : early ≡ false
   pub settled : AreSettled l rans replies
-  pub exact : AreExact 0 (map (λ (r : Ran O T A). r.writer) rans) pieces
-  pub below : AreBelow (length rans) pieces
+  pub exact : AreExact 0 (map (λ (r : Ran O T A). r.writer) rans ++ w ∷ []) pieces
+  pub below : AreBelow (length rans + 1) pieces
 
 -- The case is that of the machine at this place, as it was read.
 pub record IsCaseOf {O T A : Type 0} (early : Bool) (l : LedgerState GivenLine) (rans : List (Ran O T A)) (machine : ℕ) (d : LiveDiffer) : Type 0 where
@@ -90,18 +91,18 @@ abbrev pub AreRansOf : {C P V A O T : Type 0} → List (Machine C P V A O T) →
 AreRansOf {C} {P} {V} {A} {O} {T} machines rans = map (λ (m : Machine C P V A O T). m.ran) machines ≡ map (λ r. Some r) rans
 
 -- So many replies were given to machines that have whole histories.
-abbrev pub AreAllWhole : {C P V A O T : Type 0} → Bool → LedgerState GivenLine → List (Machine C P V A O T) → List Piece → ℕ → Type 0
-AreAllWhole {C} {P} {V} {A} {O} {T} early l machines pieces n = (rans : List (Ran O T A)) × AreRansOf machines rans × AreWhole early l rans pieces n
+abbrev pub AreAllWhole : {C P V A O T : Type 0} → Bool → LedgerState GivenLine → SeatState (List ℕ) → List (Machine C P V A O T) → List Piece → ℕ → Type 0
+AreAllWhole {C} {P} {V} {A} {O} {T} early l w machines pieces n = (rans : List (Ran O T A)) × AreRansOf machines rans × AreWhole early l w rans pieces n
 
 -- Why machines have no histories.
 abbrev pub StopsOne : {C P V A O T : Type 0} → Bool → LedgerState GivenLine → List (Machine C P V A O T) → LiveStop → Type 0
 StopsOne {C} {P} {V} {A} {O} {T} early l machines stop = (rans : List (Ran O T A)) × AreRansOf machines rans × StopsSome early l rans stop
 
 -- What is left of machines whose threads have all ended.
-pub record HasLeft {K C P V A O T : Type 0} (early : Bool) (l : LedgerState GivenLine) (machines : List (Machine C P V A O T)) (taken now : Option (List ℕ)) (faults later : ℕ)
+pub record HasLeft {K C P V A O T : Type 0} (early : Bool) (l : LedgerState GivenLine) (w : SeatState (List ℕ)) (machines : List (Machine C P V A O T)) (taken now : Option (List ℕ)) (faults later : ℕ)
     (r : LiveRun K A) : Type 0 where
   pub pieces : List Piece
   pub put : IsPut taken now faults later pieces r.cut
   pub machines_are : r.machines ≡ length machines
-  pub ok : IfOk r.replies (AreAllWhole early l machines pieces)
+  pub ok : IfOk r.replies (AreAllWhole early l w machines pieces)
   pub stop : IfErr r.replies (λ s. (s ≡ NoMemory) ⊎ StopsOne early l machines s)

@@ -37,30 +37,36 @@ impl<C: Clock, P: Spawner, V: Device, A: Area, O: Press, T: Shelf> Begun<C, P, V
     }
 
     /// A post and a mail for one machine more, and room for it, before its parts live here. An `Err` is want of memory.
-    fn make_room(&mut self, alloc: Global, first_job: u64) -> Result<(), AllocError>
+    fn make_room(&mut self, alloc: Global, first_job: u64, events: bool) -> Result<(), AllocError>
         ensures room { OnOk result (vec_len self.new.machines < vec_capacity self.new.machines) }
         ensures machines { self.new.machines.items ≡ self.old.machines.items }
     {
         self.machines.reserve(1)?;
         self.posts.reserve(1)?;
         self.mails.reserve(1)?;
-        self.posts.push_reserved(Post::new(alloc, first_job));
+        self.posts
+            .push_reserved(Post::new(alloc, first_job, events));
         self.mails.push_reserved(Mail::new(alloc));
         Ok(())
     }
 
     /// One machine more. An `Err` is want of memory.
-    fn add(&mut self, alloc: Global, work: Work<C, P, V, A, O, T>) -> Result<(), AllocError>
+    fn add(
+        &mut self,
+        alloc: Global,
+        work: Work<C, P, V, A, O, T>,
+        events: bool,
+    ) -> Result<(), AllocError>
         ensures { OnOk result ((m : MachineOf C P V A O T) × (m.work ≡ Some work) × (self.new.machines.items ≡ self.old.machines.items ++ m ∷ [])) }
     {
-        self.make_room(alloc, work.site.first.job)?;
+        self.make_room(alloc, work.site.first.job, events)?;
         self.machines.push_reserved(Machine::new(work));
         Ok(())
     }
 }
 
 /// A place as a number. An `Err` says that it has too many bits.
-fn place_of(machines: usize) -> Result<u32, AllocError>
+pub(crate) fn place_of(machines: usize) -> Result<u32, AllocError>
     ensures { IfOk result (λ place. place ≡ machines) }
 {
     match u32::try_from(machines) {
@@ -96,6 +102,7 @@ pub(crate) fn begin<V: LiveDevices, O: Press, T: Shelf>(
     prepared: Vec<Prepared<V>>,
     unread: &Front<T, GivenLine>,
     pieces: &Pieces<O>,
+    events: bool,
 ) -> Result<Begun<V::Clock, V::Spawner, V::Device, V::Area, O, T>, AllocError>
     requires unread { unread.now ≡ [] }
     requires pieces { pieces.now ≡ [] }
@@ -106,7 +113,7 @@ pub(crate) fn begin<V: LiveDevices, O: Press, T: Shelf>(
     for ready in prepared {
         let place = place_of(begun.machines.len())?;
         let work = work_of(place, ready, unread, pieces);
-        begun.add(alloc, work)?;
+        begun.add(alloc, work, events)?;
     }
     Ok(begun)
 }

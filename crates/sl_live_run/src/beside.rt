@@ -1,6 +1,6 @@
 //! The threads of a run beside each other: those of its machines, and the script's.
 
-ghost use Rattle.sl_live_run.specs.Runs.{AreGiven, CanRun, HasTold, Runs};
+ghost use Rattle.sl_live_run.specs.Runs.{AreGiven, CanRun, HasPutOut, HasTold, Runs};
 ghost use Rattle.sl_live_run.specs.declared.machine_runs.Machine.{Machine as MachineOf};
 ghost use Rattle.std.specs.Fork.{AcceptsEach, ChangesEach};
 ghost use Rattle.std.specs.Prelude.{All, [], length, slice_index_or, ◌<◌, ◌≡◌, ℕ};
@@ -13,7 +13,7 @@ use sl_cell::Teller;
 use sl_io::Sink;
 use sl_live_lines::GivenLine;
 use sl_live_machine::Roll;
-use sl_output::Press;
+use sl_output::{Press, Seat as Writer};
 use sl_outside::{Device, Gate, Spawner};
 use sl_reader::{LiveLines, NoLine};
 use sl_time::Clock;
@@ -26,22 +26,30 @@ use std::time;
 fn beside<
     F: FnMut() + Send,
     L: LiveLines + Send,
+    K: Sink + Send,
+    O: Press + Send + Sync,
     T: Shelf + Send + Sync,
-    R: Threads + Wait + time::Clock + Sync,
+    R: Threads + Wait + time::Clock + Eprint + Sync,
 >(
     rt: &R,
     alloc: Global,
     roll: &Roll,
-    ways: &Ways<'_, T>,
+    ways: &Ways<'_, K, O, T>,
     lines: &mut L,
     ledger: &mut Ledger<T, GivenLine>,
+    writer: &mut Writer<O>,
     rest: &mut F,
 ) -> Result<Option<NoLine>, AllocError>
     requires { F.pre rest.old }
     ensures rest { F.step rest.old tt rest.new }
-    ensures told { (count : ℕ) → AreGiven ledger.old count [] → HasTold count (L.has_given lines.old) (L.has_given lines.new) ledger.new result }
+    ensures told { (count : ℕ) → AreGiven ledger.old count [] → HasPutOut writer.old []
+        → HasTold count (L.has_given lines.old) (L.has_given lines.new) ledger.new writer.new result }
 {
-    let ((), told) = join_mut(rt, rest, &mut || tell(rt, alloc, roll, ways, lines, ledger));
+    let ((), told) = join_mut(
+        rt,
+        rest,
+        &mut || tell(rt, alloc, roll, ways, lines, ledger, writer),
+    );
     told
 }
 
@@ -66,23 +74,27 @@ fn run_each<M: Send, R: Threads + Sync, F: Fn(usize, &mut M) + Sync>(
 fn run_beside<
     L: LiveLines + Send,
     M: Send,
+    K: Sink + Send,
+    O: Press + Send + Sync,
     T: Shelf + Send + Sync,
-    R: Threads + Wait + time::Clock + Sync,
+    R: Threads + Wait + time::Clock + Eprint + Sync,
     F: Fn(usize, &mut M) + Sync,
 >(
     rt: &R,
     alloc: Global,
     roll: &Roll,
-    ways: &Ways<'_, T>,
+    ways: &Ways<'_, K, O, T>,
     lines: &mut L,
     ledger: &mut Ledger<T, GivenLine>,
+    writer: &mut Writer<O>,
     run: &F,
     machines: &mut [M],
 ) -> Result<Option<NoLine>, AllocError>
     requires { AcceptsEach F.Fn run.now machines.old }
     ensures len { length machines.new ≡ length machines.old }
     ensures each { ChangesEach F.Fn run.now machines.old machines.new }
-    ensures told { (count : ℕ) → AreGiven ledger.old count [] → HasTold count (L.has_given lines.old) (L.has_given lines.new) ledger.new result }
+    ensures told { (count : ℕ) → AreGiven ledger.old count [] → HasPutOut writer.old []
+        → HasTold count (L.has_given lines.old) (L.has_given lines.new) ledger.new writer.new result }
 {
     beside(
         rt,
@@ -91,6 +103,7 @@ fn run_beside<
         ways,
         lines,
         ledger,
+        writer,
         &mut ||
             requires { AcceptsEach F.Fn run.now machines.now }
             ensures { (length machines.exit.now ≡ length machines.entry.now)
@@ -106,7 +119,7 @@ fn run_all<
     K: Sink + Send,
     O: Press + Send + Sync,
     T: Shelf + Send + Sync,
-    R: Threads + Wait + time::Clock + Sync,
+    R: Threads + Wait + time::Clock + Eprint + Sync,
     C: Clock + Send,
     P: Spawner + Send,
     V: Device + Send,
@@ -120,18 +133,21 @@ fn run_all<
     book: &Book<T, GivenLine>,
     lines: &mut L,
     ledger: &mut Ledger<T, GivenLine>,
+    writer: &mut Writer<O>,
     machines: &mut [Machine<C, P, V, A, O, T>],
 ) -> Result<Option<NoLine>, AllocError>
     requires { All (CanRun D.Daemon.commands shared.now.header.now) machines.old }
     ensures len { length machines.new ≡ length machines.old }
     ensures each { (k : ℕ) → (d : MachineOf C P V A O T) → k < length machines.old
-        → Runs D.Daemon.commands D.Daemon.stands shared.now.header.now (slice_index_or machines.old k d) (slice_index_or machines.new k d) }
-    ensures told { (count : ℕ) → AreGiven ledger.old count [] → HasTold count (L.has_given lines.old) (L.has_given lines.new) ledger.new result }
+        → Runs shared.now.events D.Daemon.commands D.Daemon.stands shared.now.header.now (slice_index_or machines.old k d) (slice_index_or machines.new k d) }
+    ensures told { (count : ℕ) → AreGiven ledger.old count [] → HasPutOut writer.old []
+        → HasTold count (L.has_given lines.old) (L.has_given lines.new) ledger.new writer.new result }
 {
     let ways = Ways {
         posts: shared.posts,
         mails: shared.mails,
         book,
+        output: shared.output,
     };
     run_beside(
         rt,
@@ -140,9 +156,10 @@ fn run_all<
         &ways,
         lines,
         ledger,
+        writer,
         &|place: usize, machine: &mut Machine<C, P, V, A, O, T>|
             requires { CanRun D.Daemon.commands shared.now.header.now machine.now }
-            ensures { Runs D.Daemon.commands D.Daemon.stands shared.entry.now.header.now machine.entry.now machine.exit.now }
+            ensures { Runs shared.entry.now.events D.Daemon.commands D.Daemon.stands shared.entry.now.header.now machine.entry.now machine.exit.now }
         { machine.run::<D, K, R, G>(rt, alloc, gate, shared, place) },
         machines,
     )
@@ -155,7 +172,7 @@ pub(crate) fn run_list<
     K: Sink + Send,
     O: Press + Send + Sync,
     T: Shelf + Send + Sync,
-    R: Threads + Wait + time::Clock + Sync,
+    R: Threads + Wait + time::Clock + Eprint + Sync,
     C: Clock + Send,
     P: Spawner + Send,
     V: Device + Send,
@@ -169,13 +186,15 @@ pub(crate) fn run_list<
     book: &Book<T, GivenLine>,
     lines: &mut L,
     ledger: &mut Ledger<T, GivenLine>,
+    writer: &mut Writer<O>,
     machines: &mut Vec<Machine<C, P, V, A, O, T>>,
 ) -> Result<Option<NoLine>, AllocError>
     requires { All (CanRun D.Daemon.commands shared.now.header.now) machines.old.items }
     ensures len { length machines.new.items ≡ length machines.old.items }
     ensures each { (k : ℕ) → (d : MachineOf C P V A O T) → k < length machines.old.items
-        → Runs D.Daemon.commands D.Daemon.stands shared.now.header.now (slice_index_or machines.old.items k d) (slice_index_or machines.new.items k d) }
-    ensures told { (count : ℕ) → AreGiven ledger.old count [] → HasTold count (L.has_given lines.old) (L.has_given lines.new) ledger.new result }
+        → Runs shared.now.events D.Daemon.commands D.Daemon.stands shared.now.header.now (slice_index_or machines.old.items k d) (slice_index_or machines.new.items k d) }
+    ensures told { (count : ℕ) → AreGiven ledger.old count [] → HasPutOut writer.old []
+        → HasTold count (L.has_given lines.old) (L.has_given lines.new) ledger.new writer.new result }
 {
     run_all::<D, L, K, O, T, R, C, P, V, A, G>(
         rt,
@@ -185,6 +204,7 @@ pub(crate) fn run_list<
         book,
         lines,
         ledger,
+        writer,
         machines.as_mut_slice(),
     )
 }

@@ -165,7 +165,7 @@ pub(crate) fn stop_early<O: Press, T: Shelf, A: Area>(
     LiveStop::NoMemory
 }
 
-/// Whether the pieces that were put out are just those that the machines' printers put.
+/// Whether the pieces that were put out are just those that these put, which are the machines' printers and the script's thread.
 pub(crate) fn are_pieces<O: Press>(writers: &[Writer<O>], pieces: &Pieces<O>) -> bool
     ensures exact { IsTrue result → AreExact 0 writers.now pieces.now }
     ensures below { IsTrue result → AreBelow (length writers.now) pieces.now }

@@ -100,7 +100,7 @@ fn lend_each<V: LiveDevices>(
             path: disk.path,
             area,
         });
-        if matches!(written, Err(NoGround::AreaFault)) {
+        if written.is_err() {
             devices.refused(whole.as_str());
         }
         written?;

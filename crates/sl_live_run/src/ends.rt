@@ -2,7 +2,7 @@
 
 ghost use Rattle.sl_live_run.specs.Settling.{AreAllWhole, AreRansOf, AreSettled, AreWhole, HasLeft, StopsOne, StopsSome};
 ghost use Rattle.sl_live_run.specs.declared.compare.LiveStop.TheVariants.{NoMemory as NoMemoryStop};
-ghost use Rattle.std.specs.Prelude.{IfErr, IfOk, false, map, ◌≡◌, ◌⊎◌};
+ghost use Rattle.std.specs.Prelude.{IfErr, IfOk, [], false, map, ◌++◌, ◌∷◌, ◌≡◌, ◌⊎◌};
 
 use crate::compare::{LiveStop, are_pieces, settle_all, stop_early};
 use crate::machine_runs::Machine;
@@ -68,6 +68,19 @@ fn take_ends<O: Press, T: Shelf, A: Area>(
     Ok(Ends { writers, disks })
 }
 
+/// .. with who put out the script's pieces behind those who put out theirs.
+fn take_all_ends<O: Press, T: Shelf, A: Area>(
+    alloc: Global,
+    rans: Vec<Ran<O, T, A>>,
+    last: Writer<O>,
+) -> Result<Ends<O, A>, AllocError>
+    ensures { IfOk result (λ e. e.writers.items ≡ map (λ r. r.writer) rans.items ++ last ∷ []) }
+{
+    let Ends { mut writers, disks } = take_ends(alloc, rans)?;
+    writers.push(last)?;
+    Ok(Ends { writers, disks })
+}
+
 /// How many replies machines were given that have run, or why they have no histories: where threads ended too soon, a case goes before want of memory,
 /// by which all machines end.
 fn settle<O: Press, T: Shelf, A: Area>(
@@ -85,19 +98,20 @@ fn settle<O: Press, T: Shelf, A: Area>(
     }
 }
 
-/// What machines came to whose threads have all ended: with the script's lines, and with the pieces that were put out.
+/// What machines came to whose threads have all ended: with the script's lines, and with the pieces that were put out, its own among them.
 fn finish<O: Press, T: Shelf, A: Area>(
     alloc: Global,
     early: bool,
     ledger: &Ledger<T, GivenLine>,
+    writer: Writer<O>,
     pieces: &Pieces<O>,
     rans: Vec<Ran<O, T, A>>,
 ) -> (Result<u64, LiveStop>, Vec<Disks<A>>)
-    ensures ok { IfOk result.0 (AreWhole early ledger.now rans.items pieces.now) }
+    ensures ok { IfOk result.0 (AreWhole early ledger.now writer rans.items pieces.now) }
     ensures err { IfErr result.0 (StopsSome early ledger.now rans.items) }
 {
     let settled = settle(early, ledger, &rans);
-    match take_ends(alloc, rans) {
+    match take_all_ends(alloc, rans, writer) {
         Ok(Ends { writers, disks }) => {
             if settled.is_ok() && !are_pieces(&writers, pieces) {
                 (Err(LiveStop::NoMemory), disks)
@@ -114,14 +128,15 @@ fn end_all<C: Clock, P: Spawner, V: Device, A: Area, O: Press, T: Shelf>(
     alloc: Global,
     early: bool,
     ledger: &Ledger<T, GivenLine>,
+    writer: Writer<O>,
     pieces: &Pieces<O>,
     machines: Vec<Machine<C, P, V, A, O, T>>,
 ) -> (Result<u64, LiveStop>, Vec<Disks<A>>)
-    ensures ok { IfOk result.0 (AreAllWhole early ledger.now machines.items pieces.now) }
+    ensures ok { IfOk result.0 (AreAllWhole early ledger.now writer machines.items pieces.now) }
     ensures err { IfErr result.0 (λ s. (s ≡ NoMemoryStop) ⊎ StopsOne early ledger.now machines.items s) }
 {
     match take_apart(alloc, machines) {
-        Ok(rans) => finish(alloc, early, ledger, pieces, rans),
+        Ok(rans) => finish(alloc, early, ledger, writer, pieces, rans),
         Err(_) => (Err(LiveStop::NoMemory), Vec::new(alloc)),
     }
 }
@@ -132,14 +147,15 @@ pub(crate) fn leave<K: Sink, C: Clock, P: Spawner, V: Device, A: Area, O: Press,
     early: bool,
     ended: Option<NoLine>,
     ledger: &Ledger<T, GivenLine>,
+    writer: Writer<O>,
     output: Output<K, O>,
     machines: Vec<Machine<C, P, V, A, O, T>>,
 ) -> LiveRun<K, A>
-    ensures { HasLeft early ledger.now machines.items O.taken (K.taken result.sink) O.faults (K.faults result.sink) result }
+    ensures { HasLeft early ledger.now writer machines.items O.taken (K.taken result.sink) O.faults (K.faults result.sink) result }
 {
     let count = machines.len();
     let Put { sink, front, cut } = output.into_parts();
-    let (replies, disks) = end_all(alloc, early, ledger, &front, machines);
+    let (replies, disks) = end_all(alloc, early, ledger, writer, &front, machines);
     LiveRun {
         replies,
         machines: count,

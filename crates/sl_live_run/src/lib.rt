@@ -17,7 +17,8 @@
 //! the entries come, and puts what it tells of them out, so that nobody keeps a history. What is left at the end (`ends`) are counts: how each
 //! machine ended, how much of its lines its printer has met, and how many pieces it put out. From them it is told (`compare`) that there are
 //! histories that daemons stood for, whose lines are the script's, of which nothing is unanswered, and of which just the pieces that were put out
-//! are told; or a case in which that fails, for some machine; or want of memory.
+//! are told; or a case in which that fails, for some machine; or want of memory. The script's thread puts out pieces too, which are the refusals of
+//! the lines that the script goes on behind: its number in the output is the one behind the machines' places.
 #![tactic(auto)]
 
 mod begun;

@@ -1,5 +1,6 @@
 //! A machine among those of a run: what it is to run on, and then what is left of its run.
 
+ghost use Rattle.sl_live_lines.specs.EventTexts.{first_telling};
 ghost use Rattle.sl_live_lines.specs.LocksAlong.{begun_along};
 ghost use Rattle.sl_live_machine.specs.MachineEnds.{HasRun};
 ghost use Rattle.sl_live_machine.specs.Printing.{lines_read};
@@ -45,7 +46,8 @@ pub(crate) struct Machine<C: Clock, P: Spawner, V: Device, A: Area, O: Press, T:
     pub ran: Option<Ran<O, T, A>>,
 }
 
-/// What all machines of a run share: its header, the roll of all threads, a post and a mail for each machine, and the output.
+/// What all machines of a run share: its header, the roll of all threads, a post and a mail for each machine, the output, and whether beside replies
+/// events are told.
 #[derive(Clone, Copy)]
 pub(crate) struct Shared<'a, K: Sink, O: Press, T: Shelf> {
     pub header: &'a Header,
@@ -53,6 +55,7 @@ pub(crate) struct Shared<'a, K: Sink, O: Press, T: Shelf> {
     pub posts: &'a [Post],
     pub mails: &'a [Mail<T>],
     pub output: &'a Output<K, O>,
+    pub events: bool,
 }
 
 /// What is left of a machine that did not run.
@@ -114,7 +117,7 @@ fn run_as<
     requires site { J.setting ≡ begun_with D.Daemon.commands shared.now.header.now work.site }
     requires book { opened.seen.book ≡ J.book }
     requires fresh { IsFresh work }
-    ensures goes { HasRun D.Daemon.stands J.setting (begun_along shared.now.header.now work.site.first.job) result }
+    ensures goes { HasRun D.Daemon.stands J.setting (first_telling shared.now.events shared.now.header.now.timing work.site.given) (begun_along shared.now.header.now work.site.first.job) result }
     ensures by { result.reader.by ≡ work.reader.by }
 {
     let (Some(post), Some(mail)) = (shared.posts.get(place), shared.mails.get(place)) else {
@@ -130,6 +133,7 @@ fn run_as<
     let desk = Desk {
         mail,
         output: shared.output,
+        events: shared.events,
     };
     let Work {
         site,
@@ -175,7 +179,8 @@ fn run_work<
     requires header { IsHeader shared.now.header.now }
     requires setting { IsSetting (begun_with D.Daemon.commands shared.now.header.now work.site) }
     requires fresh { IsFresh work }
-    ensures goes { HasRun D.Daemon.stands (begun_with D.Daemon.commands shared.now.header.now work.site) (begun_along shared.now.header.now work.site.first.job) result }
+    ensures goes { HasRun D.Daemon.stands (begun_with D.Daemon.commands shared.now.header.now work.site)
+        (first_telling shared.now.events shared.now.header.now.timing work.site.given) (begun_along shared.now.header.now work.site.first.job) result }
     ensures by { result.reader.by ≡ work.reader.by }
 {
     run_as::<D, Brand, K, O, T, R, C, P, V, A, G>(
@@ -217,7 +222,7 @@ impl<
         G: Gate + Sync,
     >(&mut self, rt: &R, alloc: Global, gate: &G, shared: &Shared<'_, K, O, T>, place: usize)
         requires { CanRun D.Daemon.commands shared.now.header.now self.old }
-        ensures { Runs D.Daemon.commands D.Daemon.stands shared.now.header.now self.old self.new }
+        ensures { Runs shared.now.events D.Daemon.commands D.Daemon.stands shared.now.header.now self.old self.new }
     {
         if let Some(work) = self.work.take() {
             self.ran = Some(run_work::<D, K, O, T, R, C, P, V, A, G>(

@@ -1,6 +1,6 @@
 //! A whole run: what the ground hands out, run and compared, and what its machines told put out as it came.
 
-ghost use Rattle.sl_live_run.specs.Runs.{AreFresh, AreGiven, CanRun, HasRunAll, site_of};
+ghost use Rattle.sl_live_run.specs.Runs.{AreFresh, AreGiven, CanRun, HasPutOut, HasRunAll, site_of};
 ghost use Rattle.sl_live_run.specs.declared.compare.LiveStop.TheVariants.{NoMemory as NoMemoryStop};
 ghost use Rattle.sl_output.specs.Outputs.{IsPut};
 ghost use Rattle.sl_output.specs.Pieces.{Piece};
@@ -8,9 +8,9 @@ ghost use Rattle.sl_run.specs.Headers.{IsHeader};
 ghost use Rattle.sl_run.specs.Lawful.{IsSetting};
 ghost use Rattle.sl_world_state.specs.Daemons.{begun_with};
 ghost use Rattle.sl_world_state.specs.declared.daemon.Site.{Site as SiteOf};
-ghost use Rattle.std.specs.Prelude.{All, Err, IsOk, List, Some, [], false, length, map, ◌≡◌};
+ghost use Rattle.std.specs.Prelude.{All, Err, IfOk, IsOk, List, Some, [], false, length, map, ◌≡◌};
 
-use crate::begun::{Begun, begin};
+use crate::begun::{Begun, begin, place_of};
 use crate::beside::run_list;
 use crate::compare::LiveStop;
 use crate::ends::leave;
@@ -24,7 +24,7 @@ use sl_io::Sink;
 use sl_live::Disk;
 use sl_live_lines::GivenLine;
 use sl_live_machine::{Post, Roll};
-use sl_output::{Output, Press, Put};
+use sl_output::{Front as Pieces, Output, Press, Put, Seat as Writer};
 use sl_outside::{Device, Gate, LiveDevices, Spawner};
 use sl_reader::{LiveLines, NoLine};
 use sl_run::Header;
@@ -84,7 +84,7 @@ fn run_begun<
     K: Sink + Send,
     O: Press + Send + Sync,
     T: Shelf + Send + Sync,
-    R: Threads + Wait + time::Clock + Sync,
+    R: Threads + Wait + time::Clock + Eprint + Sync,
     C: Clock + Send,
     P: Spawner + Send,
     V: Device + Send,
@@ -98,21 +98,24 @@ fn run_begun<
     begun: Begun<C, P, V, A, O, T>,
     book: &Book<T, GivenLine>,
     ledger: Ledger<T, GivenLine>,
+    writer: Writer<O>,
     output: Output<K, O>,
+    events: bool,
     lines: &mut L,
 ) -> LiveRun<K, A>
     requires settings { All (CanRun D.Daemon.commands header.now) begun.machines.items }
     requires fresh { AreFresh begun.machines.items }
     requires given { AreGiven ledger (length begun.machines.items) [] }
+    requires writer { HasPutOut writer [] }
     ensures { (sites : List SiteOf) → map site_of begun.machines.items ≡ map (λ s. Some s) sites
-        → HasRunAll D.Daemon.stands D.Daemon.commands header.now sites (L.has_given lines.old) (L.has_given lines.new) O.taken (K.taken result.sink) O.faults (K.faults result.sink) result }
+        → HasRunAll events D.Daemon.stands D.Daemon.commands header.now sites (L.has_given lines.old) (L.has_given lines.new) O.taken (K.taken result.sink) O.faults (K.faults result.sink) result }
 {
     let Begun {
         machines,
         posts,
         mails,
     } = begun;
-    let (mut machines, mut ledger) = (machines, ledger);
+    let (mut machines, mut ledger, mut writer) = (machines, ledger, writer);
     let roll = roll_of(machines.len());
     let shared = Shared {
         header,
@@ -120,6 +123,7 @@ fn run_begun<
         posts: &posts,
         mails: &mails,
         output: &output,
+        events,
     };
     let told = run_list::<D, L, K, O, T, R, C, P, V, A, G>(
         rt,
@@ -129,6 +133,7 @@ fn run_begun<
         book,
         lines,
         &mut ledger,
+        &mut writer,
         &mut machines,
     );
     let early = ended_early(rt, &told, &posts);
@@ -137,6 +142,7 @@ fn run_begun<
         early,
         told.unwrap_or(None),
         &ledger,
+        writer,
         output,
         machines,
     )
@@ -162,6 +168,15 @@ fn no_run<K: Sink, O: Press, A: Area>(alloc: Global, output: Output<K, O>) -> Li
     }
 }
 
+/// Who puts out which lines of the script are refused, beside so many machines: the one behind their places, who has put nothing out. An `Err` says
+/// that there are too many.
+fn script_writer<O: Press>(machines: usize, pieces: &Pieces<O>) -> Result<Writer<O>, AllocError>
+    ensures { IfOk result (λ w. HasPutOut w []) }
+{
+    let place = place_of(machines)?;
+    Ok(Writer::new(place, pieces.again()))
+}
+
 /// Runs machines, with a book of what the script gives and one of what is put out.
 fn run_ready<
     D: Teller + Send,
@@ -170,7 +185,7 @@ fn run_ready<
     K: Sink + Send,
     O: Press + Send + Sync,
     T: Shelf + Send + Sync,
-    R: Threads + Wait + time::Clock + Sync,
+    R: Threads + Wait + time::Clock + Eprint + Sync,
 >(
     rt: &R,
     alloc: Global,
@@ -179,6 +194,7 @@ fn run_ready<
     prepared: Vec<Prepared<V>>,
     given: Opened<GivenLine>,
     told: Opened<Bytes>,
+    events: bool,
     sink: K,
     lines: &mut L,
 ) -> LiveRun<K, V::Area>
@@ -190,18 +206,21 @@ where
     requires told { told.seen.book ≡ O.book }
     requires taken { K.taken sink ≡ O.taken }
     requires faults { K.faults sink ≡ O.faults }
-    ensures { HasRunAll D.Daemon.stands D.Daemon.commands header.now (map (λ p. p.site) prepared.items) (L.has_given lines.old) (L.has_given lines.new) O.taken (K.taken result.sink) O.faults (K.faults result.sink) result }
+    ensures { HasRunAll events D.Daemon.stands D.Daemon.commands header.now (map (λ p. p.site) prepared.items) (L.has_given lines.old) (L.has_given lines.new) O.taken (K.taken result.sink) O.faults (K.faults result.sink) result }
 {
     let (book, unread) = given.named::<T>();
     let (output, pieces) = Output::<K, O>::new(sink, told);
     let Ok(ledger) = Ledger::new(alloc, unread.again(), prepared.len()) else {
         return no_run(alloc, output);
     };
-    let Ok(begun) = begin::<V, O, T>(alloc, prepared, &unread, &pieces) else {
+    let Ok(begun) = begin::<V, O, T>(alloc, prepared, &unread, &pieces, events) else {
+        return no_run(alloc, output);
+    };
+    let Ok(writer) = script_writer(begun.machines.len(), &pieces) else {
         return no_run(alloc, output);
     };
     run_begun::<D, L, K, O, T, R, V::Clock, V::Spawner, V::Device, V::Area, V::Gate>(
-        rt, alloc, header, gate, begun, &book, ledger, output, lines,
+        rt, alloc, header, gate, begun, &book, ledger, writer, output, events, lines,
     )
 }
 
@@ -212,7 +231,7 @@ fn run_put<
     L: LiveLines + Send,
     K: Sink + Send,
     O: Press + Send + Sync,
-    R: Threads + Wait + time::Clock + Sync,
+    R: Threads + Wait + time::Clock + Eprint + Sync,
 >(
     rt: &R,
     alloc: Global,
@@ -220,6 +239,7 @@ fn run_put<
     gate: &V::Gate,
     prepared: Vec<Prepared<V>>,
     told: Opened<Bytes>,
+    events: bool,
     sink: K,
     lines: &mut L,
 ) -> LiveRun<K, V::Area>
@@ -230,7 +250,7 @@ where
     requires told { told.seen.book ≡ O.book }
     requires taken { K.taken sink ≡ O.taken }
     requires faults { K.faults sink ≡ O.faults }
-    ensures { HasRunAll D.Daemon.stands D.Daemon.commands header.now (map (λ p. p.site) prepared.items) (L.has_given lines.old) (L.has_given lines.new) O.taken (K.taken result.sink) O.faults (K.faults result.sink) result }
+    ensures { HasRunAll events D.Daemon.stands D.Daemon.commands header.now (map (λ p. p.site) prepared.items) (L.has_given lines.old) (L.has_given lines.new) O.taken (K.taken result.sink) O.faults (K.faults result.sink) result }
 {
     run_ready::<D, V, L, K, O, Brand, R>(
         rt,
@@ -240,6 +260,7 @@ where
         prepared,
         Opened::new(),
         told,
+        events,
         sink,
         lines,
     )
@@ -250,21 +271,29 @@ where
 ///
 /// An `Ok` has for each machine, in order, a history: a daemon of its site stood for it, its entries are exactly what its threads applied, its lines are
 /// exactly those that the script gave it in this run, in order, each for lvmlockd with its asks and answered, and no call and no start of it is
-/// unanswered; and what was put out are pieces, of which each machine's are what is told of its history. Else a case that holds of a machine; or want of
+/// unanswered; and what was put out are pieces, of which each machine's are what is told of its history, with its events or without them, and of which
+/// the script's are the refusals of the lines that it went on behind. Else a case that holds of a machine; or want of
 /// memory, which ends all machines. The header and the sink come back.
 pub fn run_machines<
     D: Teller + Send,
     V: LiveDevices,
     L: LiveLines + Send,
     K: Sink + Send,
-    R: Threads + Wait + time::Clock + Sync,
->(rt: &R, alloc: Global, ground: Ground<V>, sink: K, lines: &mut L) -> (LiveRun<K, V::Area>, Header)
+    R: Threads + Wait + time::Clock + Eprint + Sync,
+>(
+    rt: &R,
+    alloc: Global,
+    ground: Ground<V>,
+    events: bool,
+    sink: K,
+    lines: &mut L,
+) -> (LiveRun<K, V::Area>, Header)
 where
     V::Area: Send,
     requires header { IsHeader ground.header }
     requires settings { All (λ s. IsSetting (begun_with D.Daemon.commands ground.header s)) (map (λ p. p.site) ground.machines.items) }
     ensures header { result.1 ≡ ground.header }
-    ensures run { HasRunAll D.Daemon.stands D.Daemon.commands ground.header (map (λ p. p.site) ground.machines.items) (L.has_given lines.old) (L.has_given lines.new)
+    ensures run { HasRunAll events D.Daemon.stands D.Daemon.commands ground.header (map (λ p. p.site) ground.machines.items) (L.has_given lines.old) (L.has_given lines.new)
         (K.taken sink) (K.taken result.0.sink) (K.faults sink) (K.faults result.0.sink) result.0 }
 {
     let Ground {
@@ -279,6 +308,7 @@ where
         &gate,
         machines,
         Opened::new(),
+        events,
         sink,
         lines,
     );

@@ -135,7 +135,13 @@ impl<R: Files + Drop> Devices for FileDevices<R> {
 }
 
 impl<
-    R: Files<File = File> + Processes<Started = SystemProcess> + Clock + Eprint + Copy + Drop + Send,
+    R: Files<File = File>
+        + Processes<Started = SystemProcess>
+        + Clock
+        + Eprint
+        + Copy
+        + Drop
+        + Send,
 > LiveDevices for FileDevices<R> {
     type Clock = RealClock<R>;
 

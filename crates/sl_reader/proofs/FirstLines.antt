@@ -14,7 +14,7 @@ use Rattle.std.proofs.lemmas.List.Folds.{list_all-append}
 use Rattle.std.proofs.lemmas.List.Prefix.{front_rest}
 use Rattle.std.proofs.lemmas.List.Splits.{slice_split-cons_no}
 use Rattle.std.proofs.lemmas.List.{append-nil, append_assoc}
-use Rattle.std.specs.List.{list_all, onto_first}
+use Rattle.std.specs.List.{onto_first}
 use Rattle.std.specs.Prelude.{nat_le, nat_lt}
 
 -- ---- cutting

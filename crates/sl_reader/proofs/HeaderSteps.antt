@@ -1,7 +1,7 @@
 -- A header that is read line by line.
 use Rattle.sl_report.specs.Languages.{whole_language}
 use Rattle.sl_report.specs.HeaderLines.{HeaderLine}
-use Rattle.sl_report.specs.Schedules.{Header_read, Header_refused, NumberedLine, greatest_source, line_refusal, longest_line, numbered_from, numbered_lines, read_header}
+use Rattle.sl_report.specs.Schedules.{Header_refused, NumberedLine, greatest_source, line_refusal, longest_line, numbered_from, numbered_lines, read_header}
 use Rattle.sl_run.specs.Worlds.{first_that}
 use Rattle.sl_run.specs.declared.event.Refusal.TheVariants.{LimitBytes, Syntax}
 use Rattle.sl_run.specs.declared.event.Refusal.{Refusal}
@@ -10,15 +10,14 @@ use Rattle.sl_schedule.proofs.ScheduleLaws.{going_on, read_header-line, read_hea
 use Rattle.sl_schedule.specs.HeadersSoFar.{answer_after, lines_after}
 use Rattle.sl_schedule.specs.declared.header.Added.TheVariants.{Begun, More, Refused}
 use Rattle.sl_schedule.specs.declared.header.Added.{Added}
-use Rattle.sl_reader.specs.HeaderBegins.{AreWholeLines, HasRead, HeaderBegins, HeaderBreaks, HeaderGoesOn, HeaderStops, lines_left}
-use Rattle.sl_reader.specs.LineReads.{Fails, FirstLine, Gives, MayFollow, ReaderState, ReadsEnd, ReadsLine, ReadsRefused, RefusesLine, line_of, no_line}
+use Rattle.sl_reader.specs.HeaderBegins.{HasRead, HeaderBegins, HeaderBreaks, HeaderGoesOn, HeaderStops, lines_left}
+use Rattle.sl_reader.specs.LineReads.{Fails, Gives, MayFollow, ReaderState, ReadsEnd, ReadsLine, ReadsRefused, line_of, no_line}
 use Rattle.sl_text.specs.Forms.{lines_of}
-use Rattle.std.proofs.Common.{Bool, List, Option, Some, None, [], ap, arith, false, inl, inr, length, length-append, refl, subst, sym, true, ℕ, ◌&&◌, ◌++◌, ◌+◌, ◌≡◌, ◌≤◌, ◌∙◌, ◌∷◌}
+use Rattle.std.proofs.Common.{Bool, List, Option, None, [], ap, arith, false, inl, inr, length, length-append, refl, subst, sym, true, ℕ, ◌&&◌, ◌++◌, ◌+◌, ◌≡◌, ◌≤◌, ◌∙◌, ◌∷◌}
 use Rattle.std.proofs.KnownBytes.{Consumes-nil, Consumes-trans}
 use Rattle.std.proofs.lemmas.Bool.Decides.{nat_tests}
-use Rattle.std.proofs.lemmas.List.{append-nil, append_assoc}
+use Rattle.std.proofs.lemmas.List.{append_assoc}
 use Rattle.sl_io.specs.FaultCauses.{Rose}
-use Rattle.std.specs.Io.KnownBytes.{Consumes}
 use Rattle.std.specs.Result.{IsErrAnd}
 use Rattle.std.specs.Prelude.{Err, Ok, Result, nat_le, nat_lt}
 

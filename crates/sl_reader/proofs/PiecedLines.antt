@@ -1,7 +1,7 @@
 -- A line that is read piece by piece.
 use Rattle.sl_report.specs.Schedules.{greatest_source, longest_line, numbered_from}
 use Rattle.sl_reader.proofs.FirstLines.{free_both, last_first, line_first, refused_at}
-use Rattle.sl_reader.specs.LineReads.{EndStands, EndsAlone, EndsLine, EndsWith, Fails, Gives, IsCutOff, IsFront, IsReading, Judges, MayFollow, ReaderState, Reads, ReadsEnd, ReadsLine, ReadsRefused, RefusesLine, TakesAll, TakesLine, TakesRefused, feed_of, line_of, with_feed}
+use Rattle.sl_reader.specs.LineReads.{EndStands, EndsAlone, EndsLine, EndsWith, Gives, IsCutOff, IsFront, IsReading, Judges, ReaderState, Reads, ReadsEnd, ReadsLine, ReadsRefused, RefusesLine, TakesAll, TakesLine, TakesRefused, feed_of, line_of, with_feed}
 use Rattle.sl_run.specs.declared.event.Refusal.{Refusal}
 use Rattle.sl_reader.specs.declared.reader.Next.TheVariants.{End, Line, Refused}
 use Rattle.sl_reader.specs.declared.reader.Next.{Next}
@@ -9,7 +9,7 @@ use Rattle.sl_text.specs.Forms.{is_free_of, lines_of}
 use Rattle.std.proofs.Common.{Bool, List, Option, [], ap, arith, drop, false, length, length-append, length-take, min, refl, subst, sym, take, true, ℕ, ◌++◌, ◌+◌, ◌-◌, ◌<◌, ◌≡◌, ◌≤◌, ◌∙◌, ◌∷◌}
 use Rattle.std.proofs.KnownBytes.{Consumes-kept, Consumes-nil, Consumes-trans}
 use Rattle.std.proofs.lemmas.List.{append-nil, append_assoc, drop-drop, drop-take}
-use Rattle.std.specs.Io.KnownBytes.{Consumes, IsAtEnd, Keeps}
+use Rattle.std.specs.Io.KnownBytes.{Consumes, Keeps}
 use Rattle.std.proofs.lemmas.Bool.Decides.{nat_tests}
 use Rattle.std.specs.Prelude.{Err, IsTrue, Ok, OnErr, Result, Some, nat_lt}
 

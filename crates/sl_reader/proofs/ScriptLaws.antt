@@ -3,7 +3,8 @@ use Rattle.sl_reader.specs.LiveLines.{checked, live_line, live_line_in}
 use Rattle.sl_reader.specs.Scopes.{scope_of}
 use Rattle.sl_reader.specs.declared.live_lines.LiveLine.{LiveLine}
 use Rattle.sl_reader.specs.declared.scope.Scope.{Scope}
-use Rattle.sl_reader.specs.ScriptReading.{Comes, Ends, IsScript, Leaves, Passes, ReadsScript, Says, ScriptLine, ScriptState, Stands, Tells, TellsComplete, came_of, following, script_lines, spoken}
+use Rattle.sl_reader.specs.ScriptReading.{ArePlain, Comes, Ends, EndsUnread, IsPlain, IsScript, Leaves, Passes, ReadsScript, Says, ScriptLine, ScriptState, Stands, Tells, TellsComplete, came_of, following, script_lines}
+use Rattle.sl_reader.specs.ScriptReading.{line_of as given_line}
 use Rattle.sl_reader.specs.declared.script_reading.Came.{Came}
 use Rattle.sl_reader.specs.declared.script_reading.ScriptEnd.TheVariants.{End, NoMemory, ReadFault, Refused}
 use Rattle.sl_reader.specs.declared.script_reading.ScriptEnd.{ScriptEnd}
@@ -13,13 +14,14 @@ use Rattle.sl_run.specs.declared.event.Refusal.{Refusal}
 use Rattle.sl_run.specs.declared.header.Header.{Header}
 use Rattle.sl_reader.proofs.HeaderSteps.{gives_so, gives_then, open_follows}
 use Rattle.sl_reader.specs.HeaderBegins.{AreWholeLines, HeaderBegins, lines_left}
-use Rattle.sl_reader.specs.LineReads.{EndStands, Fails, Gives, IsCutOff, MayFollow, ReaderState, ReadsEnd, ReadsLine, ReadsRefused, line_of}
+use Rattle.sl_reader.specs.LineReads.{EndStands, Fails, Gives, IsCutOff, MayFollow, ReaderState, ReadsEnd, ReadsLine, ReadsRefused, RefusesLine, line_of}
 use Rattle.sl_reader.specs.declared.reader.ReadError.TheVariants.{Failed, NoMemory as NoRoom}
 use Rattle.sl_reader.specs.declared.reader.ReadError.{ReadError}
 use Rattle.sl_text.specs.Forms.{lines_of}
 use Rattle.sl_io.specs.FaultCauses.{Rose}
 use Rattle.std.proofs.Common.{Bool, List, None, Option, Some, [], ap, arith, false, inl, inr, length, length-append, map, refl, subst, sym, true, ℕ, ◌++◌, ◌+◌, ◌≡◌, ◌≤◌, ◌∙◌, ◌∷◌}
 use Rattle.std.proofs.KnownBytes.{Consumes-nil}
+use Rattle.std.proofs.lemmas.List.Elements.{All-nil}
 use Rattle.std.proofs.lemmas.List.{append-nil, append_assoc}
 use Rattle.std.specs.Io.KnownBytes.{Consumes}
 use Rattle.std.specs.List.{cons_option}
@@ -62,14 +64,16 @@ passes_none s first r =
     }
 
 -- So a script begins.
-pub begins : (first : Option (List ℕ)) (faults : ℕ) (began : ReaderState) (scope : Scope) (x : ScriptState) → x.left ≡ first → x.faults ≡ faults → x.reader ≡ began → x.scope ≡ scope → x.end ≡ None
-    → EndStands x.left x.reader → IsScript first faults began scope x []
-begins first faults began scope x left_is faults_are began_is scope_is ongoing ends = record {
+pub begins : (keeps : Bool) (first : Option (List ℕ)) (faults : ℕ) (began : ReaderState) (scope : Scope) (x : ScriptState) → x.left ≡ first → x.faults ≡ faults → x.reader ≡ began → x.scope ≡ scope
+    → x.keeps ≡ keeps → x.end ≡ None → EndStands x.left x.reader → IsScript keeps first faults began scope x []
+begins keeps first faults began scope x left_is faults_are began_is scope_is keeps_is ongoing ends = record {
   scope_is = scope_is;
+  keeps_is = keeps_is;
   more = omega (arith, faults_are);
-  numbered = [];
+  told = [];
   given_are = refl;
-  stands = subst (Stands scope first x.left faults x.faults began x.reader []) (sym ongoing)
+  plain = λ is. All-nil IsPlain;
+  stands = subst (Stands keeps scope first x.left faults x.faults began x.reader []) (sym ongoing)
       (subst (λ n. Passes scope first n began x.reader []) (sym left_is) (subst (λ b. Passes scope first first b x.reader []) began_is (passes_none scope first x.reader)), ends);
 }
 
@@ -145,7 +149,7 @@ tells_cut s first before after began r told bytes Then p open_still gives then =
 
 -- None is left.
 pub ends_there : (s : Scope) (first before after : Option (List ℕ)) (faults later : ℕ) (began r n : ReaderState) (told : List ScriptLine) → Passes s first before began r told → ReadsEnd before after r n
-    → EndStands after n → Ends s first after faults later began told End
+    → EndStands after n → Ends true s first after faults later began told End
 ends_there s first before after faults later began r n told p e ends =
     record {
       ended = true;
@@ -162,6 +166,7 @@ ends_there s first before after faults later began r n told p e ends =
       };
       to_end = λ is. refl;
       fault = λ is. absurd cc;
+      unread = λ is number why same. absurd cc;
     }
   where
     nothing : (rest : List ℕ) → MayFollow true rest → (p.consumed ++ []) ++ rest ≡ p.consumed ++ []
@@ -176,15 +181,25 @@ unread s l why is =
 
 -- A line is refused before it is read.
 pub refused_unread : (s : Scope) (first before after : Option (List ℕ)) (faults later : ℕ) (began r n : ReaderState) (told : List ScriptLine) (number : ℕ) (why : Refusal) → Passes s first before began r told
-    → ReadsRefused before after r n why → number ≡ n.number + 1 → Ends s first after faults later began told (Refused number why)
+    → ReadsRefused before after r n why → number ≡ n.number + 1 → Ends true s first after faults later began told (Refused number why)
+unfolding tells_cut
 refused_unread s first before after faults later began r n told number why p x is =
     record {
       ended = false;
       tells = tells_cut s first before after began r told x.bytes (Leaves (Some (Refused number why))) p x.began x.gives then;
       to_end = λ same. absurd cc;
       fault = λ same. absurd cc;
+      unread = λ is other what same. record {
+        before = p.consumed;
+        line = x.bytes;
+        cut = refl;
+        refuses = subst (RefusesLine (began.behind + length p.consumed) x.bytes) (why_same number other why what same) (subst (λ at. RefusesLine at x.bytes why) p.behind x.refuses);
+      };
     }
   where
+    why_same : (a b : ℕ) (v w : Refusal) → Some (Refused a v) ≡ Some (Refused b w) → v ≡ w
+    why_same a b v w is = cc
+
     then : (rest : List ℕ) → (more : List ScriptLine) × (script_lines s (following r (x.bytes ++ rest)) ≡ (number, Err why) ∷ more)
     then rest =
         let f = x.refuses.first rest (r.number + 1) in
@@ -196,42 +211,45 @@ refused_unread s first before after faults later began r n told number why p x i
               ∙ ap (λ k. (k, Err why) ∷ script_lines s f.others) same,
         )
 
--- .. or for what it says.
+-- .. or for what it says, where a script does not go on behind such a line.
 pub refused_read : (s : Scope) (first now : Option (List ℕ)) (faults later : ℕ) (began r : ReaderState) (told : List ScriptLine) (number : ℕ) (why : Refusal)
-    → Passes s first now began r (told ++ (number, Err why) ∷ []) → EndStands now r → Ends s first now faults later began told (Refused number why)
+    → Passes s first now began r (told ++ (number, Err why) ∷ []) → EndStands now r → Ends false s first now faults later began told (Refused number why)
 refused_read s first now faults later began r told number why p ends =
     record {
       ended = r.ended;
       tells = tells_of s first now began r told ((number, Err why) ∷ []) (Leaves (Some (Refused number why))) p ends (λ xs. (xs, refl));
       to_end = λ same. absurd cc;
       fault = λ same. absurd cc;
+      unread = λ is other what same. absurd cc;
     }
 
 -- There was no memory within a line ..
 pub lacks_within : (s : Scope) (first before after : Option (List ℕ)) (faults later : ℕ) (began r : ReaderState) (told : List ScriptLine) → Passes s first before began r told → IsCutOff before after r
-    → Ends s first after faults later began told NoMemory
+    → Ends true s first after faults later began told NoMemory
 lacks_within s first before after faults later began r told p x =
     record {
       ended = false;
       tells = tells_cut s first before after began r told x.bytes (Leaves (Some NoMemory)) p x.began x.gives (λ rest. tt);
       to_end = λ same. absurd cc;
       fault = λ same. absurd cc;
+      unread = λ is number why same. absurd cc;
     }
 
 -- .. or behind it.
 pub lacks_behind : (s : Scope) (first now : Option (List ℕ)) (faults later : ℕ) (began r : ReaderState) (told more : List ScriptLine) → Passes s first now began r (told ++ more) → EndStands now r
-    → Ends s first now faults later began told NoMemory
+    → Ends true s first now faults later began told NoMemory
 lacks_behind s first now faults later began r told more p ends =
     record {
       ended = r.ended;
       tells = tells_of s first now began r told more (Leaves (Some NoMemory)) p ends (λ xs. tt);
       to_end = λ same. absurd cc;
       fault = λ same. absurd cc;
+      unread = λ is number why same. absurd cc;
     }
 
 -- A read failed.
 pub fails_within : (s : Scope) (first before after : Option (List ℕ)) (faults later : ℕ) (began r : ReaderState) (told : List ScriptLine) → Passes s first before began r told → Fails before after r → Rose faults later
-    → Ends s first after faults later began told ReadFault
+    → Ends true s first after faults later began told ReadFault
 unfolding tells_cut
 fails_within s first before after faults later began r told p x rose =
     record {
@@ -250,21 +268,35 @@ fails_within s first before after faults later began r told p x rose =
           says = ap (λ b. script_lines s (following began b)) (sym (append-nil p.consumed)) ∙ p.says [] (λ is. refl) ∙ append-nil told;
         },
       );
+      unread = λ is number why same. absurd cc;
     }
 
 -- An end stays one where more faults were counted before or since.
-pub ends_since : (s : Scope) (first now : Option (List ℕ)) (before faults later : ℕ) (began : ReaderState) (told : List ScriptLine) (end : ScriptEnd) → before ≤ faults → Ends s first now faults later began told end
-    → Ends s first now before later began told end
-ends_since s first now before faults later began told end earlier e =
+pub ends_since : (keeps : Bool) (s : Scope) (first now : Option (List ℕ)) (before faults later : ℕ) (began : ReaderState) (told : List ScriptLine) (end : ScriptEnd) → before ≤ faults → Ends keeps s first now faults later began told end
+    → Ends keeps s first now before later began told end
+ends_since keeps s first now before faults later began told end earlier e =
     record {
       ended = e.ended;
       tells = e.tells;
       to_end = e.to_end;
       fault = λ is. let f = e.fault is in (rose_since before faults later earlier f.0, f.1);
+      unread = e.unread;
     }
   where
     rose_since : (a b c : ℕ) → a ≤ b → Rose b c → Rose a c
     rose_since a b c h rose = omega (arith, h, rose)
+
+-- An end that every script has.
+pub ends_any : (keeps : Bool) (s : Scope) (first now : Option (List ℕ)) (faults later : ℕ) (began : ReaderState) (told : List ScriptLine) (end : ScriptEnd) → Ends true s first now faults later began told end
+    → Ends keeps s first now faults later began told end
+ends_any keeps s first now faults later began told end e =
+    record {
+      ended = e.ended;
+      tells = e.tells;
+      to_end = e.to_end;
+      fault = e.fault;
+      unread = λ is. e.unread refl;
+    }
 
 -- ---- what came next
 
@@ -273,25 +305,24 @@ pub failed_so : (s : Scope) (first before after : Option (List ℕ)) (faults sin
     → (e ≡ Failed → Fails before after r × Rose since later) → IsCutOff before after r → faults ≤ since → Comes s first after faults later began n told (Err e)
 failed_so s first before after faults since later began r n told Failed p fails cut earlier =
     let f = fails refl in
-    ends_since s first after faults since later began told ReadFault earlier (fails_within s first before after since later began r told p f.0 f.1)
+    ends_since true s first after faults since later began told ReadFault earlier (fails_within s first before after since later began r told p f.0 f.1)
 failed_so s first before after faults since later began r n told NoRoom p fails cut earlier = lacks_within s first before after faults later began r told p cut
 
 -- A line said something.
-told_so : (s : Scope) (first now : Option (List ℕ)) (faults later : ℕ) (began r : ReaderState) (told : List ScriptLine) (read : ScriptLine) → Passes s first now began r (told ++ read ∷ []) → EndStands now r
+told_so : (s : Scope) (first now : Option (List ℕ)) (faults later : ℕ) (began r : ReaderState) (told : List ScriptLine) (read : ScriptLine) → Passes s first now began r (told ++ read ∷ [])
     → Comes s first now faults later began r told (Ok (came_of read))
-told_so s first now faults later began r told (number, Ok l) p ends = p
-told_so s first now faults later began r told (number, Err why) p ends = refused_read s first now faults later began r told number why p ends
+told_so s first now faults later began r told (number, said) p = p
 
 pub said_so : (s : Scope) (first before after : Option (List ℕ)) (faults later : ℕ) (began r n : ReaderState) (told : List ScriptLine) (seen : NumberedLine) (read : ScriptLine) (came : Came)
-    → Passes s first before began r told → ReadsLine before after r n → EndStands after n → seen ≡ line_of n → Some read ≡ live_line s seen → came ≡ came_of read
+    → Passes s first before began r told → ReadsLine before after r n → seen ≡ line_of n → Some read ≡ live_line s seen → came ≡ came_of read
     → Comes s first after faults later began n told (Ok came)
-said_so s first before after faults later began r n told seen read came p l ends is says same =
+said_so s first before after faults later began r n told seen read came p l is says same =
     subst (λ c. Comes s first after faults later began n told (Ok c)) (sym same)
-    (told_so s first after faults later began n told read (passes_by s first before after began r n told seen (Some read) p l is says) ends)
+    (told_so s first after faults later began n told read (passes_by s first before after began r n told seen (Some read) p l is says))
 
 -- There was no memory to read it.
 pub unsaid_so : (s : Scope) (first before after : Option (List ℕ)) (faults later : ℕ) (began r n : ReaderState) (told : List ScriptLine) → Passes s first before began r told → ReadsLine before after r n
-    → EndStands after n → Ends s first after faults later began told NoMemory
+    → EndStands after n → Ends true s first after faults later began told NoMemory
 unsaid_so s first before after faults later began r n told p l ends =
     lacks_behind s first after faults later began n told (option_to_list (live_line s (line_of n))) (passes_line s first before after began r n told p l) ends
 
@@ -326,22 +357,38 @@ says_at first left began h s b bytes source told others scope is follows says =
 consumed_all : (first now : Option (List ℕ)) (all : List ℕ) → Gives first now [] all → Consumes first now all
 consumed_all first now all g = subst (Consumes first now) g.all_are g.consumes
 
+-- What is unread behind a header, told of the whole source.
+unread_by : (keeps : Bool) (end : Option ScriptEnd) (start : ℕ) (header bytes : List ℕ) → start ≡ length header → EndsUnread keeps end start bytes → EndsUnread keeps end 0 (header ++ bytes)
+unread_by keeps end start header bytes start_is unread =
+    λ is number why same.
+    let u = unread is number why same in
+    record {
+      before = header ++ u.before;
+      line = u.line;
+      cut = ap (λ x. header ++ x) u.cut ∙ sym (append_assoc header u.before u.line);
+      refuses = subst (λ at. RefusesLine at u.line why) (behind u.before) u.refuses;
+    }
+  where
+    behind : (before : List ℕ) → start + length before ≡ 0 + length (header ++ before)
+    behind before = omega (arith, start_is, length-append header before)
+
 -- What was read behind the header, told of the whole source.
-reads_by : (first left now : Option (List ℕ)) (faults later : ℕ) (began : ReaderState) (h : Header) (s : Scope) (given : List LiveLine) (numbered : List (ℕ × LiveLine)) (end : Option ScriptEnd) (ended : Bool)
-    → HeaderBegins first left began h → scope_of h ≡ s → given ≡ map (λ x. x.1) numbered → (t : Tells s left now began ended (map spoken numbered) (Leaves end)) → (end ≡ Some End → ended ≡ true)
-    → (end ≡ Some ReadFault → Rose faults later × TellsComplete s began t.bytes (map spoken numbered)) → ReadsScript first now faults later h given end
-reads_by first left now faults later began h s given numbered end ended b scope given_are t to_end fault =
+reads_by : (keeps : Bool) (first left now : Option (List ℕ)) (faults later : ℕ) (began : ReaderState) (h : Header) (s : Scope) (given : List LiveLine) (told : List ScriptLine) (end : Option ScriptEnd) (ended : Bool)
+    → HeaderBegins first left began h → scope_of h ≡ s → given ≡ map given_line told → ArePlain keeps told → (t : Tells s left now began ended told (Leaves end)) → (end ≡ Some End → ended ≡ true)
+    → (end ≡ Some ReadFault → Rose faults later × TellsComplete s began t.bytes told) → EndsUnread keeps end began.behind t.bytes → ReadsScript keeps first now faults later h given end
+reads_by keeps first left now faults later began h s given told end ended b scope given_are plain t to_end fault unread =
     record {
       read = b.consumed ++ t.bytes;
       ended = ended;
       reads = consumed_all first now (b.consumed ++ t.bytes) (gives_then first left now [] b.consumed began.left t.bytes b.gives t.gives);
       at_end = t.at_end;
-      numbered = numbered;
+      told = told;
       given_are = given_are;
+      plain = plain;
       says = λ rest follows.
           let x = t.says rest follows in (
             x.0,
-            says_at first left began h s b (t.bytes ++ rest) ((b.consumed ++ t.bytes) ++ rest) (map spoken numbered) x.0 scope (append_assoc b.consumed t.bytes rest) (t.follows rest follows) x.1,
+            says_at first left began h s b (t.bytes ++ rest) ((b.consumed ++ t.bytes) ++ rest) told x.0 scope (append_assoc b.consumed t.bytes rest) (t.follows rest follows) x.1,
             x.2,
           );
       to_end = to_end;
@@ -355,19 +402,22 @@ reads_by first left now faults later began h s given numbered end ended b scope 
               cut = ap (λ x. b.consumed ++ x) c.cut ∙ sym (append_assoc b.consumed c.complete c.partial);
               whole = whole_both b.consumed c.complete (b.has_read.whole c.open_still) c.whole;
               free = c.free;
-              says = says_at first left began h s b c.complete (b.consumed ++ c.complete) (map spoken numbered) [] scope refl (open_follows began.ended c.complete c.open_still)
-                  (c.says ∙ sym (append-nil (map spoken numbered)));
+              says = says_at first left began h s b c.complete (b.consumed ++ c.complete) told [] scope refl (open_follows began.ended c.complete c.open_still) (c.says ∙ sym (append-nil told));
             },
           );
+      unread = unread_by keeps end began.behind b.consumed t.bytes b.has_read.behind unread;
     }
 
-pub reads_script : (first left now : Option (List ℕ)) (faults later : ℕ) (began r : ReaderState) (h : Header) (s : Scope) (given : List LiveLine) (numbered : List (ℕ × LiveLine)) (end : Option ScriptEnd)
-    → HeaderBegins first left began h → scope_of h ≡ s → given ≡ map (λ x. x.1) numbered → Stands s left now faults later began r (map spoken numbered) end → ReadsScript first now faults later h given end
-reads_script first left now faults later began r h s given numbered None b scope given_are stands =
-    reads_by first left now faults later began h s given numbered None r.ended b scope given_are
-    (tells_of s left now began r (map spoken numbered) [] (Leaves None) (subst (Passes s left now began r) (sym (append-nil (map spoken numbered))) stands.0) stands.1 (λ xs. tt)) (λ is. absurd cc) (λ is. absurd cc)
-reads_script first left now faults later began r h s given numbered (Some end) b scope given_are stands =
-    reads_by first left now faults later began h s given numbered (Some end) stands.ended b scope given_are stands.tells (λ is. stands.to_end (the_same end End is)) (λ is. stands.fault (the_same end ReadFault is))
+pub reads_script : (keeps : Bool) (first left now : Option (List ℕ)) (faults later : ℕ) (began r : ReaderState) (h : Header) (s : Scope) (given : List LiveLine) (told : List ScriptLine) (end : Option ScriptEnd)
+    → HeaderBegins first left began h → scope_of h ≡ s → given ≡ map given_line told → ArePlain keeps told → Stands keeps s left now faults later began r told end
+    → ReadsScript keeps first now faults later h given end
+reads_script keeps first left now faults later began r h s given told None b scope given_are plain stands =
+    reads_by keeps first left now faults later began h s given told None r.ended b scope given_are plain
+    (tells_of s left now began r told [] (Leaves None) (subst (Passes s left now began r) (sym (append-nil told)) stands.0) stands.1 (λ xs. tt)) (λ is. absurd cc) (λ is. absurd cc)
+    (λ is number why same. absurd cc)
+reads_script keeps first left now faults later began r h s given told (Some end) b scope given_are plain stands =
+    reads_by keeps first left now faults later began h s given told (Some end) stands.ended b scope given_are plain stands.tells (λ is. stands.to_end (the_same end End is))
+    (λ is. stands.fault (the_same end ReadFault is)) stands.unread
   where
     the_same : (a b : ScriptEnd) → Some a ≡ Some b → a ≡ b
     the_same a b is = cc

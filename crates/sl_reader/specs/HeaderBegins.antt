@@ -6,7 +6,7 @@ use Rattle.sl_run.specs.declared.event.Refusal.{Refusal}
 use Rattle.sl_run.specs.declared.header.Header.{Header}
 use Rattle.sl_reader.specs.LineReads.{Gives, MayFollow, ReaderState}
 use Rattle.sl_text.specs.Forms.{is_free_of, lines_of}
-use Rattle.std.specs.Prelude.{Err, IsTrue, List, Ok, Option, Result, false, length, true, [], ℕ, ◌++◌, ◌+◌, ◌∷◌, ◌≡◌, ◌⊎◌}
+use Rattle.std.specs.Prelude.{Err, IsTrue, List, Ok, Option, Result, false, length, [], ℕ, ◌++◌, ◌+◌, ◌∷◌, ◌≡◌, ◌⊎◌}
 
 -- The lines behind these bytes, where the reader has read so far.
 abbrev pub lines_left : List ℕ → List ℕ → ReaderState → List NumberedLine

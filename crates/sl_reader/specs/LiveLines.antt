@@ -1,6 +1,6 @@
 -- What a line of a live script says, and why it is refused.
 use Rattle.sl_trace.specs.Jobs.{process_named}
-use Rattle.sl_reader.specs.declared.live_lines.LiveLine.TheVariants.{Command, Exits, Locks, Post}
+use Rattle.sl_reader.specs.declared.live_lines.LiveLine.TheVariants.{Command, Exits, Locks, Post, Refused}
 use Rattle.sl_reader.specs.declared.live_lines.LiveLine.{LiveLine}
 use Rattle.sl_reader.specs.declared.scope.Scope.{Scope}
 use Rattle.sl_area.specs.AreaSizes.{layout_of}
@@ -113,6 +113,7 @@ live_refusal s (Command m text) = text_refusal s m text
 live_refusal s (Post m text) = text_refusal s m text
 live_refusal s (Locks m line) = machine_refusal s m
 live_refusal s (Exits m p) = machine_refusal s m
+live_refusal s (Refused number why) = Some why
 
 -- What a line says, or why it is refused.
 abbrev pub checked : Scope → Option LiveLine → Result LiveLine Refusal

@@ -13,9 +13,10 @@
 //!
 //! A script has a schedule's header, and behind its `begin` live lines: `ScriptLines` reads on from the header's reader, whenever it is asked, up
 //! to the next line that says something. No line is read before it is wanted, so whoever writes the script may see what the last line did. A
-//! line that is refused, a read that fails, want of memory and the end of the source end the script, and why it ended is kept. Which source
-//! it is, and where its header ended, is said by a type parameter, `Origin`: so the lines that were given are tied to the bytes that were read
-//! by the type itself, whoever has asked for them.
+//! line that is refused, a read that fails, want of memory and the end of the source end the script, and why it ended is kept. A script may also
+//! be read so that it goes on behind a line that is refused: then that it is refused is given in the line's place, and only a line that is refused
+//! before it is read still ends the script. Which source it is, where its header ended and how it is read, is said by a type parameter, `Origin`:
+//! so the lines that were given are tied to the bytes that were read by the type itself, whoever has asked for them.
 #![tactic(auto)]
 
 mod header;

@@ -189,6 +189,7 @@ fn live_refusal(scope: &Scope, live: &LiveLine) -> Option<Refusal>
             machine,
             process: _,
         } => machine_refusal(scope, *machine),
+        LiveLine::Refused { number: _, why } => Some(*why),
     }
 }
 

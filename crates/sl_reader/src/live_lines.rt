@@ -1,5 +1,6 @@
 //! The lines of a live script.
 
+use sl_run::Refusal;
 use sl_text::Bytes;
 
 /// A line of a live script.
@@ -13,6 +14,8 @@ pub enum LiveLine {
     Post { machine: u32, text: Bytes },
     /// The next line is read once the machine's child has exited, if it was started.
     Exits { machine: u32, process: u32 },
+    /// The line of this number is refused, in a script that goes on behind such a line: it gives nothing, and the next line is read at once.
+    Refused { number: u64, why: Refusal },
 }
 
 /// Why there is no line.

@@ -19,11 +19,15 @@ use std::marker::{Model, PhantomData};
 
 /// The lines of a script behind its header: read one at a time, as they are asked for, and kept by nobody. Contracts see how far it is read, so
 /// which lines may have been given, and why the script ended, if it did.
+///
+/// A line that is refused for what it says ends the script, or is given as such a line where the script keeps going. One that is refused before
+/// it is read ends it always.
 pub struct ScriptLines<S: Source, J: Origin> {
     alloc: Global,
     source: S,
     reader: LineReader,
     scope: Scope,
+    keeps: bool,
     end: Option<ScriptEnd>,
     of: PhantomData<J>,
 }
@@ -33,7 +37,7 @@ impl<S: Source, J: Origin> Model for ScriptLines<S, J> {
 
     ghost Value = { ScriptState };
 
-    ghost view = { λ s. record { left = S.left s.source; faults = S.faults s.source; reader = s.reader; scope = s.scope; end = s.end } };
+    ghost view = { λ s. record { left = S.left s.source; faults = S.faults s.source; reader = s.reader; scope = s.scope; keeps = s.keeps; end = s.end } };
 
     ghost invariant = { λ s. IsAhead J.faults (S.left s.source) (S.faults s.source) s.reader s.end };
 }
@@ -51,22 +55,30 @@ fn answer_at(end: ScriptEnd) -> Result<Option<LiveLine>, NoLine>
 }
 
 impl<S: Source, J: Origin> ScriptLines<S, J> {
-    /// The lines behind a header that this reader has read of the source: it, and what of the source and the header the lines are read by, are those
-    /// that were picked.
-    pub fn new(alloc: Global, source: S, reader: LineReader, header: &Header) -> ScriptLines<S, J>
+    /// The lines behind a header that this reader has read of the source, in a script that goes on behind a line that is refused, or does not: it, and
+    /// what of the source and the header the lines are read by, are those that were picked.
+    pub fn new(
+        alloc: Global,
+        source: S,
+        reader: LineReader,
+        header: &Header,
+        keeps: bool,
+    ) -> ScriptLines<S, J>
         requires left { S.left source ≡ J.left }
         requires faults { S.faults source ≡ J.faults }
         requires began { reader ≡ J.began }
         requires scope { scope_of header.now ≡ J.scope }
+        requires keeps { keeps ≡ J.keeps }
         requires ends { EndStands (S.left source) reader }
         ensures end { result.end ≡ None }
-        ensures none { IsScript J.left J.faults J.began J.scope result [] }
+        ensures none { IsScript J.keeps J.left J.faults J.began J.scope result [] }
     {
         ScriptLines {
             alloc,
             source,
             reader,
             scope: Scope::of(header),
+            keeps,
             end: None,
             of: PhantomData,
         }
@@ -78,13 +90,14 @@ impl<S: Source, J: Origin> ScriptLines<S, J> {
         ensures end { result.1 ≡ self.end }
         ensures later { J.faults ≤ S.faults result.0 }
         ensures script { (first : Option (List ℕ)) (header : HeaderOf) (given : List LineOf) → HeaderBegins first J.left J.began header → scope_of header ≡ J.scope
-            → IsScript J.left J.faults J.began J.scope self given → ReadsScript first (S.left result.0) J.faults (S.faults result.0) header given result.1 }
+            → IsScript J.keeps J.left J.faults J.began J.scope self given → ReadsScript J.keeps first (S.left result.0) J.faults (S.faults result.0) header given result.1 }
     {
         let ScriptLines {
             alloc: _,
             source,
             reader: _,
             scope: _,
+            keeps: _,
             end,
             of: _,
         } = self;
@@ -95,7 +108,7 @@ impl<S: Source, J: Origin> ScriptLines<S, J> {
 impl<S: Source, J: Origin> LiveLines for ScriptLines<S, J> {
     ghost use Rattle.sl_reader.specs.ScriptReading.{IsScript};
 
-    ghost has_given = { IsScript J.left J.faults J.began J.scope };
+    ghost has_given = { IsScript J.keeps J.left J.faults J.began J.scope };
 
     fn next(&mut self) -> Result<Option<LiveLine>, NoLine> {
         match self.end {
@@ -103,7 +116,7 @@ impl<S: Source, J: Origin> LiveLines for ScriptLines<S, J> {
             None => {}
         }
         let came = read_on(self.alloc, &mut self.source, &mut self.reader, &self.scope);
-        let (answer, end) = answer_of(came);
+        let (answer, end) = answer_of(came, self.keeps);
         self.end = end;
         answer
     }

@@ -1,6 +1,6 @@
 //! The next line of a script that says something.
 
-ghost use Rattle.sl_reader.specs.ScriptReading.{Answers, Comes, Passes, ScriptLine, came_of};
+ghost use Rattle.sl_reader.specs.ScriptReading.{Answers, AnswersRefused, Comes, Passes, ScriptLine, came_of};
 ghost use Rattle.sl_reader.specs.LineReads.{EndStands, ReaderState};
 ghost use Rattle.std.specs.Prelude.{List, Option, ℕ, ◌≡◌, ◌≤◌};
 
@@ -25,12 +25,18 @@ pub enum ScriptEnd {
 /// What came next.
 #[derive(Drop)]
 pub(crate) enum Came {
-    /// The line of this number says this.
-    Line { number: u64, line: LiveLine },
+    /// The line of this number says this, or is refused for what it says.
+    Says {
+        number: u64,
+        said: Result<LiveLine, Refusal>,
+    },
     /// None is left.
     End,
-    /// The line of this number is refused.
-    Refused { number: u64, why: Refusal },
+    /// The line of this number is refused before it is read.
+    Refused {
+        number: u64,
+        why: Refusal,
+    },
 }
 
 /// What a line says, as what came next.
@@ -38,10 +44,7 @@ fn came_of(read: LiveRead) -> Came
     ensures { result ≡ came_of read }
 {
     let (number, said) = read;
-    match said {
-        Ok(line) => Came::Line { number, line },
-        Err(why) => Came::Refused { number, why },
-    }
+    Came::Says { number, said }
 }
 
 /// Reads up to the next line that says something.
@@ -75,14 +78,37 @@ pub(crate) fn read_on<S: Source>(
     }
 }
 
+/// A line that is refused for what it says, as the answer to whoever asked for a line, and why the script ended: a script that keeps going is not
+/// ended by it.
+fn refused_so(
+    keeps: bool,
+    number: u64,
+    why: Refusal,
+) -> (Result<Option<LiveLine>, NoLine>, Option<ScriptEnd>)
+    ensures { AnswersRefused keeps number why result.0 result.1 }
+{
+    if keeps {
+        (Ok(Some(LiveLine::Refused { number, why })), None)
+    } else {
+        (
+            Err(NoLine::Refused),
+            Some(ScriptEnd::Refused { number, why }),
+        )
+    }
+}
+
 /// What came as the answer to whoever asked for it, and why the script ended, if it did.
 pub(crate) fn answer_of(
     came: Result<Came, ReadError>,
+    keeps: bool,
 ) -> (Result<Option<LiveLine>, NoLine>, Option<ScriptEnd>)
-    ensures { Answers came result.0 result.1 }
+    ensures { Answers keeps came result.0 result.1 }
 {
     match came {
-        Ok(Came::Line { number: _, line }) => (Ok(Some(line)), None),
+        Ok(Came::Says { number, said }) => match said {
+            Ok(line) => (Ok(Some(line)), None),
+            Err(why) => refused_so(keeps, number, why),
+        },
         Ok(Came::End) => (Ok(None), Some(ScriptEnd::End)),
         Ok(Came::Refused { number, why }) => (
             Err(NoLine::Refused),

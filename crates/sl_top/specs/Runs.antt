@@ -16,6 +16,7 @@ use Rattle.sl_headline.specs.PromisedRuns.{PromisedRun}
 use Rattle.sl_host_step.specs.HostServes.{Serves, whole_commands}
 use Rattle.sl_live_play.specs.LiveOwed.{Owes as OwesLive}
 use Rattle.sl_live_play.specs.declared.play.Lived.{Lived}
+use Rattle.sl_live_play.specs.declared.play.Manner.{Manner}
 use Rattle.sl_outside.specs.Disks.{CountsBack, Disks, KeepsAllBut}
 use Rattle.sl_run.specs.Worlds.{whole_program}
 use Rattle.sl_text.specs.Forms.{as_bytes}
@@ -25,11 +26,20 @@ use Rattle.sl_top.specs.declared.status.Status.{Status}
 use Rattle.sl_io.specs.FaultCauses.{Rose}
 use Rattle.std.specs.Global.{Global}
 use Rattle.std.specs.Io.KnownBytes.{Appends, Consumes, IsAtEnd}
-use Rattle.std.specs.Prelude.{Bool, IsTrue, List, None, Option, Some, String, codes, map, string_bytes, true, [], ℕ, ◌++◌, ◌∷◌, ◌≡◌, ◌⊎◌}
+use Rattle.std.specs.Prelude.{Bool, IsTrue, List, None, Option, Some, String, codes, map, option_map, string_bytes, true, [], ℕ, ◌++◌, ◌||◌, ◌∷◌, ◌≡◌, ◌⊎◌}
 
 -- What the words of the command line say, if they say something.
 abbrev pub said : List (String Global) → Option Words
 said words = said_in (map string_bytes words)
+
+-- What they say where the source is a terminal, or is not: from a terminal a live script goes on behind a line that is refused.
+abbrev pub told_from : Bool → Words → Words
+told_from at_terminal (Live folder anew keeps events) = Live folder anew (keeps || at_terminal) events
+told_from at_terminal w = w
+
+-- .. if they say something.
+abbrev pub said_from : Bool → List (String Global) → Option Words
+said_from at_terminal words = option_map (told_from at_terminal) (said words)
 
 -- The line that words print which say nothing.
 abbrev pub bad_words_text : List ℕ
@@ -109,11 +119,11 @@ pub record Outside : Type 0 where
 abbrev pub Tells : List ℕ → Status → Outside → Outside → Status → Type 0
 Tells text whole x y s = PutsOut x.taken y.taken x.sink_faults y.sink_faults text whole s
 
--- What a live run owes, in this folder, where disks are made anew or not: what its machines replied, as histories of hosts that were compared
+-- What a live run owes, in this folder, played in this manner: what is told of its machines, as histories of hosts that were compared
 -- with what their threads did; or why there is none.
-pub record RunsLive (folder : List ℕ) (anew : Bool) (x y : Outside) (s : Status) : Type 0 where
+pub record RunsLive (folder : List ℕ) (manner : Manner) (x y : Outside) (s : Status) : Type 0 where
   pub ended : Lived
-  pub owes : OwesLive Serves whole_commands (record { path = folder; anew = anew; disks = x.disks }) x.left y.left x.taken y.taken x.source_faults y.source_faults x.sink_faults y.sink_faults x.device_faults y.device_faults ended
+  pub owes : OwesLive Serves whole_commands (record { path = folder; anew = manner.anew; disks = x.disks }) manner x.left y.left x.taken y.taken x.source_faults y.source_faults x.sink_faults y.sink_faults x.device_faults y.device_faults ended
   pub status : s ≡ status_of_live ended
 
 -- What a run owes, by what its words say.
@@ -122,7 +132,7 @@ Owes None x y s = Tells bad_words_text BadWords x y s
 Owes (Some Replay) x y s = Replays x.left y.left x.source_faults y.source_faults x.taken y.taken x.sink_faults y.sink_faults s
 Owes (Some (Generate seed hosts events paired)) x y s = Generates seed hosts events paired x.taken y.taken x.sink_faults y.sink_faults s
 Owes (Some (Direct a)) x y s = ActsOn a x.disks y.disks x.device_faults y.device_faults x.taken y.taken x.sink_faults y.sink_faults s
-Owes (Some (Live folder anew)) x y s = RunsLive folder anew x y s
+Owes (Some (Live folder anew keeps events)) x y s = RunsLive folder (record { anew = anew; keeps = keeps; events = events }) x y s
 Owes (Some Help) x y s = Tells HELP.now Done x y s
 Owes (Some Version) x y s = Tells VERSION.now Done x y s
 
@@ -135,14 +145,14 @@ IsDirect w = (a : Action) × (w ≡ Some (Direct a))
 
 -- Only these wait for anything.
 abbrev pub IsLive : Option Words → Type 0
-IsLive w = (folder : List ℕ) × (anew : Bool) × (w ≡ Some (Live folder anew))
+IsLive w = (folder : List ℕ) × (manner : Manner) × (w ≡ Some (Live folder manner.anew manner.keeps manner.events))
 
--- The folder of live machines, and whether disks are made anew there, if the words ask for them.
-abbrev pub place_of : Words → Option (List ℕ × Bool)
-place_of (Live folder anew) = Some (folder, anew)
+-- The folder of live machines, and how their script is played, if the words ask for them.
+abbrev pub place_of : Words → Option (List ℕ × Manner)
+place_of (Live folder anew keeps events) = Some (folder, record { anew = anew; keeps = keeps; events = events })
 place_of w = None
 
 -- .. if they say anything.
-abbrev pub place_in : Option Words → Option (List ℕ × Bool)
+abbrev pub place_in : Option Words → Option (List ℕ × Manner)
 place_in None = None
 place_in (Some w) = place_of w

@@ -42,12 +42,13 @@ pub record CantBeUpgraded (w : Option Words) (x : Outside) : Type 0 where
   pub asked : w ≡ Some (Direct (Upgrade resource geometry))
   pub other : (content : List ℕ) → x.disks resource.path ≡ Some content → can_upgrade resource geometry content ≡ false
 
--- A case was put out, behind what machines replied, that holds of a machine of a live run, whose header and lines are those of the script that was read.
-pub record SomeDiffer (x y : Outside) : Type 0 where
+-- A case was put out, behind what was told before, that holds of a machine of a live run, whose header and lines are those of the script that was read,
+-- which goes on behind refused lines or not.
+pub record SomeDiffer (keeps : Bool) (x y : Outside) : Type 0 where
   pub header : Header
   pub given : List LiveLine
   pub ended : Option ScriptEnd
-  pub read : ReadsScript x.left y.left x.source_faults y.source_faults header given ended
+  pub read : ReadsScript keeps x.left y.left x.source_faults y.source_faults header given ended
   pub machine : ℕ
   pub differ : LiveDiffer
   pub holds : Differing Serves whole_commands header given machine differ
@@ -63,7 +64,7 @@ pub record HasItsCause (w : Option Words) (x y : Outside) (s : Status) : Type 0 
   pub area_fault : s ≡ AreaFault → (IsDirect w ⊎ IsLive w) × Rose x.device_faults y.device_faults
   pub not_the_leader : s ≡ NotTheLeader → IsNotTheLeader w x ⊎ CantBeUpgraded w x
   -- records of a live machine differ: the case that is put out holds
-  pub differs : s ≡ Differs → IsLive w × SomeDiffer x y
+  pub differs : s ≡ Differs → (live : IsLive w) × SomeDiffer live.1.keeps x y
 
 abbrev pub StatusesHaveCauses : Type 0
 StatusesHaveCauses = (w : Option Words) (x y : Outside) (s : Status) → Owes w x y s → HasItsCause w x y s

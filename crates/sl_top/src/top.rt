@@ -6,7 +6,7 @@
 //! runs out, a front of the report. `gen` reads nothing: it draws its events as it plays them. `direct` takes one disk of the devices, does its action there, and gives the disk back.
 
 ghost use Rattle.sl_direct.specs.Actions.{IsAction};
-ghost use Rattle.sl_top.specs.Runs.{ActsOn, Generates, IsDirect, IsLive, IsReplay, Owes, PutsOut, Replays, RunsLive, place_in, place_of, said};
+ghost use Rattle.sl_top.specs.Runs.{ActsOn, Generates, IsDirect, IsLive, IsReplay, Owes, PutsOut, Replays, RunsLive, place_in, place_of, said, said_from, told_from};
 ghost use Rattle.sl_top.specs.declared.status.Status.TheVariants.{WriteFault};
 ghost use Rattle.std.specs.Prelude.{IfOk, option_map, ◌≡◌, ◌≢◌, ◌≤◌};
 
@@ -17,7 +17,7 @@ use sl_direct::{Action, run_direct};
 use sl_generate::generate;
 use sl_host_step::HostDaemon;
 use sl_io::{Sink, Source, write_all};
-use sl_live_play::{LiveHost, play_live};
+use sl_live_play::{LiveHost, Manner, play_live};
 use sl_locks::LvmLocks;
 use sl_outside::{Devices, LiveDevices};
 use sl_play::laws::headers::whole_language_may_play;
@@ -83,25 +83,23 @@ fn direct<K: Sink, D: Devices>(
     status_after(directed)
 }
 
-/// Where live machines have their disks, and whether those that stand there are made anew.
+/// Where live machines have their disks, and how their script is played.
 #[derive(Drop)]
 struct Place {
     folder: Folder,
-    anew: bool,
+    manner: Manner,
 }
 
 /// Runs live machines by the script that the source gives, on disks at this place, and puts out what they replied.
-fn live<R: Threads + Wait + Clock + Sync, S: Source + Send, K: Sink + Send, D: LiveDevices>(
-    rt: &R,
-    alloc: Global,
-    place: &Place,
-    source: S,
-    sink: K,
-    devices: &mut D,
-) -> (Status, S, K)
+fn live<
+    R: Threads + Wait + Clock + Eprint + Sync,
+    S: Source + Send,
+    K: Sink + Send,
+    D: LiveDevices,
+>(rt: &R, alloc: Global, place: &Place, source: S, sink: K, devices: &mut D) -> (Status, S, K)
 where
     D::Area: Send,
-    ensures { RunsLive place.now.folder place.now.anew
+    ensures { RunsLive place.now.folder place.now.manner
         (record { left = S.left source; source_faults = S.faults source; taken = K.taken sink; sink_faults = K.faults sink; disks = D.Devices.disks devices.old; device_faults = D.Devices.faults devices.old })
         (record { left = S.left result.1; source_faults = S.faults result.1; taken = K.taken result.2; sink_faults = K.faults result.2; disks = D.Devices.disks devices.new; device_faults = D.Devices.faults devices.new })
         result.0 }
@@ -111,7 +109,7 @@ where
         rt,
         alloc,
         place.folder.as_str(),
-        place.anew,
+        place.manner,
         source,
         sink,
         devices,
@@ -161,6 +159,8 @@ pub fn run_offline<S: Source, K: Sink, D: Devices>(
             Words::Live {
                 folder: _folder,
                 anew: _anew,
+                keeps: _keeps,
+                events: _events,
             },
         ) => unreachable!(),
         Ok(Words::Help) => tell(sink, HELP.as_bytes(), Status::Done),
@@ -170,12 +170,24 @@ pub fn run_offline<S: Source, K: Sink, D: Devices>(
     }
 }
 
-/// The place of live machines, if the words ask for them.
-fn place_of(words: Words) -> Option<Place>
-    ensures { option_map (λ p. (p.folder, p.anew)) result ≡ place_of words }
+/// The place of live machines, if the words ask for them, where the source is a terminal or not.
+fn place_of(words: Words, at_terminal: bool) -> Option<Place>
+    ensures { option_map (λ p. (p.folder, p.manner)) result ≡ place_of (told_from at_terminal words) }
 {
     match words {
-        Words::Live { folder, anew } => Some(Place { folder, anew }),
+        Words::Live {
+            folder,
+            anew,
+            keeps,
+            events,
+        } => Some(Place {
+            folder,
+            manner: Manner {
+                anew,
+                keeps: keeps || at_terminal,
+                events,
+            },
+        }),
         Words::Replay => None,
         Words::Generate { .. } => None,
         Words::Direct(_) => None,
@@ -184,36 +196,46 @@ fn place_of(words: Words) -> Option<Place>
     }
 }
 
-/// The place of live machines, if the words of the command line ask for them. An `Err` is want of memory.
-fn live_place(alloc: Global, words: &[String]) -> Result<Option<Place>, AllocError>
-    ensures { IfOk result (λ place. option_map (λ p. (p.folder, p.anew)) place ≡ place_in (said words.now)) }
+/// The place of live machines, if the words of the command line ask for them, where the source is a terminal or not. An `Err` is want of memory.
+fn live_place(
+    alloc: Global,
+    words: &[String],
+    at_terminal: bool,
+) -> Result<Option<Place>, AllocError>
+    ensures { IfOk result (λ place. option_map (λ p. (p.folder, p.manner)) place ≡ place_in (said_from at_terminal words.now)) }
 {
     match read_words(alloc, words) {
-        Ok(words) => Ok(place_of(words)),
+        Ok(words) => Ok(place_of(words, at_terminal)),
         Err(WordsError::Bad) => Ok(None),
         Err(WordsError::NoMemory) => Err(AllocError),
     }
 }
 
 /// Does what the words say, and hands the source, the sink and the devices back: `live` runs machines by the script that it reads, and all else is done
-/// as by `run_offline`.
+/// as by `run_offline`. `at_terminal`: the source is a terminal; a live script from there goes on behind a line that is refused, as with `--keep-going`.
 ///
 /// # Statuses
-/// Those of `run_offline`. `live` ends with `Done` where its script was read to its end, with `Refused` where a line of it is refused, with
+/// Those of `run_offline`. `live` ends with `Done` where its script was read to its end, with `Refused` where a line of it is refused at which it ends, with
 /// `ReadFault` and `WriteFault` only where the source's or the sink's count of faults rose, with `AreaFault` only where the devices' did
 /// before its machines began, as where another program has the folder, or a disk stands there that is not made anew, with `Differs` only where a case holds of a machine, which is put out; `NoMemory` for want of memory: what
 /// was put out before stays. It returns once its machines have ended, which wait for their children.
-pub fn run<R: Threads + Wait + Clock + Sync, S: Source + Send, K: Sink + Send, D: LiveDevices>(
+pub fn run<
+    R: Threads + Wait + Clock + Eprint + Sync,
+    S: Source + Send,
+    K: Sink + Send,
+    D: LiveDevices,
+>(
     rt: &R,
     alloc: Global,
     words: &[String],
+    at_terminal: bool,
     source: S,
     sink: K,
     devices: D,
 ) -> (Status, S, K, D)
 where
     D::Area: Send,
-    ensures owes { Owes (said words.now)
+    ensures owes { Owes (said_from at_terminal words.now)
         (record { left = S.left source; source_faults = S.faults source; taken = K.taken sink; sink_faults = K.faults sink; disks = D.Devices.disks devices; device_faults = D.Devices.faults devices })
         (record { left = S.left result.1; source_faults = S.faults result.1; taken = K.taken result.2; sink_faults = K.faults result.2; disks = D.Devices.disks result.3; device_faults = D.Devices.faults result.3 })
         result.0 }
@@ -221,7 +243,7 @@ where
     ensures devices { (IsDirect (said words.now) → ⊥) → (IsLive (said words.now) → ⊥) → result.3 ≡ devices }
 {
     let (mut source, mut sink, mut devices) = (source, sink, devices);
-    match live_place(alloc, words) {
+    match live_place(alloc, words, at_terminal) {
         Err(_) => (Status::NoMemory, source, sink, devices),
         Ok(Some(place)) => {
             let (status, source, sink) = live(rt, alloc, &place, source, sink, &mut devices);

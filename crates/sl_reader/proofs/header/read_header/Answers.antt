@@ -1,7 +1,6 @@
 -- A header is read line by line.
 use Rattle.sl_report.specs.Schedules.{NumberedLine}
 use Rattle.sl_schedule.specs.HeadersSoFar.{Stands, answer_after, lines_after}
-use Rattle.sl_schedule.specs.declared.header.Added.TheVariants.{Begun, More, Refused}
 use Rattle.sl_reader.proofs.HeaderSteps.{at_first, begins_there, breaks_there, ends_early, gives_all, goes_more, handed_on, refuses_there, rose_later, stops_at}
 use Rattle.sl_reader.proofs.PiecedLines.{on_err, open_stands}
 use Rattle.sl_reader.proofs.header.read_header.Goals as goal

@@ -4,7 +4,7 @@ use Rattle.sl_schedule.specs.HeadersSoFar.{Stands}
 use Rattle.sl_reader.proofs.HeaderSteps.{IsWithin}
 use Rattle.sl_reader.proofs.header.read_header.Given as goal
 use Rattle.sl_reader.specs.LineReads.{EndStands}
-use Rattle.std.proofs.Common.{List, ℕ, ◌-◌, ◌≤◌}
+use Rattle.std.proofs.Common.{List, ◌-◌, ◌≤◌}
 
 abbrev pub invariant-loop-header : goal.invariant-loop-header
 invariant-loop-header g l = record {

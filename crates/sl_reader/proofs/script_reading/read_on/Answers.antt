@@ -38,7 +38,7 @@ returns-in-Ok-Some-clause-comes g c first began told p =
     said_so c.args.scope.now first (g.S.Source.left c.loop-error.source) (g.S.Source.left c.read_line.new.source) (g.S.Source.faults c.args.source.now) (g.S.Source.faults c.read_line.new.source) began
     c.loop-error.reader c.read_line.new.self told (line_seen c.line.result) c.in-Ok-Some.read c.came_of.result (c.loop-error.invariant.passes first began told p)
     (subst (Reads (g.S.Source.left c.loop-error.source) (g.S.Source.left c.read_line.new.source) c.loop-error.reader c.read_line.new.self) c.in-Ok-Line.field-0-is c.in-Ok-Line.ensures.ok)
-    c.read_line.ensures.stands c.line.ensures (sym c.in-Ok-Some.field-0-is ∙ c.in-Ok-Some.ensures) c.came_of.ensures
+    c.line.ensures (sym c.in-Ok-Some.field-0-is ∙ c.in-Ok-Some.ensures) c.came_of.ensures
 
 pub loop-error-preserved : goal.loop-error-preserved
 loop-error-preserved g c =

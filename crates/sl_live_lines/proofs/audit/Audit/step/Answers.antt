@@ -5,10 +5,11 @@ use Rattle.sl_live_lines.specs.AuditedHistory.{after_entry, answered_by, calls_m
 use Rattle.std.proofs.Common.{ap, length, ◌+◌, ◌∙◌}
 
 pub returns-clause-on : goal.returns-clause-on
-returns-clause-on c = λ a h so asks.
+returns-clause-on c = λ t a h so asks.
     let e = c.args.entry.now in
     let x = c.args.self.now in
-    audit_more a h e x _ (record {
+    audit_more t a h e x _ (record {
+      telling = c.in_ok-step.ensures;
       locks = c.in_ok-push_step.ensures.locks;
       number = c.in_ok-number.ensures;
       calls = λ n. c.in_ok-note_calls.ensures n ∙ ap (λ m. after_entry (calls_made e) (answered_by e.input) m n (opened_at x.calls n)) c.in_ok-number.ensures;

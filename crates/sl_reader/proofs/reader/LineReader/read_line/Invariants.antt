@@ -1,6 +1,6 @@
 use Rattle.sl_reader.proofs.reader.LineReader.read_line.Given as goal
 use Rattle.sl_reader.specs.LineReads.{IsReading}
-use Rattle.std.proofs.Common.{length, ℕ, ◌+◌, ◌-◌, ◌≤◌}
+use Rattle.std.proofs.Common.{length, ◌+◌, ◌-◌, ◌≤◌}
 
 abbrev pub invariant-loop-why : goal.invariant-loop-why
 invariant-loop-why g l = record {
