@@ -199,6 +199,7 @@ refused_unread s first before after faults later began r n told number why p x i
   where
     why_same : (a b : ℕ) (v w : Refusal) → Some (Refused a v) ≡ Some (Refused b w) → v ≡ w
     why_same a b v w is = cc
+
     then : (rest : List ℕ) → (more : List ScriptLine) × (script_lines s (following r (x.bytes ++ rest)) ≡ (number, Err why) ∷ more)
     then rest =
         let f = x.refuses.first rest (r.number + 1) in
@@ -360,13 +361,13 @@ consumed_all first now all g = subst (Consumes first now) g.all_are g.consumes
 unread_by : (keeps : Bool) (end : Option ScriptEnd) (start : ℕ) (header bytes : List ℕ) → start ≡ length header → EndsUnread keeps end start bytes → EndsUnread keeps end 0 (header ++ bytes)
 unread_by keeps end start header bytes start_is unread =
     λ is number why same.
-        let u = unread is number why same in
-        record {
-          before = header ++ u.before;
-          line = u.line;
-          cut = ap (λ x. header ++ x) u.cut ∙ sym (append_assoc header u.before u.line);
-          refuses = subst (λ at. RefusesLine at u.line why) (behind u.before) u.refuses;
-        }
+    let u = unread is number why same in
+    record {
+      before = header ++ u.before;
+      line = u.line;
+      cut = ap (λ x. header ++ x) u.cut ∙ sym (append_assoc header u.before u.line);
+      refuses = subst (λ at. RefusesLine at u.line why) (behind u.before) u.refuses;
+    }
   where
     behind : (before : List ℕ) → start + length before ≡ 0 + length (header ++ before)
     behind before = omega (arith, start_is, length-append header before)
