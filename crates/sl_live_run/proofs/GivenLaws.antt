@@ -9,7 +9,7 @@ use Rattle.sl_live_run.specs.Runs.{AreFirst, AreGiven, Gave, HasPutOut, HasTold,
 use Rattle.sl_output.proofs.PutLaws.{mine_put}
 use Rattle.sl_output.specs.Outputs.{HasPut}
 use Rattle.sl_reader.specs.declared.live_lines.LiveLine.{LiveLine}
-use Rattle.std.proofs.Common.{List, ap, append_assoc, arith, if◌then◌else◌, refl, subst, sym, ◌++◌, ◌+◌, ◌<◌, ◌==◌, ◌∙◌, ◌∷◌, ◌≡◌, [], ℕ}
+use Rattle.std.proofs.Common.{List, ap, append_assoc, arith, if◌then◌else◌, length, refl, subst, sym, ◌++◌, ◌+◌, ◌<◌, ◌==◌, ◌∙◌, ◌∷◌, ◌≡◌, [], ℕ}
 use Rattle.std.proofs.lemmas.List.Concat.{flat_map-append}
 use Rattle.std.proofs.lemmas.List.Elements.{filter-append}
 use Rattle.std.proofs.lemmas.List.Folds.{concat-append}
@@ -174,16 +174,21 @@ told_err machines before was now more line l l' w w' r Q so step one first err =
 pub nothing_put : (w : SeatState (List ℕ)) → w.count ≡ 0 → HasPutOut w []
 nothing_put w none = record { texts = []; mine = record { count = none; there = tt }; text_is = refl }
 
+-- A text without bytes.
+pub no_bytes : (text : List ℕ) (len : ℕ) (empty : Bool) → empty ≡ (len == 0) → empty ≡ true → len ≡ length text → text ≡ []
+no_bytes [] len empty is so many = refl
+no_bytes (x ∷ text) len empty is so many = let none : len ≡ 0 = grind (arith, sym is ∙ so) in absurd (omega (arith, none, many))
+
 -- Nothing is put out.
 pub put_none : (w : SeatState (List ℕ)) (before text : List ℕ) → text ≡ [] → HasPutOut w before → HasPutOut w (before ++ text)
 put_none w before text none so = subst (HasPutOut w) (sym (ap (λ t. before ++ t) none ∙ append-nil before)) so
 
 -- A piece more is put out.
-pub put_more : (w w' : SeatState (List ℕ)) (before text : List ℕ) → HasPutOut w before → HasPut w w' text → HasPutOut w' (before ++ text)
-put_more w w' before text so put = record {
-  texts = so.texts ++ text ∷ [];
-  mine = mine_put w w' text so.texts put so.mine;
-  text_is = concat-append so.texts (text ∷ []) ∙ ap (λ t. t ++ concat (text ∷ [])) so.text_is ∙ ap (λ t. before ++ t) (append-nil text);
+pub put_more : (w w' : SeatState (List ℕ)) (before text piece : List ℕ) → piece ≡ text → HasPutOut w before → HasPut w w' piece → HasPutOut w' (before ++ text)
+put_more w w' before text piece same so put = record {
+  texts = so.texts ++ piece ∷ [];
+  mine = mine_put w w' piece so.texts put so.mine;
+  text_is = concat-append so.texts (piece ∷ []) ∙ ap (λ t. t ++ concat (piece ∷ [])) so.text_is ∙ ap (λ t. before ++ t) (append-nil piece ∙ same);
 }
 
 refusals_push : (ls : List LiveLine) (l : LiveLine) → refusals_text (ls ++ l ∷ []) ≡ refusals_text ls ++ refusal_text l
