@@ -6,6 +6,7 @@ use Rattle.clap.specs.Simple.{App, Shape, built, new_rule, new_shape}
 use Rattle.clap.specs.Values.{reading_of}
 use Rattle.clap.specs.Walk.{Row, Rule, Text, at_row, default_rows, first_of, has_row, is_empty, more_values, reading_by, used, with_default, with_values, without}
 use Rattle.clap.specs.declared.builder.action.ArgAction.TheVariants.{Set, SetTrue}
+use Rattle.clap.specs.declared.builder.value_parser.Reading.{Reading}
 use Rattle.clap.specs.declared.builder.value_parser.ValueParser.TheVariants as vp
 use Rattle.clap.specs.declared.parser.matches.ValueSource.TheVariants.{CommandLine}
 use Rattle.sl_cli.specs.ParserShape.{command_line}
@@ -115,9 +116,9 @@ flag_with id = record (new_rule id) {
   parser = Some vp.Bool;
 }
 
--- The word of `live`, and its flag.
+-- The word of `live`, and its flags.
 abbrev pub live_rules : List Rule
-live_rules = rule_with (codes "folder") None (Some 1) ∷ flag_with (codes "anew") ∷ []
+live_rules = rule_with (codes "folder") None (Some 1) ∷ flag_with (codes "anew") ∷ flag_with (codes "keep-going") ∷ flag_with (codes "events") ∷ []
 
 abbrev pub live : Shape
 live = built_shape (codes "live") live_rules
@@ -147,24 +148,28 @@ has_row_for name [] = refl
 has_row_for name (u ∷ us) = ap (λ b. bytes_eq u.name name || b) (has_row_for name us)
 
 -- Where no row has the name, a new one joins at the end.
-new_row : (id : Text) (change : Row → List Row) (missing rows : List Row) → has_row id rows ≡ false → at_row id change missing rows ≡ rows ++ missing
+pub new_row : (id : Text) (change : Row → List Row) (missing rows : List Row) → has_row id rows ≡ false → at_row id change missing rows ≡ rows ++ missing
 new_row id change missing [] none = refl
 new_row id change missing (r ∷ rs) none =
     let apart = or_parts (bytes_eq r.id id) (has_row id rs) none in
     ap (λ b. cond b (change r ++ rs) (r ∷ at_row id change missing rs)) apart.0 ∙ ap (λ (l : List Row). r ∷ l) (new_row id change missing rs apart.1)
 
+-- The row of one use.
+abbrev pub row_with : Text → Reading → List Text → Row
+row_with id how vs = record { id = id; values = vs; count = None; source = Some CommandLine; reading = how }
+
 -- The rows with a use of an argument that has none.
-used_new : (id : Text) (v : Text) (rows : List Row) → has_row id rows ≡ false
-    → with_values id (reading_of vp.String) CommandLine (v ∷ []) (without id rows) ≡ rows ++ row_for (use_of id v) ∷ []
-used_new id v rows none =
+pub used_new : (id : Text) (how : Reading) (vs : List Text) (rows : List Row) → has_row id rows ≡ false
+    → with_values id how CommandLine vs (without id rows) ≡ rows ++ row_with id how vs ∷ []
+used_new id how vs rows none =
     let same : without id rows ≡ rows = new_row id (λ _. []) [] rows none ∙ append-nil rows in
-    ap (with_values id (reading_of vp.String) CommandLine (v ∷ [])) same ∙ new_row id (more_values CommandLine (v ∷ [])) (row_for (use_of id v) ∷ []) rows none
+    ap (with_values id how CommandLine vs) same ∙ new_row id (more_values CommandLine vs) (row_with id how vs ∷ []) rows none
 
 -- The first use of an argument.
 pub used_first : (k : Key) (v : Text) (us : List Use) → is_given (name_of k) us ≡ false
     → used (rule_for k) (v ∷ []) (rows_for us) ≡ rows_for (us ++ use_of (name_of k) v ∷ [])
 used_first k v us none =
-    used_new (name_of k) v (rows_for us) (has_row_for (name_of k) us ∙ none) ∙ sym (map-append row_for us (use_of (name_of k) v ∷ []))
+    used_new (name_of k) (reading_of vp.String) (v ∷ []) (rows_for us) (has_row_for (name_of k) us ∙ none) ∙ sym (map-append row_for us (use_of (name_of k) v ∷ []))
 
 -- What was given by its name.
 pub first_of-rows : (name : Text) (us : List Use) → first_of name (rows_for us) ≡ value_of name us

@@ -15,7 +15,7 @@ use Rattle.sl_cli.proofs.ReaderSteps.{AreTexts}
 use Rattle.sl_cli.proofs.ParserTurns.{Fails, fails_with, first_fails}
 use Rattle.sl_cli.specs.Actions.{action_in}
 use Rattle.sl_cli.specs.ParserShape.{command_line}
-use Rattle.sl_cli.specs.CommandWords.{Seed, Use, command_in, ends_here, generated, given_by, nothing_taken, seeded_in, seeding_in, uses_from, without_dashes}
+use Rattle.sl_cli.specs.CommandWords.{Seed, Use, command_in, ends_here, generated, given_by, nothing_taken, seeding_in, uses_from}
 use Rattle.sl_cli.specs.ParserMeets.{IsRefused, TakenAs, given_in, met_in, said_by, seeding_of}
 use Rattle.sl_cli.specs.declared.parsed_command.Met.{Met}
 use Rattle.sl_cli.specs.declared.command_words.Words.TheVariants.{Direct, Replay}

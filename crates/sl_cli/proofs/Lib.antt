@@ -8,6 +8,7 @@ pub mod CommandLaws
 pub mod DirectLaws
 pub mod GenLaws
 pub mod Letters
+pub mod LiveFlags
 pub mod LiveLaws
 pub mod OptionSteps
 pub mod ParseLaws

@@ -1,82 +1,160 @@
--- The parser takes the words behind `live` that the reader takes, and finds in them what the reader finds: one word that is no option, a flag before
--- or behind it, and a first `--` anywhere, behind which no word is the flag.
+-- The parser takes the words behind `live` that the reader takes, and finds in them what the reader finds: one word that is no option, flags before
+-- and behind it, each once, and a first `--` anywhere, behind which no word is a flag.
 use Rattle.clap.proofs.OnLiterals.{clap_on_literals}
 use Rattle.clap.specs.Faults.{check_fault, default_fault, defaults_fault, given_default_fault, long_fault, settle_fault, turn_fault, walk_fault}
 use Rattle.clap.specs.Kinds.{Kinds, or_else}
 use Rattle.clap.specs.Lexer.{has_byte}
 use Rattle.clap.specs.Values.{reading_of}
-use Rattle.clap.specs.Walk.{Held, Row, Rule, Text, Walk, finished, has_row, idle, is_empty, nothing_held, rows_after, settled, walk_from, walked, with_default}
+use Rattle.clap.specs.Walk.{Held, Row, Rule, Text, Walk, default_rows, finished, first_of, has_row, idle, is_empty, more_values, nothing_held, rows_after, settled, settled_rows, used, walk_from, walked, with_default}
 use Rattle.clap.specs.declared.builder.value_parser.ValueParser.TheVariants as vp
-use Rattle.clap.specs.declared.parser.matches.ValueSource.TheVariants.{CommandLine}
+use Rattle.clap.specs.declared.error.kind.ErrorKind.TheVariants as kind
+use Rattle.clap.specs.declared.parser.matches.ValueSource.TheVariants.{DefaultValue}
 use Rattle.sl_cli.proofs.BareCommands.{level, or_nothing}
-use Rattle.sl_cli.proofs.BuiltCommand.{flag_with, live, live_rules, row_for, rule_with}
+use Rattle.sl_cli.proofs.BuiltCommand.{flag_with, live, live_rules, new_row, row_for, row_with, rule_with, used_new}
 use Rattle.sl_cli.proofs.Letters.{behind, first_char}
+use Rattle.sl_cli.proofs.LiveFlags.{Flag, anew, events, keeps, name_of, word_of}
 use Rattle.sl_cli.proofs.ReaderSteps.{AreTexts, word_cases}
 use Rattle.sl_cli.proofs.ParserTurns.{Fails, Pending, Plain, fails_with, first_fails, is_short, no_dashes, no_long, walk_at}
-use Rattle.sl_cli.specs.CommandWords.{folder_in, is_plain, live_in, placed_in, placing_by, use_of, without_flag}
-use Rattle.sl_cli.specs.ParserMeets.{placing_of}
+use Rattle.sl_cli.specs.CommandWords.{Placing, is_plain, live_in, placed_from, placed_in, use_of}
+use Rattle.sl_cli.specs.ParserMeets.{is_set, placing_of}
 use Rattle.sl_cli.specs.declared.command_words.Words.TheVariants.{Live}
 use Rattle.sl_cli.specs.declared.command_words.Words.{Words}
 use Rattle.sl_words.specs.Words.{choose}
-use Rattle.std.proofs.Common.{Bool, List, None, Option, Some, [], ap, arith, cond, eqb, false, inl, inr, not, refl, subst, suc, sym, take, true, ℕ, ◌&&◌, ◌+◌, ◌||◌, ◌==◌, ◌≡◌, ◌∙◌, ◌∷◌, ◌⊎◌}
+use Rattle.std.proofs.Common.{Bool, List, None, Option, Some, [], ap, arith, cond, eqb, false, inl, inr, not, refl, subst, suc, sym, take, true, ℕ, ◌&&◌, ◌+◌, ◌++◌, ◌||◌, ◌==◌, ◌≡◌, ◌∙◌, ◌∷◌, ◌⊎◌}
 use Rattle.std.proofs.lemmas.Bool.{cases_Bool, eqb-true, or_parts}
+use Rattle.std.proofs.lemmas.List.Folds.{list_any-append}
 use Rattle.std.proofs.lemmas.Slice.Eq.{bytes_eq-Decides}
 use Rattle.std.specs.List.{before_first, fold, prefix_len}
-use Rattle.std.specs.Prelude.{bytes_eq, codes, if◌then◌else◌, option_map, slice_get}
+use Rattle.std.specs.Prelude.{bytes_eq, codes, find, if◌then◌else◌, is_some, option_and_then, option_map, slice_get}
 use Rattle.std.specs.Str.{IsUtf8, chars}
 
--- ---- where the parser stands
+-- ---- the flags
 
--- What was taken: the word, the flag, both, in one order or the other.
-data Got : Type 0 where
-  none_got : Got
-  word_got : Text → Got
-  flag_got : Got
-  flag_then : Text → Got
-  then_flag : Text → Got
+-- Which were met.
+record Flags : Type 0 where
+  has_anew : Bool
+  has_keeps : Bool
+  has_events : Bool
 
-abbrev flag_row : Row
-flag_row = record { id = codes "anew"; values = codes "true" ∷ []; count = None; source = Some CommandLine; reading = reading_of vp.Bool }
+abbrev on : Flag → Flags → Bool
+on anew o = o.has_anew
+on keeps o = o.has_keeps
+on events o = o.has_events
 
--- The rows so far, the value that is being read, and the place of the next word.
-abbrev rows_at : Got → List Row
-rows_at none_got = []
-rows_at (word_got w) = []
-rows_at flag_got = flag_row ∷ []
-rows_at (flag_then w) = flag_row ∷ []
-rows_at (then_flag w) = row_for (use_of (codes "folder") w) ∷ flag_row ∷ []
+abbrev with_one : Flag → Flags → Flags
+with_one anew o = record o { has_anew = true }
+with_one keeps o = record o { has_keeps = true }
+with_one events o = record o { has_events = true }
 
-abbrev pending_at : Got → Pending
-pending_at none_got = None
-pending_at (word_got w) = Some (codes "folder", w ∷ [])
-pending_at flag_got = None
-pending_at (flag_then w) = Some (codes "folder", w ∷ [])
-pending_at (then_flag w) = None
+abbrev is_same : Flag → Flag → Bool
+is_same f g = bytes_eq (name_of g) (name_of f)
 
-abbrev place_at : Got → ℕ
-place_at none_got = 1
-place_at (word_got w) = 2
-place_at flag_got = 1
-place_at (flag_then w) = 2
-place_at (then_flag w) = 2
+or_yes : (b : Bool) → true ≡ (b || true)
+or_yes true = refl
+or_yes false = refl
 
--- The same as the reader knows it.
-abbrev folder_at : Got → Option Text
-folder_at none_got = None
-folder_at (word_got w) = Some w
-folder_at flag_got = None
-folder_at (flag_then w) = Some w
-folder_at (then_flag w) = Some w
+or_not : (b : Bool) → b ≡ (b || false)
+or_not true = refl
+or_not false = refl
 
-abbrev flag_at : Got → Bool
-flag_at none_got = false
-flag_at (word_got w) = false
-flag_at flag_got = true
-flag_at (flag_then w) = true
-flag_at (then_flag w) = true
+on_with : (f g : Flag) (o : Flags) → on f (with_one g o) ≡ (on f o || is_same f g)
+on_with anew anew o = or_yes o.has_anew
+on_with anew keeps o = or_not o.has_anew
+on_with anew events o = or_not o.has_anew
+on_with keeps anew o = or_not o.has_keeps
+on_with keeps keeps o = or_yes o.has_keeps
+on_with keeps events o = or_not o.has_keeps
+on_with events anew o = or_not o.has_events
+on_with events keeps o = or_not o.has_events
+on_with events events o = or_yes o.has_events
 
-abbrev stand : Got → Bool → Walk
-stand g trailing = walk_at (rows_at g) (pending_at g) idle (place_at g) trailing
+no_folder_flag : (g : Flag) → bytes_eq (name_of g) (codes "folder") ≡ false
+no_folder_flag anew = refl
+no_folder_flag keeps = refl
+no_folder_flag events = refl
+
+no_flag_folder : (f : Flag) → bytes_eq (codes "folder") (name_of f) ≡ false
+no_flag_folder anew = refl
+no_flag_folder keeps = refl
+no_flag_folder events = refl
+
+-- ---- where the reader stands
+
+abbrev place : Option Text → Flags → Placing
+place folder o = record { folder = folder; anew = o.has_anew; keeps = o.has_keeps; events = o.has_events }
+
+abbrev taken : Bool → Option Text → Flags → List Text → Option Words
+taken trailing folder o ws = option_and_then placed_in (placed_from trailing (place folder o) ws)
+
+-- ---- rows
+
+-- What the first row shows, or those behind it.
+abbrev shown : Bool → Row → Text → List Row → Option Text
+shown b x name rows = option_and_then (λ (r : Row). slice_get r.values 0) (cond b (Some x) (find (λ r. bytes_eq r.id name) rows))
+
+-- A row that joins at the end shows nothing of other names.
+first_other : (name : Text) (rows : List Row) (r : Row) → bytes_eq r.id name ≡ false → first_of name (rows ++ r ∷ []) ≡ first_of name rows
+first_other name [] r apart = ap (λ b. shown b r name []) apart
+first_other name (x ∷ rows) r apart = go (bytes_eq x.id name) (first_other name rows r apart)
+  where
+    go : (b : Bool) → first_of name (rows ++ r ∷ []) ≡ first_of name rows → shown b x name (rows ++ r ∷ []) ≡ shown b x name rows
+    go true e = refl
+    go false e = e
+
+-- .. but its own, where none had its name.
+first_own : (name : Text) (rows : List Row) (r : Row) → has_row name rows ≡ false → bytes_eq r.id name ≡ true → first_of name (rows ++ r ∷ []) ≡ slice_get r.values 0
+first_own name [] r none is = ap (λ b. shown b r name []) is
+first_own name (x ∷ rows) r none is =
+    let apart = or_parts (bytes_eq x.id name) (has_row name rows) none in
+    ap (λ b. shown b x name (rows ++ r ∷ [])) apart.0 ∙ first_own name rows r apart.1 is
+
+-- Where none has a name, nothing is shown of it.
+first_none : (name : Text) (rows : List Row) → has_row name rows ≡ false → first_of name rows ≡ None
+first_none name [] none = refl
+first_none name (x ∷ rows) none =
+    let apart = or_parts (bytes_eq x.id name) (has_row name rows) none in
+    ap (λ b. shown b x name rows) apart.0 ∙ first_none name rows apart.1
+
+has_more : (name : Text) (rows : List Row) (r : Row) → has_row name (rows ++ r ∷ []) ≡ (has_row name rows || bytes_eq r.id name)
+has_more name rows r = list_any-append (λ (x : Row). bytes_eq x.id name) rows (r ∷ []) ∙ ap (λ b. has_row name rows || b) (sym (or_not (bytes_eq r.id name)))
+
+abbrev flag_row : Flag → Row
+flag_row f = row_with (name_of f) (reading_of vp.Bool) (codes "true" ∷ [])
+
+abbrev folder_row : Text → Row
+folder_row w = row_for (use_of (codes "folder") w)
+
+-- The word whose value is being read, if there is one.
+data Kept : Type 0 where
+  free : Kept
+  held : Text → Kept
+
+abbrev pending_of : Kept → Pending
+pending_of free = None
+pending_of (held w) = Some (codes "folder", w ∷ [])
+
+-- The rows once it is taken.
+abbrev rows_with : Kept → List Row → List Row
+rows_with free rows = rows
+rows_with (held w) rows = rows ++ folder_row w ∷ []
+
+-- The rows and the word that is being read show this folder.
+abbrev HasFolder : Kept → List Row → Option Text → Type 0
+HasFolder free rows folder = first_of (codes "folder") rows ≡ folder
+HasFolder (held w) rows folder = (folder ≡ Some w) × (has_row (codes "folder") rows ≡ false)
+
+-- .. and these flags.
+record At (k : Kept) (rows : List Row) (folder : Option Text) (o : Flags) : Type 0 where
+  has : (f : Flag) → has_row (name_of f) rows ≡ on f o
+  set : (f : Flag) → is_set (first_of (name_of f) rows) ≡ on f o
+  alone : folder ≡ None → has_row (codes "folder") rows ≡ false
+  shows : HasFolder k rows folder
+
+abbrev position_of : Option Text → ℕ
+position_of folder = if is_some folder then 2 else 1
+
+abbrev stand : Kept → List Row → Option Text → Bool → Walk
+stand k rows folder trailing = walk_at rows (pending_of k) idle (position_of folder) trailing
 
 abbrev turn : Walk → Text → Kinds
 turn w word = turn_fault live [] w word
@@ -98,6 +176,32 @@ end_rows w ws = finished live_rules (held_after w ws)
 abbrev says : List Row → Option Words
 says rows = placed_in (placing_of rows)
 
+abbrev folder_rule : Rule
+folder_rule = rule_with (codes "folder") None (Some 1)
+
+-- ---- the word is taken
+
+settled_is : (k : Kept) (rows : List Row) (folder : Option Text) (o : Flags) → At k rows folder o → settled_rows live_rules (pending_of k) rows ≡ rows_with k rows
+settled_is free rows folder o at = refl
+settled_is (held w) rows folder o at = used_new (codes "folder") (reading_of vp.String) (w ∷ []) rows at.shows.1
+
+settles : (k : Kept) (rows : List Row) (folder : Option Text) (o : Flags) → At k rows folder o → settle_fault live_rules false (record { rows = rows; pending = pending_of k; skip = 0 }) ≡ []
+settles free rows folder o at = refl
+settles (held w) rows folder o at = rw at.shows.1 refl
+
+taken_at : (k : Kept) (rows : List Row) (folder : Option Text) (o : Flags) → At k rows folder o → At free (rows_with k rows) folder o
+taken_at free rows folder o at = at
+taken_at (held w) rows folder o at =
+    record {
+      has = λ f. has_more (name_of f) rows (folder_row w) ∙ ap (λ b. has_row (name_of f) rows || b) (no_flag_folder f) ∙ sym (or_not (has_row (name_of f) rows)) ∙ at.has f;
+      set = λ f. ap is_set (first_other (name_of f) rows (folder_row w) (no_flag_folder f)) ∙ at.set f;
+      alone = λ none. absurd (some_none (sym at.shows.0 ∙ none));
+      shows = first_own (codes "folder") rows (folder_row w) at.shows.1 refl ∙ sym at.shows.0;
+    }
+  where
+    some_none : Some w ≡ None → ⊥
+    some_none is = absurd cc
+
 -- ---- one word
 
 -- It is one more value, behind `--` in any case.
@@ -105,17 +209,11 @@ abbrev IsValue : Bool → Text → Type 0
 IsValue true word = Unit {0}
 IsValue false word = (is_plain word ≡ true) × Plain word
 
-first_word : (word : Text) (trailing : Bool) → IsValue trailing word
-    → (turn (stand none_got trailing) word ≡ []) × (after (stand none_got trailing) word ≡ stand (word_got word) trailing)
+first_word : (rows : List Row) (word : Text) (trailing : Bool) → IsValue trailing word
+    → (turn (walk_at rows None idle 1 trailing) word ≡ []) × (after (walk_at rows None idle 1 trailing) word ≡ walk_at rows (pending_of (held word)) idle 2 trailing)
 unfolding clap_on_literals
-first_word word true v = (refl, refl)
-first_word word false v = let p = v.1 in (rw (p.no_dashes, p.no_long, p.no_short) refl, rw (p.no_dashes, p.no_long, p.no_short) refl)
-
-word_behind : (word : Text) (trailing : Bool) → IsValue trailing word
-    → (turn (stand flag_got trailing) word ≡ []) × (after (stand flag_got trailing) word ≡ stand (flag_then word) trailing)
-unfolding clap_on_literals
-word_behind word true v = (refl, refl)
-word_behind word false v = let p = v.1 in (rw (p.no_dashes, p.no_long, p.no_short) refl, rw (p.no_dashes, p.no_long, p.no_short) refl)
+first_word rows word true v = (refl, refl)
+first_word rows word false v = let p = v.1 in (rw (p.no_dashes, p.no_long, p.no_short) refl, rw (p.no_dashes, p.no_long, p.no_short) refl)
 
 -- A second is too many.
 too_many : (rows : List Row) (pending : Pending) (word : Text) (trailing : Bool) → IsValue trailing word → Fails (turn (walk_at rows pending idle 2 trailing) word)
@@ -130,26 +228,82 @@ dashes_after : (rows : List Row) (pending : Pending) (position : ℕ) → after 
 unfolding clap_on_literals
 dashes_after rows pending position = refl
 
--- The flag is taken once, wherever it stands.
-flag_first : (turn (stand none_got false) (codes "--anew") ≡ []) × (after (stand none_got false) (codes "--anew") ≡ stand flag_got false)
-unfolding clap_on_literals
-flag_first = (refl, refl)
+-- What fails at a flag, by what fails as the word that is being read is taken, and by whether the flag was met.
+abbrev flag_kinds : Kinds → Bool → Kinds
+flag_kinds ks met = or_else (or_else ks (or_else (if met && true then kind.ArgumentConflict ∷ [] else []) [])) []
 
-flag_behind : (w : Text) → (turn (stand (word_got w) false) (codes "--anew") ≡ []) × (after (stand (word_got w) false) (codes "--anew") ≡ stand (then_flag w) false)
+flag_turn : (g : Flag) (k : Kept) (rows : List Row) (position : ℕ)
+    → turn (walk_at rows (pending_of k) idle position false) (word_of g)
+    ≡ flag_kinds (settle_fault live_rules false (record { rows = rows; pending = pending_of k; skip = 0 })) (has_row (name_of g) (settled_rows live_rules (pending_of k) rows))
 unfolding clap_on_literals
-flag_behind w = (refl, refl)
+flag_turn anew free rows position = refl
+flag_turn anew (held w) rows position = refl
+flag_turn keeps free rows position = refl
+flag_turn keeps (held w) rows position = refl
+flag_turn events free rows position = refl
+flag_turn events (held w) rows position = refl
 
-flag_again : Fails (turn (stand flag_got false) (codes "--anew"))
+flag_after : (g : Flag) (k : Kept) (rows : List Row) (position : ℕ)
+    → after (walk_at rows (pending_of k) idle position false) (word_of g)
+    ≡ walk_at (used (flag_with (name_of g)) [] (settled_rows live_rules (pending_of k) rows)) None idle position false
 unfolding clap_on_literals
-flag_again = fails_with _ _
+flag_after anew free rows position = refl
+flag_after anew (held w) rows position = refl
+flag_after keeps free rows position = refl
+flag_after keeps (held w) rows position = refl
+flag_after events free rows position = refl
+flag_after events (held w) rows position = refl
 
-flag_again_then : (w : Text) → Fails (turn (stand (flag_then w) false) (codes "--anew"))
-unfolding clap_on_literals
-flag_again_then w = fails_with _ _
+-- So nothing, if it is new; else it is met twice.
+flag_fault : (g : Flag) (k : Kept) (rows : List Row) (folder : Option Text) (o : Flags) → At k rows folder o
+    → turn (stand k rows folder false) (word_of g) ≡ flag_kinds [] (on g o)
+flag_fault g k rows folder o at =
+    flag_turn g k rows (position_of folder)
+    ∙ ap (λ ks. flag_kinds ks (has_row (name_of g) (settled_rows live_rules (pending_of k) rows))) (settles k rows folder o at)
+    ∙ ap (λ rs. flag_kinds [] (has_row (name_of g) rs)) (settled_is k rows folder o at)
+    ∙ ap (flag_kinds []) ((taken_at k rows folder o at).has g)
 
-then_flag_again : (w : Text) → Fails (turn (stand (then_flag w) false) (codes "--anew"))
-unfolding clap_on_literals
-then_flag_again w = fails_with _ _
+flag_used : (g : Flag) (rows : List Row) → has_row (name_of g) rows ≡ false → used (flag_with (name_of g)) [] rows ≡ rows ++ flag_row g ∷ []
+flag_used g rows none = used_new (name_of g) (reading_of vp.Bool) (codes "true" ∷ []) rows none
+
+flag_stands : (g : Flag) (k : Kept) (rows : List Row) (folder : Option Text) (o : Flags) → At k rows folder o → on g o ≡ false
+    → after (stand k rows folder false) (word_of g) ≡ stand free (rows_with k rows ++ flag_row g ∷ []) folder false
+flag_stands g k rows folder o at new =
+    flag_after g k rows (position_of folder)
+    ∙ ap (λ rs. walk_at (used (flag_with (name_of g)) [] rs) None idle (position_of folder) false) (settled_is k rows folder o at)
+    ∙ ap (λ rs. walk_at rs None idle (position_of folder) false) (flag_used g (rows_with k rows) ((taken_at k rows folder o at).has g ∙ new))
+
+is_its : (g : Flag) → bytes_eq (name_of g) (name_of g) ≡ true
+is_its anew = refl
+is_its keeps = refl
+is_its events = refl
+
+-- What is shown of a flag once this one is met.
+set_more : (f g : Flag) (rows : List Row) (o : Flags) (same : Bool) → is_same f g ≡ same → has_row (name_of g) rows ≡ false → is_set (first_of (name_of f) rows) ≡ on f o
+    → (same ≡ true → f ≡ g) → is_set (first_of (name_of f) (rows ++ flag_row g ∷ [])) ≡ (on f o || same)
+set_more f g rows o true is none set one =
+    ap is_set (first_own (name_of f) rows (flag_row g) (subst (λ h. has_row (name_of h) rows ≡ false) (sym (one refl)) none) is) ∙ or_yes (on f o)
+set_more f g rows o false is none set one = ap is_set (first_other (name_of f) rows (flag_row g) is) ∙ set ∙ or_not (on f o)
+
+same_is : (f g : Flag) → is_same f g ≡ true → f ≡ g
+same_is anew anew is = refl
+same_is anew keeps is = absurd cc
+same_is anew events is = absurd cc
+same_is keeps anew is = absurd cc
+same_is keeps keeps is = refl
+same_is keeps events is = absurd cc
+same_is events anew is = absurd cc
+same_is events keeps is = absurd cc
+same_is events events is = refl
+
+flag_met : (g : Flag) (rows : List Row) (folder : Option Text) (o : Flags) → At free rows folder o → on g o ≡ false → At free (rows ++ flag_row g ∷ []) folder (with_one g o)
+flag_met g rows folder o at new =
+    record {
+      has = λ f. has_more (name_of f) rows (flag_row g) ∙ ap (λ b. b || is_same f g) (at.has f) ∙ sym (on_with f g o);
+      set = λ f. set_more f g rows o (is_same f g) refl (at.has g ∙ new) (at.set f) (same_is f g) ∙ sym (on_with f g o);
+      alone = λ none. has_more (codes "folder") rows (flag_row g) ∙ ap (λ b. has_row (codes "folder") rows || b) (no_folder_flag g) ∙ sym (or_not (has_row (codes "folder") rows)) ∙ at.alone none;
+      shows = first_other (codes "folder") rows (flag_row g) (no_folder_flag g) ∙ at.shows;
+    }
 
 one_more : (n : ℕ) → 1 + n ≡ suc n
 one_more n = omega arith
@@ -161,27 +315,52 @@ all_before (c ∷ cs) none =
     let parts = or_parts (c == 61) (has_byte 61 cs) none in
     rw parts.0 (ap (λ k. take k (c ∷ cs)) (one_more (prefix_len (λ x. not (x == 61)) cs)) ∙ ap (λ ds. c ∷ ds) (all_before cs parts.1))
 
--- What the parser makes of a long word, by whether its name is the flag's and whether a value is attached.
-long_by : (is : Bool) (value : Option Text) (h : Held) (later : Kinds) → (is ≡ true → value ≡ None → ⊥)
-    → Fails (or_else (long_fault live_rules false (cond (is || false) (Some (flag_with (codes "anew"))) None) value h) later)
-long_by true None h later other = absurd (other refl refl)
-long_by true (Some v) h later other = fails_with _ _
-long_by false value h later other = fails_with _ _
+clash : true ≡ false → ⊥
+clash is = absurd cc
+
+-- What the parser makes of a long word, by whether its name is a flag's and whether a value is attached.
+long_by : (is_anew is_keeps is_events : Bool) (value : Option Text) (h : Held) (later : Kinds)
+    → (value ≡ None → (is_anew ≡ false) × (is_keeps ≡ false) × (is_events ≡ false))
+    → Fails (or_else (long_fault live_rules false (cond (is_anew || false) (Some (flag_with (codes "anew"))) (cond (is_keeps || false) (Some (flag_with (codes "keep-going"))) (cond (is_events || false) (Some (flag_with (codes "events"))) None))) value h) later)
+long_by true is_keeps is_events None h later other = absurd (clash (other refl).0)
+long_by false true is_events None h later other = absurd (clash (other refl).1)
+long_by false false true None h later other = absurd (clash (other refl).2)
+long_by false false false None h later other = fails_with _ _
+long_by true is_keeps is_events (Some v) h later other = fails_with _ _
+long_by false true is_events (Some v) h later other = fails_with _ _
+long_by false false true (Some v) h later other = fails_with _ _
+long_by false false false (Some v) h later other = fails_with _ _
 
 no_value : (has : Bool) (v : Text) → (if has then Some v else None) ≡ None → has ≡ false
 no_value true v is = absurd cc
 no_value false v is = refl
 
--- No other long word is known.
-long_fails : (rows : List Row) (pending : Pending) (position c : ℕ) (cs : Text) → bytes_eq (45 ∷ 45 ∷ c ∷ cs) (codes "--anew") ≡ false
-    → Fails (turn (walk_at rows pending idle position false) (45 ∷ 45 ∷ c ∷ cs))
-long_fails rows pending position c cs other = long_by (bytes_eq (codes "anew") (before_first (λ x. x == 61) (c ∷ cs))) _ _ _ (λ is none.
-    let whole = all_before (c ∷ cs) (no_value (has_byte 61 (c ∷ cs)) _ none) in
-    let same : codes "anew" ≡ c ∷ cs = (bytes_eq-Decides (codes "anew") _).0 is ∙ whole in
-    clash (sym other ∙ ap (λ ds. bytes_eq (45 ∷ 45 ∷ ds) (codes "--anew")) (sym same)))
+-- It is none of the flags.
+abbrev IsOther : Text → Type 0
+IsOther w = (bytes_eq w (codes "--anew") ≡ false) × (bytes_eq w (codes "--keep-going") ≡ false) × (bytes_eq w (codes "--events") ≡ false)
+
+-- So its name is none of theirs.
+other_name : (g : Flag) (c : ℕ) (cs name : Text) → bytes_eq (45 ∷ 45 ∷ c ∷ cs) (word_of g) ≡ false → name ≡ c ∷ cs → bytes_eq (name_of g) name ≡ false
+other_name g c cs name other whole = elim (cases_Bool (bytes_eq (name_of g) name)) [
+  | inl is ↦
+      let same : name_of g ≡ c ∷ cs = (bytes_eq-Decides (name_of g) name).0 is ∙ whole in
+      absurd (clash (sym (its_word g) ∙ ap (λ ds. bytes_eq (45 ∷ 45 ∷ ds) (word_of g)) same ∙ other))
+  | inr apart ↦ apart
+]
   where
-    clash : false ≡ true → ⊥
-    clash is = absurd cc
+    its_word : (g : Flag) → bytes_eq (word_of g) (word_of g) ≡ true
+    its_word anew = refl
+    its_word keeps = refl
+    its_word events = refl
+
+-- No other long word is known.
+long_fails : (rows : List Row) (pending : Pending) (position c : ℕ) (cs : Text) → IsOther (45 ∷ 45 ∷ c ∷ cs)
+    → Fails (turn (walk_at rows pending idle position false) (45 ∷ 45 ∷ c ∷ cs))
+long_fails rows pending position c cs other =
+    let name : Text = before_first (λ x. x == 61) (c ∷ cs) in
+    long_by (bytes_eq (codes "anew") name) (bytes_eq (codes "keep-going") name) (bytes_eq (codes "events") name) _ _ _ (λ none.
+    let whole = all_before (c ∷ cs) (no_value (has_byte 61 (c ∷ cs)) _ none) in
+    (other_name anew c cs name other.0 whole, other_name keeps c cs name other.1 whole, other_name events c cs name other.2 whole))
 
 short_fails : (rows : List Row) (pending : Pending) (position c x : ℕ) (cs : Text) → eqb c 45 ≡ false → slice_get (chars (c ∷ cs)) 0 ≡ Some x
     → Fails (turn (walk_at rows pending idle position false) (45 ∷ c ∷ cs))
@@ -202,250 +381,227 @@ turn_passes w v word ws h is = rw h (ap (λ u. rest u ws) is)
 rows_pass : (w v : Walk) (word : Text) (ws : List Text) → after w word ≡ v → end_rows w (word ∷ ws) ≡ end_rows v ws
 rows_pass w v word ws is = ap (λ u. end_rows u ws) is
 
--- The folder among the words that are left, as the reader takes them: whether `--` was met, and the folder, if it was.
-abbrev folder_left : Bool → Option Text → List Text → Option Text
-folder_left trailing folder [] = folder
-folder_left true None (w ∷ ws) = folder_left true (Some w) ws
-folder_left true (Some f) (w ∷ ws) = None
-folder_left false None (w ∷ ws) =
-    if bytes_eq w (codes "--") then folder_left true None ws else if is_plain w then folder_left false (Some w) ws else None
-folder_left false (Some f) (w ∷ ws) = if bytes_eq w (codes "--") then folder_left true (Some f) ws else None
-
--- What these ask for, by what is left without the flag.
-abbrev said_with : Option Text → List Text → Option (List Text) → Option Words
-said_with folder ws None = option_map (λ f. Live f false) (folder_left false folder ws)
-said_with folder ws (Some left) = option_map (λ f. Live f true) (folder_left false folder left)
-
--- .. and whether the flag was met before.
-abbrev asked : Bool → Bool → Option Text → List Text → Option Words
-asked trailing true folder ws = option_map (λ f. Live f true) (folder_left trailing folder ws)
-asked true false folder ws = option_map (λ f. Live f false) (folder_left true folder ws)
-asked false false folder ws = said_with folder ws (without_flag (codes "--anew") ws)
-
-abbrev taken : Bool → Got → List Text → Option Words
-taken trailing g ws = asked trailing (flag_at g) (folder_at g) ws
-
 -- Both take the words and say the same, or neither does.
-abbrev Agree : Got → Bool → List Text → Type 0
-Agree g trailing ws =
-    ((rest (stand g trailing) ws ≡ []) × (says (end_rows (stand g trailing) ws) ≡ taken trailing g ws))
-    ⊎ (Fails (rest (stand g trailing) ws) × (taken trailing g ws ≡ None))
+abbrev Agree : Kept → List Row → Option Text → Flags → Bool → List Text → Type 0
+Agree k rows folder o trailing ws =
+    ((rest (stand k rows folder trailing) ws ≡ []) × (says (end_rows (stand k rows folder trailing) ws) ≡ taken trailing folder o ws))
+    ⊎ (Fails (rest (stand k rows folder trailing) ws) × (taken trailing folder o ws ≡ None))
+
+-- .. from wherever they stand.
+abbrev AllAgree : Bool → List Text → Type 0
+AllAgree trailing ws = (k : Kept) (rows : List Row) (folder : Option Text) (o : Flags) → At k rows folder o → Agree k rows folder o trailing ws
 
 -- Behind a word that is taken the rest decides.
-carried : (g n : Got) (trailing behind : Bool) (word : Text) (ws : List Text) → turn (stand g trailing) word ≡ [] → after (stand g trailing) word ≡ stand n behind
-    → taken trailing g (word ∷ ws) ≡ taken behind n ws → Agree n behind ws → Agree g trailing (word ∷ ws)
-carried g n trailing behind word ws passes goes same (inl both) = inl (
-  turn_passes (stand g trailing) (stand n behind) word ws passes goes ∙ both.0,
-  ap says (rows_pass (stand g trailing) (stand n behind) word ws goes) ∙ both.1 ∙ sym same,
-)
-carried g n trailing behind word ws passes goes same (inr neither) = inr (
-  λ none. neither.0 (sym (turn_passes (stand g trailing) (stand n behind) word ws passes goes) ∙ none),
-  same ∙ neither.1,
-)
+carried : (w v : Walk) (before now : Option Words) (word : Text) (ws : List Text) → turn w word ≡ [] → after w word ≡ v → before ≡ now
+    → ((rest v ws ≡ []) × (says (end_rows v ws) ≡ now)) ⊎ (Fails (rest v ws) × (now ≡ None))
+    → ((rest w (word ∷ ws) ≡ []) × (says (end_rows w (word ∷ ws)) ≡ before)) ⊎ (Fails (rest w (word ∷ ws)) × (before ≡ None))
+carried w v before now word ws passes goes same (inl both) =
+    inl (turn_passes w v word ws passes goes ∙ both.0, ap says (rows_pass w v word ws goes) ∙ both.1 ∙ sym same)
+carried w v before now word ws passes goes same (inr neither) =
+    inr (λ none. neither.0 (sym (turn_passes w v word ws passes goes) ∙ none), same ∙ neither.1)
 
-refused : (g : Got) (trailing : Bool) (word : Text) (ws : List Text) → Fails (turn (stand g trailing) word) → taken trailing g (word ∷ ws) ≡ None
-    → Agree g trailing (word ∷ ws)
-refused g trailing word ws fails says_none = inr (turn_fails (stand g trailing) word ws fails, says_none)
+refused : (w : Walk) (said : Option Words) (word : Text) (ws : List Text) → Fails (turn w word) → said ≡ None
+    → ((rest w (word ∷ ws) ≡ []) × (says (end_rows w (word ∷ ws)) ≡ said)) ⊎ (Fails (rest w (word ∷ ws)) × (said ≡ None))
+refused w said word ws fails none = inr (turn_fails w word ws fails, none)
 
 -- ---- the end
 
-at_end : (g : Got) (trailing : Bool) → Agree g trailing []
+-- What rows show of a flag and of the folder.
+abbrev Shows : List Row → Option Text → Flags → Type 0
+Shows rows folder o = (first_of (codes "folder") rows ≡ folder) × ((f : Flag) → is_set (first_of (name_of f) rows) ≡ on f o)
+
+abbrev unset_row : Flag → Row
+unset_row g = record (flag_row g) { values = codes "false" ∷ []; source = Some DefaultValue }
+
+unset : (f g : Flag) (rows : List Row) (same : Bool) → is_same f g ≡ same → (same ≡ true → f ≡ g) → has_row (name_of g) rows ≡ false
+    → is_set (first_of (name_of f) (rows ++ unset_row g ∷ [])) ≡ is_set (first_of (name_of f) rows)
+unset f g rows true is one none =
+    let mine : has_row (name_of f) rows ≡ false = subst (λ h. has_row (name_of h) rows ≡ false) (sym (one refl)) none in
+    ap is_set (first_own (name_of f) rows (unset_row g) mine is) ∙ sym (ap is_set (first_none (name_of f) rows mine))
+unset f g rows false is one none = ap is_set (first_other (name_of f) rows (unset_row g) is)
+
+-- What is not given is filled in as false.
+default_shows : (g : Flag) (rows : List Row) (folder : Option Text) (o : Flags) → Shows rows folder o → Shows (with_default rows (flag_with (name_of g))) folder o
+default_shows g rows folder o s = go (has_row (name_of g) rows) refl
+  where
+    go : (b : Bool) → has_row (name_of g) rows ≡ b → Shows (cond b rows (default_rows (name_of g) (reading_of vp.Bool) (codes "false" ∷ []) rows)) folder o
+    go true is = s
+    go false is =
+        let joined : default_rows (name_of g) (reading_of vp.Bool) (codes "false" ∷ []) rows ≡ rows ++ unset_row g ∷ [] =
+        new_row (name_of g) (more_values DefaultValue (codes "false" ∷ [])) (unset_row g ∷ []) rows is in
+        subst (λ rs. Shows rs folder o) (sym joined) (
+          first_other (codes "folder") rows (unset_row g) (no_folder_flag g) ∙ s.0,
+          λ f. unset f g rows (is_same f g) refl (same_is f g) is ∙ s.1 f,
+        )
+
+same_by : (b : Bool) (rows : List Row) → cond b rows rows ≡ rows
+same_by true rows = refl
+same_by false rows = refl
+
+folder_default : (rows : List Row) → with_default rows folder_rule ≡ rows
+folder_default rows = same_by (has_row (codes "folder") rows) rows
+
+all_shown : (rows : List Row) (folder : Option Text) (o : Flags) → Shows rows folder o → Shows (fold with_default rows live_rules) folder o
+all_shown rows folder o s =
+    subst (λ rs. Shows (fold with_default rs (flag_with (codes "anew") ∷ flag_with (codes "keep-going") ∷ flag_with (codes "events") ∷ [])) folder o) (sym (folder_default rows))
+    (default_shows events _ folder o (default_shows keeps _ folder o (default_shows anew rows folder o s)))
+
+abbrev lives : Option Text → Bool → Bool → Bool → Option Words
+lives folder a k e = option_map (λ f. Live f a k e) folder
+
+shown_says : (rows : List Row) (folder : Option Text) (o : Flags) → Shows rows folder o → says rows ≡ placed_in (place folder o)
+shown_says rows folder o s =
+    ap (λ f. lives f (is_set (first_of (codes "anew") rows)) (is_set (first_of (codes "keep-going") rows)) (is_set (first_of (codes "events") rows))) s.0
+    ∙ ap (λ a. lives folder a (is_set (first_of (codes "keep-going") rows)) (is_set (first_of (codes "events") rows))) (s.1 anew)
+    ∙ ap (λ k. lives folder o.has_anew k (is_set (first_of (codes "events") rows))) (s.1 keeps)
+    ∙ ap (λ e. lives folder o.has_anew o.has_keeps e) (s.1 events)
+
+at_end : (trailing : Bool) → AllAgree trailing []
 unfolding clap_on_literals
-at_end none_got true = inl (refl, refl)
-at_end none_got false = inl (refl, refl)
-at_end (word_got w) true = inl (refl, refl)
-at_end (word_got w) false = inl (refl, refl)
-at_end flag_got true = inl (refl, refl)
-at_end flag_got false = inl (refl, refl)
-at_end (flag_then w) true = inl (refl, refl)
-at_end (flag_then w) false = inl (refl, refl)
-at_end (then_flag w) true = inl (refl, refl)
-at_end (then_flag w) false = inl (refl, refl)
-
--- ---- what the reader makes of one more word
-
--- A word that is neither `--` nor the flag stays before the flag.
-without_on : (word : Text) (ws : List Text) → bytes_eq word (codes "--") ≡ false → bytes_eq word (codes "--anew") ≡ false
-    → without_flag (codes "--anew") (word ∷ ws) ≡ option_map (λ left. word ∷ left) (without_flag (codes "--anew") ws)
-without_on word ws apart other = rw (apart, other) refl
-
-asked_by : (word : Text) (ws : List Text) (folder next : Option Text) (left : Option (List Text))
-    → ((vs : List Text) → folder_left false folder (word ∷ vs) ≡ folder_left false next vs)
-    → said_with folder (word ∷ ws) (option_map (λ vs. word ∷ vs) left) ≡ said_with next ws left
-asked_by word ws folder next None same = ap (option_map (λ f. Live f false)) (same ws)
-asked_by word ws folder next (Some left) same = ap (option_map (λ f. Live f true)) (same left)
-
-asked_on : (flag : Bool) (word : Text) (ws : List Text) (folder next : Option Text) → bytes_eq word (codes "--") ≡ false → bytes_eq word (codes "--anew") ≡ false
-    → ((vs : List Text) → folder_left false folder (word ∷ vs) ≡ folder_left false next vs) → asked false flag folder (word ∷ ws) ≡ asked false flag next ws
-asked_on true word ws folder next apart other same = ap (option_map (λ f. Live f true)) (same ws)
-asked_on false word ws folder next apart other same =
-    ap (said_with folder (word ∷ ws)) (without_on word ws apart other) ∙ asked_by word ws folder next (without_flag (codes "--anew") ws) same
-
--- Nor is one that can't be taken.
-none_by : (word : Text) (ws : List Text) (folder : Option Text) (left : Option (List Text)) → ((vs : List Text) → folder_left false folder (word ∷ vs) ≡ None)
-    → said_with folder (word ∷ ws) (option_map (λ vs. word ∷ vs) left) ≡ None
-none_by word ws folder None none = ap (option_map (λ f. Live f false)) (none ws)
-none_by word ws folder (Some left) none = ap (option_map (λ f. Live f true)) (none left)
-
-none_asked : (flag : Bool) (word : Text) (ws : List Text) (folder : Option Text) → bytes_eq word (codes "--") ≡ false → bytes_eq word (codes "--anew") ≡ false
-    → ((vs : List Text) → folder_left false folder (word ∷ vs) ≡ None) → asked false flag folder (word ∷ ws) ≡ None
-none_asked true word ws folder apart other none = ap (option_map (λ f. Live f true)) (none ws)
-none_asked false word ws folder apart other none =
-    ap (said_with folder (word ∷ ws)) (without_on word ws apart other) ∙ none_by word ws folder (without_flag (codes "--anew") ws) none
+at_end trailing k rows folder o at =
+    let free_at = taken_at k rows folder o at in
+    inl (
+      settles k rows folder o at,
+      ap (λ rs. says (fold with_default rs live_rules)) (settled_is k rows folder o at)
+          ∙ shown_says _ folder o (all_shown (rows_with k rows) folder o (free_at.shows, free_at.set)) ∙ taken_none trailing,
+    )
+  where
+    taken_none : (trailing : Bool) → placed_in (place folder o) ≡ taken trailing folder o []
+    taken_none true = refl
+    taken_none false = refl
 
 -- ---- a value
 
-no_flag : (word : Text) → is_plain word ≡ true → bytes_eq word (codes "--anew") ≡ false
-no_flag word plain = elim (cases_Bool (bytes_eq word (codes "--anew"))) [
-  | inl is ↦ absurd (clash (sym (ap is_plain ((bytes_eq-Decides word (codes "--anew")).0 is)) ∙ plain))
-  | inr other ↦ other
+no_flag : (word other : Text) → is_plain word ≡ true → is_plain other ≡ false → bytes_eq word other ≡ false
+no_flag word other plain hyphened = elim (cases_Bool (bytes_eq word other)) [
+  | inl is ↦ absurd (clash (sym plain ∙ ap is_plain ((bytes_eq-Decides word other).0 is) ∙ hyphened))
+  | inr apart ↦ apart
 ]
+
+first_taken : (word : Text) (ws : List Text) (o : Flags) (trailing : Bool) → IsValue trailing word → taken trailing None o (word ∷ ws) ≡ taken trailing (Some word) o ws
+first_taken word ws o true v = refl
+first_taken word ws o false v = let p = v.1 in rw (p.no_dashes, v.0) refl
+
+second_taken : (f word : Text) (ws : List Text) (o : Flags) (trailing : Bool) → IsValue trailing word → taken trailing (Some f) o (word ∷ ws) ≡ None
+second_taken f word ws o true v = refl
+second_taken f word ws o false v = let p = v.1 in rw (p.no_dashes, v.0) refl
+
+held_at : (k : Kept) (rows : List Row) (word : Text) (o : Flags) → At k rows None o → (k ≡ free) × At (held word) rows (Some word) o
+held_at free rows word o at = (refl, record { has = at.has; set = at.set; alone = λ none. absurd (some_none none); shows = (refl, at.alone refl) })
   where
-    clash : false ≡ true → ⊥
-    clash is = absurd cc
+    some_none : Some word ≡ None → ⊥
+    some_none is = absurd cc
+held_at (held w) rows word o at = absurd (none_some at.shows.0)
+  where
+    none_some : None ≡ Some w → ⊥
+    none_some is = absurd cc
 
-first_taken : (flag : Bool) (word : Text) (ws : List Text) (trailing : Bool) → IsValue trailing word → asked trailing flag None (word ∷ ws) ≡ asked trailing flag (Some word) ws
-first_taken true word ws true v = refl
-first_taken false word ws true v = refl
-first_taken flag word ws false v =
-    let p = v.1 in asked_on flag word ws None (Some word) p.no_dashes (no_flag word v.0) (λ vs. rw (p.no_dashes, v.0) refl)
+value_agrees : (trailing : Bool) (word : Text) (ws : List Text) → IsValue trailing word → AllAgree trailing ws → AllAgree trailing (word ∷ ws)
+value_agrees trailing word ws v later k rows None o at =
+    let next = held_at k rows word o at in
+    let more = first_word rows word trailing v in
+    subst (λ j. Agree j rows None o trailing (word ∷ ws)) (sym next.0)
+    (carried (stand free rows None trailing) (stand (held word) rows (Some word) trailing) _ _ word ws more.0 more.1 (first_taken word ws o trailing v)
+    (later (held word) rows (Some word) o next.1))
+value_agrees trailing word ws v later k rows (Some f) o at =
+    refused (stand k rows (Some f) trailing) _ word ws (too_many rows (pending_of k) word trailing v) (second_taken f word ws o trailing v)
 
-second_taken : (flag : Bool) (f word : Text) (ws : List Text) (trailing : Bool) → IsValue trailing word → asked trailing flag (Some f) (word ∷ ws) ≡ None
-second_taken true f word ws true v = refl
-second_taken false f word ws true v = refl
-second_taken flag f word ws false v = let p = v.1 in none_asked flag word ws (Some f) p.no_dashes (no_flag word v.0) (λ vs. rw p.no_dashes refl)
+-- ---- a flag
 
-value_agrees : (g : Got) (trailing : Bool) (word : Text) (ws : List Text) → IsValue trailing word → ((n : Got) → Agree n trailing ws) → Agree g trailing (word ∷ ws)
-value_agrees none_got trailing word ws v later =
-    let more = first_word word trailing v in
-    carried none_got (word_got word) trailing trailing word ws more.0 more.1 (first_taken false word ws trailing v) (later (word_got word))
-value_agrees (word_got w) trailing word ws v later =
-    refused (word_got w) trailing word ws (too_many (rows_at (word_got w)) (pending_at (word_got w)) word trailing v) (second_taken false w word ws trailing v)
-value_agrees flag_got trailing word ws v later =
-    let more = word_behind word trailing v in
-    carried flag_got (flag_then word) trailing trailing word ws more.0 more.1 (first_taken true word ws trailing v) (later (flag_then word))
-value_agrees (flag_then w) trailing word ws v later =
-    refused (flag_then w) trailing word ws (too_many (rows_at (flag_then w)) (pending_at (flag_then w)) word trailing v) (second_taken true w word ws trailing v)
-value_agrees (then_flag w) trailing word ws v later =
-    refused (then_flag w) trailing word ws (too_many (rows_at (then_flag w)) (pending_at (then_flag w)) word trailing v) (second_taken true w word ws trailing v)
+flag_read : (g : Flag) (folder : Option Text) (o : Flags) (ws : List Text)
+    → taken false folder o (word_of g ∷ ws) ≡ option_and_then placed_in (option_and_then (λ next. placed_from false next ws) (choose (not (on g o)) (place folder (with_one g o))))
+flag_read anew folder o ws = refl
+flag_read keeps folder o ws = refl
+flag_read events folder o ws = refl
 
--- ---- the flag
+flag_by : (met : Bool) (g : Flag) (ws : List Text) → AllAgree false ws → (k : Kept) (rows : List Row) (folder : Option Text) (o : Flags) → At k rows folder o → on g o ≡ met
+    → Agree k rows folder o false (word_of g ∷ ws)
+flag_by true g ws later k rows folder o at met =
+    refused (stand k rows folder false) _ (word_of g) ws (λ none. fails_with _ _ (sym (flag_fault g k rows folder o at ∙ ap (flag_kinds []) met) ∙ none))
+    (flag_read g folder o ws ∙ ap (λ b. option_and_then placed_in (option_and_then (λ next. placed_from false next ws) (choose (not b) (place folder (with_one g o))))) met)
+flag_by false g ws later k rows folder o at new =
+    carried (stand k rows folder false) (stand free (rows_with k rows ++ flag_row g ∷ []) folder false) _ _ (word_of g) ws
+    (flag_fault g k rows folder o at ∙ ap (flag_kinds []) new) (flag_stands g k rows folder o at new)
+    (flag_read g folder o ws ∙ ap (λ b. option_and_then placed_in (option_and_then (λ next. placed_from false next ws) (choose (not b) (place folder (with_one g o))))) new)
+    (later free (rows_with k rows ++ flag_row g ∷ []) folder (with_one g o) (flag_met g (rows_with k rows) folder o (taken_at k rows folder o at) new))
 
--- It is no folder.
-flag_left : (folder : Option Text) (vs : List Text) → folder_left false folder (codes "--anew" ∷ vs) ≡ None
-flag_left None vs = refl
-flag_left (Some f) vs = refl
+flag_agrees : (g : Flag) (ws : List Text) → AllAgree false ws → AllAgree false (word_of g ∷ ws)
+flag_agrees g ws later k rows folder o at = flag_by (on g o) g ws later k rows folder o at refl
 
-flag_agrees : (g : Got) (ws : List Text) → ((n : Got) → Agree n false ws) → Agree g false (codes "--anew" ∷ ws)
-flag_agrees none_got ws later = carried none_got flag_got false false (codes "--anew") ws flag_first.0 flag_first.1 refl (later flag_got)
-flag_agrees (word_got w) ws later =
-    let more = flag_behind w in carried (word_got w) (then_flag w) false false (codes "--anew") ws more.0 more.1 refl (later (then_flag w))
-flag_agrees flag_got ws later = refused flag_got false (codes "--anew") ws flag_again (ap (option_map (λ f. Live f true)) (flag_left None ws))
-flag_agrees (flag_then w) ws later = refused (flag_then w) false (codes "--anew") ws (flag_again_then w) (ap (option_map (λ f. Live f true)) (flag_left (Some w) ws))
-flag_agrees (then_flag w) ws later = refused (then_flag w) false (codes "--anew") ws (then_flag_again w) (ap (option_map (λ f. Live f true)) (flag_left (Some w) ws))
+-- ---- a word that looks like an option, and is no flag
 
--- ---- a word that looks like an option, and is not the flag
-
--- It is no folder.
-no_folder : (folder : Option Text) (c : ℕ) (cs : Text) → bytes_eq (45 ∷ c ∷ cs) (45 ∷ 45 ∷ []) ≡ false → (vs : List Text) → folder_left false folder ((45 ∷ c ∷ cs) ∷ vs) ≡ None
-no_folder None c cs apart vs = rw apart refl
-no_folder (Some f) c cs apart vs = rw apart refl
+other_taken : (c : ℕ) (cs : Text) (folder : Option Text) (o : Flags) (ws : List Text) → bytes_eq (45 ∷ c ∷ cs) (45 ∷ 45 ∷ []) ≡ false → IsOther (45 ∷ c ∷ cs)
+    → taken false folder o ((45 ∷ c ∷ cs) ∷ ws) ≡ None
+other_taken c cs folder o ws apart other = rw (apart, other.0, other.1, other.2) refl
 
 -- `--` is taken once.
-dashes_asked : (flag : Bool) (folder : Option Text) (ws : List Text) → asked false flag folder ((45 ∷ 45 ∷ []) ∷ ws) ≡ asked true flag folder ws
-dashes_asked true None ws = refl
-dashes_asked true (Some f) ws = refl
-dashes_asked false None ws = refl
-dashes_asked false (Some f) ws = refl
+dashes_agree : (ws : List Text) → AllAgree true ws → AllAgree false ((45 ∷ 45 ∷ []) ∷ ws)
+dashes_agree ws later k rows folder o at =
+    carried (stand k rows folder false) (stand k rows folder true) _ _ (45 ∷ 45 ∷ []) ws (dashes_turn rows (pending_of k) (position_of folder))
+    (dashes_after rows (pending_of k) (position_of folder)) refl (later k rows folder o at)
 
-dashes_agree : (g : Got) (ws : List Text) → Agree g true ws → Agree g false ((45 ∷ 45 ∷ []) ∷ ws)
-dashes_agree g ws later =
-    carried g g false true (45 ∷ 45 ∷ []) ws (dashes_turn (rows_at g) (pending_at g) (place_at g)) (dashes_after (rows_at g) (pending_at g) (place_at g))
-    (dashes_asked (flag_at g) (folder_at g) ws) later
-
-long_agrees : (g : Got) (c : ℕ) (cs : Text) (ws : List Text) → ((n : Got) → Agree n false ws) → Agree g false ((45 ∷ 45 ∷ c ∷ cs) ∷ ws)
-long_agrees g c cs ws later = elim (cases_Bool (bytes_eq (45 ∷ 45 ∷ c ∷ cs) (codes "--anew"))) [
-  | inl is ↦ subst (λ w. Agree g false (w ∷ ws)) (sym ((bytes_eq-Decides (45 ∷ 45 ∷ c ∷ cs) (codes "--anew")).0 is)) (flag_agrees g ws later)
-  | inr other ↦ refused g false (45 ∷ 45 ∷ c ∷ cs) ws (long_fails (rows_at g) (pending_at g) (place_at g) c cs other)
-      (none_asked (flag_at g) (45 ∷ 45 ∷ c ∷ cs) ws (folder_at g) refl other (no_folder (folder_at g) 45 (c ∷ cs) refl))
+-- A word is a flag, or none.
+word_is : (w : Text) → ((g : Flag) × (w ≡ word_of g)) ⊎ IsOther w
+word_is w = elim (cases_Bool (bytes_eq w (codes "--anew"))) [
+  | inl is ↦ inl (anew, (bytes_eq-Decides w (codes "--anew")).0 is)
+  | inr no_anew ↦ elim (cases_Bool (bytes_eq w (codes "--keep-going"))) [
+    | inl is ↦ inl (keeps, (bytes_eq-Decides w (codes "--keep-going")).0 is)
+    | inr no_keeps ↦ elim (cases_Bool (bytes_eq w (codes "--events"))) [
+      | inl is ↦ inl (events, (bytes_eq-Decides w (codes "--events")).0 is)
+      | inr no_events ↦ inr (no_anew, no_keeps, no_events)
+    ]
+  ]
 ]
 
-two_hyphens : (g : Got) (cs : Text) (ws : List Text) → Agree g true ws → ((n : Got) → Agree n false ws) → Agree g false ((45 ∷ 45 ∷ cs) ∷ ws)
-two_hyphens g [] ws trailing later = dashes_agree g ws trailing
-two_hyphens g (c ∷ cs) ws trailing later = long_agrees g c cs ws later
+long_agrees : (c : ℕ) (cs : Text) (ws : List Text) → AllAgree false ws → AllAgree false ((45 ∷ 45 ∷ c ∷ cs) ∷ ws)
+long_agrees c cs ws later k rows folder o at = elim (word_is (45 ∷ 45 ∷ c ∷ cs)) [
+  | inl flag ↦ subst (λ w. Agree k rows folder o false (w ∷ ws)) (sym flag.1) (flag_agrees flag.0 ws later k rows folder o at)
+  | inr other ↦ refused (stand k rows folder false) _ (45 ∷ 45 ∷ c ∷ cs) ws (long_fails rows (pending_of k) (position_of folder) c cs other)
+      (other_taken 45 (c ∷ cs) folder o ws refl other)
+]
 
-one_flag : (c : ℕ) (cs : Text) → eqb c 45 ≡ false → bytes_eq (45 ∷ c ∷ cs) (codes "--anew") ≡ false
-one_flag c cs no_hyphen = rw no_hyphen refl
+two_hyphens : (cs : Text) (ws : List Text) → AllAgree true ws → AllAgree false ws → AllAgree false ((45 ∷ 45 ∷ cs) ∷ ws)
+two_hyphens [] ws trailing later = dashes_agree ws trailing
+two_hyphens (c ∷ cs) ws trailing later = long_agrees c cs ws later
 
-hyphen_agrees : (g : Got) (c : ℕ) (cs : Text) (ws : List Text) → IsUtf8 (45 ∷ c ∷ cs) → Agree g true ws → ((n : Got) → Agree n false ws) → Agree g false ((45 ∷ c ∷ cs) ∷ ws)
-hyphen_agrees g c cs ws u trailing later = elim (cases_Bool (eqb c 45)) [
-  | inl hyphen ↦ subst (λ d. Agree g false ((45 ∷ d ∷ cs) ∷ ws)) (sym (eqb-true c 45 hyphen)) (two_hyphens g cs ws trailing later)
+one_flag : (c : ℕ) (cs : Text) → eqb c 45 ≡ false → IsOther (45 ∷ c ∷ cs)
+one_flag c cs no_hyphen = (rw no_hyphen refl, rw no_hyphen refl, rw no_hyphen refl)
+
+hyphen_agrees : (c : ℕ) (cs : Text) (ws : List Text) → IsUtf8 (45 ∷ c ∷ cs) → AllAgree true ws → AllAgree false ws → AllAgree false ((45 ∷ c ∷ cs) ∷ ws)
+hyphen_agrees c cs ws u trailing later k rows folder o at = elim (cases_Bool (eqb c 45)) [
+  | inl hyphen ↦ subst (λ d. Agree k rows folder o false ((45 ∷ d ∷ cs) ∷ ws)) (sym (eqb-true c 45 hyphen)) (two_hyphens cs ws trailing later k rows folder o at)
   | inr no_hyphen ↦
       let first = first_char c cs (behind (c ∷ cs) u) in
-      refused g false (45 ∷ c ∷ cs) ws (short_fails (rows_at g) (pending_at g) (place_at g) c first.0 cs no_hyphen first.1.char)
-      (none_asked (flag_at g) (45 ∷ c ∷ cs) ws (folder_at g) (no_dashes c cs no_hyphen) (one_flag c cs no_hyphen) (no_folder (folder_at g) c cs (no_dashes c cs no_hyphen)))
+      refused (stand k rows folder false) _ (45 ∷ c ∷ cs) ws (short_fails rows (pending_of k) (position_of folder) c first.0 cs no_hyphen first.1.char)
+      (other_taken c cs folder o ws (no_dashes c cs no_hyphen) (one_flag c cs no_hyphen))
 ]
 
 -- ---- all words
 
-trailing_agree : (ws : List Text) (g : Got) → Agree g true ws
-trailing_agree [] g = at_end g true
-trailing_agree (word ∷ ws) g = value_agrees g true word ws tt (trailing_agree ws)
+trailing_agree : (ws : List Text) → AllAgree true ws
+trailing_agree [] = at_end true
+trailing_agree (word ∷ ws) = value_agrees true word ws tt (trailing_agree ws)
 
-all_agree : (ws : List Text) (g : Got) → AreTexts ws → Agree g false ws
-all_agree [] g texts = at_end g false
-all_agree (word ∷ ws) g texts = elim (word_cases word) [
-  | inl plain ↦ value_agrees g false word ws plain (λ n. all_agree ws n texts.1)
-  | inr hyphened ↦ subst (λ w. Agree g false (w ∷ ws)) (sym hyphened.2)
-      (hyphen_agrees g hyphened.0 hyphened.1 ws (subst IsUtf8 hyphened.2 texts.0) (trailing_agree ws g) (λ n. all_agree ws n texts.1))
+all_agree : (ws : List Text) → AreTexts ws → AllAgree false ws
+all_agree [] texts = at_end false
+all_agree (word ∷ ws) texts = elim (word_cases word) [
+  | inl plain ↦ value_agrees false word ws plain (all_agree ws texts.1)
+  | inr hyphened ↦ subst (λ w. AllAgree false (w ∷ ws)) (sym hyphened.2)
+      (hyphen_agrees hyphened.0 hyphened.1 ws (subst IsUtf8 hyphened.2 texts.0) (trailing_agree ws) (all_agree ws texts.1))
 ]
 
--- ---- the reader takes them so
-
-one_word : (w : Text) (dashes plain : Bool) → (dashes ≡ true → plain ≡ false)
-    → (if dashes then None else if plain then Some w else None) ≡ choose plain w
-one_word w true true apart = absurd (no_both (apart refl))
-  where
-    no_both : true ≡ false → ⊥
-    no_both is = absurd cc
-one_word w true false apart = refl
-one_word w false true apart = refl
-one_word w false false apart = refl
-
-two_words : (w v : Text) (dashes plain behind : Bool)
-    → (if dashes then Some v else if plain then (if behind then Some w else None) else None) ≡ (if dashes then Some v else choose (plain && behind) w)
-two_words w v true plain behind = refl
-two_words w v false true true = refl
-two_words w v false true false = refl
-two_words w v false false behind = refl
-
-abbrev no_word : Option Text
-no_word = None
-
-more_words : (dashes plain behind : Bool)
-    → (if dashes then None else if plain then (if behind then None else None) else None) ≡ no_word
-more_words true plain behind = refl
-more_words false true true = refl
-more_words false true false = refl
-more_words false false behind = refl
-
-no_plain : (w : Text) → bytes_eq w (codes "--") ≡ true → is_plain w ≡ false
-no_plain w is = ap is_plain ((bytes_eq-Decides w (codes "--")).0 is)
-
-folder_is : (ws : List Text) → folder_left false None ws ≡ folder_in ws
-folder_is [] = refl
-folder_is (w ∷ []) = one_word w (bytes_eq w (codes "--")) (is_plain w) (no_plain w)
-folder_is (w ∷ v ∷ []) = two_words w v (bytes_eq w (codes "--")) (is_plain w) (bytes_eq v (codes "--"))
-folder_is (w ∷ v ∷ u ∷ ws) = more_words (bytes_eq w (codes "--")) (is_plain w) (bytes_eq v (codes "--"))
-
-said_is : (ws : List Text) (o : Option (List Text)) → said_with None ws o ≡ placed_in (placing_by ws o)
-said_is ws None = ap (option_map (λ f. Live f false)) (folder_is ws)
-said_is ws (Some left) = ap (option_map (λ f. Live f true)) (folder_is left)
-
-asked_is : (ws : List Text) → asked false false None ws ≡ live_in ws
-asked_is ws = said_is ws (without_flag (codes "--anew") ws)
-
 -- ---- the command `live`
+
+abbrev no_flags : Flags
+no_flags = record { has_anew = false; has_keeps = false; has_events = false }
+
+none_on : (f : Flag) → false ≡ on f no_flags
+none_on anew = refl
+none_on keeps = refl
+none_on events = refl
+
+nothing_at : At free [] None no_flags
+nothing_at = record { has = none_on; set = none_on; alone = λ none. refl; shows = refl }
 
 -- What is not given is filled in without a fault.
 or_none : (b : Bool) (ks : Kinds) → ks ≡ [] → cond b [] ks ≡ []
@@ -455,14 +611,16 @@ or_none false ks none = none
 no_fault : (a : Rule) (rows : List Row) → given_default_fault a a.defaults ≡ [] → default_fault rows a ≡ []
 no_fault a rows none = or_none (has_row a.id rows || is_empty a.defaults) (given_default_fault a a.defaults) none
 
-abbrev folder_rule : Rule
-folder_rule = rule_with (codes "folder") None (Some 1)
+one_fault : (a : Rule) (rules : List Rule) → given_default_fault a a.defaults ≡ [] → ((rows : List Row) → defaults_fault rows rules ≡ []) → (rows : List Row) → defaults_fault rows (a ∷ rules) ≡ []
+unfolding clap_on_literals
+one_fault a rules none later rows = ap (λ ks. or_else ks (defaults_fault (with_default rows a) rules)) (no_fault a rows none) ∙ later (with_default rows a)
+
+last_fault : (rows : List Row) → defaults_fault rows [] ≡ []
+unfolding clap_on_literals
+last_fault rows = refl
 
 no_faults : (rows : List Row) → defaults_fault rows live_rules ≡ []
-unfolding clap_on_literals
-no_faults rows =
-    ap (λ ks. or_else ks (defaults_fault (with_default rows folder_rule) (flag_with (codes "anew") ∷ []))) (no_fault folder_rule rows refl)
-    ∙ ap (λ ks. or_else ks []) (no_fault (flag_with (codes "anew")) (with_default rows folder_rule) refl)
+no_faults = one_fault folder_rule _ refl (one_fault (flag_with (codes "anew")) _ refl (one_fault (flag_with (codes "keep-going")) _ refl (one_fault (flag_with (codes "events")) _ refl last_fault)))
 
 live_level : (ws : List Text) → level live ws ≡ rest (walk_from nothing_held) ws
 live_level ws =
@@ -475,7 +633,7 @@ live_level ws =
 -- The level's faults and rows against what the reader says.
 pub live_read : (ws : List Text) → AreTexts ws
     → ((level live ws ≡ []) × (says (rows_after live_rules [] ws) ≡ live_in ws)) ⊎ (Fails (level live ws) × (live_in ws ≡ None))
-live_read ws texts = elim (all_agree ws none_got texts) [
-  | inl both ↦ inl (live_level ws ∙ both.0, both.1 ∙ asked_is ws)
-  | inr neither ↦ inr (λ none. neither.0 (sym (live_level ws) ∙ none), sym (asked_is ws) ∙ neither.1)
+live_read ws texts = elim (all_agree ws texts free [] None no_flags nothing_at) [
+  | inl both ↦ inl (live_level ws ∙ both.0, both.1)
+  | inr neither ↦ inr (λ none. neither.0 (sym (live_level ws) ∙ none), neither.1)
 ]

@@ -1,8 +1,8 @@
 -- Words in any order are read, and no others are.
 use Rattle.sl_cli.proofs.ActionTexts.{actions_have_one_text}
 use Rattle.sl_cli.specs.Actions.{action_in}
-use Rattle.sl_cli.specs.CommandWords.{Seed, Taken, Use, command_in, direct_in, ends_here, folder_in, generated, given_by, is_given, is_only, is_plain, live_in, nothing_taken, option_named, placed_in, placing_by, placing_in, gen_in, seeded_in, use_of, uses_from, with_use, without_dashes, without_flag}
-use Rattle.sl_cli.specs.Spellings.{AsksFor, FlagStandsAnywhere, IsAsked, OnlyItsWordsAskForAnAction, OptionsComeInAnyOrder, are_apart, is_use, letter_named, option_words, spelled, use_words}
+use Rattle.sl_cli.specs.CommandWords.{Placing, Seed, Taken, Use, command_in, direct_in, ends_here, generated, given_by, is_given, is_only, is_plain, live_in, nothing_placed, nothing_taken, option_named, placed_from, placed_in, gen_in, seeded_in, use_of, uses_from, with_use, without_dashes}
+use Rattle.sl_cli.specs.Spellings.{AsksFor, IsAsked, OnlyItsWordsAskForAnAction, OptionsComeInAnyOrder, are_apart, is_use, letter_named, option_words, spelled, use_words}
 use Rattle.sl_cli.specs.declared.command_words.Words.TheVariants.{Direct, Help, Live, Replay, Version}
 use Rattle.sl_cli.specs.declared.command_words.Words.{Words}
 use Rattle.sl_direct.specs.declared.action.Action.{Action}
@@ -138,16 +138,17 @@ no_replay a h = absurd cc
 abbrev AsksDirect : Option Words → Action → Type 0
 AsksDirect o a = o ≡ Some (Direct a)
 
-abbrev live_of : Bool → List ℕ → Words
-live_of anew w = Live w anew
-
 no_gen : (o : Option Seed) (a : Action) → AsksDirect (option_map generated o) a → ⊥
 no_gen None a h = absurd cc
 no_gen (Some s) a h = absurd cc
 
-no_folder : (o : Option (List ℕ)) (anew : Bool) (a : Action) → AsksDirect (option_map (live_of anew) o) a → ⊥
-no_folder None anew a h = absurd cc
-no_folder (Some w) anew a h = absurd cc
+no_folder : (o : Option (List ℕ)) (anew keeps events : Bool) (a : Action) → AsksDirect (option_map (λ w. Live w anew keeps events) o) a → ⊥
+no_folder None anew keeps events a h = absurd cc
+no_folder (Some w) anew keeps events a h = absurd cc
+
+no_placing : (o : Option Placing) (a : Action) → AsksDirect (option_and_then placed_in o) a → ⊥
+no_placing None a h = absurd cc
+no_placing (Some p) a h = no_folder p.folder p.anew p.keeps p.events a h
 
 command_asks : (ws : List (List ℕ)) (a : Action) → command_in ws ≡ Some (Direct a) → Asks a ws
 command_asks [] a h = absurd cc
@@ -163,7 +164,7 @@ command_asks (w ∷ ws) a h = elim (cases_Bool (bytes_eq (codes "replay") w)) [
           let is = direct_by ws a (uses_from nothing_taken ws) refl (rw direct at h) in
           (is.0, ws, ap (λ v. v ∷ ws) (sym ((bytes_eq-Decides (codes "direct") w).0 direct)), is.1)
       | inr no_direct ↦ elim (cases_Bool (bytes_eq (codes "live") w)) [
-        | inl live ↦ absurd (no_folder (placing_in ws).folder (placing_in ws).anew a (rw (no_direct, live) at h))
+        | inl live ↦ absurd (no_placing (placed_from false nothing_placed ws) a (rw (no_direct, live) at h))
         | inr other ↦ absurd (none_some (Direct a) (rw (no_direct, other) at h))
       ]
     ]
@@ -193,30 +194,3 @@ only_its_words_ask ws a h = elim (cases_Bool (is_only (codes "--help") (codes "-
     | inr not_version ↦ command_asks ws a (rw (not_help, not_version) at h)
   ]
 ]
-
--- ---- the flag of `live`
-
-clash : false ≡ true → ⊥
-clash is = absurd cc
-
--- A word that is no option is neither `--` nor the flag.
-apart : (w other : List ℕ) → is_plain w ≡ true → is_plain other ≡ false → bytes_eq w other ≡ false
-apart w other plain not_plain = elim (cases_Bool (bytes_eq w other)) [
-  | inl is ↦ absurd (clash (sym not_plain ∙ sym (ap is_plain ((bytes_eq-Decides w other).0 is)) ∙ plain))
-  | inr is ↦ is
-]
-
-pub flag_stands_anywhere : FlagStandsAnywhere
-flag_stands_anywhere folder plain =
-    let dashes = apart folder (codes "--") plain refl in
-    let flag = apart folder (codes "--anew") plain refl in
-    let alone : folder_in (folder ∷ []) ≡ Some folder = ap (λ b. choose b folder) plain in
-    let kept : without_flag (codes "--anew") (folder ∷ []) ≡ None = rw (dashes, flag) refl in
-    let cut : without_flag (codes "--anew") (folder ∷ codes "--anew" ∷ []) ≡ Some (folder ∷ []) = rw (dashes, flag) refl in
-    let again : folder_in (folder ∷ codes "--anew" ∷ []) ≡ None = rw (dashes, plain) refl in (
-      ap (λ o. placed_in (placing_by (folder ∷ []) o)) kept ∙ ap (option_map (live_of false)) alone,
-      ap (option_map (live_of true)) alone,
-      ap (λ o. placed_in (placing_by (folder ∷ codes "--anew" ∷ []) o)) cut ∙ ap (option_map (live_of true)) alone,
-      refl,
-      ap (option_map (live_of true)) again,
-    )

@@ -11,7 +11,7 @@ use Rattle.sl_text.specs.Forms.{as_bytes, spaced}
 use Rattle.sl_trace.specs.EffectTexts.{answer_words}
 use Rattle.sl_trace.specs.declared.effects.Entry.{Entry}
 use Rattle.sl_trace.specs.declared.effects.JobReply.{JobReply}
-use Rattle.std.specs.Prelude.{List, None, Option, Some, codes, decimal, if◌then◌else◌, length, map, [], ℕ, ◌++◌, ◌+◌, ◌∷◌, ◌≡◌}
+use Rattle.std.specs.Prelude.{List, None, Option, Some, codes, decimal, if◌then◌else◌, length, map, [], ℕ, ◌++◌, ◌+◌, ◌∷◌}
 
 -- ---- what is told of a machine, as lvmlockd's locks go along its history
 

@@ -204,7 +204,8 @@ impl Events {
         )?;
         push_exit(out, machine, &entry.input)?;
         push_ends(out, machine, entry.effects.ends.as_slice())?;
-        push_signals(out, machine, entry.effects.signals.as_slice())
+        push_signals(out, machine, entry.effects.signals.as_slice())?;
+        Ok(())
     }
 
     /// Adds them, if they are told. An `Err` is want of memory.

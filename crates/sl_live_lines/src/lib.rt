@@ -9,8 +9,9 @@
 //! starts are marked as they come along, and unmarked by what answers them: at the end no mark may be left (`left`). Neither is ever found by a scan
 //! of what came before.
 //!
-//! The lines of what is told of an entry are added as it comes (`step`): its events, where they are asked for, and its replies. When all machines have ended, a last line counts them; where the script
-//! ended with a refused line, its refusal stands in place of that line, and where a read of it failed, nothing does (`push_last`).
+//! The lines of what is told of an entry are added as it comes (`step`): its events, where they are asked for, and its replies. When all machines
+//! have ended, a last line counts them; where the script ended with a refused line, its refusal stands in place of that line, and where a read of it
+//! failed, nothing does (`push_last`).
 #![tactic(auto)]
 
 mod audit;

@@ -4,6 +4,7 @@ use Rattle.sl_book.specs.Mails.{ReaderState}
 use Rattle.sl_book.specs.Seats.{SeatState}
 use Rattle.sl_book.specs.declared.signed.Signed.{Signed}
 use Rattle.sl_live_lines.specs.AuditedHistory.{IsAudit}
+use Rattle.sl_live_lines.specs.EventTexts.{Telling}
 use Rattle.sl_live_lines.specs.LiveTexts.{count_replies}
 use Rattle.sl_live_lines.specs.LocksAlong.{AlongState}
 use Rattle.sl_live_lines.specs.declared.given_lines.GivenLine.{GivenLine}
@@ -47,24 +48,24 @@ counts_entries signed n (Err (close.Differ d)) is = tt
 counts_entries signed n (Err close.NoMemory) is = tt
 
 -- all that is told was put out
-told_all : {J O T : Type 0} (a : AlongState) (h : List Entry) (p : Printer J O T) (n : ℕ) → IsPrinting a h p → p.text.items ≡ [] → p.wrong ≡ None
-    → ((b : AlongState) → (g : List Entry) → IsAudit b g p.audit → n ≡ count_replies b g) → HasTold a h p.reader p.writer n
-told_all a h p n so text right count =
-    let g = goes_right a h p so right in
+told_all : {J O T : Type 0} (t : Telling) (a : AlongState) (h : List Entry) (p : Printer J O T) (n : ℕ) → IsPrinting t a h p → p.text.items ≡ [] → p.wrong ≡ None
+    → ((v : Telling) → (b : AlongState) → (g : List Entry) → IsAudit v b g p.audit → n ≡ count_replies b g) → HasTold t a h p.reader p.writer n
+told_all t a h p n so text right count =
+    let g = goes_right t a h p so right in
     record {
       texts = so.texts;
       mine = so.mine;
-      text = sym (append-nil (concat so.texts)) ∙ ap (λ t. concat so.texts ++ t) (sym text) ∙ g.2;
-      count = count a h g.0;
+      text = sym (append-nil (concat so.texts)) ∙ ap (λ bs. concat so.texts ++ bs) (sym text) ∙ g.2;
+      count = count t a h g.0;
     }
 
-told_so : {J O T S E : Type 0} (a : AlongState) (p : Printer J O T) (n : ℕ) (seats : Result S E) (end : Result Unit CloseError)
-    → OnOk seats (IsPrinting a (entries p.mine) p × (p.text.items ≡ [])) → OnOk end ((p.wrong ≡ None) × IsOk seats)
-    → ((b : AlongState) → (g : List Entry) → IsAudit b g p.audit → n ≡ count_replies b g) → Told a (entries p.mine) p.reader p.writer n end
-told_so a p n (Ok v) (Ok u) all right count = told_all a (entries p.mine) p n all.0 all.1 right.0 count
-told_so a p n (Err e) (Ok u) all right count = absurd cc
-told_so a p n (Ok v) (Err e) all right count = tt
-told_so a p n (Err e) (Err f) all right count = tt
+told_so : {J O T S E : Type 0} (t : Telling) (a : AlongState) (p : Printer J O T) (n : ℕ) (seats : Result S E) (end : Result Unit CloseError)
+    → OnOk seats (IsPrinting t a (entries p.mine) p × (p.text.items ≡ [])) → OnOk end ((p.wrong ≡ None) × IsOk seats)
+    → ((v : Telling) → (b : AlongState) → (g : List Entry) → IsAudit v b g p.audit → n ≡ count_replies b g) → Told t a (entries p.mine) p.reader p.writer n end
+told_so t a p n (Ok v) (Ok u) all right count = told_all t a (entries p.mine) p n all.0 all.1 right.0 count
+told_so t a p n (Err e) (Ok u) all right count = absurd cc
+told_so t a p n (Ok v) (Err e) all right count = tt
+told_so t a p n (Err e) (Err f) all right count = tt
 
 on_first : {S E : Type 0} (X Y : Type 0) (seats : Result S E) → OnOk seats (X × Y) → OnOk seats X
 on_first X Y (Ok v) both = both.0
@@ -80,27 +81,27 @@ if_ok_kept {S} {E} (Ok v) first P is so = subst (λ (x : Result S E). IfOk x P) 
 if_ok_kept {S} {E} (Err e) first P is so = tt
 
 -- threads have run, and the printer has put out all unless there was no memory
-pub has_run : {D J O T A S E : Type 0} (stands : D → Setting → Trace → Type 0) (st : Setting) (a : AlongState) (p : Printer J O T) (seats : Result S E) (r : Ran O T A)
+pub has_run : {D J O T A S E : Type 0} (stands : D → Setting → Trace → Type 0) (st : Setting) (t : Telling) (a : AlongState) (p : Printer J O T) (seats : Result S E) (r : Ran O T A)
     → r.reader ≡ p.reader → r.writer ≡ p.writer → p.writer.by ≡ p.reader.by
-    → (OnOk seats (IsPrinting a (entries p.mine) p) → EndsSo stands st a p r.end)
-    → OnOk seats (IsPrinting a (entries p.mine) p × (p.text.items ≡ [])) → OnOk r.end ((p.wrong ≡ None) × IsOk seats)
-    → ((b : AlongState) → (g : List Entry) → IsAudit b g p.audit → r.replies ≡ count_replies b g) → r.entries ≡ length p.mine → HasRun stands st a r
-has_run stands st a p seats r reader writer by ends all right count long = record {
+    → (OnOk seats (IsPrinting t a (entries p.mine) p) → EndsSo stands st a p r.end)
+    → OnOk seats (IsPrinting t a (entries p.mine) p × (p.text.items ≡ [])) → OnOk r.end ((p.wrong ≡ None) × IsOk seats)
+    → ((v : Telling) → (b : AlongState) → (g : List Entry) → IsAudit v b g p.audit → r.replies ≡ count_replies b g) → r.entries ≡ length p.mine → HasRun stands st t a r
+has_run stands st t a p seats r reader writer by ends all right count long = record {
   by = ap (λ (s : SeatState (List ℕ)). s.by) writer ∙ by ∙ sym (ap (λ (x : ReaderState GivenLine). x.by) reader);
   history = entries p.mine;
   ends = subst (λ (x : ReaderState GivenLine). EndsWith stands st a (entries p.mine) (lines_read x) r.end) (sym reader) (ends (on_first _ _ seats all));
-  told = subst (λ (s : SeatState (List ℕ)). Told a (entries p.mine) r.reader s r.replies r.end) (sym writer)
-      (subst (λ (x : ReaderState GivenLine). Told a (entries p.mine) x p.writer r.replies r.end) (sym reader) (told_so a p r.replies seats r.end all right count));
+  told = subst (λ (s : SeatState (List ℕ)). Told t a (entries p.mine) r.reader s r.replies r.end) (sym writer)
+      (subst (λ (x : ReaderState GivenLine). Told t a (entries p.mine) x p.writer r.replies r.end) (sym reader) (told_so t a p r.replies seats r.end all right count));
   counted = counts_entries p.mine r.entries r.end long;
 }
 
 -- they have not
-pub has_not_run : {D O T A : Type 0} (stands : D → Setting → Trace → Type 0) (st : Setting) (a : AlongState) (r : Ran O T A) → r.end ≡ Err close.NoMemory → r.writer.by ≡ r.reader.by
-    → HasRun stands st a r
-has_not_run stands st a r end by = record {
+pub has_not_run : {D O T A : Type 0} (stands : D → Setting → Trace → Type 0) (st : Setting) (t : Telling) (a : AlongState) (r : Ran O T A) → r.end ≡ Err close.NoMemory → r.writer.by ≡ r.reader.by
+    → HasRun stands st t a r
+has_not_run stands st t a r end by = record {
   by = by;
   history = [];
   ends = subst (EndsWith stands st a [] (lines_read r.reader)) (sym end) tt;
-  told = subst (Told a [] r.reader r.writer r.replies) (sym end) tt;
+  told = subst (Told t a [] r.reader r.writer r.replies) (sym end) tt;
   counted = subst (Counts [] r.entries) (sym end) tt;
 }

@@ -12,7 +12,7 @@ use Rattle.sl_cell.specs.Histories.{Signed}
 use Rattle.sl_live.proofs.WorkLaws.{next_within, served_answer, served_more, served_pass, take_next, take_same}
 use Rattle.sl_live.specs.Turns.{AreServed, ChildrenState, Gives, IsAnswerOf, IsChildThread, IsDeviceThread, IsExit, IsIdleTurn, IsLine, IsLineThread, IsPassed, IsSpawned, IsStarterThread, IsTicker, IsWake, Looks, MakesTurn, TellsExit, TellsStart, Works}
 use Rattle.sl_live.specs.declared.steps.Gone.{Gone}
-use Rattle.sl_live_machine.specs.ThreadSeats.{GaveTurn}
+use Rattle.sl_live_machine.specs.ThreadTurns.{LooksTurn, OnChildren}
 use Rattle.sl_outside.specs.declared.act.Act.{Act}
 use Rattle.sl_trace.specs.Traces.{Setting}
 use Rattle.sl_trace.specs.declared.effects.Call.{Call}
@@ -24,16 +24,24 @@ use Rattle.sl_trace.specs.declared.input.Input.{Input}
 use Rattle.std.proofs.Common.{ap, arith, inl, inr, refl, subst, sym, ◌∙◌}
 use Rattle.std.proofs.lemmas.List.Elements.{All-append, All-cons}
 use Rattle.std.specs.declared.alloc.AllocError.{AllocError}
-use Rattle.std.specs.Prelude.{All, Bool, Err, IfOk, List, None, Ok, OnOk, Option, Result, Some, length, slice_get, take, [], ℕ, ◌++◌, ◌+◌, ◌<◌, ◌∷◌, ◌≡◌, ◌≤◌}
+use Rattle.std.specs.Prelude.{All, Bool, Err, IfOk, List, None, Ok, OnOk, Option, Result, Some, length, slice_get, take, [], ℕ, ◌++◌, ◌+◌, ◌<◌, ◌∷◌, ◌≡◌, ◌≤◌, ◌⊎◌}
 use mathlib.Core.List.{IsPrefix}
 
 -- ---- a turn that gives an input
+
+-- a seat has given this input, or it answered nothing that was open
+abbrev pub GaveTurn : Setting → Input → SeatState → SeatState → Type 0
+GaveTurn st i s s' = ((now : ℕ) × (fx : Effects) × Gave s s' now i fx) ⊎ IsUnasked st s s' i
 
 -- a turn on children is one on the seat
 pub made_gave : {P : Type 0} (told : P → Option (List Act)) (faults : P → ℕ) (running : P → List ℕ) (st : Setting) (now : ℕ) (fx : Option Effects) (i : Input)
     (before after : ChildrenState P) (s s' : SeatState) → MakesTurn told faults running st now fx i before after s s' → GaveTurn st i s s'
 made_gave told faults running st now (Some fx) i before after s s' so = inl (now, fx, so.0)
 made_gave told faults running st now None i before after s s' so = inr so.0
+
+pub turn_gave : {P : Type 0} (told : P → Option (List Act)) (faults : P → ℕ) (running : P → List ℕ) (st : Setting) (now : ℕ) (fx : Option Effects) (i : Input)
+    (s s' : SeatState) → OnChildren {P = P} (λ before after. MakesTurn told faults running st now fx i before after s s') → GaveTurn st i s s'
+turn_gave told faults running st now fx i s s' on = made_gave told faults running st now fx i on.0 on.1 s s' on.2
 
 pub on_ok : {A E M : Type 0} (r : Result A E) → M → OnOk r M
 on_ok (Ok a) m = m

@@ -3,7 +3,6 @@ use Rattle.sl_book.specs.Closings.{AreBelow}
 use Rattle.sl_cell.specs.Closings.{IsCaseOfSome}
 use Rattle.sl_cell.specs.Parts.{calls_of}
 use Rattle.sl_cell.specs.Seats.{SeatState}
-use Rattle.sl_cell.specs.Told.{Gave, IsUnasked}
 use Rattle.sl_cell.specs.declared.closing.Differ.TheVariants.{Broken, Entry as Counted}
 use Rattle.sl_cell.specs.declared.closing.Differ.{Differ}
 use Rattle.sl_cell.specs.declared.part.Part.TheVariants.{Delta, Resource}
@@ -12,10 +11,9 @@ use Rattle.sl_book.specs.Logs.{entries, given_by}
 use Rattle.sl_cell.specs.Histories.{Signed}
 use Rattle.sl_live.specs.Turns.{AreServed, IsChildThread, IsDeviceThread, IsExit, IsLine, IsLineThread, IsSpawned, IsStarterThread, IsTicker, IsWake, Works}
 use Rattle.sl_trace.specs.Traces.{IsTrace, Setting}
-use Rattle.sl_trace.specs.declared.effects.Effects.{Effects}
 use Rattle.sl_trace.specs.declared.effects.Entry.{Entry}
 use Rattle.sl_trace.specs.declared.input.Input.{Input}
-use Rattle.std.specs.Prelude.{All, List, length, reverse, take, [], ℕ, ◌∷◌, ◌≡◌, ◌≤◌, ◌⊎◌}
+use Rattle.std.specs.Prelude.{All, List, length, reverse, take, [], ℕ, ◌∷◌, ◌≡◌, ◌≤◌}
 
 -- ---- the threads
 
@@ -41,10 +39,6 @@ lines_number = 6
 
 abbrev pub thread_count : ℕ
 thread_count = 7
-
--- A seat has given this input, or it answered nothing that was open.
-abbrev pub GaveTurn : Setting → Input → SeatState → SeatState → Type 0
-GaveTurn st i s s' = ((now : ℕ) × (fx : Effects) × Gave s s' now i fx) ⊎ IsUnasked st s s' i
 
 -- The seats of a machine's threads, each with what its thread alone does.
 pub record AreSeats (st : Setting) (seats : List SeatState) : Type 0 where

@@ -275,7 +275,7 @@ fn run_room<
 }
 
 /// A machine's cell with the front of one who has seen nothing, and what goes along its history. An `Err` is want of memory.
-#[tactic(auto, using(crate::proofs::EndLaws::given_below_in))]
+#[tactic(auto, using(sl_cell::proofs::LeadLaws::given_below))]
 fn begin_cell<D: Teller, J: Station>(
     alloc: Global,
     header: &Header,
@@ -299,7 +299,8 @@ fn begin_cell<D: Teller, J: Station>(
 ///
 /// An `Ok` end is a history of the daemon of this setting, which stood for it: its entries are exactly what the machine's threads gave, each once; its
 /// lines are those that the reader has met, each for lvmlockd with its asks and answered; no call and no start is unanswered; and the pieces of the
-/// writer are what is told of it, with its events where the desk tells them. Else a case that holds of it, or want of memory: there, and where threads can't be made, all machines end.
+/// writer are what is told of it, with its events where the desk tells them. Else a case that holds of it, or want of memory: there, and where threads
+/// can't be made, all machines end.
 pub fn run_machine<
     D: Teller + Send,
     J: Station + Send + Sync,

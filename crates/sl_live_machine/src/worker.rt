@@ -56,7 +56,7 @@ fn sectors_of<D: Teller, J: Station, P: Spawner>(
 {
     match answer {
         Answer::Read(bytes) => {
-            let images = before.images(room.alloc, &room.geometry, call, bytes.as_slice())?;
+            let images = before.images(room.alloc, &room.geometry, call.offset, bytes.as_slice())?;
             Ok(Some(images))
         }
         Answer::Written => Ok(None),

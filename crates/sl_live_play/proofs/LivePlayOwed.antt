@@ -1,8 +1,9 @@
 -- What is owed of a play, from what came of its parts.
 use Rattle.sl_reader.specs.declared.live_lines.LiveLine.{LiveLine}
-use Rattle.sl_live_play.specs.LiveOwed.{All, Beginnings, Breaks, Breaks_early, Disk_there, Due, Ends, Faults, Front, In_use, IsWoven, Lacks, Lives, Of, Owes, Part, Parts, Puts, PutsEnded, PutsPart, PutsNoEntry, PutsNoGround, PutsStop, Stops, Stops_early, area_fault_text, disk_there_text, first_locks, in_use_text}
+use Rattle.sl_live_play.specs.LiveOwed.{All, Beginnings, Breaks, Breaks_early, Disk_there, Due, Ends, Faults, Front, In_use, IsWoven, Lacks, Lives, Of, Owes, Part, Parts, Puts, PutsEnded, PutsPart, PutsNoEntry, PutsNoGround, PutsStop, Stops, Stops_early, area_fault_text, disk_there_text, in_use_text}
 use Rattle.sl_live_play.specs.declared.play.Lived.TheVariants.{AreaFault, Differs, Done, NoMemory, ReadFault, Refused, WriteFault}
 use Rattle.sl_live_play.specs.declared.play.Lived.{Lived}
+use Rattle.sl_live_play.specs.declared.play.Manner.{Manner}
 use Rattle.sl_reader.specs.ScriptReading.{ReadsScript}
 use Rattle.sl_reader.specs.declared.script_reading.ScriptEnd.TheVariants as script
 use Rattle.sl_reader.specs.declared.script_reading.ScriptEnd.{ScriptEnd}
@@ -12,28 +13,16 @@ use Rattle.sl_live_run.specs.declared.folder.NoEntry.TheVariants as no_entry
 use Rattle.sl_live_run.specs.declared.folder.NoEntry.{NoEntry}
 use Rattle.sl_live_run.specs.declared.ground.NoGround.TheVariants as no_ground
 use Rattle.sl_live_run.specs.declared.ground.NoGround.{NoGround}
-use Rattle.sl_live_run.specs.Runs.{AreLiveHistories, HasToldAll, IsLiveStop, begun_on, replies_of}
-use Rattle.sl_live_run.specs.Grounds.{IsSiteOf}
-use Rattle.sl_live_lines.specs.LiveTexts.{count_replies, history_text}
-use Rattle.sl_live_lines.specs.LocksAlong.{AlongState, begun_along}
+use Rattle.sl_live_run.specs.Runs.{HasToldAll, IsLiveStop, replies_of}
 use Rattle.sl_output.specs.Outputs.{IsCut}
-use Rattle.sl_output.specs.Pieces.{Piece, text_by, text_of}
-use Rattle.sl_run.specs.declared.header.SessionLine.{SessionLine}
-use Rattle.sl_trace.specs.declared.input.Numbers.{Numbers}
-use Rattle.sl_world_state.specs.FirstKept.{session_of}
-use Rattle.sl_world_state.specs.declared.daemon.Site.{Site}
-use Rattle.sl_words.proofs.CaseLaws.{none_some}
-use Rattle.sl_words.proofs.Lists.{there_is}
+use Rattle.sl_output.specs.Pieces.{Piece, text_of}
 use Rattle.std.proofs.KnownBytes.{Appends-trans}
-use Rattle.std.proofs.lemmas.List.Sums.{sum_by-cons}
-use Rattle.std.specs.List.{sum_by}
 use Rattle.sl_live_run.specs.declared.compare.LiveStop.TheVariants as stop
 use Rattle.sl_live_run.specs.declared.compare.LiveStop.{LiveStop}
 use Rattle.sl_report.specs.OwedReports.{HeadersAreGood, IsFrontOf}
 use Rattle.sl_report.specs.Languages.{whole_language}
 use Rattle.sl_report.specs.RefusalLines.{refusal_line}
 use Rattle.sl_run.specs.Headers.{IsHeader}
-use Rattle.sl_run.specs.Worlds.{first_numbers}
 use Rattle.sl_run.specs.declared.event.Refusal.{Refusal}
 use Rattle.sl_run.specs.declared.header.Header.{Header}
 use Rattle.sl_reader.specs.HeaderBegins.{HeaderBegins, HeaderBreaks, HeaderStops, lines_left}
@@ -43,127 +32,93 @@ use Rattle.sl_trace.specs.Traces.{Setting, Trace}
 use Rattle.sl_trace.specs.declared.command.Command.{Command}
 use Rattle.sl_trace.specs.declared.effects.Entry.{Entry}
 use Rattle.sl_io.specs.FaultCauses.{Rose}
-use Rattle.std.proofs.Common.{ap, Err, List, None, Ok, Option, Result, Some, [], append-nil, append_assoc, arith, drop, length, refl, slice_get, subst, suc, sym, take, zero, ℕ, ◌++◌, ◌+◌, ◌<◌, ◌≡◌, ◌≤◌, ◌∙◌, ◌∷◌}
+use Rattle.std.proofs.Common.{Bool, ap, Err, List, None, Ok, Option, Result, Some, [], append-nil, append_assoc, arith, drop, length, refl, subst, sym, take, ℕ, ◌++◌, ◌≡◌, ◌≤◌, ◌∙◌, ◌∷◌}
 use Rattle.std.proofs.lemmas.List.{take-append-drop}
 use Rattle.std.specs.Io.KnownBytes.{Appends}
 use Rattle.std.specs.Prelude.{IfErr, IfOk, OnOk}
 
 -- For want of memory a part may have been put out.
-lacks : {D : Type 0} (stands : D → Setting → Trace → Type 0) (commands : Header → List (Form Command)) (f : Asked) (left after taken now : Option (List ℕ))
+lacks : {D : Type 0} (stands : D → Setting → Trace → Type 0) (commands : Header → List (Form Command)) (f : Asked) (w : Manner) (left after taken now : Option (List ℕ))
     (faults later sink_faults sink_later device_faults device_later : ℕ) (s : Lived) → s ≡ NoMemory → PutsPart taken now
-    → Owes stands commands f left after taken now faults later sink_faults sink_later device_faults device_later s
-lacks stands commands f left after taken now faults later sink_faults sink_later device_faults device_later s is part =
-    subst (Owes stands commands f left after taken now faults later sink_faults sink_later device_faults device_later) (sym is) (Lacks part.0 part.1)
+    → Owes stands commands f w left after taken now faults later sink_faults sink_later device_faults device_later s
+lacks stands commands f w left after taken now faults later sink_faults sink_later device_faults device_later s is part =
+    subst (Owes stands commands f w left after taken now faults later sink_faults sink_later device_faults device_later) (sym is) (Lacks part.0 part.1)
 
 -- .. or nothing.
-lacks_all : {D : Type 0} (stands : D → Setting → Trace → Type 0) (commands : Header → List (Form Command)) (f : Asked) (left after taken now : Option (List ℕ))
+lacks_all : {D : Type 0} (stands : D → Setting → Trace → Type 0) (commands : Header → List (Form Command)) (f : Asked) (w : Manner) (left after taken now : Option (List ℕ))
     (faults later sink_faults sink_later device_faults device_later : ℕ) (s : Lived) → s ≡ NoMemory → Appends taken now []
-    → Owes stands commands f left after taken now faults later sink_faults sink_later device_faults device_later s
-lacks_all stands commands f left after taken now faults later sink_faults sink_later device_faults device_later s is nothing =
-    lacks stands commands f left after taken now faults later sink_faults sink_later device_faults device_later s is ([], nothing)
+    → Owes stands commands f w left after taken now faults later sink_faults sink_later device_faults device_later s
+lacks_all stands commands f w left after taken now faults later sink_faults sink_later device_faults device_later s is nothing =
+    lacks stands commands f w left after taken now faults later sink_faults sink_later device_faults device_later s is ([], nothing)
 
 -- The histories of machines, by how their script ended.
-owes_ended : {D : Type 0} (stands : D → Setting → Trace → Type 0) (commands : Header → List (Form Command)) (f : Asked) (left after taken now : Option (List ℕ))
+owes_ended : {D : Type 0} (stands : D → Setting → Trace → Type 0) (commands : Header → List (Form Command)) (f : Asked) (w : Manner) (left after taken now : Option (List ℕ))
     (faults later sink_faults sink_later device_faults device_later : ℕ) (h : Header) (given : List LiveLine) (hs : List (List Entry)) (pieces : List Piece) (end : Option ScriptEnd) (s : Lived)
-    → ReadsScript left after faults later h given end → Lives stands commands h given hs → IsWoven (first_locks h) hs pieces → IsVacant f h
-    → PutsEnded taken now sink_faults sink_later pieces (length hs) (sum_by (count_replies (first_locks h)) hs) end s
-    → Owes stands commands f left after taken now faults later sink_faults sink_later device_faults device_later s
-owes_ended stands commands f left after taken now faults later sink_faults sink_later device_faults device_later h given hs pieces (Some script.End) s reads lives woven vacant puts =
+    → ReadsScript w.keeps left after faults later h given end → (l : Lives stands commands h given hs) → IsWoven w.events l.begun.header l.begun.sites given hs pieces
+    → IsVacant f h → PutsEnded taken now sink_faults sink_later pieces (length hs) (replies_of l.begun.header l.begun.sites hs) end s
+    → Owes stands commands f w left after taken now faults later sink_faults sink_later device_faults device_later s
+owes_ended stands commands f w left after taken now faults later sink_faults sink_later device_faults device_later h given hs pieces (Some script.End) s reads lives woven vacant puts =
     Of _ Done s (Ends h given hs pieces reads lives woven vacant) puts
-owes_ended stands commands f left after taken now faults later sink_faults sink_later device_faults device_later h given hs pieces (Some (script.Refused number why)) s reads lives woven vacant puts =
+owes_ended stands commands f w left after taken now faults later sink_faults sink_later device_faults device_later h given hs pieces (Some (script.Refused number why)) s reads lives woven vacant puts =
     Of _ Refused s (Stops h given hs pieces number why reads lives woven vacant) puts
-owes_ended stands commands f left after taken now faults later sink_faults sink_later device_faults device_later h given hs pieces (Some script.ReadFault) s reads lives woven vacant puts =
+owes_ended stands commands f w left after taken now faults later sink_faults sink_later device_faults device_later h given hs pieces (Some script.ReadFault) s reads lives woven vacant puts =
     Of _ ReadFault s (Breaks h given hs pieces reads lives woven vacant) puts
-owes_ended stands commands f left after taken now faults later sink_faults sink_later device_faults device_later h given hs pieces (Some script.NoMemory) s reads lives woven vacant puts =
-    lacks stands commands f left after taken now faults later sink_faults sink_later device_faults device_later s puts.0 puts.1
-owes_ended stands commands f left after taken now faults later sink_faults sink_later device_faults device_later h given hs pieces None s reads lives woven vacant puts =
-    lacks stands commands f left after taken now faults later sink_faults sink_later device_faults device_later s puts.0 puts.1
+owes_ended stands commands f w left after taken now faults later sink_faults sink_later device_faults device_later h given hs pieces (Some script.NoMemory) s reads lives woven vacant puts =
+    lacks stands commands f w left after taken now faults later sink_faults sink_later device_faults device_later s puts.0 puts.1
+owes_ended stands commands f w left after taken now faults later sink_faults sink_later device_faults device_later h given hs pieces None s reads lives woven vacant puts =
+    lacks stands commands f w left after taken now faults later sink_faults sink_later device_faults device_later s puts.0 puts.1
 
 -- ---- what was told of all machines
 
--- A machine's first job has the first number.
-first_job : (h : Header) (m : ℕ) (o : Option SessionLine) (s : Site) → IsSiteOf h m o s → s.first ≡ first_numbers
-first_job h m None s is = ap (λ (x : Site). x.first) is.1
-first_job h m (Some l) s is = ap (λ (x : Site). x.first) is
-
--- lvmlockd's locks begin on each machine as the header says, whatever its clocks.
-first_on : (h : Header) (begun : Beginnings h) (place : ℕ) (s : Site) → slice_get begun.sites place ≡ Some s → begun_on begun.header s ≡ first_locks h
-first_on h begun place s at =
-    ap (λ (n : Numbers). begun_along begun.header n.job) (first_job begun.header (place + 1) (session_of begun.header (place + 1)) s (begun.begun place s at))
-    ∙ ap (λ (x : Header). begun_along x first_numbers.job) begun.same
-
-inside : {A : Type 0} (xs : List A) (k : ℕ) (x : A) → slice_get xs k ≡ Some x → k < length xs
-inside [] k x at = absurd (none_some x at)
-inside (y ∷ xs) zero x at = omega arith
-inside (y ∷ xs) (suc k) x at = let rest = inside xs k x at in omega (arith, rest)
-
-woven : {D : Type 0} (stands : D → Setting → Trace → Type 0) (commands : Header → List (Form Command)) (h : Header) (begun : Beginnings h) (was is : List LiveLine → Type 0) (pieces : List Piece)
-    (machines replies : ℕ) → (told : HasToldAll stands commands begun.header begun.sites was is pieces machines replies) → IsWoven (first_locks h) told.histories pieces
-woven stands commands h begun was is pieces machines replies told = record {
-  below = told.below;
-  each = λ place x at.
-      let lt = inside told.histories place x at in
-      let n = told.live.counted in
-      let site = there_is begun.sites place (omega (arith, lt, n)) in
-      subst (λ (a : AlongState). text_by place pieces ≡ history_text (place + 1) a x) (first_on h begun place site.0 site.1) (told.texts place site.0 x site.1 at);
-}
-
--- the replies of all machines
-replies_same : (header : Header) (a : AlongState) (sites : List Site) (hs : List (List Entry)) → length hs ≡ length sites
-    → ((place : ℕ) (s : Site) → slice_get sites place ≡ Some s → begun_on header s ≡ a) → replies_of header sites hs ≡ sum_by (count_replies a) hs
-replies_same header a [] [] len same = refl
-replies_same header a [] (x ∷ hs) len same = absurd (omega (arith, len))
-replies_same header a (s ∷ sites) [] len same = absurd (omega (arith, len))
-replies_same header a (s ∷ sites) (x ∷ hs) len same =
-    let here : count_replies (begun_on header s) x ≡ count_replies a x = ap (λ (b : AlongState). count_replies b x) (same 0 s refl) in
-    let rest : replies_of header sites hs ≡ sum_by (count_replies a) hs = replies_same header a sites hs (omega (arith, len)) (λ k t at. same (suc k) t at) in
-    omega (arith, here, rest, sum_by-cons (count_replies a) x hs)
+woven : {D : Type 0} (stands : D → Setting → Trace → Type 0) (commands : Header → List (Form Command)) (h : Header) (begun : Beginnings h) (events : Bool) (was is : List LiveLine → Type 0) (pieces : List Piece)
+    (machines replies : ℕ) → (told : HasToldAll events stands commands begun.header begun.sites was is pieces machines replies)
+    → IsWoven events begun.header begun.sites told.lines told.histories pieces
+woven stands commands h begun events was is pieces machines replies told = record { below = told.below; each = told.texts; refused = told.refused }
 
 -- What came of a run, of a script that has given nothing before, and of whose source the lines that it has given are read now.
-pub owes_run : {D : Type 0} (stands : D → Setting → Trace → Type 0) (commands : Header → List (Form Command)) (f : Asked) (left after taken now : Option (List ℕ))
+pub owes_run : {D : Type 0} (stands : D → Setting → Trace → Type 0) (commands : Header → List (Form Command)) (f : Asked) (w : Manner) (left after taken now : Option (List ℕ))
     (faults later sink_faults sink_later device_faults device_later : ℕ) (h : Header) (begun : Beginnings h) (was is : List LiveLine → Type 0) (pieces : List Piece) (machines : ℕ)
-    (replies : Result ℕ LiveStop) (end : Option ScriptEnd) (s : Lived) → was [] → ((given : List LiveLine) → is given → ReadsScript left after faults later h given end) → IsVacant f h
-    → IfOk replies (HasToldAll stands commands begun.header begun.sites was is pieces machines)
+    (replies : Result ℕ LiveStop) (end : Option ScriptEnd) (s : Lived) → was [] → ((given : List LiveLine) → is given → ReadsScript w.keeps left after faults later h given end) → IsVacant f h
+    → IfOk replies (HasToldAll w.events stands commands begun.header begun.sites was is pieces machines)
     → IfErr replies (IsLiveStop stands commands begun.header begun.sites was is)
     → IfOk replies (λ n. PutsEnded taken now sink_faults sink_later pieces machines n end s)
     → IfErr replies (λ e. PutsStop taken now sink_faults sink_later pieces e s)
-    → Owes stands commands f left after taken now faults later sink_faults sink_later device_faults device_later s
-owes_run stands commands f left after taken now faults later sink_faults sink_later device_faults device_later h begun was is pieces machines (Ok n) end s none reads vacant ok err puts stops =
+    → Owes stands commands f w left after taken now faults later sink_faults sink_later device_faults device_later s
+owes_run stands commands f w left after taken now faults later sink_faults sink_later device_faults device_later h begun was is pieces machines (Ok n) end s none reads vacant ok err puts stops =
     let hs = ok.histories in
-    let count : n ≡ sum_by (count_replies (first_locks h)) hs = ok.count ∙ replies_same begun.header (first_locks h) begun.sites hs ok.live.counted (first_on h begun) in
     let here : PutsEnded taken now sink_faults sink_later pieces (length hs) n end s = subst (λ (m : ℕ). PutsEnded taken now sink_faults sink_later pieces m n end s) ok.machines_are puts in
-    owes_ended stands commands f left after taken now faults later sink_faults sink_later device_faults device_later h ok.lines hs pieces end s (reads ok.lines (ok.gave [] none))
+    owes_ended stands commands f w left after taken now faults later sink_faults sink_later device_faults device_later h ok.lines hs pieces end s (reads ok.lines (ok.gave [] none))
     (record { begun = begun; histories = ok.live })
-    (woven stands commands h begun was is pieces machines n ok) vacant
-    (subst (λ (k : ℕ). PutsEnded taken now sink_faults sink_later pieces (length hs) k end s) count here)
-owes_run stands commands f left after taken now faults later sink_faults sink_later device_faults device_later h begun was is pieces machines (Err (stop.Differ machine d)) end s none reads vacant ok err puts stops =
+    (woven stands commands h begun w.events was is pieces machines n ok) vacant
+    (subst (λ (k : ℕ). PutsEnded taken now sink_faults sink_later pieces (length hs) k end s) ok.count here)
+owes_run stands commands f w left after taken now faults later sink_faults sink_later device_faults device_later h begun was is pieces machines (Err (stop.Differ machine d)) end s none reads vacant ok err puts stops =
     Of _ Differs s (Parts h err.0 end (text_of pieces) machine d (reads err.0 (err.1 [] none)) (record { begun = begun; differs = err.2 }) vacant) stops
-owes_run stands commands f left after taken now faults later sink_faults sink_later device_faults device_later h begun was is pieces machines (Err stop.NoMemory) end s none reads vacant ok err puts stops =
-    lacks stands commands f left after taken now faults later sink_faults sink_later device_faults device_later s stops.0 stops.1
+owes_run stands commands f w left after taken now faults later sink_faults sink_later device_faults device_later h begun was is pieces machines (Err stop.NoMemory) end s none reads vacant ok err puts stops =
+    lacks stands commands f w left after taken now faults later sink_faults sink_later device_faults device_later s stops.0 stops.1
 
 -- A run that can't begin.
-pub owes_no_ground : {D : Type 0} (stands : D → Setting → Trace → Type 0) (commands : Header → List (Form Command)) (f : Asked) (left after taken now : Option (List ℕ))
+pub owes_no_ground : {D : Type 0} (stands : D → Setting → Trace → Type 0) (commands : Header → List (Form Command)) (f : Asked) (w : Manner) (left after taken now : Option (List ℕ))
     (faults later sink_faults sink_later device_faults device_later : ℕ) (why : NoGround) (s : Lived) → Explains device_faults device_later why
     → PutsNoGround taken now sink_faults sink_later why s
-    → Owes stands commands f left after taken now faults later sink_faults sink_later device_faults device_later s
-owes_no_ground stands commands f left after taken now faults later sink_faults sink_later device_faults device_later no_ground.AreaFault s rose puts =
+    → Owes stands commands f w left after taken now faults later sink_faults sink_later device_faults device_later s
+owes_no_ground stands commands f w left after taken now faults later sink_faults sink_later device_faults device_later no_ground.AreaFault s rose puts =
     Of area_fault_text AreaFault s (Faults rose) puts
-owes_no_ground stands commands f left after taken now faults later sink_faults sink_later device_faults device_later no_ground.NoMemory s rose puts =
-    lacks_all stands commands f left after taken now faults later sink_faults sink_later device_faults device_later s puts.0 puts.1
+owes_no_ground stands commands f w left after taken now faults later sink_faults sink_later device_faults device_later no_ground.NoMemory s rose puts =
+    lacks_all stands commands f w left after taken now faults later sink_faults sink_later device_faults device_later s puts.0 puts.1
 
 -- A folder that can't be entered.
-pub owes_no_entry : {D : Type 0} (stands : D → Setting → Trace → Type 0) (commands : Header → List (Form Command)) (f : Asked) (left after taken now : Option (List ℕ))
+pub owes_no_entry : {D : Type 0} (stands : D → Setting → Trace → Type 0) (commands : Header → List (Form Command)) (f : Asked) (w : Manner) (left after taken now : Option (List ℕ))
     (faults later sink_faults sink_later device_faults device_later : ℕ) (h : Header) (r : ReaderState) (why : NoEntry) (s : Lived) → HeaderBegins left after r h
     → Bars f.anew h device_faults device_later why → PutsNoEntry taken now sink_faults sink_later why s
-    → Owes stands commands f left after taken now faults later sink_faults sink_later device_faults device_later s
-owes_no_entry stands commands f left after taken now faults later sink_faults sink_later device_faults device_later h r no_entry.AreaFault s begins rose puts =
+    → Owes stands commands f w left after taken now faults later sink_faults sink_later device_faults device_later s
+owes_no_entry stands commands f w left after taken now faults later sink_faults sink_later device_faults device_later h r no_entry.AreaFault s begins rose puts =
     Of area_fault_text AreaFault s (Faults rose) puts
-owes_no_entry stands commands f left after taken now faults later sink_faults sink_later device_faults device_later h r no_entry.InUse s begins rose puts =
+owes_no_entry stands commands f w left after taken now faults later sink_faults sink_later device_faults device_later h r no_entry.InUse s begins rose puts =
     Of in_use_text AreaFault s (In_use rose) puts
-owes_no_entry stands commands f left after taken now faults later sink_faults sink_later device_faults device_later h r (no_entry.DiskThere path) s begins bars puts =
+owes_no_entry stands commands f w left after taken now faults later sink_faults sink_later device_faults device_later h r (no_entry.DiskThere path) s begins bars puts =
     Of (disk_there_text path) AreaFault s (Disk_there r h path begins bars.0 bars.1) puts
-owes_no_entry stands commands f left after taken now faults later sink_faults sink_later device_faults device_later h r no_entry.NoMemory s begins none puts =
-    lacks_all stands commands f left after taken now faults later sink_faults sink_later device_faults device_later s puts.0 puts.1
+owes_no_entry stands commands f w left after taken now faults later sink_faults sink_later device_faults device_later h r no_entry.NoMemory s begins none puts =
+    lacks_all stands commands f w left after taken now faults later sink_faults sink_later device_faults device_later s puts.0 puts.1
 
 -- ---- faults before
 
@@ -171,70 +126,72 @@ rose_since : (first faults later : ℕ) → first ≤ faults → Rose faults lat
 rose_since first faults later le rose = omega (arith, le, rose)
 
 -- Faults of the source that were counted since were counted since before.
-script_since : (left after : Option (List ℕ)) (first faults later : ℕ) (h : Header) (given : List LiveLine) (end : Option ScriptEnd) → first ≤ faults
-    → ReadsScript left after faults later h given end → ReadsScript left after first later h given end
-script_since left after first faults later h given end le r =
+script_since : (keeps : Bool) (left after : Option (List ℕ)) (first faults later : ℕ) (h : Header) (given : List LiveLine) (end : Option ScriptEnd) → first ≤ faults
+    → ReadsScript keeps left after faults later h given end → ReadsScript keeps left after first later h given end
+script_since keeps left after first faults later h given end le r =
     record {
       read = r.read;
       ended = r.ended;
       reads = r.reads;
       at_end = r.at_end;
-      numbered = r.numbered;
+      told = r.told;
       given_are = r.given_are;
+      plain = r.plain;
       says = r.says;
       to_end = r.to_end;
       fault = λ e. (let f = r.fault e in (rose_since first faults later le f.0, f.1));
+      unread = r.unread;
     }
 
-due_since : {D : Type 0} (stands : D → Setting → Trace → Type 0) (commands : Header → List (Form Command)) (f : Asked) (left after : Option (List ℕ))
+due_since : {D : Type 0} (stands : D → Setting → Trace → Type 0) (commands : Header → List (Form Command)) (f : Asked) (w : Manner) (left after : Option (List ℕ))
     (first faults later device_faults device_later : ℕ) (text : List ℕ) (whole : Lived) → first ≤ faults
-    → Due stands commands f left after faults later device_faults device_later text whole → Due stands commands f left after first later device_faults device_later text whole
-due_since stands commands f left after first faults later device_faults device_later text whole le (Ends h given hs pieces reads lives woven vacant) =
-    Ends h given hs pieces (script_since left after first faults later h given _ le reads) lives woven vacant
-due_since stands commands f left after first faults later device_faults device_later text whole le (Stops_early r number why stops) = Stops_early r number why stops
-due_since stands commands f left after first faults later device_faults device_later text whole le (Stops h given hs pieces number why reads lives woven vacant) =
-    Stops h given hs pieces number why (script_since left after first faults later h given _ le reads) lives woven vacant
-due_since stands commands f left after first faults later device_faults device_later text whole le (Breaks_early breaks rose) =
+    → Due stands commands f w left after faults later device_faults device_later text whole → Due stands commands f w left after first later device_faults device_later text whole
+due_since stands commands f w left after first faults later device_faults device_later text whole le (Ends h given hs pieces reads lives woven vacant) =
+    Ends h given hs pieces (script_since w.keeps left after first faults later h given _ le reads) lives woven vacant
+due_since stands commands f w left after first faults later device_faults device_later text whole le (Stops_early r number why stops) = Stops_early r number why stops
+due_since stands commands f w left after first faults later device_faults device_later text whole le (Stops h given hs pieces number why reads lives woven vacant) =
+    Stops h given hs pieces number why (script_since w.keeps left after first faults later h given _ le reads) lives woven vacant
+due_since stands commands f w left after first faults later device_faults device_later text whole le (Breaks_early breaks rose) =
     Breaks_early breaks (rose_since first faults later le rose)
-due_since stands commands f left after first faults later device_faults device_later text whole le (Breaks h given hs pieces reads lives woven vacant) =
-    Breaks h given hs pieces (script_since left after first faults later h given _ le reads) lives woven vacant
-due_since stands commands f left after first faults later device_faults device_later text whole le (Faults rose) = Faults rose
-due_since stands commands f left after first faults later device_faults device_later text whole le (In_use rose) = In_use rose
-due_since stands commands f left after first faults later device_faults device_later text whole le (Disk_there r h path begins there rose) =
+due_since stands commands f w left after first faults later device_faults device_later text whole le (Breaks h given hs pieces reads lives woven vacant) =
+    Breaks h given hs pieces (script_since w.keeps left after first faults later h given _ le reads) lives woven vacant
+due_since stands commands f w left after first faults later device_faults device_later text whole le (Faults rose) = Faults rose
+due_since stands commands f w left after first faults later device_faults device_later text whole le (In_use rose) = In_use rose
+due_since stands commands f w left after first faults later device_faults device_later text whole le (Disk_there r h path begins there rose) =
     Disk_there r h path begins there rose
-due_since stands commands f left after first faults later device_faults device_later text whole le (Parts h given end before machine d reads case_of vacant) =
-    Parts h given end before machine d (script_since left after first faults later h given end le reads) case_of vacant
+due_since stands commands f w left after first faults later device_faults device_later text whole le (Parts h given end before machine d reads case_of vacant) =
+    Parts h given end before machine d (script_since w.keeps left after first faults later h given end le reads) case_of vacant
 
-pub owes_since : {D : Type 0} (stands : D → Setting → Trace → Type 0) (commands : Header → List (Form Command)) (f : Asked) (left after taken now : Option (List ℕ))
+pub owes_since : {D : Type 0} (stands : D → Setting → Trace → Type 0) (commands : Header → List (Form Command)) (f : Asked) (w : Manner) (left after taken now : Option (List ℕ))
     (first faults later sink_faults sink_later device_faults device_later : ℕ) (s : Lived) → first ≤ faults
-    → Owes stands commands f left after taken now faults later sink_faults sink_later device_faults device_later s
-    → Owes stands commands f left after taken now first later sink_faults sink_later device_faults device_later s
-owes_since stands commands f left after taken now first faults later sink_faults sink_later device_faults device_later s le (Of text whole t due puts) =
-    Of text whole s (due_since stands commands f left after first faults later device_faults device_later text whole le due) puts
-owes_since stands commands f left after taken now first faults later sink_faults sink_later device_faults device_later s le (Lacks part nothing) = Lacks part nothing
+    → Owes stands commands f w left after taken now faults later sink_faults sink_later device_faults device_later s
+    → Owes stands commands f w left after taken now first later sink_faults sink_later device_faults device_later s
+owes_since stands commands f w left after taken now first faults later sink_faults sink_later device_faults device_later s le (Of text whole t due puts) =
+    Of text whole s (due_since stands commands f w left after first faults later device_faults device_later text whole le due) puts
+owes_since stands commands f w left after taken now first faults later sink_faults sink_later device_faults device_later s le (Lacks part nothing) = Lacks part nothing
 
 -- .. and of the devices.
-due_devices : {D : Type 0} (stands : D → Setting → Trace → Type 0) (commands : Header → List (Form Command)) (f : Asked) (left after : Option (List ℕ))
+due_devices : {D : Type 0} (stands : D → Setting → Trace → Type 0) (commands : Header → List (Form Command)) (f : Asked) (w : Manner) (left after : Option (List ℕ))
     (faults later first device_faults device_later : ℕ) (text : List ℕ) (whole : Lived) → first ≤ device_faults
-    → Due stands commands f left after faults later device_faults device_later text whole → Due stands commands f left after faults later first device_later text whole
-due_devices stands commands f left after faults later first device_faults device_later text whole le (Ends h given hs pieces reads lives woven vacant) = Ends h given hs pieces reads lives woven vacant
-due_devices stands commands f left after faults later first device_faults device_later text whole le (Stops_early r number why stops) = Stops_early r number why stops
-due_devices stands commands f left after faults later first device_faults device_later text whole le (Stops h given hs pieces number why reads lives woven vacant) = Stops h given hs pieces number why reads lives woven vacant
-due_devices stands commands f left after faults later first device_faults device_later text whole le (Breaks_early breaks rose) = Breaks_early breaks rose
-due_devices stands commands f left after faults later first device_faults device_later text whole le (Breaks h given hs pieces reads lives woven vacant) = Breaks h given hs pieces reads lives woven vacant
-due_devices stands commands f left after faults later first device_faults device_later text whole le (Faults rose) = Faults (rose_since first device_faults device_later le rose)
-due_devices stands commands f left after faults later first device_faults device_later text whole le (In_use rose) = In_use (rose_since first device_faults device_later le rose)
-due_devices stands commands f left after faults later first device_faults device_later text whole le (Disk_there r h path begins there rose) =
+    → Due stands commands f w left after faults later device_faults device_later text whole → Due stands commands f w left after faults later first device_later text whole
+due_devices stands commands f w left after faults later first device_faults device_later text whole le (Ends h given hs pieces reads lives woven vacant) = Ends h given hs pieces reads lives woven vacant
+due_devices stands commands f w left after faults later first device_faults device_later text whole le (Stops_early r number why stops) = Stops_early r number why stops
+due_devices stands commands f w left after faults later first device_faults device_later text whole le (Stops h given hs pieces number why reads lives woven vacant) = Stops h given hs pieces number why reads lives woven vacant
+due_devices stands commands f w left after faults later first device_faults device_later text whole le (Breaks_early breaks rose) = Breaks_early breaks rose
+due_devices stands commands f w left after faults later first device_faults device_later text whole le (Breaks h given hs pieces reads lives woven vacant) = Breaks h given hs pieces reads lives woven vacant
+due_devices stands commands f w left after faults later first device_faults device_later text whole le (Faults rose) = Faults (rose_since first device_faults device_later le rose)
+due_devices stands commands f w left after faults later first device_faults device_later text whole le (In_use rose) = In_use (rose_since first device_faults device_later le rose)
+due_devices stands commands f w left after faults later first device_faults device_later text whole le (Disk_there r h path begins there rose) =
     Disk_there r h path begins there (rose_since first device_faults device_later le rose)
-due_devices stands commands f left after faults later first device_faults device_later text whole le (Parts h given end before machine d reads case_of vacant) = Parts h given end before machine d reads case_of vacant
+due_devices stands commands f w left after faults later first device_faults device_later text whole le (Parts h given end before machine d reads case_of vacant) = Parts h given end before machine d reads case_of vacant
 
-pub owes_devices : {D : Type 0} (stands : D → Setting → Trace → Type 0) (commands : Header → List (Form Command)) (f : Asked) (left after taken now : Option (List ℕ))
+pub owes_devices : {D : Type 0} (stands : D → Setting → Trace → Type 0) (commands : Header → List (Form Command)) (f : Asked) (w : Manner) (left after taken now : Option (List ℕ))
     (faults later sink_faults sink_later first device_faults device_later : ℕ) (s : Lived) → first ≤ device_faults
-    → Owes stands commands f left after taken now faults later sink_faults sink_later device_faults device_later s
-    → Owes stands commands f left after taken now faults later sink_faults sink_later first device_later s
-owes_devices stands commands f left after taken now faults later sink_faults sink_later first device_faults device_later s le (Of text whole t due puts) =
-    Of text whole s (due_devices stands commands f left after faults later first device_faults device_later text whole le due) puts
-owes_devices stands commands f left after taken now faults later sink_faults sink_later first device_faults device_later s le (Lacks part nothing) = Lacks part nothing
+    → Owes stands commands f w left after taken now faults later sink_faults sink_later device_faults device_later s
+    → Owes stands commands f w left after taken now faults later sink_faults sink_later first device_later s
+owes_devices stands commands f w left after taken now faults later sink_faults sink_later first device_faults device_later s le (Of text whole t due puts) =
+    Of text whole s (due_devices stands commands f w left after faults later first device_faults device_later text whole le due) puts
+owes_devices stands commands f w left after taken now faults later sink_faults sink_later first device_faults device_later s le (Lacks part nothing) = Lacks part nothing
 
 -- ---- the header
 
@@ -243,24 +200,24 @@ none_put : (taken : Option (List ℕ)) → Appends taken taken []
 none_put None = tt
 none_put (Some xs) = sym (append-nil xs)
 
-pub owes_nothing : {D : Type 0} (stands : D → Setting → Trace → Type 0) (commands : Header → List (Form Command)) (f : Asked) (left after taken : Option (List ℕ))
+pub owes_nothing : {D : Type 0} (stands : D → Setting → Trace → Type 0) (commands : Header → List (Form Command)) (f : Asked) (w : Manner) (left after taken : Option (List ℕ))
     (faults later sink_faults device_faults device_later : ℕ)
-    → Owes stands commands f left after taken taken faults later sink_faults sink_faults device_faults device_later NoMemory
-owes_nothing stands commands f left after taken faults later sink_faults device_faults device_later = Lacks [] (none_put taken)
+    → Owes stands commands f w left after taken taken faults later sink_faults sink_faults device_faults device_later NoMemory
+owes_nothing stands commands f w left after taken faults later sink_faults device_faults device_later = Lacks [] (none_put taken)
 
 -- A read failed within it.
-pub owes_break : {D : Type 0} (stands : D → Setting → Trace → Type 0) (commands : Header → List (Form Command)) (f : Asked) (left after taken : Option (List ℕ))
+pub owes_break : {D : Type 0} (stands : D → Setting → Trace → Type 0) (commands : Header → List (Form Command)) (f : Asked) (w : Manner) (left after taken : Option (List ℕ))
     (faults later sink_faults device_faults device_later : ℕ) → HeaderBreaks left after → Rose faults later
-    → Owes stands commands f left after taken taken faults later sink_faults sink_faults device_faults device_later ReadFault
-owes_break stands commands f left after taken faults later sink_faults device_faults device_later breaks rose =
+    → Owes stands commands f w left after taken taken faults later sink_faults sink_faults device_faults device_later ReadFault
+owes_break stands commands f w left after taken faults later sink_faults device_faults device_later breaks rose =
     Of [] ReadFault ReadFault (Breaks_early breaks rose) (All (none_put taken))
 
 -- A line of it is refused.
-pub owes_refusal : {D : Type 0} (stands : D → Setting → Trace → Type 0) (commands : Header → List (Form Command)) (f : Asked) (left after taken now : Option (List ℕ))
+pub owes_refusal : {D : Type 0} (stands : D → Setting → Trace → Type 0) (commands : Header → List (Form Command)) (f : Asked) (w : Manner) (left after taken now : Option (List ℕ))
     (faults later sink_faults sink_later device_faults device_later : ℕ) (r : ReaderState) (number : ℕ) (why : Refusal) (s : Lived) → HeaderStops left after r number why
     → Puts taken now sink_faults sink_later (as_bytes (refusal_line number why ∷ [])) Refused s
-    → Owes stands commands f left after taken now faults later sink_faults sink_later device_faults device_later s
-owes_refusal stands commands f left after taken now faults later sink_faults sink_later device_faults device_later r number why s stops puts =
+    → Owes stands commands f w left after taken now faults later sink_faults sink_later device_faults device_later s
+owes_refusal stands commands f w left after taken now faults later sink_faults sink_later device_faults device_later r number why s stops puts =
     Of _ Refused s (Stops_early r number why stops) puts
 
 -- ---- a text that is put out

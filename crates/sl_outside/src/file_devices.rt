@@ -16,8 +16,8 @@ use crate::words::SystemWords;
 use sl_area::FileArea;
 use sl_io::{Failed, FaultCount};
 use std::alloc::Global;
-use std::fs::{File, Files, OpenFile, TryLockError, create_dir, symlink_metadata};
-use std::io;
+use std::fs::{File, Files, OpenFile, OpenOptions, TryLockError, create_dir, symlink_metadata};
+use std::io::{self, Seek, SeekFrom, Write};
 use std::process::{Processes, SystemProcess};
 use std::time::{Clock, Instant};
 
@@ -105,6 +105,13 @@ fn make_file<R: Files>(
     file.set_len(size)
 }
 
+/// Writes the last bytes of a file once more, which are zeros: so it is found why the system takes no more of it.
+fn write_end<R: Files<File = File>>(rt: &R, path: &str) -> io::Result<()> {
+    let mut file = OpenOptions::new().write(true).open(rt, path)?;
+    file.seek(SeekFrom::End(-512))?;
+    file.write_all(&[0; 512])
+}
+
 /// Says on standard error which path the system refused, and why. Where that can't be said either, nothing is.
 fn say<R: Eprint>(rt: &R, folder: &str, path: &str, error: &io::Error) {
     let _said = eprintln!(rt; "sanlock: {folder}{path}: {error}");
@@ -128,7 +135,13 @@ impl<R: Files + Drop> Devices for FileDevices<R> {
 }
 
 impl<
-    R: Files<File = File> + Processes<Started = SystemProcess> + Clock + Eprint + Copy + Drop + Send,
+    R: Files<File = File>
+        + Processes<Started = SystemProcess>
+        + Clock
+        + Eprint
+        + Copy
+        + Drop
+        + Send,
 > LiveDevices for FileDevices<R> {
     type Clock = RealClock<R>;
 
@@ -175,7 +188,9 @@ impl<
     }
 
     fn refused(&self, path: &str) {
-        let _said = eprintln!(&self.rt; "sanlock: {path}: a sector can't be written");
+        if let Err(error) = write_end(&self.rt, path) {
+            say(&self.rt, path, "", &error);
+        }
     }
 
     fn clock(&mut self, _machine: u32, _thread: u32) -> RealClock<R> {

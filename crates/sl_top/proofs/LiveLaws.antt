@@ -6,6 +6,7 @@ use Rattle.sl_live_play.specs.DifferenceLines.{differ_text}
 use Rattle.sl_live_play.specs.LiveOwed.{All, Breaks, Breaks_early, Differing, Disk_there, Due, Ends, Faults, Front, In_use, Lacks, Of, Owes as OwesLive, Part, Parts, Puts, Stops, Stops_early}
 use Rattle.sl_live_play.specs.declared.play.Lived.TheVariants as lived
 use Rattle.sl_live_play.specs.declared.play.Lived.{Lived}
+use Rattle.sl_live_play.specs.declared.play.Manner.{Manner}
 use Rattle.sl_live_run.specs.Folders.{Asked}
 use Rattle.sl_live_run.specs.declared.compare.LiveDiffer.{LiveDiffer}
 use Rattle.sl_reader.specs.ScriptReading.{ReadsScript}
@@ -17,14 +18,15 @@ use Rattle.sl_top.specs.LiveHistories.{LiveHistoriesAreGood}
 use Rattle.sl_top.specs.StatusLaws.{SomeDiffer}
 use Rattle.sl_cli.specs.declared.command_words.Words.TheVariants.{Direct, Generate, Help, Live, Replay, Version}
 use Rattle.sl_cli.specs.declared.command_words.Words.{Words}
-use Rattle.sl_top.specs.Runs.{IsLive, Outside, Owes, RunsLive, place_in, place_of}
+use Rattle.sl_top.specs.Runs.{IsLive, Outside, Owes, RunsLive, place_in, place_of, told_from}
 use Rattle.sl_top.specs.Statuses.{status_of_live}
 use Rattle.sl_top.specs.declared.status.Status.TheVariants.{AreaFault, BadWords, Differs, NoMemory, NotTheLeader, ReadFault, WriteFault}
 use Rattle.sl_top.specs.declared.status.Status.{Status}
 use Rattle.sl_io.specs.FaultCauses.{Rose}
 use Rattle.sl_words.proofs.CaseLaws.{some_value}
-use Rattle.std.proofs.Common.{Bool, List, None, Option, Some, [], ap, ap₂, refl, subst, sym, ℕ, ◌++◌, ◌∙◌, ◌≡◌}
+use Rattle.std.proofs.Common.{Bool, List, None, Option, Some, [], ap, refl, subst, sym, ℕ, ◌++◌, ◌||◌, ◌∙◌, ◌≡◌}
 use Rattle.std.specs.Io.KnownBytes.{Appends}
+use Rattle.std.specs.Prelude.{option_map}
 
 -- ---- histories
 
@@ -37,8 +39,8 @@ live_histories_are_good h given hs l place site history at there =
 -- ---- statuses
 
 -- For want of memory, before anything was done.
-pub never_run : (folder : List ℕ) (anew : Bool) (x : Outside) → RunsLive folder anew x x NoMemory
-never_run folder anew x = record { ended = lived.NoMemory; owes = Lacks [] (nothing_put x.taken); status = refl }
+pub never_run : (folder : List ℕ) (manner : Manner) (x : Outside) → RunsLive folder manner x x NoMemory
+never_run folder manner x = record { ended = lived.NoMemory; owes = Lacks [] (nothing_put x.taken); status = refl }
 
 pub not_bad : (l : Lived) → status_of_live l ≡ BadWords → ⊥
 not_bad lived.Done e = absurd cc
@@ -97,43 +99,43 @@ differed lived.Differs e = refl
 -- ---- what is due, by how it ended
 
 -- A case that holds of a machine, where the script that was read gave these lines; of its text this is said.
-pub record Differed (left after : Option (List ℕ)) (faults later : ℕ) (P : List ℕ → Type 0) : Type 0 where
+pub record Differed (keeps : Bool) (left after : Option (List ℕ)) (faults later : ℕ) (P : List ℕ → Type 0) : Type 0 where
   pub header : Header
   pub given : List LiveLine
   pub ended : Option ScriptEnd
   pub machine : ℕ
   pub differ : LiveDiffer
-  pub read : ReadsScript left after faults later header given ended
+  pub read : ReadsScript keeps left after faults later header given ended
   pub holds : Differing Serves whole_commands header given machine differ
   pub before : List ℕ
   pub told : P (before ++ differ_text machine differ)
 
 -- What each ending tells: of a read fault, of an area fault, and of records that differ, whose text is due.
-pub record Tells (left after : Option (List ℕ)) (faults later device_faults device_later : ℕ) (text : List ℕ) (whole : Lived) : Type 0 where
+pub record Tells (keeps : Bool) (left after : Option (List ℕ)) (faults later device_faults device_later : ℕ) (text : List ℕ) (whole : Lived) : Type 0 where
   pub read : whole ≡ lived.ReadFault → Rose faults later
   pub area : whole ≡ lived.AreaFault → Rose device_faults device_later
   pub written : whole ≡ lived.WriteFault → ⊥
-  pub differs : whole ≡ lived.Differs → Differed left after faults later (λ told. text ≡ told)
+  pub differs : whole ≡ lived.Differs → Differed keeps left after faults later (λ told. text ≡ told)
 
-due_tells : (f : Asked) (left after : Option (List ℕ)) (faults later device_faults device_later : ℕ) (text : List ℕ) (whole : Lived)
-    → Due Serves whole_commands f left after faults later device_faults device_later text whole → Tells left after faults later device_faults device_later text whole
-due_tells f left after faults later device_faults device_later text whole (Ends h given hs pieces reads lives woven vacant) =
+due_tells : (f : Asked) (w : Manner) (left after : Option (List ℕ)) (faults later device_faults device_later : ℕ) (text : List ℕ) (whole : Lived)
+    → Due Serves whole_commands f w left after faults later device_faults device_later text whole → Tells w.keeps left after faults later device_faults device_later text whole
+due_tells f w left after faults later device_faults device_later text whole (Ends h given hs pieces reads lives woven vacant) =
     record { read = λ e. absurd cc; area = λ e. absurd cc; written = λ e. absurd cc; differs = λ e. absurd cc }
-due_tells f left after faults later device_faults device_later text whole (Stops_early r number why stops) =
+due_tells f w left after faults later device_faults device_later text whole (Stops_early r number why stops) =
     record { read = λ e. absurd cc; area = λ e. absurd cc; written = λ e. absurd cc; differs = λ e. absurd cc }
-due_tells f left after faults later device_faults device_later text whole (Stops h given hs pieces number why reads lives woven vacant) =
+due_tells f w left after faults later device_faults device_later text whole (Stops h given hs pieces number why reads lives woven vacant) =
     record { read = λ e. absurd cc; area = λ e. absurd cc; written = λ e. absurd cc; differs = λ e. absurd cc }
-due_tells f left after faults later device_faults device_later text whole (Breaks_early breaks rose) =
+due_tells f w left after faults later device_faults device_later text whole (Breaks_early breaks rose) =
     record { read = λ e. rose; area = λ e. absurd cc; written = λ e. absurd cc; differs = λ e. absurd cc }
-due_tells f left after faults later device_faults device_later text whole (Breaks h given hs pieces reads lives woven vacant) =
+due_tells f w left after faults later device_faults device_later text whole (Breaks h given hs pieces reads lives woven vacant) =
     record { read = λ e. (reads.fault refl).0; area = λ e. absurd cc; written = λ e. absurd cc; differs = λ e. absurd cc }
-due_tells f left after faults later device_faults device_later text whole (Faults rose) =
+due_tells f w left after faults later device_faults device_later text whole (Faults rose) =
     record { read = λ e. absurd cc; area = λ e. rose; written = λ e. absurd cc; differs = λ e. absurd cc }
-due_tells f left after faults later device_faults device_later text whole (In_use rose) =
+due_tells f w left after faults later device_faults device_later text whole (In_use rose) =
     record { read = λ e. absurd cc; area = λ e. rose; written = λ e. absurd cc; differs = λ e. absurd cc }
-due_tells f left after faults later device_faults device_later text whole (Disk_there r h path begins there rose) =
+due_tells f w left after faults later device_faults device_later text whole (Disk_there r h path begins there rose) =
     record { read = λ e. absurd cc; area = λ e. rose; written = λ e. absurd cc; differs = λ e. absurd cc }
-due_tells f left after faults later device_faults device_later text whole (Parts h given end before machine d reads case_of vacant) =
+due_tells f w left after faults later device_faults device_later text whole (Parts h given end before machine d reads case_of vacant) =
     record {
       read = λ e. absurd cc;
       area = λ e. absurd cc;
@@ -144,21 +146,21 @@ due_tells f left after faults later device_faults device_later text whole (Parts
 -- ---- what was put out
 
 -- What the ending of a play tells.
-pub record Caused (left after taken now : Option (List ℕ)) (faults later sink_faults sink_later device_faults device_later : ℕ) (s : Lived) : Type 0 where
+pub record Caused (keeps : Bool) (left after taken now : Option (List ℕ)) (faults later sink_faults sink_later device_faults device_later : ℕ) (s : Lived) : Type 0 where
   pub read : s ≡ lived.ReadFault → Rose faults later
   pub written : s ≡ lived.WriteFault → Rose sink_faults sink_later
   pub area : s ≡ lived.AreaFault → Rose device_faults device_later
-  pub differs : s ≡ lived.Differs → Differed left after faults later (λ told. Appends taken now told)
+  pub differs : s ≡ lived.Differs → Differed keeps left after faults later (λ told. Appends taken now told)
 
-put_caused : (left after taken now : Option (List ℕ)) (faults later sink_faults sink_later device_faults device_later : ℕ) (text : List ℕ) (whole s : Lived)
-    → Tells left after faults later device_faults device_later text whole → Puts taken now sink_faults sink_later text whole s
-    → Caused left after taken now faults later sink_faults sink_later device_faults device_later s
-put_caused left after taken now faults later sink_faults sink_later device_faults device_later text whole s tells (All appends) =
+put_caused : (keeps : Bool) (left after taken now : Option (List ℕ)) (faults later sink_faults sink_later device_faults device_later : ℕ) (text : List ℕ) (whole s : Lived)
+    → Tells keeps left after faults later device_faults device_later text whole → Puts taken now sink_faults sink_later text whole s
+    → Caused keeps left after taken now faults later sink_faults sink_later device_faults device_later s
+put_caused keeps left after taken now faults later sink_faults sink_later device_faults device_later text whole s tells (All appends) =
     record {
       read = tells.read;
       written = λ e. absurd (tells.written e);
       area = tells.area;
-      differs = λ e. (let x : Differed left after faults later (λ told. text ≡ told) = tells.differs e in record {
+      differs = λ e. (let x : Differed keeps left after faults later (λ told. text ≡ told) = tells.differs e in record {
         header = x.header;
         given = x.given;
         ended = x.ended;
@@ -170,30 +172,30 @@ put_caused left after taken now faults later sink_faults sink_later device_fault
         told = subst (Appends taken now) x.told appends;
       });
     }
-put_caused left after taken now faults later sink_faults sink_later device_faults device_later text whole s tells (Part front appends begins rose) =
+put_caused keeps left after taken now faults later sink_faults sink_later device_faults device_later text whole s tells (Part front appends begins rose) =
     record { read = λ e. absurd cc; written = λ e. rose; area = λ e. absurd cc; differs = λ e. absurd cc }
-put_caused left after taken now faults later sink_faults sink_later device_faults device_later text whole s tells (Front front appends begins) =
+put_caused keeps left after taken now faults later sink_faults sink_later device_faults device_later text whole s tells (Front front appends begins) =
     record { read = λ e. absurd cc; written = λ e. absurd cc; area = λ e. absurd cc; differs = λ e. absurd cc }
 
-owes_caused : (f : Asked) (left after taken now : Option (List ℕ)) (faults later sink_faults sink_later device_faults device_later : ℕ) (s : Lived)
-    → OwesLive Serves whole_commands f left after taken now faults later sink_faults sink_later device_faults device_later s
-    → Caused left after taken now faults later sink_faults sink_later device_faults device_later s
-owes_caused f left after taken now faults later sink_faults sink_later device_faults device_later s (Of text whole t due puts) =
-    put_caused left after taken now faults later sink_faults sink_later device_faults device_later text whole s
-    (due_tells f left after faults later device_faults device_later text whole due) puts
-owes_caused f left after taken now faults later sink_faults sink_later device_faults device_later s (Lacks part nothing) =
+owes_caused : (f : Asked) (w : Manner) (left after taken now : Option (List ℕ)) (faults later sink_faults sink_later device_faults device_later : ℕ) (s : Lived)
+    → OwesLive Serves whole_commands f w left after taken now faults later sink_faults sink_later device_faults device_later s
+    → Caused w.keeps left after taken now faults later sink_faults sink_later device_faults device_later s
+owes_caused f w left after taken now faults later sink_faults sink_later device_faults device_later s (Of text whole t due puts) =
+    put_caused w.keeps left after taken now faults later sink_faults sink_later device_faults device_later text whole s
+    (due_tells f w left after faults later device_faults device_later text whole due) puts
+owes_caused f w left after taken now faults later sink_faults sink_later device_faults device_later s (Lacks part nothing) =
     record { read = λ e. absurd cc; written = λ e. absurd cc; area = λ e. absurd cc; differs = λ e. absurd cc }
 
 -- So of a live run.
-pub record LiveCaused (x y : Outside) (s : Status) : Type 0 where
+pub record LiveCaused (keeps : Bool) (x y : Outside) (s : Status) : Type 0 where
   pub read : s ≡ ReadFault → Rose x.source_faults y.source_faults
   pub written : s ≡ WriteFault → Rose x.sink_faults y.sink_faults
   pub area : s ≡ AreaFault → Rose x.device_faults y.device_faults
-  pub differs : s ≡ Differs → SomeDiffer x y
+  pub differs : s ≡ Differs → SomeDiffer keeps x y
 
-pub live_caused : (folder : List ℕ) (anew : Bool) (x y : Outside) (s : Status) → RunsLive folder anew x y s → LiveCaused x y s
-live_caused folder anew x y s run =
-    let why = owes_caused (record { path = folder; anew = anew; disks = x.disks }) x.left y.left x.taken y.taken x.source_faults y.source_faults x.sink_faults y.sink_faults x.device_faults y.device_faults run.ended run.owes in
+pub live_caused : (folder : List ℕ) (manner : Manner) (x y : Outside) (s : Status) → RunsLive folder manner x y s → LiveCaused manner.keeps x y s
+live_caused folder manner x y s run =
+    let why = owes_caused (record { path = folder; anew = manner.anew; disks = x.disks }) manner x.left y.left x.taken y.taken x.source_faults y.source_faults x.sink_faults y.sink_faults x.device_faults y.device_faults run.ended run.owes in
     record {
       read = λ e. why.read (read_failed run.ended (sym run.status ∙ e));
       written = λ e. why.written (write_failed run.ended (sym run.status ∙ e));
@@ -214,34 +216,50 @@ live_caused folder anew x y s run =
 
 -- ---- words that ask for live machines
 
-place_is_live : (w : Words) (p : List ℕ × Bool) → place_of w ≡ Some p → IsLive (Some w)
-place_is_live (Live folder anew) p is = (folder, anew, refl)
+abbrev live_words : List ℕ × Manner → Words
+live_words p = Live p.0 p.1.anew p.1.keeps p.1.events
+
+place_is_live : (w : Words) (p : List ℕ × Manner) → place_of w ≡ Some p → w ≡ live_words p
+place_is_live (Live folder anew keeps events) p is = ap live_words (some_value (folder, record { anew = anew; keeps = keeps; events = events }) p is)
 place_is_live Replay p is = absurd cc
 place_is_live (Generate seed hosts events paired) p is = absurd cc
 place_is_live (Direct a) p is = absurd cc
 place_is_live Help p is = absurd cc
 place_is_live Version p is = absurd cc
 
-pub is_live : (s : Option Words) (p : List ℕ × Bool) → place_in s ≡ Some p → IsLive s
-is_live None p is = absurd cc
-is_live (Some w) p is = place_is_live w p is
-
-said_live : (w : Words) (folder : List ℕ) (anew : Bool) → place_of w ≡ Some (folder, anew) → w ≡ Live folder anew
-said_live (Live other flag) folder anew is =
-    let same : (other, flag) ≡ (folder, anew) = some_value (other, flag) (folder, anew) is in
-    ap₂ (λ (text : List ℕ) (on : Bool). Live text on) (ap (λ (p : List ℕ × Bool). p.0) same) (ap (λ (p : List ℕ × Bool). p.1) same)
-said_live Replay folder anew is = absurd cc
-said_live (Generate seed hosts events paired) folder anew is = absurd cc
-said_live (Direct a) folder anew is = absurd cc
-said_live Help folder anew is = absurd cc
-said_live Version folder anew is = absurd cc
-
 -- So what live machines did is owed by such words.
-pub owes_live : (s : Option Words) (folder : List ℕ) (anew : Bool) (x y : Outside) (st : Status) → place_in s ≡ Some (folder, anew) → RunsLive folder anew x y st → Owes s x y st
-owes_live None folder anew x y st is run = absurd cc
-owes_live (Some w) folder anew x y st is run = subst (λ w. Owes (Some w) x y st) (sym (said_live w folder anew is)) run
+pub owes_live : (s : Option Words) (p : List ℕ × Manner) (x y : Outside) (st : Status) → place_in s ≡ Some p → RunsLive p.0 p.1 x y st → Owes s x y st
+owes_live None p x y st is run = absurd cc
+owes_live (Some w) p x y st is run = subst (λ w. Owes (Some w) x y st) (sym (place_is_live w p is)) run
 
-pub not_live : (s : Option Words) → place_in s ≡ None → IsLive s → ⊥
-not_live s none live =
-    let no : Some (live.0, live.1) ≡ None = sym (ap place_in live.2) ∙ none in
+-- Where a live script is told, a terminal changes whether it goes on alone; and nothing else.
+is_live_from : (at_terminal : Bool) (w : Words) (p : List ℕ × Manner) → place_of (told_from at_terminal w) ≡ Some p → IsLive (Some w)
+is_live_from at_terminal (Live folder anew keeps events) p is = (folder, record { anew = anew; keeps = keeps; events = events }, refl)
+is_live_from at_terminal Replay p is = absurd cc
+is_live_from at_terminal (Generate seed hosts events paired) p is = absurd cc
+is_live_from at_terminal (Direct a) p is = absurd cc
+is_live_from at_terminal Help p is = absurd cc
+is_live_from at_terminal Version p is = absurd cc
+
+pub is_live : (at_terminal : Bool) (s : Option Words) (p : List ℕ × Manner) → place_in (option_map (told_from at_terminal) s) ≡ Some p → IsLive s
+is_live at_terminal None p is = absurd cc
+is_live at_terminal (Some w) p is = is_live_from at_terminal w p is
+
+pub not_live : (at_terminal : Bool) (s : Option Words) → place_in (option_map (told_from at_terminal) s) ≡ None → IsLive s → ⊥
+not_live at_terminal s none live =
+    let no : Some (live.0, record live.1 { keeps = live.1.keeps || at_terminal }) ≡ None = sym (ap (λ o. place_in (option_map (told_from at_terminal) o)) live.2) ∙ none in
     absurd cc
+
+-- Other words say the same from anywhere.
+same_from : (at_terminal : Bool) (w : Words) → place_of (told_from at_terminal w) ≡ None → told_from at_terminal w ≡ w
+same_from at_terminal (Live folder anew keeps events) none = absurd cc
+same_from at_terminal Replay none = refl
+same_from at_terminal (Generate seed hosts events paired) none = refl
+same_from at_terminal (Direct a) none = refl
+same_from at_terminal Help none = refl
+same_from at_terminal Version none = refl
+
+pub owes_from : (at_terminal : Bool) (s : Option Words) (x y : Outside) (st : Status) → place_in (option_map (told_from at_terminal) s) ≡ None → Owes s x y st
+    → Owes (option_map (told_from at_terminal) s) x y st
+owes_from at_terminal None x y st none owes = owes
+owes_from at_terminal (Some w) x y st none owes = subst (λ v. Owes (Some v) x y st) (sym (same_from at_terminal w none)) owes

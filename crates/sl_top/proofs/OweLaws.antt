@@ -32,6 +32,6 @@ nothing_done None x = nothing_told x.taken x.sink_faults bad_words_text _
 nothing_done (Some Replay) x = unread x.left x.source_faults x.taken x.sink_faults
 nothing_done (Some (Generate seed hosts events paired)) x = none_generated seed hosts events paired x.taken x.sink_faults
 nothing_done (Some (Direct a)) x = not_begun a x.disks x.device_faults x.taken x.sink_faults
-nothing_done (Some (Live folder anew)) x = never_run folder anew x
+nothing_done (Some (Live folder anew keeps events)) x = never_run folder (record { anew = anew; keeps = keeps; events = events }) x
 nothing_done (Some Help) x = nothing_told x.taken x.sink_faults _ _
 nothing_done (Some Version) x = nothing_told x.taken x.sink_faults _ _

@@ -16,6 +16,7 @@ use Rattle.sl_report.specs.OwedReports.{MayHaveBeen, ReplayHeadline, is_whole_st
 use Rattle.sl_report.specs.Languages.{whole_language}
 use Rattle.sl_sound.proofs.Reports.OneReport.{accepted_schedules_end_well as accepted_runs}
 use Rattle.sl_sound.specs.Reports.ReportLaws.{replay_status}
+use Rattle.sl_live_play.specs.declared.play.Manner.{Manner}
 use Rattle.sl_top.proofs.LiveLaws.{live_caused, not_a_look, not_bad as not_bad_live}
 use Rattle.sl_top.proofs.RunLaws.{whole_headers}
 use Rattle.sl_top.specs.StatusLaws.{AcceptedSchedulesEndWell, CantBeUpgraded, CausesHaveStatuses, HasItsCause, IsNotTheLeader, NothingFailed, OtherSchedulesAreRefused, StatusesHaveCauses, has_leader}
@@ -231,17 +232,17 @@ direct_caused a x y s run =
 
 -- ---- a live run
 
-live_has_cause : (folder : List ℕ) (anew : Bool) (x y : Outside) (s : Status) → RunsLive folder anew x y s → HasItsCause (Some (Live folder anew)) x y s
-live_has_cause folder anew x y s run =
-    let why = live_caused folder anew x y s run in
+live_has_cause : (folder : List ℕ) (m : Manner) (x y : Outside) (s : Status) → RunsLive folder m x y s → HasItsCause (Some (Live folder m.anew m.keeps m.events)) x y s
+live_has_cause folder m x y s run =
+    let why = live_caused folder m x y s run in
     record {
-      refused = λ e. inr (folder, anew, refl);
+      refused = λ e. inr (folder, m, refl);
       bad_words = λ e. absurd (not_bad_live run.ended (sym run.status ∙ e));
-      read_fault = λ e. (inr (folder, anew, refl), why.read e);
+      read_fault = λ e. (inr (folder, m, refl), why.read e);
       write_fault = why.written;
-      area_fault = λ e. (inr (folder, anew, refl), why.area e);
+      area_fault = λ e. (inr (folder, m, refl), why.area e);
       not_the_leader = λ e. absurd (not_a_look run.ended (sym run.status ∙ e));
-      differs = λ e. ((folder, anew, refl), why.differs e);
+      differs = λ e. ((folder, m, refl), why.differs e);
     }
 
 -- ---- all words
@@ -251,7 +252,7 @@ statuses_have_causes None x y s h = bad_caused x y s h
 statuses_have_causes (Some Replay) x y s h = replay_caused x y s h
 statuses_have_causes (Some (Generate seed hosts events paired)) x y s h = done_caused (Some (Generate seed hosts events paired)) x y _ s h.puts
 statuses_have_causes (Some (Direct a)) x y s h = direct_caused a x y s h
-statuses_have_causes (Some (Live folder anew)) x y s h = live_has_cause folder anew x y s h
+statuses_have_causes (Some (Live folder anew keeps events)) x y s h = live_has_cause folder (record { anew = anew; keeps = keeps; events = events }) x y s h
 statuses_have_causes (Some Help) x y s h = done_caused (Some Help) x y HELP.now s h
 statuses_have_causes (Some Version) x y s h = done_caused (Some Version) x y VERSION.now s h
 

@@ -96,14 +96,7 @@ fn live<
     S: Source + Send,
     K: Sink + Send,
     D: LiveDevices,
->(
-    rt: &R,
-    alloc: Global,
-    place: &Place,
-    source: S,
-    sink: K,
-    devices: &mut D,
-) -> (Status, S, K)
+>(rt: &R, alloc: Global, place: &Place, source: S, sink: K, devices: &mut D) -> (Status, S, K)
 where
     D::Area: Send,
     ensures { RunsLive place.now.folder place.now.manner

@@ -4,6 +4,6 @@ use Rattle.sl_live_machine.proofs.machine.close_whole.Goals as goal
 use Rattle.sl_live_machine.specs.Printing.{lines_read}
 
 pub returns-in-Ok-clause-goes : goal.returns-in-Ok-clause-goes
-returns-in-Ok-clause-goes g c = λ a so.
+returns-in-Ok-clause-goes g c = λ t a so.
     ends_whole g.D.Daemon.stands g.J.Station.setting a (entries c.args.printer.now.mine) (lines_read c.args.printer.now.reader) c.check_lines.result
-    (record { stood = c.in-Ok.ensures.stood; run = c.in-Ok.ensures.ok }) (c.check_lines.ensures.goes a (entries c.args.printer.now.mine) so)
+    (record { stood = c.in-Ok.ensures.stood; run = c.in-Ok.ensures.ok }) (c.check_lines.ensures.goes t a (entries c.args.printer.now.mine) so)

@@ -8,7 +8,7 @@ close-end-requires-clause-seats g c =
     if_ok_kept c.print_last-seats.result c.run_beside-threaded.result.0.seats (λ v. AreSeats g.J.Station.setting v.items) c.print_last-seats.ensures.seats c.run_beside-threaded.ensures.seats
 
 pub returns-clause-goes : goal.returns-clause-goes
-returns-clause-goes g c = λ a so.
-    has_run g.D.Daemon.stands g.J.Station.setting a c.print_last-seats.new.printed.printer c.print_last-seats.result _ c.into_parts-reader.ensures.reader c.into_parts-reader.ensures.writer
-    (c.print_last-seats.ensures.seat ∙ c.run_beside-threaded.ensures.seat ∙ so.by ∙ sym (c.print_last-seats.ensures.by ∙ c.run_beside-threaded.ensures.by)) (c.close-end.ensures.goes a)
-    (c.print_last-seats.ensures.goes a (c.run_beside-threaded.ensures.printer a so)) c.close-end.ensures.right c.replies-replies.ensures c.len-entries.ensures
+returns-clause-goes g c = λ t a so.
+    has_run g.D.Daemon.stands g.J.Station.setting t a c.print_last-seats.new.printed.printer c.print_last-seats.result _ c.into_parts-reader.ensures.reader c.into_parts-reader.ensures.writer
+    (c.print_last-seats.ensures.seat ∙ c.run_beside-threaded.ensures.seat ∙ so.by ∙ sym (c.print_last-seats.ensures.by ∙ c.run_beside-threaded.ensures.by)) (c.close-end.ensures.goes t a)
+    (c.print_last-seats.ensures.goes t a (c.run_beside-threaded.ensures.printer t a so)) c.close-end.ensures.right c.replies-replies.ensures c.len-entries.ensures

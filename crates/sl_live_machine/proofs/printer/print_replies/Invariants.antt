@@ -1,4 +1,5 @@
 use Rattle.sl_book.specs.Logs.{entries}
+use Rattle.sl_live_lines.specs.EventTexts.{Telling}
 use Rattle.sl_live_lines.specs.LocksAlong.{AlongState}
 use Rattle.sl_live_machine.proofs.printer.print_replies.Given as goal
 use Rattle.sl_live_machine.specs.Printing.{IsPrinting}
@@ -6,7 +7,7 @@ use Rattle.std.proofs.Common.{◌≡◌}
 
 abbrev pub invariant-loop : goal.invariant-loop
 invariant-loop g l = record {
-  goes : (a : AlongState) → IsPrinting a (entries l.fn.printer.mine) l.fn.printer → IsPrinting a (entries l.printer.mine) l.printer;
+  goes : (t : Telling) → (a : AlongState) → IsPrinting t a (entries l.fn.printer.mine) l.fn.printer → IsPrinting t a (entries l.printer.mine) l.printer;
   by : l.printer.reader.by ≡ l.fn.printer.reader.by;
   seat : l.printer.writer.by ≡ l.fn.printer.writer.by;
 }

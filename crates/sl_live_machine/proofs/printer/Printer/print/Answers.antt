@@ -4,10 +4,10 @@ use Rattle.sl_live_machine.proofs.printer.Printer.print.Goals as goal
 use Rattle.std.proofs.Common.{ap, refl, ◌+◌, ◌∙◌}
 
 pub returns-clause-goes : goal.returns-clause-goes
-returns-clause-goes g c = λ a so.
+returns-clause-goes g c = λ t a so.
     let first = c.args.self.now in
-    prints_on a first.mine c.hand_out.new.mine c.in-Ok.handed.items c.deref.result.now c.put.new.self _
-    (c.in_ok-put.ensures.goes a _
-    (c.in_ok-go_on_each.ensures.goes a (entries first.mine) (ap (λ n. n + 1) c.by.ensures)
-    (moves_on a (entries first.mine) first _ (record { audit = refl; reader = refl; wrong = refl }) refl refl so)))
+    prints_on t a first.mine c.hand_out.new.mine c.in-Ok.handed.items c.deref.result.now c.put.new.self _
+    (c.in_ok-put.ensures.goes t a _
+    (c.in_ok-go_on_each.ensures.goes t a (entries first.mine) (ap (λ n. n + 1) c.by.ensures)
+    (moves_on t a (entries first.mine) first _ (record { audit = refl; reader = refl; wrong = refl }) refl refl so)))
     c.deref.ensures.value c.in-Ok.ensures.handed (c.put.ensures.mine ∙ c.go_on_each.ensures.mine) (record { audit = refl; reader = refl; wrong = refl }) refl refl

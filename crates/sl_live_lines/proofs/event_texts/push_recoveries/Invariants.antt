@@ -1,0 +1,8 @@
+use Rattle.sl_live_lines.proofs.event_texts.push_recoveries.Given as goal
+use Rattle.sl_live_lines.specs.EventTexts.{recovery_text}
+use Rattle.std.proofs.Common.{take, ◌++◌, ◌≡◌}
+use Rattle.std.specs.Prelude.{flat_map}
+
+-- the lines of those before this one have been added
+abbrev pub invariant-loop-connection : goal.invariant-loop-connection
+invariant-loop-connection l = l.out.items ≡ l.fn.out.items ++ flat_map (recovery_text l.machine l.before l.now) (take l.connection-index l.connections)
