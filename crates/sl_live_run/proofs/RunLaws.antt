@@ -450,3 +450,12 @@ pub ready_given : {C P V A O T S : Type 0} (l : LedgerState GivenLine) (ms : Lis
 ready_given l ms ps site places is many same =
     let n : length ms ≡ length ps = counts (map site ps) ms same ∙ length-map ps site in
     subst (λ k. AreGiven l k []) (many ∙ sym n) (no_lines l places is)
+
+-- ---- the script's thread beside the others
+
+-- What it has told, of what it left.
+pub told_on : {X T E : Type 0} (has : X → List LiveLine → Type 0) (before : List LiveLine → Type 0) (machines : ℕ) (x x' : X) (l l' : LedgerState GivenLine) (w w' : SeatState (List ℕ))
+    (r : Result T E) → x ≡ x' → l ≡ l' → w ≡ w' → HasTold machines before (has x) l w r → HasTold machines before (has x') l' w' r
+told_on has before machines x x' l l' w w' r first second third so =
+    subst (λ z. HasTold machines before (has z) l' w' r) first
+    (subst (λ z. HasTold machines before (has x) z w' r) second (subst (λ z. HasTold machines before (has x) l z r) third so))

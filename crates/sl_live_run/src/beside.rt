@@ -48,7 +48,10 @@ fn beside<
     let ((), told) = join_mut(
         rt,
         rest,
-        &mut || tell(rt, alloc, roll, ways, lines, ledger, writer),
+        &mut ||
+            ensures { (count : ℕ) → AreGiven ledger.entry.now count [] → HasPutOut writer.entry.now []
+                → HasTold count (L.has_given lines.entry.now) (L.has_given lines.exit.now) ledger.exit.now writer.exit.now result }
+        { tell(rt, alloc, roll, ways, lines, ledger, writer) },
     );
     told
 }

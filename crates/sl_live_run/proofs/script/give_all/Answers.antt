@@ -20,8 +20,8 @@ pub returns-in_err-put_refusal-in-Ok-Some : goal.returns-in_err-put_refusal-in-O
 returns-in_err-put_refusal-in-Ok-Some g c = λ m so put.
     let i = c.loop.invariant m so put in
     told_err m (g.L.LiveLines.has_given c.args.lines.now) (g.L.LiveLines.has_given c.loop.lines) (g.L.LiveLines.has_given c.next-in-loop.new.self) (lines_in c.next-in-loop.result) c.in-Ok-Some.line c.loop.ledger c.note.new.ledger
-    c.loop.writer c.put_refusal.new.writer c.from_residual.result _ i c.next-in-loop.ensures (ap lines_in c.in-Ok-Some.is ∙ ap (λ (o : Option LiveLine). lines_in (Ok o)) c.in-Ok-Some.field-0-is)
-    (first_of c.note.new.ledger m (i.lines ++ c.in-Ok-Some.line ∷ []) (c.in_ok-note-in-Ok-Some.ensures.given i.lines m i.given)) c.from_residual.ensures.1
+    c.loop.writer c.put_refusal.new.writer c.from_residual-in_err-put_refusal-in-Ok-Some.result _ i c.next-in-loop.ensures (ap lines_in c.in-Ok-Some.is ∙ ap (λ (o : Option LiveLine). lines_in (Ok o)) c.in-Ok-Some.field-0-is)
+    (first_of c.note.new.ledger m (i.lines ++ c.in-Ok-Some.line ∷ []) (c.in_ok-note-in-Ok-Some.ensures.given i.lines m i.given)) c.from_residual-in_err-put_refusal-in-Ok-Some.ensures.1
 
 pub loop-preserved : goal.loop-preserved
 loop-preserved g c = λ m so put.
