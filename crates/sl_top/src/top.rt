@@ -129,7 +129,6 @@ where
 /// nothing; `ReadFault` and `WriteFault` only where the source's or the sink's count of faults rose; `AreaFault` only where the devices'
 /// did; `NotTheLeader` where the sector that an action read is not its resource's leader; `NoMemory` for want of memory, after which a
 /// front of the output was put out.
-#[tactic(auto, using(crate::proofs::LiveLaws::said_live))]
 pub fn run_offline<S: Source, K: Sink, D: Devices>(
     alloc: Global,
     words: &[String],
