@@ -23,7 +23,7 @@ use Rattle.sl_top.specs.Statuses.{status_of_live}
 use Rattle.sl_top.specs.declared.status.Status.TheVariants.{AreaFault, BadWords, Differs, NoMemory, NotTheLeader, ReadFault, WriteFault}
 use Rattle.sl_top.specs.declared.status.Status.{Status}
 use Rattle.sl_io.specs.FaultCauses.{Rose}
-use Rattle.sl_words.proofs.CaseLaws.{some_value}
+use Rattle.sl_words.proofs.CaseLaws.{none_some, some_value}
 use Rattle.std.proofs.Common.{Bool, List, None, Option, Some, [], ap, refl, subst, sym, ℕ, ◌++◌, ◌||◌, ◌∙◌, ◌≡◌}
 use Rattle.std.specs.Io.KnownBytes.{Appends}
 use Rattle.std.specs.Prelude.{option_map}
@@ -232,6 +232,10 @@ pub owes_live : (s : Option Words) (p : List ℕ × Manner) (x y : Outside) (st 
 owes_live None p x y st is run = absurd cc
 owes_live (Some w) p x y st is run = subst (λ w. Owes (Some w) x y st) (sym (place_is_live w p is)) run
 
+-- Such words ask for live machines.
+pub said_live : (s : Option Words) (folder : List ℕ) (anew keeps events : Bool) → s ≡ Some (Live folder anew keeps events) → IsLive s
+said_live s folder anew keeps events is = (folder, record { anew = anew; keeps = keeps; events = events }, is)
+
 -- Where a live script is told, a terminal changes whether it goes on alone; and nothing else.
 is_live_from : (at_terminal : Bool) (w : Words) (p : List ℕ × Manner) → place_of (told_from at_terminal w) ≡ Some p → IsLive (Some w)
 is_live_from at_terminal (Live folder anew keeps events) p is = (folder, record { anew = anew; keeps = keeps; events = events }, refl)
@@ -247,8 +251,7 @@ is_live at_terminal (Some w) p is = is_live_from at_terminal w p is
 
 pub not_live : (at_terminal : Bool) (s : Option Words) → place_in (option_map (told_from at_terminal) s) ≡ None → IsLive s → ⊥
 not_live at_terminal s none live =
-    let no : Some (live.0, record live.1 { keeps = live.1.keeps || at_terminal }) ≡ None = sym (ap (λ o. place_in (option_map (told_from at_terminal) o)) live.2) ∙ none in
-    absurd cc
+    absurd (none_some _ (sym none ∙ ap (λ o. place_in (option_map (told_from at_terminal) o)) live.2))
 
 -- Other words say the same from anywhere.
 same_from : (at_terminal : Bool) (w : Words) → place_of (told_from at_terminal w) ≡ None → told_from at_terminal w ≡ w

@@ -18,12 +18,17 @@ returns-in-Ok-Some-clause-devices g c =
     let place = sym c.in-Ok-Some.ensures ∙ ap (λ o. option_map (λ p. (p.folder, p.manner)) o) c.in-Ok-Some.field-0-is in
     λ none not_live. absurd (not_live (is_live c.args.at_terminal (said c.args.words.now) _ place))
 
+pub returns-in-Ok-Some-clause-source : goal.returns-in-Ok-Some-clause-source
+returns-in-Ok-Some-clause-source g c =
+    let place = sym c.in-Ok-Some.ensures ∙ ap (λ o. option_map (λ p. (p.folder, p.manner)) o) c.in-Ok-Some.field-0-is in
+    λ none not_live. absurd (not_live (is_live c.args.at_terminal (said c.args.words.now) _ place))
+
 pub run_offline-status-requires : goal.run_offline-status-requires
-run_offline-status-requires g c κs within =
+run_offline-status-requires g c =
     let place = sym c.in-Ok-None.ensures ∙ ap (λ o. option_map (λ p. (p.folder, p.manner)) o) c.in-Ok-None.field-0-is in
     not_live c.args.at_terminal (said c.args.words.now) place
 
-pub returns-clause-owes : goal.returns-clause-owes
-returns-clause-owes g c =
+pub returns-in-Ok-None-clause-owes : goal.returns-in-Ok-None-clause-owes
+returns-in-Ok-None-clause-owes g c =
     let place = sym c.in-Ok-None.ensures ∙ ap (λ o. option_map (λ p. (p.folder, p.manner)) o) c.in-Ok-None.field-0-is in
     owes_from c.args.at_terminal (said c.args.words.now) _ _ _ place c.run_offline-status.ensures.owes
