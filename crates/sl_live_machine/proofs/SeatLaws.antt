@@ -1,16 +1,10 @@
 -- A thread's seat with one turn more.
-use Rattle.sl_cell.proofs.SeatLaws.{calls_prefix, gave_before, mine_on}
+use Rattle.sl_cell.proofs.SeatLaws.{mine_on}
 use Rattle.sl_book.proofs.SeatLaws.{mine_none, mine_seen}
-use Rattle.sl_cell.specs.Parts.{calls_of}
 use Rattle.sl_cell.specs.Seats.{SeatState}
-use Rattle.sl_cell.specs.Told.{Gave, IsTested, IsUnasked, Took, TookAll}
+use Rattle.sl_cell.specs.Told.{Gave, IsTested, IsUnasked}
 use Rattle.sl_book.specs.Seats.{HasSeen}
-use Rattle.sl_cell.specs.declared.part.Part.{Part}
-use Rattle.sl_book.proofs.Fronts.{prefix_get, prefix_length, prefix_self, prefix_trans}
-use Rattle.sl_book.specs.Logs.{entries}
-use Rattle.sl_cell.specs.Histories.{Signed}
-use Rattle.sl_live.proofs.WorkLaws.{next_within, served_answer, served_more, served_pass, take_next, take_same}
-use Rattle.sl_live.specs.Turns.{AreServed, ChildrenState, Gives, Guards, IsAnswerOf, IsChildThread, IsDeviceThread, IsExit, IsIdleTurn, IsLine, IsLineThread, IsPassed, IsSpawned, IsStarterThread, IsTicker, IsWake, Looks, MakesTurn, TellsExit, TellsStart, Works}
+use Rattle.sl_live.specs.Turns.{ChildrenState, Gives, Guards, IsChildThread, IsDeviceThread, IsExit, IsLine, IsLineThread, IsSpawned, IsStarterThread, IsTicker, IsWake, Looks, MakesTurn, TellsStart}
 use Rattle.sl_live.specs.declared.steps.Gone.{Gone}
 use Rattle.sl_live.specs.ServedCalls.{MakesCall}
 use Rattle.sl_live.specs.declared.disks.Disk.{Disk}
@@ -23,13 +17,12 @@ use Rattle.sl_trace.specs.declared.effects.Call.{Call}
 use Rattle.sl_trace.specs.declared.effects.Effects.{Effects}
 use Rattle.sl_trace.specs.declared.effects.Entry.{Entry}
 use Rattle.sl_trace.specs.declared.input.Answer.{Answer}
-use Rattle.sl_trace.specs.declared.input.Input.TheVariants.{Answer as Told, Exit, Spawned, Wake}
+use Rattle.sl_trace.specs.declared.input.Input.TheVariants.{Exit, Spawned, Wake}
 use Rattle.sl_trace.specs.declared.input.Input.{Input}
 use Rattle.std.proofs.Common.{ap, arith, inl, inr, refl, subst, sym, ◌∙◌}
 use Rattle.std.proofs.lemmas.List.Elements.{All-append, All-cons}
 use Rattle.std.specs.declared.alloc.AllocError.{AllocError}
-use Rattle.std.specs.Prelude.{All, Bool, Err, IfOk, List, None, Ok, OnErr, OnOk, Option, Result, Some, length, slice_get, take, [], ℕ, ◌++◌, ◌+◌, ◌<◌, ◌==◌, ◌∷◌, ◌≡◌, ◌≤◌, ◌⊎◌}
-use mathlib.Core.List.{IsPrefix}
+use Rattle.std.specs.Prelude.{Bool, Err, IfOk, List, None, Ok, OnErr, OnOk, Option, Result, Some, length, [], ℕ, ◌++◌, ◌+◌, ◌==◌, ◌∷◌, ◌≡◌, ◌⊎◌}
 
 -- ---- a turn that gives an input
 

@@ -14,7 +14,7 @@ use Rattle.sl_live.specs.ServedCalls.{MakesCall}
 use Rattle.sl_live.specs.Turns.{AreServed, IsPassed, Works}
 use Rattle.sl_live.specs.declared.disks.Disk.{Disk}
 use Rattle.sl_live_machine.proofs.SeatLaws.{GaveTurn}
-use Rattle.sl_live_machine.specs.ThreadTurns.{AreMade, IsMadeFirst, IsPassedBy, WorksOn}
+use Rattle.sl_live_machine.specs.ThreadTurns.{AreMade, IsPassedBy, WorksOn}
 use Rattle.sl_trace.specs.Traces.{Setting}
 use Rattle.sl_trace.specs.declared.effects.Call.{Call}
 use Rattle.sl_trace.specs.declared.effects.Effects.{Effects}
@@ -22,7 +22,7 @@ use Rattle.sl_trace.specs.declared.effects.Entry.{Entry}
 use Rattle.sl_trace.specs.declared.input.Answer.{Answer}
 use Rattle.sl_trace.specs.declared.input.Input.TheVariants.{Answer as Told}
 use Rattle.std.proofs.Common.{arith, inl, inr, refl, subst, sym, ◌∙◌}
-use Rattle.std.specs.Prelude.{List, Option, Some, length, slice_get, take, [], ℕ, ◌++◌, ◌+◌, ◌<◌, ◌∷◌, ◌≡◌, ◌≤◌, ◌⊎◌}
+use Rattle.std.specs.Prelude.{List, Option, Some, length, slice_get, take, [], ℕ, ◌++◌, ◌+◌, ◌∷◌, ◌≡◌, ◌≤◌, ◌⊎◌}
 use mathlib.Core.List.{IsPrefix}
 
 either : {A B C D : Type 0} → (A → C) → (B → D) → A ⊎ B → C ⊎ D
