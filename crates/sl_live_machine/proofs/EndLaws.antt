@@ -20,7 +20,7 @@ use Rattle.sl_trace.specs.declared.effects.Entry.{Entry}
 use Rattle.std.proofs.Common.{ap, append-nil, subst, sym, ◌∙◌}
 use Rattle.std.proofs.lemmas.List.{length-map}
 use Rattle.std.specs.List.{concat}
-use Rattle.std.specs.Prelude.{Err, IfOk, IsOk, List, None, Ok, OnOk, Result, length, map, [], ℕ, ◌++◌, ◌+◌, ◌≡◌}
+use Rattle.std.specs.Prelude.{Err, IfOk, IsOk, List, None, Ok, OnOk, Result, length, [], ℕ, ◌++◌, ◌≡◌}
 
 -- what was found along a whole history
 pub ends_whole : {D : Type 0} (stands : D → Setting → Trace → Type 0) (st : Setting) (a : AlongState) (h : List Entry) (read : List GivenLine) (end : Result Unit CloseError)

@@ -7,7 +7,7 @@ use Rattle.sl_book.specs.Seats.{IsMine, SeatState}
 use Rattle.sl_book.specs.declared.signed.Signed.{Signed}
 use Rattle.sl_live_lines.proofs.LineLaws.{lines_push}
 use Rattle.sl_live_lines.proofs.LiveLaws.{text_push}
-use Rattle.sl_live_lines.specs.AuditedHistory.{AreLines, IsAnswered, IsAudit, IsLeft, IsNext, IsOther, KeepsAsk, due_line, lines_along, own_lines}
+use Rattle.sl_live_lines.specs.AuditedHistory.{AreLines, IsAnswered, IsAudit, IsNext, IsOther, due_line, lines_along, own_lines}
 use Rattle.sl_live_lines.specs.EventTexts.{Telling, telling_along}
 use Rattle.sl_live_lines.specs.LiveTexts.{history_text, step_text}
 use Rattle.sl_live_lines.specs.LocksAlong.{AlongState, along, line_given, runs_line}

@@ -2,13 +2,10 @@
 use Rattle.sl_book.specs.Logs.{entries}
 use Rattle.sl_book.specs.Mails.{ReaderState}
 use Rattle.sl_book.specs.Seats.{IsMine, SeatState}
-use Rattle.sl_cell.specs.Histories.{trace_of}
 use Rattle.sl_live_lines.specs.AuditedHistory.{AreLines, IsAnswered, IsLeft, KeepsAsks, lines_along}
 use Rattle.sl_live_lines.specs.EventTexts.{Telling}
 use Rattle.sl_live_lines.specs.LiveTexts.{count_replies, history_text}
-use Rattle.sl_live_lines.specs.LocksAlong.{AlongState, along, runs_line}
-use Rattle.sl_live_lines.specs.declared.audit.Left.TheVariants.{Line as LineLeft}
-use Rattle.sl_live_lines.specs.declared.audit.Left.{Left}
+use Rattle.sl_live_lines.specs.LocksAlong.{AlongState}
 use Rattle.sl_live_lines.specs.declared.given_lines.GivenLine.{GivenLine}
 use Rattle.sl_live_machine.specs.Printing.{IsWrong, lines_read}
 use Rattle.sl_live_machine.specs.declared.printer.Printer.{Printer}
@@ -20,7 +17,7 @@ use Rattle.std.specs.List.{concat}
 use Rattle.sl_trace.specs.Traces.{Setting, Trace}
 use Rattle.sl_trace.specs.declared.effects.Entry.{Entry}
 use Rattle.sl_world_state.specs.Daemons.{Stood}
-use Rattle.std.specs.Prelude.{Err, List, Ok, Result, false, length, reverse, true, [], ℕ, ◌+◌, ◌≡◌, ◌⊎◌}
+use Rattle.std.specs.Prelude.{Err, List, Ok, Result, length, reverse, ℕ, ◌+◌, ◌≡◌}
 
 -- What a printer found along the history, where the script's lines that it met are these: nothing, or a case.
 abbrev pub Finds : AlongState → List Entry → List GivenLine → Result Unit CloseError → Type 0

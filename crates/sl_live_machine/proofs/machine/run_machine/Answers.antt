@@ -11,7 +11,7 @@ use Rattle.sl_live_machine.proofs.PrintLaws.{begins_printing}
 use Rattle.sl_live_machine.proofs.machine.run_machine.Goals as goal
 use Rattle.sl_live_machine.specs.Printing.{lines_read}
 use Rattle.sl_trace.specs.declared.effects.Entry.{Entry}
-use Rattle.std.proofs.Common.{List, [], ap, refl, subst, sym, ℕ, ◌∙◌}
+use Rattle.std.proofs.Common.{List, [], ap, subst, sym, ℕ, ◌∙◌}
 
 pub returns-in-Err-clause-goes : goal.returns-in-Err-clause-goes
 returns-in-Err-clause-goes g c =
