@@ -75,6 +75,29 @@ fn write_first<A: Area>(
     }
 }
 
+/// .. and where it could not be written, that of the file there is said.
+fn write_or_say<V: LiveDevices>(
+    header: &Header,
+    machine: u32,
+    part: Part,
+    path: FilePath,
+    area: &mut V::Area,
+    file: &str,
+    devices: &V,
+) -> Result<(), Failed>
+    requires { IsHeader header.now }
+    ensures ok { OnOk result (Wrote (first_writes header.now machine part path) (V.Area.content area.old) (V.Area.content area.new)) }
+    ensures cause { HasCause (V.Area.faults area.old) (V.Area.faults area.new) result }
+{
+    match write_first(header, machine, part, path, area) {
+        Ok(()) => Ok(()),
+        Err(failed) => {
+            devices.refused(file);
+            Err(failed)
+        }
+    }
+}
+
 /// Hands out an area of each disk to a worker, and puts it behind these. After an `Err` all that was handed out stands there.
 fn lend_each<V: LiveDevices>(
     alloc: Global,
@@ -95,14 +118,19 @@ fn lend_each<V: LiveDevices>(
         disks.reserve(1)?;
         let whole = disk_path(alloc, folder, disk.path.as_str())?;
         let mut area = devices.area(machine, worker_of(part), whole.as_str());
-        let written = write_first(header, machine, part, disk.path, &mut area);
+        let written = write_or_say::<V>(
+            header,
+            machine,
+            part,
+            disk.path,
+            &mut area,
+            whole.as_str(),
+            devices,
+        );
         disks.push_reserved(Disk {
             path: disk.path,
             area,
         });
-        if written.is_err() {
-            devices.refused(whole.as_str());
-        }
         written?;
     }
     Ok(())
