@@ -75,25 +75,27 @@ fn write_first<A: Area>(
     }
 }
 
-/// .. of the disk with this file: where a sector can't be written, whoever reads standard error may be told.
+/// .. and where a sector can't be written, whoever reads standard error may be told of which file.
 fn write_or_say<V: LiveDevices>(
     header: &Header,
     machine: u32,
     part: Part,
     path: FilePath,
-    devices: &V,
-    file: &str,
     area: &mut V::Area,
+    file: &str,
+    devices: &V,
 ) -> Result<(), Failed>
     requires { IsHeader header.now }
     ensures ok { OnOk result (Wrote (first_writes header.now machine part path) (V.Area.content area.old) (V.Area.content area.new)) }
     ensures cause { HasCause (V.Area.faults area.old) (V.Area.faults area.new) result }
 {
-    let written = write_first(header, machine, part, path, area);
-    if written.is_err() {
-        devices.refused(file);
+    match write_first(header, machine, part, path, area) {
+        Ok(()) => Ok(()),
+        Err(failed) => {
+            devices.refused(file);
+            Err(failed)
+        }
     }
-    written
 }
 
 /// Hands out an area of each disk to a worker, and puts it behind these. After an `Err` all that was handed out stands there.
@@ -116,8 +118,15 @@ fn lend_each<V: LiveDevices>(
         disks.reserve(1)?;
         let whole = disk_path(alloc, folder, disk.path.as_str())?;
         let mut area = devices.area(machine, worker_of(part), whole.as_str());
-        let file = whole.as_str();
-        let written = write_or_say(header, machine, part, disk.path, devices, file, &mut area);
+        let written = write_or_say::<V>(
+            header,
+            machine,
+            part,
+            disk.path,
+            &mut area,
+            whole.as_str(),
+            devices,
+        );
         disks.push_reserved(Disk {
             path: disk.path,
             area,
