@@ -63,11 +63,15 @@ fn disks<R: Wait + Clock + Copy + Drop + Send + Sync>(
 }
 
 /// The devices of another program, which has the folder that is told.
-fn others<R: Files<File = File> + Processes<Started = SystemProcess> + Clock + Copy + Drop + Send>(
-    rt: R,
-    alloc: Global,
-    case: &Case,
-) -> FileDevices<R> {
+fn others<
+    R: Files<File = File>
+        + Processes<Started = SystemProcess>
+        + Clock
+        + Eprint
+        + Copy
+        + Drop
+        + Send,
+>(rt: R, alloc: Global, case: &Case) -> FileDevices<R> {
     let mut others = FileDevices::new(rt, alloc);
     if let Some(folder) = &case.used {
         let _taken = others.take(folder.as_str());
