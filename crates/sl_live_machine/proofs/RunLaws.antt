@@ -148,10 +148,10 @@ module _ {A : Type 0} (content : A → Option (List ℕ)) (faults : A → ℕ) (
   serving : {E : Type 0} (first second : Result SeatState E) (delta delta' resource resource' : List (Disk A)) (seats : List SeatState)
       → IfOk first (WorksOn content faults sector st Delta delta delta') → IfOk second (WorksOn content faults sector st Resource resource resource')
       → AreGathered st first second seats → AreServing content faults sector st delta delta' resource resource' seats
-  serving first second delta delta' resource resource' seats d r g = record {
+  serving {E} first second delta delta' resource resource' seats d r g = record {
     are = g.are;
-    delta_on = subst (λ (x : Result SeatState _). IfOk x (WorksOn content faults sector st Delta delta delta')) g.delta_is d;
-    resource_on = subst (λ (x : Result SeatState _). IfOk x (WorksOn content faults sector st Resource resource resource')) g.resource_is r;
+    delta_on = subst (λ (x : Result SeatState E). IfOk x (WorksOn content faults sector st Delta delta delta')) g.delta_is d;
+    resource_on = subst (λ (x : Result SeatState E). IfOk x (WorksOn content faults sector st Resource resource resource')) g.resource_is r;
   }
 
   -- workers that worked so left their seats among those of all threads
