@@ -49,13 +49,29 @@ are_seats st ticks delta resource exits starts tests lines t d r c p v l = recor
   gives_lines = l;
 }
 
-pub are_gathered : {E : Type 0} (st : Setting) (delta_end resource_end : Result SeatState E) (ticks delta resource exits starts tests lines : SeatState) → delta_end ≡ Ok delta
-    → resource_end ≡ Ok resource → IsTicker ticks → Works st Delta delta → Works st Resource resource → IsChildThread exits → IsStarterThread starts → IsDeviceThread tests
-    → IsLineThread lines → AreGathered st delta_end resource_end (ticks ∷ delta ∷ resource ∷ exits ∷ starts ∷ tests ∷ lines ∷ [])
-are_gathered st delta_end resource_end ticks delta resource exits starts tests lines first second t d r c p v l = record {
-  are = are_seats st ticks delta resource exits starts tests lines t d r c p v l;
-  delta_is = first;
-  resource_is = second;
+ended : {E : Type 0} (r : Result SeatState E) (s : SeatState) (IsSo : SeatState → Type 0) → r ≡ Ok s → IfOk r IsSo → IsSo s
+ended r s IsSo is so = subst (λ x. IfOk x IsSo) is so
+
+-- What seven threads ended with.
+pub record AreEnded {E : Type 0} (st : Setting) (ticks delta resource exits starts tests lines : Result SeatState E) : Type 0 where
+  pub wakes : IfOk ticks (λ s. IsTicker s)
+  pub delta_works : IfOk delta (λ s. Works st Delta s)
+  pub resource_works : IfOk resource (λ s. Works st Resource s)
+  pub tells_exits : IfOk exits (λ s. IsChildThread s)
+  pub tells_starts : IfOk starts (λ s. IsStarterThread s)
+  pub tests_devices : IfOk tests (λ s. IsDeviceThread s)
+  pub gives_lines : IfOk lines (λ s. IsLineThread s)
+
+pub are_gathered : {E : Type 0} (st : Setting) (t d r c p v l : Result SeatState E) (ticks delta resource exits starts tests lines : SeatState) → t ≡ Ok ticks → d ≡ Ok delta → r ≡ Ok resource
+    → c ≡ Ok exits → p ≡ Ok starts → v ≡ Ok tests → l ≡ Ok lines → AreEnded st t d r c p v l → AreGathered st d r (ticks ∷ delta ∷ resource ∷ exits ∷ starts ∷ tests ∷ lines ∷ [])
+unfolding are_seats
+are_gathered st t d r c p v l ticks delta resource exits starts tests lines ts ds rs cs ps vs ls so = record {
+  are = are_seats st ticks delta resource exits starts tests lines (ended t ticks (λ s. IsTicker s) ts so.wakes) (ended d delta (λ s. Works st Delta s) ds so.delta_works)
+      (ended r resource (λ s. Works st Resource s) rs so.resource_works) (ended c exits (λ s. IsChildThread s) cs so.tells_exits)
+      (ended p starts (λ s. IsStarterThread s) ps so.tells_starts) (ended v tests (λ s. IsDeviceThread s) vs so.tests_devices)
+      (ended l lines (λ s. IsLineThread s) ls so.gives_lines);
+  delta_is = ds;
+  resource_is = rs;
 }
 
 -- ---- seats whose counts are exact
@@ -187,6 +203,7 @@ module _ {A : Type 0} (content : A → Option (List ℕ)) (faults : A → ℕ) (
   pub disks_served : (seats : List SeatState) (h : List Signed) (delta delta' resource resource' : List (Disk A))
       → AreServing content faults sector st delta delta' resource resource' seats → AreOf st h seats
       → ServedDisks content faults sector st Delta (entries h) delta delta' × ServedDisks content faults sector st Resource (entries h) resource resource'
+  unfolding run_whole run_so
   disks_served seats h delta delta' resource resource' a of =
       let x = seven st seats h a.are of.exact in
       let run = run_whole st seats h (entries h) refl a.are of.exact of.below of.trace in

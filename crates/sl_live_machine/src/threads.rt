@@ -390,7 +390,6 @@ fn three<J: Station>(
 }
 
 /// The seats of all threads, if none ended for want of memory, and there is memory for the list.
-#[tactic(auto, using(crate::proofs::RunLaws::are_gathered))]
 fn gather<J: Station>(
     alloc: Global,
     delta: Ending<J>,
@@ -629,7 +628,7 @@ pub(crate) fn run_beside<
             requires device { IsSend V.row }
             requires area { IsSend A.row }
             requires gate { IsSync G.row }
-            ensures { IfOk result.seats (λ v. AreServing A.content A.faults room.now.geometry.sector J.setting delta.items result.delta.items
+            ensures { IfOk result.seats (λ v. AreServing A.content A.faults room.entry.now.geometry.sector J.setting delta.items result.delta.items
                 resource.items result.resource.items v.items) }
         { run_threads(rt, room, stand, gate, clocks, device, delta, resource) },
         ||
