@@ -3,13 +3,17 @@ use Rattle.sl_book.specs.Logs.{entries}
 use Rattle.sl_book.specs.Mails.{ReaderState}
 use Rattle.sl_book.specs.Seats.{SeatState}
 use Rattle.sl_book.specs.declared.signed.Signed.{Signed}
+use Rattle.sl_cell.specs.declared.part.Part.TheVariants.{Delta, Resource}
+use Rattle.sl_live.specs.declared.disks.Disk.{Disk}
 use Rattle.sl_live_lines.specs.AuditedHistory.{IsAudit}
 use Rattle.sl_live_lines.specs.EventTexts.{Telling}
 use Rattle.sl_live_lines.specs.LiveTexts.{count_replies}
 use Rattle.sl_live_lines.specs.LocksAlong.{AlongState}
 use Rattle.sl_live_lines.specs.declared.given_lines.GivenLine.{GivenLine}
 use Rattle.sl_live_machine.proofs.PrintLaws.{goes_right}
-use Rattle.sl_live_machine.specs.MachineEnds.{Counts, EndsEarly, EndsSo, EndsWith, Finds, HasRun, HasTold, IsWhole, Told}
+use Rattle.sl_live_machine.specs.MachineEnds.{Counts, EndsEarly, EndsSo, EndsWith, Finds, HasRun, HasTold, IsWhole, OnWhole, Told}
+use Rattle.sl_live_machine.proofs.RunLaws.{disks_served}
+use Rattle.sl_live_machine.specs.ServedDisks.{AreOf, AreServing, ServedDisks}
 use Rattle.sl_live_machine.specs.Printing.{IsPrinting, lines_read}
 use Rattle.sl_live_machine.specs.declared.machine.CloseError.TheVariants as close
 use Rattle.sl_live_machine.specs.declared.machine.CloseError.{CloseError}
@@ -20,7 +24,7 @@ use Rattle.sl_trace.specs.declared.effects.Entry.{Entry}
 use Rattle.std.proofs.Common.{ap, append-nil, subst, sym, ◌∙◌}
 use Rattle.std.proofs.lemmas.List.{length-map}
 use Rattle.std.specs.List.{concat}
-use Rattle.std.specs.Prelude.{Err, IfOk, IsOk, List, None, Ok, OnOk, Result, length, [], ℕ, ◌++◌, ◌≡◌}
+use Rattle.std.specs.Prelude.{Err, IfOk, IsOk, IsOkAnd, List, None, Ok, OnOk, Option, Result, length, [], ℕ, ◌++◌, ◌≡◌}
 
 -- what was found along a whole history
 pub ends_whole : {D : Type 0} (stands : D → Setting → Trace → Type 0) (st : Setting) (a : AlongState) (h : List Entry) (read : List GivenLine) (end : Result Unit CloseError)
@@ -37,6 +41,33 @@ ends_early stands st a h read (close.Line number) early = absurd early
 ends_early stands st a h read (close.Left left) early = absurd early
 ends_early stands st a h read (close.Differ d) early = early
 ends_early stands st a h read close.NoMemory early = tt
+
+-- ---- where a history is whole
+
+pub on_whole : (end : Result Unit CloseError) (Holds : Type 0) → Holds → OnWhole end Holds
+on_whole (Ok u) Holds so = so
+on_whole (Err (close.Line number)) Holds so = so
+on_whole (Err (close.Left left)) Holds so = so
+on_whole (Err (close.Differ d)) Holds so = tt
+on_whole (Err close.NoMemory) Holds so = tt
+
+whole_on : (end : Result Unit CloseError) (Was Is : Type 0) → (Was → Is) → OnWhole end Was → OnWhole end Is
+whole_on (Ok u) Was Is f so = f so
+whole_on (Err (close.Line number)) Was Is f so = f so
+whole_on (Err (close.Left left)) Was Is f so = f so
+whole_on (Err (close.Differ d)) Was Is f so = tt
+whole_on (Err close.NoMemory) Was Is f so = tt
+
+-- where a thread ended too soon there is none
+pub early_whole : (st : Setting) (e : CloseError) (Holds : Type 0) → EndsEarly st e → OnWhole (Err e) Holds
+early_whole st (close.Line number) Holds early = absurd early
+early_whole st (close.Left left) Holds early = absurd early
+early_whole st (close.Differ d) Holds early = tt
+early_whole st close.NoMemory Holds early = tt
+
+-- where it is made up by these seats, which a result has
+pub whole_of : {V E : Type 0} (seats : Result V E) (v : V) (P : V → Type 0) (end : Result Unit CloseError) → seats ≡ Ok v → OnWhole end (P v) → OnWhole end (IsOkAnd seats P)
+whole_of seats v P end is so = whole_on end (P v) (IsOkAnd seats P) (λ x. subst (λ r. IsOkAnd r P) (sym is) x) so
 
 -- ---- what is left of a machine's run
 
@@ -80,28 +111,54 @@ pub if_ok_kept : {S E : Type 0} (r first : Result S E) (P : S → Type 0) → If
 if_ok_kept {S} {E} (Ok v) first P is so = subst (λ (x : Result S E). IfOk x P) is so
 if_ok_kept {S} {E} (Err e) first P is so = tt
 
+-- what holds of the first seats holds where the others, which are they, make up a history
+both_so : {V E : Type 0} (seats first : Result V E) (P Q : V → Type 0) (Is : Type 0) → IfOk seats (λ v. first ≡ Ok v) → IfOk first P → ((v : V) → P v → Q v → Is) → IsOkAnd seats Q → Is
+both_so (Ok v) first P Q Is same so f here = f v (subst (λ x. IfOk x P) same so) here
+both_so (Err e) first P Q Is same so f here = absurd here
+
+-- the disks, where the history is whole
+pub whole_disks : {A V E : Type 0} (content : A → Option (List ℕ)) (faults : A → ℕ) (sector : ℕ) (st : Setting) (h : List (Signed Entry)) (seats first : Result V E)
+    (items : V → List (SeatState Entry)) (delta delta' resource resource' : List (Disk A)) (end : Result Unit CloseError) → IfOk seats (λ v. first ≡ Ok v)
+    → IfOk first (λ v. AreServing content faults sector st delta delta' resource resource' (items v)) → OnWhole end (IsOkAnd seats (λ v. AreOf st h (items v)))
+    → OnWhole end (ServedDisks content faults sector st Delta (entries h) delta delta' × ServedDisks content faults sector st Resource (entries h) resource resource')
+whole_disks content faults sector st h seats first items delta delta' resource resource' end same so whole =
+    whole_on end (IsOkAnd seats (λ v. AreOf st h (items v)))
+    (ServedDisks content faults sector st Delta (entries h) delta delta' × ServedDisks content faults sector st Resource (entries h) resource resource')
+    (both_so seats first (λ v. AreServing content faults sector st delta delta' resource resource' (items v)) (λ v. AreOf st h (items v)) _ same so
+    (λ v a of. disks_served content faults sector st (items v) h delta delta' resource resource' a of)) whole
+
 -- threads have run, and the printer has put out all unless there was no memory
-pub has_run : {D J O T A S E : Type 0} (stands : D → Setting → Trace → Type 0) (st : Setting) (t : Telling) (a : AlongState) (p : Printer J O T) (seats : Result S E) (r : Ran O T A)
+pub has_run : {D J O T A S E : Type 0} (content : A → Option (List ℕ)) (faults : A → ℕ) (sector : ℕ) (stands : D → Setting → Trace → Type 0) (st : Setting) (t : Telling)
+    (a : AlongState) (p : Printer J O T) (seats : Result S E) (delta resource : List (Disk A)) (r : Ran O T A)
     → r.reader ≡ p.reader → r.writer ≡ p.writer → p.writer.by ≡ p.reader.by
     → (OnOk seats (IsPrinting t a (entries p.mine) p) → EndsSo stands st a p r.end)
     → OnOk seats (IsPrinting t a (entries p.mine) p × (p.text.items ≡ [])) → OnOk r.end ((p.wrong ≡ None) × IsOk seats)
-    → ((v : Telling) → (b : AlongState) → (g : List Entry) → IsAudit v b g p.audit → r.replies ≡ count_replies b g) → r.entries ≡ length p.mine → HasRun stands st t a r
-has_run stands st t a p seats r reader writer by ends all right count long = record {
+    → ((v : Telling) → (b : AlongState) → (g : List Entry) → IsAudit v b g p.audit → r.replies ≡ count_replies b g) → r.entries ≡ length p.mine
+    → OnWhole r.end (ServedDisks content faults sector st Delta (entries p.mine) delta r.delta.items × ServedDisks content faults sector st Resource (entries p.mine) resource r.resource.items)
+    → HasRun content faults sector stands st t a delta resource r
+has_run content faults sector stands st t a p seats delta resource r reader writer by ends all right count long disks = record {
   by = ap (λ (s : SeatState (List ℕ)). s.by) writer ∙ by ∙ sym (ap (λ (x : ReaderState GivenLine). x.by) reader);
   history = entries p.mine;
   ends = subst (λ (x : ReaderState GivenLine). EndsWith stands st a (entries p.mine) (lines_read x) r.end) (sym reader) (ends (on_first _ _ seats all));
   told = subst (λ (s : SeatState (List ℕ)). Told t a (entries p.mine) r.reader s r.replies r.end) (sym writer)
       (subst (λ (x : ReaderState GivenLine). Told t a (entries p.mine) x p.writer r.replies r.end) (sym reader) (told_so t a p r.replies seats r.end all right count));
   counted = counts_entries p.mine r.entries r.end long;
+  delta = whole_on r.end (ServedDisks content faults sector st Delta (entries p.mine) delta r.delta.items × ServedDisks content faults sector st Resource (entries p.mine) resource r.resource.items)
+      (ServedDisks content faults sector st Delta (entries p.mine) delta r.delta.items) (λ both. both.0) disks;
+  resource = whole_on r.end (ServedDisks content faults sector st Delta (entries p.mine) delta r.delta.items × ServedDisks content faults sector st Resource (entries p.mine) resource r.resource.items)
+      (ServedDisks content faults sector st Resource (entries p.mine) resource r.resource.items) (λ both. both.1) disks;
 }
 
 -- they have not
-pub has_not_run : {D O T A : Type 0} (stands : D → Setting → Trace → Type 0) (st : Setting) (t : Telling) (a : AlongState) (r : Ran O T A) → r.end ≡ Err close.NoMemory → r.writer.by ≡ r.reader.by
-    → HasRun stands st t a r
-has_not_run stands st t a r end by = record {
+pub has_not_run : {D O T A : Type 0} (content : A → Option (List ℕ)) (faults : A → ℕ) (sector : ℕ) (stands : D → Setting → Trace → Type 0) (st : Setting) (t : Telling)
+    (a : AlongState) (delta resource : List (Disk A)) (r : Ran O T A) → r.end ≡ Err close.NoMemory → r.writer.by ≡ r.reader.by
+    → HasRun content faults sector stands st t a delta resource r
+has_not_run content faults sector stands st t a delta resource r end by = record {
   by = by;
   history = [];
   ends = subst (EndsWith stands st a [] (lines_read r.reader)) (sym end) tt;
   told = subst (Told t a [] r.reader r.writer r.replies) (sym end) tt;
   counted = subst (Counts [] r.entries) (sym end) tt;
+  delta = subst (λ x. OnWhole x (ServedDisks content faults sector st Delta [] delta r.delta.items)) (sym end) tt;
+  resource = subst (λ x. OnWhole x (ServedDisks content faults sector st Resource [] resource r.resource.items)) (sym end) tt;
 }

@@ -15,6 +15,10 @@ use Rattle.sl_book.specs.Logs.{entries, given_by}
 use Rattle.sl_cell.specs.Histories.{Signed, trace_of}
 use Rattle.sl_live.proofs.WorkLaws.{served_more, take_same}
 use Rattle.sl_live.specs.Turns.{AreServed, Gives, IsChildThread, IsDeviceThread, IsLineThread, IsStarterThread, IsTicker, Works}
+use Rattle.sl_live.specs.declared.disks.Disk.{Disk}
+use Rattle.sl_live_machine.proofs.WorkChains.{made_seen, most_seen}
+use Rattle.sl_live_machine.specs.ServedDisks.{AreGathered, AreOf, AreServing, ServedDisks}
+use Rattle.sl_live_machine.specs.ThreadTurns.{AreMade, WorksOn}
 use Rattle.sl_live_machine.specs.ThreadSeats.{AreSeats, AreSeatsOf, GaveOnly, IsCaseOfRun, IsRun, Worked, children_number, device_number, entries_by, lines_number, number_of, starter_number, thread_count, ticker_number}
 use Rattle.sl_trace.specs.Traces.{IsTrace, Setting}
 use Rattle.sl_trace.specs.declared.effects.Entry.{Entry}
@@ -22,10 +26,10 @@ use Rattle.sl_trace.specs.declared.input.Input.{Input}
 use Rattle.sl_world_state.specs.Daemons.{Stood}
 use Rattle.sl_run.specs.Lawful.{IsSetting}
 use Rattle.std.proofs.Common.{ap, arith, refl, subst, sym, ◌∙◌}
-use Rattle.std.specs.Prelude.{All, Err, IfErr, List, Ok, OnOk, Result, length, reverse, take, [], ℕ, ◌++◌, ◌+◌, ◌<◌, ◌^◌, ◌∷◌, ◌≡◌, ◌≤◌}
+use Rattle.std.specs.Prelude.{All, Err, IfErr, IfOk, List, Ok, OnOk, Option, Result, length, reverse, take, [], ℕ, ◌++◌, ◌+◌, ◌<◌, ◌^◌, ◌∷◌, ◌≡◌, ◌≤◌}
 use mathlib.Core.List.{IsPrefix}
 
-pub are_seats : (st : Setting) (ticks delta resource exits starts tests lines : SeatState) → IsTicker ticks → Works st Delta delta → Works st Resource resource → IsChildThread exits
+are_seats : (st : Setting) (ticks delta resource exits starts tests lines : SeatState) → IsTicker ticks → Works st Delta delta → Works st Resource resource → IsChildThread exits
     → IsStarterThread starts → IsDeviceThread tests → IsLineThread lines → AreSeats st (ticks ∷ delta ∷ resource ∷ exits ∷ starts ∷ tests ∷ lines ∷ [])
 are_seats st ticks delta resource exits starts tests lines t d r c p v l = record {
   ticker = ticks;
@@ -43,6 +47,31 @@ are_seats st ticks delta resource exits starts tests lines t d r c p v l = recor
   tells_starts = p;
   tests = v;
   gives_lines = l;
+}
+
+ended : {E : Type 0} (r : Result SeatState E) (s : SeatState) (IsSo : SeatState → Type 0) → r ≡ Ok s → IfOk r IsSo → IsSo s
+ended r s IsSo is so = subst (λ x. IfOk x IsSo) is so
+
+-- What seven threads ended with.
+pub record AreEnded {E : Type 0} (st : Setting) (ticks delta resource exits starts tests lines : Result SeatState E) : Type 0 where
+  pub wakes : IfOk ticks (λ s. IsTicker s)
+  pub delta_works : IfOk delta (λ s. Works st Delta s)
+  pub resource_works : IfOk resource (λ s. Works st Resource s)
+  pub tells_exits : IfOk exits (λ s. IsChildThread s)
+  pub tells_starts : IfOk starts (λ s. IsStarterThread s)
+  pub tests_devices : IfOk tests (λ s. IsDeviceThread s)
+  pub gives_lines : IfOk lines (λ s. IsLineThread s)
+
+pub are_gathered : {E : Type 0} (st : Setting) (t d r c p v l : Result SeatState E) (ticks delta resource exits starts tests lines : SeatState) → t ≡ Ok ticks → d ≡ Ok delta → r ≡ Ok resource
+    → c ≡ Ok exits → p ≡ Ok starts → v ≡ Ok tests → l ≡ Ok lines → AreEnded st t d r c p v l → AreGathered st d r (ticks ∷ delta ∷ resource ∷ exits ∷ starts ∷ tests ∷ lines ∷ [])
+unfolding are_seats
+are_gathered st t d r c p v l ticks delta resource exits starts tests lines ts ds rs cs ps vs ls so = record {
+  are = are_seats st ticks delta resource exits starts tests lines (ended t ticks (λ s. IsTicker s) ts so.wakes) (ended d delta (λ s. Works st Delta s) ds so.delta_works)
+      (ended r resource (λ s. Works st Resource s) rs so.resource_works) (ended c exits (λ s. IsChildThread s) cs so.tells_exits)
+      (ended p starts (λ s. IsStarterThread s) ps so.tells_starts) (ended v tests (λ s. IsDeviceThread s) vs so.tests_devices)
+      (ended l lines (λ s. IsLineThread s) ls so.gives_lines);
+  delta_is = ds;
+  resource_is = rs;
 }
 
 -- ---- seats whose counts are exact
@@ -129,6 +158,57 @@ run_whole : (st : Setting) (seats : List SeatState) (h : List Signed) (es : List
 run_whole st seats h es same a exact below trace =
     run_so st seats h es same a (seven st seats h a exact) below (subst (λ (l : List Entry). IsTrace st (reverse l)) (sym same) trace)
 
+-- ---- the disks of the workers
+
+module _ {A : Type 0} (content : A → Option (List ℕ)) (faults : A → ℕ) (sector : ℕ) (st : Setting) where
+  serving : {E : Type 0} (first second : Result SeatState E) (delta delta' resource resource' : List (Disk A)) (seats : List SeatState)
+      → IfOk first (WorksOn content faults sector st Delta delta delta') → IfOk second (WorksOn content faults sector st Resource resource resource')
+      → AreGathered st first second seats → AreServing content faults sector st delta delta' resource resource' seats
+  serving {E} first second delta delta' resource resource' seats d r g = record {
+    are = g.are;
+    delta_on = subst (λ (x : Result SeatState E). IfOk x (WorksOn content faults sector st Delta delta delta')) g.delta_is d;
+    resource_on = subst (λ (x : Result SeatState E). IfOk x (WorksOn content faults sector st Resource resource resource')) g.resource_is r;
+  }
+
+  -- workers that worked so left their seats among those of all threads
+  pub threads_serving : {V E F : Type 0} (r : Result V F) (items : V → List SeatState) (first second : Result SeatState E)
+      (delta delta' left resource resource' left' : List (Disk A)) → left ≡ delta' → left' ≡ resource'
+      → IfOk first (WorksOn content faults sector st Delta delta delta') → IfOk second (WorksOn content faults sector st Resource resource resource')
+      → IfOk r (λ v. AreGathered st first second (items v)) → IfOk r (λ v. AreServing content faults sector st delta left resource left' (items v))
+  threads_serving (Ok v) items first second delta delta' left resource resource' left' is is' d s g =
+      subst (λ x. AreServing content faults sector st delta x resource left' (items v)) (sym is)
+      (subst (λ x. AreServing content faults sector st delta delta' resource x (items v)) (sym is') (serving first second delta delta' resource resource' (items v) d s g))
+  threads_serving (Err e) items first second delta delta' left resource resource' left' is is' d s g = tt
+
+  pub serving_seats : {V E : Type 0} (r : Result V E) (items : V → List SeatState) (delta delta' resource resource' : List (Disk A))
+      → IfOk r (λ v. AreServing content faults sector st delta delta' resource resource' (items v)) → IfOk r (λ v. AreSeats st (items v))
+  serving_seats (Ok v) items delta delta' resource resource' so = so.are
+  serving_seats (Err e) items delta delta' resource resource' so = tt
+
+  served_disks : (part : Part) (s : SeatState) (h : List Signed) (disks later : List (Disk A)) (run : IsRun st (entries h)) → run.signed ≡ h → IsExact (number_of part) s h
+      → WorksOn content faults sector st part disks later s → ServedDisks content faults sector st part (entries h) disks later
+  served_disks part s h disks later run same exact w =
+      let made : AreMade content faults sector st h (take s.taken (calls_of part (entries h))) w.given disks later
+      = made_seen content faults sector st part s.front h s.taken w.given disks later exact.before w.most w.made in
+      let all : AreMade content faults sector st h (take s.taken (calls_of part (entries h))) (entries_by (number_of part) h) disks later
+      = subst (λ es. AreMade content faults sector st h (take s.taken (calls_of part (entries h))) es disks later) (mine_exact (number_of part) s h w.given exact w.mine) made in
+      record {
+        run = run;
+        taken = s.taken;
+        most = most_seen content faults sector st part s.front h s.taken exact.before w.most;
+        made = subst (λ g. AreMade content faults sector st g (take s.taken (calls_of part (entries h))) (entries_by (number_of part) g) disks later) (sym same) all;
+      }
+
+  -- seats whose counts make up a history have made their disks by its calls
+  pub disks_served : (seats : List SeatState) (h : List Signed) (delta delta' resource resource' : List (Disk A))
+      → AreServing content faults sector st delta delta' resource resource' seats → AreOf st h seats
+      → ServedDisks content faults sector st Delta (entries h) delta delta' × ServedDisks content faults sector st Resource (entries h) resource resource'
+  unfolding run_whole run_so
+  disks_served seats h delta delta' resource resource' a of =
+      let x = seven st seats h a.are of.exact in
+      let run = run_whole st seats h (entries h) refl a.are of.exact of.below of.trace in
+      (served_disks Delta a.are.delta h delta delta' run refl x.delta a.delta_on, served_disks Resource a.are.resource h resource resource' run refl x.resource a.resource_on)
+
 -- ---- a close, where it may have failed
 
 pub close_stood : {D E : Type 0} (stands : D → Setting → List Entry → Type 0) (st : Setting) (h : List Signed) (r : Result Unit E) → IsSetting st
@@ -140,6 +220,11 @@ pub close_run : {E : Type 0} (st : Setting) (seats : List SeatState) (h : List S
     → OnOk r (AreBelow (length seats) h) → OnOk r (IsTrace st (trace_of h)) → OnOk r (IsRun st (entries h))
 close_run st seats h (Ok u) a exact below trace = run_whole st seats h (entries h) refl a exact below trace
 close_run st seats h (Err e) a exact below trace = tt
+
+pub close_counts : {E : Type 0} (st : Setting) (seats all : List SeatState) (h : List Signed) (r : Result Unit E) → all ≡ seats → OnOk r (AreExact 0 all h)
+    → OnOk r (AreBelow (length all) h) → OnOk r (IsTrace st (trace_of h)) → OnOk r (AreOf st h seats)
+close_counts st seats all h (Ok u) same exact below trace = subst (AreOf st h) same (record { exact = exact; below = below; trace = trace })
+close_counts st seats all h (Err e) same exact below trace = tt
 
 pub few_seats : (st : Setting) (seats all : List SeatState) → AreSeats st seats → all ≡ seats → length all < 2 ^ 32
 few_seats st seats all a same = let n : length all ≡ 7 = ap length (same ∙ a.all) in omega (arith, n)

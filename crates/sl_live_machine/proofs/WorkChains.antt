@@ -133,7 +133,7 @@ module _ {A : Type 0} (content : A → Option (List ℕ)) (faults : A → ℕ) (
     made = subst (λ n. AreMade content faults sector st s.front (take n (calls_of part (entries s.front))) [] disks disks) (sym first) refl;
   }
 
-  made_seen : (part : Part) (h h' : List Signed) (taken : ℕ) (given : List Entry) (disks later : List (Disk A)) → IsPrefix h h' → taken ≤ length (calls_of part (entries h))
+  pub made_seen : (part : Part) (h h' : List Signed) (taken : ℕ) (given : List Entry) (disks later : List (Disk A)) → IsPrefix h h' → taken ≤ length (calls_of part (entries h))
       → AreMade content faults sector st h (take taken (calls_of part (entries h))) given disks later
       → AreMade content faults sector st h' (take taken (calls_of part (entries h'))) given disks later
   made_seen part h h' taken given disks later p most so =
@@ -141,7 +141,7 @@ module _ {A : Type 0} (content : A → Option (List ℕ)) (faults : A → ℕ) (
       subst (λ l. AreMade content faults sector st h' l given disks later) (sym (take_same taken (calls_of part (entries h)) (calls_of part (entries h')) most cs))
       (made_more h h' (take taken (calls_of part (entries h))) given disks later p so)
 
-  most_seen : (part : Part) (h h' : List Signed) (taken : ℕ) → IsPrefix h h' → taken ≤ length (calls_of part (entries h)) → taken ≤ length (calls_of part (entries h'))
+  pub most_seen : (part : Part) (h h' : List Signed) (taken : ℕ) → IsPrefix h h' → taken ≤ length (calls_of part (entries h)) → taken ≤ length (calls_of part (entries h'))
   most_seen part h h' taken p most =
       let n = prefix_length (calls_of part (entries h)) (calls_of part (entries h')) (calls_prefix part h h' p) in omega (arith, n, most)
 

@@ -1,4 +1,5 @@
 pub mod ThreadSeats
 pub mod ThreadTurns
+pub mod ServedDisks
 pub mod Printing
 pub mod MachineEnds

@@ -2,6 +2,8 @@
 use Rattle.sl_book.specs.Logs.{entries}
 use Rattle.sl_book.specs.Mails.{ReaderState}
 use Rattle.sl_book.specs.Seats.{IsMine, SeatState}
+use Rattle.sl_cell.specs.declared.part.Part.TheVariants.{Delta, Resource}
+use Rattle.sl_live.specs.declared.disks.Disk.{Disk}
 use Rattle.sl_live_lines.specs.AuditedHistory.{AreLines, IsAnswered, IsLeft, KeepsAsks, lines_along}
 use Rattle.sl_live_lines.specs.EventTexts.{Telling}
 use Rattle.sl_live_lines.specs.LiveTexts.{count_replies, history_text}
@@ -9,6 +11,7 @@ use Rattle.sl_live_lines.specs.LocksAlong.{AlongState}
 use Rattle.sl_live_lines.specs.declared.given_lines.GivenLine.{GivenLine}
 use Rattle.sl_live_machine.specs.Printing.{IsWrong, lines_read}
 use Rattle.sl_live_machine.specs.declared.printer.Printer.{Printer}
+use Rattle.sl_live_machine.specs.ServedDisks.{ServedDisks}
 use Rattle.sl_live_machine.specs.ThreadSeats.{IsCaseOfRun, IsRun}
 use Rattle.sl_live_machine.specs.declared.machine.CloseError.TheVariants as close
 use Rattle.sl_live_machine.specs.declared.machine.CloseError.{CloseError}
@@ -17,7 +20,7 @@ use Rattle.std.specs.List.{concat}
 use Rattle.sl_trace.specs.Traces.{Setting, Trace}
 use Rattle.sl_trace.specs.declared.effects.Entry.{Entry}
 use Rattle.sl_world_state.specs.Daemons.{Stood}
-use Rattle.std.specs.Prelude.{Err, List, Ok, Result, length, reverse, ℕ, ◌+◌, ◌≡◌}
+use Rattle.std.specs.Prelude.{Err, List, Ok, Option, Result, length, reverse, ℕ, ◌+◌, ◌≡◌}
 
 -- What a printer found along the history, where the script's lines that it met are these: nothing, or a case.
 abbrev pub Finds : AlongState → List Entry → List GivenLine → Result Unit CloseError → Type 0
@@ -72,10 +75,22 @@ Counts h entries (Err (close.Left left)) = entries ≡ length h
 Counts h entries (Err (close.Differ d)) = Unit {0}
 Counts h entries (Err close.NoMemory) = Unit {0}
 
--- A machine has run: with a whole history of which all is told; or a case that holds of it, or want of memory.
-pub record HasRun {D O T A : Type 0} (stands : D → Setting → Trace → Type 0) (st : Setting) (t : Telling) (a : AlongState) (r : Ran O T A) : Type 0 where
+-- This is so where the history is whole.
+abbrev pub OnWhole : Result Unit CloseError → Type 0 → Type 0
+OnWhole (Ok u) Holds = Holds
+OnWhole (Err (close.Line number)) Holds = Holds
+OnWhole (Err (close.Left left)) Holds = Holds
+OnWhole (Err (close.Differ d)) Holds = Unit {0}
+OnWhole (Err close.NoMemory) Holds = Unit {0}
+
+-- A machine has run, whose workers had these disks: with a whole history of which all is told; or a case that holds of it, or want of memory. Where the
+-- history is whole, the disks that are left are made of those by its calls.
+pub record HasRun {D O T A : Type 0} (content : A → Option (List ℕ)) (faults : A → ℕ) (sector : ℕ) (stands : D → Setting → Trace → Type 0) (st : Setting)
+    (t : Telling) (a : AlongState) (delta_disks resource_disks : List (Disk A)) (r : Ran O T A) : Type 0 where
   pub by : r.writer.by ≡ r.reader.by
   pub history : List Entry
   pub ends : EndsWith stands st a history (lines_read r.reader) r.end
   pub told : Told t a history r.reader r.writer r.replies r.end
   pub counted : Counts history r.entries r.end
+  pub delta : OnWhole r.end (ServedDisks content faults sector st Delta history delta_disks r.delta.items)
+  pub resource : OnWhole r.end (ServedDisks content faults sector st Resource history resource_disks r.resource.items)

@@ -6,15 +6,16 @@ ghost use Rattle.sl_cell.specs.Histories.{trace_of};
 ghost use Rattle.sl_live_lines.specs.AuditedHistory.{IsAudit};
 ghost use Rattle.sl_live_lines.specs.EventTexts.{Telling, first_telling};
 ghost use Rattle.sl_live_lines.specs.LocksAlong.{AlongState, begun_along};
-ghost use Rattle.sl_live_machine.specs.MachineEnds.{Checks, EndsEarly, EndsSo, HasRun};
+ghost use Rattle.sl_live_machine.specs.MachineEnds.{Checks, EndsEarly, EndsSo, HasRun, OnWhole};
 ghost use Rattle.sl_live_machine.specs.Printing.{IsPrinting, lines_read};
+ghost use Rattle.sl_live_machine.specs.ServedDisks.{AreOf};
 ghost use Rattle.sl_live_machine.specs.ThreadSeats.{AreSeats, IsCaseOfRun, IsRun};
 ghost use Rattle.sl_live_machine.specs.declared.machine.CloseError.TheVariants.{NoMemory as NoMemoryClose};
 ghost use Rattle.sl_trace.specs.declared.effects.Entry.{Entry as EntryOf};
 ghost use Rattle.sl_run.specs.Headers.{IsHeader};
 ghost use Rattle.sl_run.specs.Lawful.{IsSetting};
 ghost use Rattle.sl_world_state.specs.Daemons.{Stood, begun_with};
-ghost use Rattle.std.specs.Prelude.{Err, IfErr, IfOk, IsOk, List, None, Ok, OnOk, [], ◌+◌, ◌≡◌};
+ghost use Rattle.std.specs.Prelude.{Err, IfErr, IfOk, IsOk, IsOkAnd, List, None, Ok, OnOk, [], ◌+◌, ◌≡◌};
 
 use crate::printer::{Desk, Printer};
 use crate::room::{Pace, Room};
@@ -93,6 +94,7 @@ fn close_with<D: Teller, J: Station>(
     requires seats { AreSeats J.setting seats.items }
     ensures stood { OnOk result (Stood D.Daemon.stands J.setting (trace_of mine.now)) }
     ensures ok { OnOk result (IsRun J.setting (entries mine.now)) }
+    ensures counts { OnOk result (AreOf J.setting mine.now seats.items) }
     ensures differ { IfErr result (IsCaseOfRun J.setting) }
 {
     cell.close(&seats, mine)
@@ -137,6 +139,7 @@ fn close_whole<D: Teller, J: Station, O: Press, T: Shelf>(
     requires setting { IsSetting J.setting }
     requires seats { AreSeats J.setting seats.items }
     ensures goes { (t : Telling) → (a : AlongState) → IsPrinting t a (entries printer.now.mine) printer.now → EndsSo D.Daemon.stands J.setting a printer.now result }
+    ensures counts { OnWhole result (AreOf J.setting printer.now.mine seats.items) }
     ensures right { OnOk result (printer.now.wrong ≡ None) }
 {
     match close_with(cell, seats, &printer.mine) {
@@ -177,6 +180,7 @@ fn close<D: Teller, J: Station, O: Press, T: Shelf, P: Spawner>(
     requires setting { IsSetting J.setting }
     requires seats { IfOk seats (λ v. AreSeats J.setting v.items) }
     ensures goes { (t : Telling) → (a : AlongState) → OnOk seats (IsPrinting t a (entries printer.now.mine) printer.now) → EndsSo D.Daemon.stands J.setting a printer.now result }
+    ensures counts { OnWhole result (IsOkAnd seats (λ v. AreOf J.setting printer.now.mine v.items)) }
     ensures right { OnOk result ((printer.now.wrong ≡ None) × IsOk seats) }
 {
     let Room {
@@ -246,7 +250,8 @@ fn run_room<
     resource: Vec<Disk<A>>,
 ) -> Ran<O, T, A>
     requires setting { IsSetting J.setting }
-    ensures goes { (t : Telling) → (a : AlongState) → IsPrinting t a (entries printer.mine) printer → HasRun D.Daemon.stands J.setting t a result }
+    ensures goes { (t : Telling) → (a : AlongState) → IsPrinting t a (entries printer.mine) printer
+        → HasRun A.content A.faults room.geometry.sector D.Daemon.stands J.setting t a delta.items resource.items result }
     ensures by { result.reader.by ≡ printer.reader.by }
 {
     let (threaded, mut printed) = run_beside(
@@ -299,8 +304,9 @@ fn begin_cell<D: Teller, J: Station>(
 ///
 /// An `Ok` end is a history of the daemon of this setting, which stood for it: its entries are exactly what the machine's threads gave, each once; its
 /// lines are those that the reader has met, each for lvmlockd with its asks and answered; no call and no start is unanswered; and the pieces of the
-/// writer are what is told of it, with its events where the desk tells them. Else a case that holds of it, or want of memory: there, and where threads
-/// can't be made, all machines end.
+/// writer are what is told of it, with its events where the desk tells them. The disks of a worker that come back are made of those that it was given, by
+/// just the calls of its part of the history, one after another, with the answers that stand there. Else a case that holds of it, or want of memory: there,
+/// and where threads can't be made, all machines end.
 pub fn run_machine<
     D: Teller + Send,
     J: Station + Send + Sync,
@@ -332,7 +338,8 @@ pub fn run_machine<
     requires book { opened.seen.book ≡ J.book }
     requires reader { lines_read reader ≡ [] }
     requires writer { (writer.by ≡ reader.by) × (writer.count ≡ 0) }
-    ensures goes { HasRun D.Daemon.stands J.setting (first_telling desk.now.events header.now.timing site.given) (begun_along header.now site.first.job) result }
+    ensures goes { HasRun A.content A.faults header.now.geometry.sector D.Daemon.stands J.setting
+        (first_telling desk.now.events header.now.timing site.given) (begun_along header.now site.first.job) parts.delta.items parts.resource.items result }
     ensures by { result.reader.by ≡ reader.by }
 {
     let Parts {

@@ -7,7 +7,8 @@ ghost use Rattle.sl_book.specs.Logs.{entries};
 ghost use Rattle.sl_live_lines.specs.EventTexts.{Telling};
 ghost use Rattle.sl_live_lines.specs.LocksAlong.{AlongState};
 ghost use Rattle.sl_live_machine.specs.Printing.{IsPrinting};
-ghost use Rattle.sl_live_machine.specs.ThreadSeats.{AreSeats};
+ghost use Rattle.sl_live_machine.specs.ServedDisks.{AreGathered, AreServing};
+ghost use Rattle.sl_live_machine.specs.ThreadTurns.{WorksOn};
 ghost use Rattle.std.specs.Prelude.{IfOk, Ok, OnOk, ◌+◌, ◌≡◌};
 ghost use Rattle.sl_cell.specs.declared.part.Part.TheVariants.{Delta as DeltaPart, Resource as ResourcePart};
 ghost use denote.Param.Send.{IsSend, IsSync};
@@ -186,7 +187,8 @@ fn worker_seat<
     clock: C,
     disks: &mut [Disk<A>],
 ) -> Result<Seat<J>, AllocError>
-    ensures { IfOk result (λ s. Works J.setting part s) }
+    ensures works { IfOk result (λ s. Works J.setting part s) }
+    ensures made { IfOk result (λ s. WorksOn A.content A.faults room.now.geometry.sector J.setting part disks.old disks.new s) }
 {
     stand.enter(rt)?;
     stand.ended(rt, work(rt, room, stand.post, gate, part, clock, disks))
@@ -200,7 +202,8 @@ fn worker<D: Teller, J: Station, R: Wait + time::Clock, C: Clock, P: Spawner, A:
     gate: &G,
     tools: Tools<C, A>,
 ) -> Worked<J, A>
-    ensures { IfOk result.seat (λ s. Works J.setting tools.part s) }
+    ensures works { IfOk result.seat (λ s. Works J.setting tools.part s) }
+    ensures made { IfOk result.seat (λ s. WorksOn A.content A.faults room.now.geometry.sector J.setting tools.part tools.disks.items result.disks.items s) }
 {
     let Tools {
         part,
@@ -230,6 +233,10 @@ fn workers<
 ) -> (Worked<J, A>, Worked<J, A>)
     ensures delta { IfOk result.0.seat (λ s. Works J.setting delta.part s) }
     ensures resource { IfOk result.1.seat (λ s. Works J.setting resource.part s) }
+    ensures delta_made { IfOk result.0.seat (λ s. WorksOn A.content A.faults room.now.geometry.sector J.setting delta.part
+        delta.disks.items result.0.disks.items s) }
+    ensures resource_made { IfOk result.1.seat (λ s. WorksOn A.content A.faults room.now.geometry.sector J.setting resource.part
+        resource.disks.items result.1.disks.items s) }
 {
     join(
         rt,
@@ -383,7 +390,6 @@ fn three<J: Station>(
 }
 
 /// The seats of all threads, if none ended for want of memory, and there is memory for the list.
-#[tactic(auto, using(crate::proofs::RunLaws::are_seats))]
 fn gather<J: Station>(
     alloc: Global,
     delta: Ending<J>,
@@ -397,7 +403,7 @@ fn gather<J: Station>(
     requires exits { IfOk others.exits (λ s. IsChildThread s) }
     requires starts { IfOk others.starts (λ s. IsStarterThread s) }
     requires tests { IfOk others.tests (λ s. IsDeviceThread s) }
-    ensures { IfOk result (λ v. AreSeats J.setting v.items) }
+    ensures { IfOk result (λ v. AreGathered J.setting delta resource v.items) }
 {
     let OtherEndings {
         ticks,
@@ -434,7 +440,9 @@ fn gather_threads<J: Station, A: Area>(
     requires exits { IfOk others.exits (λ s. IsChildThread s) }
     requires starts { IfOk others.starts (λ s. IsStarterThread s) }
     requires tests { IfOk others.tests (λ s. IsDeviceThread s) }
-    ensures { IfOk result.seats (λ v. AreSeats J.setting v.items) }
+    ensures seats { IfOk result.seats (λ v. AreGathered J.setting delta.seat resource.seat v.items) }
+    ensures delta_disks { result.delta ≡ delta.disks }
+    ensures resource_disks { result.resource ≡ resource.disks }
 {
     let Worked {
         seat: delta,
@@ -530,7 +538,8 @@ pub(crate) fn run_threads<
     delta: Vec<Disk<A>>,
     resource: Vec<Disk<A>>,
 ) -> Threaded<J, A>
-    ensures { IfOk result.seats (λ v. AreSeats J.setting v.items) }
+    ensures { IfOk result.seats (λ v. AreServing A.content A.faults room.now.geometry.sector J.setting delta.items result.delta.items
+        resource.items result.resource.items v.items) }
 {
     let Clocks {
         ticks,
@@ -601,7 +610,8 @@ pub(crate) fn run_beside<
     delta: Vec<Disk<A>>,
     resource: Vec<Disk<A>>,
 ) -> (Threaded<J, A>, Printed<J, O, T>)
-    ensures seats { IfOk result.0.seats (λ v. AreSeats J.setting v.items) }
+    ensures seats { IfOk result.0.seats (λ v. AreServing A.content A.faults room.now.geometry.sector J.setting delta.items result.0.delta.items
+        resource.items result.0.resource.items v.items) }
     ensures printer { (t : Telling) → (a : AlongState) → IsPrinting t a (entries printer.mine) printer → OnOk result.1.end (IsPrinting t a (entries result.1.printer.mine) result.1.printer) }
     ensures by { result.1.printer.reader.by ≡ printer.reader.by }
     ensures seat { result.1.printer.writer.by ≡ printer.writer.by }
@@ -618,7 +628,8 @@ pub(crate) fn run_beside<
             requires device { IsSend V.row }
             requires area { IsSend A.row }
             requires gate { IsSync G.row }
-            ensures { IfOk result.seats (λ v. AreSeats J.setting v.items) }
+            ensures { IfOk result.seats (λ v. AreServing A.content A.faults room.entry.now.geometry.sector J.setting delta.items result.delta.items
+                resource.items result.resource.items v.items) }
         { run_threads(rt, room, stand, gate, clocks, device, delta, resource) },
         ||
             ensures goes { (t : Telling) → (a : AlongState) → IsPrinting t a (entries printer.mine) printer

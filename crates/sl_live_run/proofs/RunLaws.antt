@@ -5,24 +5,28 @@ use Rattle.sl_book.specs.Logs.{entries, given_by}
 use Rattle.sl_book.specs.Mails.{LedgerState}
 use Rattle.sl_book.specs.Seats.{IsMine, SeatState}
 use Rattle.sl_book.specs.declared.signed.Signed.{Signed}
+use Rattle.sl_cell.specs.declared.part.Part.TheVariants.{Delta, Resource}
+use Rattle.sl_live.specs.declared.disks.Disk.{Disk}
 use Rattle.sl_live_lines.specs.EventTexts.{Telling}
 use Rattle.sl_live_lines.specs.LiveTexts.{count_replies, history_text}
 use Rattle.sl_live_lines.specs.LocksAlong.{AlongState}
 use Rattle.sl_live_lines.specs.AuditedHistory.{AreLines}
 use Rattle.sl_live_lines.specs.declared.given_lines.GivenLine.{GivenLine}
-use Rattle.sl_live_machine.specs.MachineEnds.{Counts, EndsWith, HasRun, HasTold as HasToldOf, Told}
+use Rattle.sl_live_machine.specs.MachineEnds.{Counts, EndsWith, HasRun, HasTold as HasToldOf, OnWhole, Told}
+use Rattle.sl_live_machine.specs.ServedDisks.{ServedDisks}
 use Rattle.sl_live_machine.specs.Printing.{lines_read}
 use Rattle.sl_live_machine.specs.declared.machine.CloseError.TheVariants.{NoMemory as NoMemoryClose}
 use Rattle.sl_live_machine.specs.declared.machine.Ran.{Ran}
 use Rattle.sl_live_run.proofs.CaseLaws.{case_so, met}
 use Rattle.sl_live_run.proofs.GivenLaws.{no_lines}
-use Rattle.sl_live_run.specs.Runs.{AreFresh, AreGiven, CanRun, HasPutOut, HasRunAll, HasTold, HasToldAll, IsFresh, IsLiveHistory, IsLiveStop, IsTold, LiveCaseOf, Runs, begun_on, begun_telling, lines_for, refusals_text, replies_of, site_of}
-use Rattle.sl_live_run.specs.Settling.{AreAllWhole, AreRansOf, AreWhole, HasLeft, IsCaseOf, StopsOne, StopsSome}
+use Rattle.sl_live_run.specs.Runs.{AreFresh, AreGiven, AreServed, Both, CanRun, HasPutOut, HasRunAll, HasTold, HasToldAll, IsFresh, IsLiveHistory, IsLiveStop, IsTold, LiveCaseOf, Runs, begun_on, begun_telling, disks_back, disks_in, disks_of, lines_for, refusals_text, replies_of, site_of}
+use Rattle.sl_live_run.specs.Settling.{AreAllWhole, AreRansOf, AreWhole, HasLeft, IsCaseOf, StopsOne, StopsSome, disks_after}
 use Rattle.sl_live_run.specs.declared.compare.LiveDiffer.{LiveDiffer}
 use Rattle.sl_live_run.specs.declared.compare.LiveStop.TheVariants.{Differ, NoMemory}
 use Rattle.sl_live_run.specs.declared.compare.LiveStop.{LiveStop}
 use Rattle.sl_live_run.specs.declared.machine_runs.Machine.{Machine}
 use Rattle.sl_live_run.specs.declared.machine_runs.Work.{Work}
+use Rattle.sl_live_run.specs.declared.run.Disks.{Disks}
 use Rattle.sl_live_run.specs.declared.run.LiveRun.{LiveRun}
 use Rattle.sl_output.specs.Outputs.{IsPut}
 use Rattle.sl_output.specs.Pieces.{Piece, text_by}
@@ -84,37 +88,58 @@ chosen P (x ∷ xs) each =
 
 -- ---- one machine
 
--- What is left of the machine at a place, which had this site.
-pub record RanAt {D O T A : Type 0} (events : Bool) (stands : D → Setting → Trace → Type 0) (commands : Header → List (Form Command)) (header : Header) (place : ℕ) (site : Site) (r : Ran O T A) : Type 0 where
-  pub run : HasRun stands (begun_with commands header site) (begun_telling events header site) (begun_on header site) r
+-- What is left of the machine at a place, which had this site and these disks.
+pub record RanAt {D O T A : Type 0} (content : A → Option (List ℕ)) (area_faults : A → ℕ) (events : Bool) (stands : D → Setting → Trace → Type 0)
+    (commands : Header → List (Form Command)) (header : Header) (place : ℕ) (site : Site) (disks : Both A) (r : Ran O T A) : Type 0 where
+  pub run : HasRun content area_faults header.geometry.sector stands (begun_with commands header site) (begun_telling events header site) (begun_on header site) disks.0 disks.1 r
   pub by : r.reader.by ≡ place
 
-one_ran : {D C P V A O T : Type 0} (events : Bool) (stands : D → Setting → Trace → Type 0) (commands : Header → List (Form Command)) (header : Header) (place : ℕ) (site : Site)
-    (before : Option (Work C P V A O T)) (after : Option (Ran O T A)) (r : Ran O T A) → option_map (λ (w : Work C P V A O T). w.site) before ≡ Some site → after ≡ Some r
+one_ran : {D C P V A O T : Type 0} (content : A → Option (List ℕ)) (area_faults : A → ℕ) (events : Bool) (stands : D → Setting → Trace → Type 0)
+    (commands : Header → List (Form Command)) (header : Header) (place : ℕ) (site : Site) (disks : Both A) (before : Option (Work C P V A O T)) (after : Option (Ran O T A)) (r : Ran O T A)
+    → option_map (λ (w : Work C P V A O T). w.site) before ≡ Some site → option_map (λ (w : Work C P V A O T). disks_in w.parts) before ≡ Some disks → after ≡ Some r
     → IfSome before (λ w. (w.reader.by ≡ place) × IsFresh w)
-    → IfSome before (λ w. IfSome after (λ x. HasRun stands (begun_with commands header w.site) (begun_telling events header w.site) (begun_on header w.site) x × (x.reader.by ≡ w.reader.by)))
-    → RanAt events stands commands header place site r
-one_ran events stands commands header place site None after r at is fresh run = absurd (none_some site at)
-one_ran {D} {C} {P} {V} {A} {O} {T} events stands commands header place site (Some w) after r at is fresh run =
+    → IfSome before (λ w. IfSome after (λ x. HasRun content area_faults header.geometry.sector stands (begun_with commands header w.site) (begun_telling events header w.site)
+        (begun_on header w.site) w.parts.delta.items w.parts.resource.items x × (x.reader.by ≡ w.reader.by)))
+    → RanAt content area_faults events stands commands header place site disks r
+one_ran content area_faults events stands commands header place site disks None after r at had is fresh run = absurd (none_some site at)
+one_ran {D} {C} {P} {V} {A} {O} {T} content area_faults events stands commands header place site disks (Some w) after r at had is fresh run =
     let same : w.site ≡ site = some_value w.site site at in
-    let here : HasRun stands (begun_with commands header w.site) (begun_telling events header w.site) (begun_on header w.site) r × (r.reader.by ≡ w.reader.by)
-    = subst (λ (o : Option (Ran O T A)). IfSome o (λ x. HasRun stands (begun_with commands header w.site) (begun_telling events header w.site) (begun_on header w.site) x × (x.reader.by ≡ w.reader.by))) is run in
-    record { run = subst (λ s. HasRun stands (begun_with commands header s) (begun_telling events header s) (begun_on header s) r) same here.0; by = here.1 ∙ fresh.0 }
+    let own : disks_in w.parts ≡ disks = some_value (disks_in w.parts) disks had in
+    let here : HasRun content area_faults header.geometry.sector stands (begun_with commands header w.site) (begun_telling events header w.site) (begun_on header w.site)
+        w.parts.delta.items w.parts.resource.items r × (r.reader.by ≡ w.reader.by)
+    = subst (λ (o : Option (Ran O T A)). IfSome o (λ x. HasRun content area_faults header.geometry.sector stands (begun_with commands header w.site) (begun_telling events header w.site)
+        (begun_on header w.site) w.parts.delta.items w.parts.resource.items x × (x.reader.by ≡ w.reader.by))) is run in
+    let its : HasRun content area_faults header.geometry.sector stands (begun_with commands header site) (begun_telling events header site) (begun_on header site)
+        w.parts.delta.items w.parts.resource.items r
+    = subst (λ s. HasRun content area_faults header.geometry.sector stands (begun_with commands header s) (begun_telling events header s) (begun_on header s)
+        w.parts.delta.items w.parts.resource.items r) same here.0 in
+    record {
+      run = subst (λ (b : Both A). HasRun content area_faults header.geometry.sector stands (begun_with commands header site) (begun_telling events header site) (begun_on header site) b.0 b.1 r)
+          own its;
+      by = here.1 ∙ fresh.0;
+    }
 
-ran_at : {D C P V A O T : Type 0} (events : Bool) (stands : D → Setting → Trace → Type 0) (commands : Header → List (Form Command)) (header : Header) (sites : List Site)
-    (olds news : List (Machine C P V A O T)) (rans : List (Ran O T A)) → map site_of olds ≡ map (λ s. Some s) sites → AreFresh olds
-    → ((k : ℕ) → (d : Machine C P V A O T) → k < length olds → Runs events commands stands header (slice_index_or olds k d) (slice_index_or news k d)) → AreRansOf news rans
-    → (place : ℕ) (site : Site) (r : Ran O T A) → slice_get sites place ≡ Some site → slice_get rans place ≡ Some r → RanAt events stands commands header place site r
-ran_at {D} {C} {P} {V} {A} {O} {T} events stands commands header sites olds news rans same fresh each left place site r at came =
+ran_at : {D C P V A O T : Type 0} (content : A → Option (List ℕ)) (area_faults : A → ℕ) (events : Bool) (stands : D → Setting → Trace → Type 0)
+    (commands : Header → List (Form Command)) (header : Header) (sites : List Site) (disks : List (Both A)) (olds news : List (Machine C P V A O T)) (rans : List (Ran O T A))
+    → map site_of olds ≡ map (λ s. Some s) sites → map disks_of olds ≡ map (λ d. Some d) disks → AreFresh olds
+    → ((k : ℕ) → (d : Machine C P V A O T) → k < length olds → Runs content area_faults events commands stands header (slice_index_or olds k d) (slice_index_or news k d))
+    → AreRansOf news rans
+    → (place : ℕ) (site : Site) (had : Both A) (r : Ran O T A) → slice_get sites place ≡ Some site → slice_get disks place ≡ Some had → slice_get rans place ≡ Some r
+    → RanAt content area_faults events stands commands header place site had r
+ran_at {D} {C} {P} {V} {A} {O} {T} content area_faults events stands commands header sites disks olds news rans same own fresh each left place site had r at there came =
     let old = got_map site_of olds place (Some site) (ap (λ (xs : List (Option Site)). slice_get xs place) same ∙ map_got (λ s. Some s) sites place site at) in
     let new = got_map (λ (m : Machine C P V A O T). m.ran) news place (Some r)
     (ap (λ (xs : List (Option (Ran O T A))). slice_get xs place) left ∙ map_got (λ (x : Ran O T A). Some x) rans place r came) in
     let m : Machine C P V A O T = old.0 in
     let m' : Machine C P V A O T = new.0 in
-    let run : Runs events commands stands header (slice_index_or olds place m) (slice_index_or news place m) = each place m (inside olds place m old.1) in
-    let here : Runs events commands stands header m m' = changed_on (λ (x y : Machine C P V A O T). Runs events commands stands header x y) m (slice_index_or olds place m) m' (slice_index_or news place m)
+    let its : disks_of m ≡ Some had
+    = some_value (disks_of m) (Some had) (sym (map_got (λ (x : Machine C P V A O T). disks_of x) olds place m old.1)
+    ∙ ap (λ (xs : List (Option (Both A))). slice_get xs place) own ∙ map_got (λ (d : Both A). Some d) disks place had there) in
+    let run : Runs content area_faults events commands stands header (slice_index_or olds place m) (slice_index_or news place m) = each place m (inside olds place m old.1) in
+    let here : Runs content area_faults events commands stands header m m'
+    = changed_on (λ (x y : Machine C P V A O T). Runs content area_faults events commands stands header x y) m (slice_index_or olds place m) m' (slice_index_or news place m)
     (got_index olds place m m old.1) (got_index news place m' m new.1) run in
-    one_ran events stands commands header place site m.work m'.ran r old.2 new.2 (fresh place m old.1) here
+    one_ran content area_faults events stands commands header place site had m.work m'.ran r old.2 its new.2 (fresh place m old.1) here
 
 -- ---- a whole history
 
@@ -171,19 +196,25 @@ refused_at rans seats w text pieces many exact so =
     let place : 0 + length seats ≡ rans = omega (arith, many) in
     put_at rans w so.texts pieces (seat.0 ∙ place) seat.1 (seat.2 ∙ ap (λ k. length (given_by k pieces)) place) so.mine ∙ so.text_is
 
-pub record IsHistoryAt {D O T A : Type 0} (events : Bool) (stands : D → Setting → Trace → Type 0) (commands : Header → List (Form Command)) (header : Header) (lines : List LiveLine)
-    (rans : List (Ran O T A)) (pieces : List Piece) (place : ℕ) (site : Site) (h : List Entry) : Type 0 where
+pub record IsHistoryAt {D O T A : Type 0} (content : A → Option (List ℕ)) (area_faults : A → ℕ) (events : Bool) (stands : D → Setting → Trace → Type 0)
+    (commands : Header → List (Form Command)) (header : Header) (lines : List LiveLine) (disks : List (Both A)) (rans : List (Ran O T A)) (pieces : List Piece) (place : ℕ) (site : Site)
+    (h : List Entry) : Type 0 where
   pub ran : Ran O T A
   pub there : slice_get rans place ≡ Some ran
   pub live : IsLiveHistory stands (begun_with commands header site) (begun_on header site) (lines_for (place + 1) lines) h
   pub told : IsTold (begun_telling events header site) (begun_on header site) place h pieces
   pub replies : ran.replies ≡ count_replies (begun_on header site) h
+  pub had : Both A
+  pub had_there : slice_get disks place ≡ Some had
+  pub served : AreServed content area_faults header.geometry.sector (begun_with commands header site) h had (disks_after ran)
 
-history_at : {D O T A : Type 0} (events : Bool) (stands : D → Setting → Trace → Type 0) (commands : Header → List (Form Command)) (header : Header) (lines : List LiveLine)
-    (rans : List (Ran O T A)) (pieces : List Piece) (l : LedgerState GivenLine) (w : SeatState (List ℕ)) (replies : ℕ) (early : Bool) → AreWhole early l w rans pieces replies → (place : ℕ) (site : Site) (r : Ran O T A)
-    → entries (given_by place l.front) ≡ lines_for (place + 1) lines → slice_get rans place ≡ Some r → RanAt events stands commands header place site r
-    → (h : List Entry) × IsHistoryAt events stands commands header lines rans pieces place site h
-history_at {D} {O} {T} {A} events stands commands header lines rans pieces l w replies early whole place site r given at so =
+history_at : {D O T A : Type 0} (content : A → Option (List ℕ)) (area_faults : A → ℕ) (events : Bool) (stands : D → Setting → Trace → Type 0)
+    (commands : Header → List (Form Command)) (header : Header) (lines : List LiveLine) (disks : List (Both A)) (rans : List (Ran O T A)) (pieces : List Piece) (l : LedgerState GivenLine)
+    (w : SeatState (List ℕ)) (left : List (Disks A)) (replies : ℕ) (early : Bool) → AreWhole early l w rans pieces left replies → (place : ℕ) (site : Site) (had : Both A) (r : Ran O T A)
+    → entries (given_by place l.front) ≡ lines_for (place + 1) lines → slice_get disks place ≡ Some had → slice_get rans place ≡ Some r
+    → RanAt content area_faults events stands commands header place site had r
+    → (h : List Entry) × IsHistoryAt content area_faults events stands commands header lines disks rans pieces place site h
+history_at {D} {O} {T} {A} content area_faults events stands commands header lines disks rans pieces l w left replies early whole place site had r given there at so =
     let st : Setting = begun_with commands header site in
     let t : Telling = begun_telling events header site in
     let a : AlongState = begun_on header site in
@@ -203,6 +234,12 @@ history_at {D} {O} {T} {A} events stands commands header lines rans pieces l w r
         live = record { whole = ends.0; lines = subst (AreLines a h) read ends.1.0; answered = ends.1.1 };
         told = told_at t a place r.reader.by h r.writer told.texts pieces so.by by_place seat.1 (seat.2 ∙ ap (λ k. length (given_by k pieces)) zero_place) told.mine told.text;
         replies = told.count;
+        had = had;
+        had_there = there;
+        served = record {
+          delta = subst (λ x. OnWhole x (ServedDisks content area_faults header.geometry.sector st Delta h had.0 r.delta.items)) settled.0 run.delta;
+          resource = subst (λ x. OnWhole x (ServedDisks content area_faults header.geometry.sector st Resource h had.1 r.resource.items)) settled.0 run.resource;
+        };
       },
     )
 
@@ -243,25 +280,44 @@ refused_well : {T E : Type 0} (machines : ℕ) (before after : List LiveLine →
 refused_well machines before after l w (Ok t) ok so = so.refused
 refused_well machines before after l w (Err e) ok so = absurd (cc ok)
 
-pub told_all : {D C P V A O T T' E : Type 0} (events : Bool) (stands : D → Setting → Trace → Type 0) (commands : Header → List (Form Command)) (header : Header) (sites : List Site)
+disks_count : {C P V A O T : Type 0} (disks : List (Both A)) (olds : List (Machine C P V A O T)) → map disks_of olds ≡ map (λ d. Some d) disks → length olds ≡ length disks
+disks_count {C} {P} {V} {A} {O} {T} disks olds same =
+    sym (length-map olds (λ (m : Machine C P V A O T). disks_of m)) ∙ ap length same ∙ length-map disks (λ (d : Both A). Some d)
+
+served_at : {D O T A : Type 0} (content : A → Option (List ℕ)) (area_faults : A → ℕ) (events : Bool) (stands : D → Setting → Trace → Type 0) (commands : Header → List (Form Command))
+    (header : Header) (lines : List LiveLine) (disks : List (Both A)) (rans : List (Ran O T A)) (pieces : List Piece) (place : ℕ) (site : Site) (h : List Entry) (left : List (Disks A))
+    (d x : Both A) → map disks_back left ≡ map (λ (r : Ran O T A). disks_after r) rans → IsHistoryAt content area_faults events stands commands header lines disks rans pieces place site h
+    → slice_get disks place ≡ Some d → slice_get (map disks_back left) place ≡ Some x → AreServed content area_faults header.geometry.sector (begun_with commands header site) h d x
+served_at {D} {O} {T} {A} content area_faults events stands commands header lines disks rans pieces place site h left d x are so at at_left =
+    let st : Setting = begun_with commands header site in
+    let had : so.had ≡ d = some_value so.had d (sym so.had_there ∙ at) in
+    let came : disks_after so.ran ≡ x
+    = some_value (disks_after so.ran) x (sym (map_got (λ (r : Ran O T A). disks_after r) rans place so.ran so.there) ∙ ap (λ (xs : List (Both A)). slice_get xs place) (sym are) ∙ at_left) in
+    subst (λ (b : Both A). AreServed content area_faults header.geometry.sector st h b x) had
+    (subst (λ (b : Both A). AreServed content area_faults header.geometry.sector st h so.had b) came so.served)
+
+pub told_all : {D C P V A O T T' E : Type 0} (content : A → Option (List ℕ)) (area_faults : A → ℕ) (events : Bool) (stands : D → Setting → Trace → Type 0)
+    (commands : Header → List (Form Command)) (header : Header) (sites : List Site) (disks : List (Both A))
     (olds news : List (Machine C P V A O T)) (before after : List LiveLine → Type 0) (early : Bool) (l : LedgerState GivenLine) (w : SeatState (List ℕ)) (told : Result T' E) (pieces : List Piece) (machines replies : ℕ)
-    → map site_of olds ≡ map (λ s. Some s) sites → length news ≡ length olds → AreFresh olds
-    → ((k : ℕ) → (d : Machine C P V A O T) → k < length olds → Runs events commands stands header (slice_index_or olds k d) (slice_index_or news k d))
-    → HasTold (length olds) before after l w told → (early ≡ false → IsOk told) → machines ≡ length news → AreAllWhole early l w news pieces replies
-    → HasToldAll events stands commands header sites before after pieces machines replies
-told_all {D} {C} {P} {V} {A} {O} {T} events stands commands header sites olds news before after early l w told pieces machines replies same len fresh each tells in_time many all =
+    (back : List (Disks A)) → map site_of olds ≡ map (λ s. Some s) sites → map disks_of olds ≡ map (λ d. Some d) disks → length news ≡ length olds → AreFresh olds
+    → ((k : ℕ) → (d : Machine C P V A O T) → k < length olds → Runs content area_faults events commands stands header (slice_index_or olds k d) (slice_index_or news k d))
+    → HasTold (length olds) before after l w told → (early ≡ false → IsOk told) → machines ≡ length news → AreAllWhole early l w news pieces back replies
+    → HasToldAll content area_faults events stands commands header sites disks before after pieces machines replies (map disks_back back)
+told_all {D} {C} {P} {V} {A} {O} {T} content area_faults events stands commands header sites disks olds news before after early l w told pieces machines replies back same own len fresh each tells in_time many all =
     let rans : List (Ran O T A) = all.0 in
-    let whole : AreWhole early l w rans pieces replies = all.2 in
+    let whole : AreWhole early l w rans pieces back replies = all.2 in
     let given = told_well (length olds) before after l w told (in_time whole.in_time) tells in
     let n = counts sites olds same in
     let m = rans_count news rans all.1 in
-    let found : (k : ℕ) (site : Site) → slice_get sites k ≡ Some site → (h : List Entry) × IsHistoryAt events stands commands header tells.lines rans pieces k site h
+    let o = disks_count disks olds own in
+    let found : (k : ℕ) (site : Site) → slice_get sites k ≡ Some site → (h : List Entry) × IsHistoryAt content area_faults events stands commands header tells.lines disks rans pieces k site h
     = λ k site at.
     let lt = inside sites k site at in
     let there = there_is rans k (omega (arith, lt, n, m, len)) in
-    history_at events stands commands header tells.lines rans pieces l w replies early whole k site there.0 (given.each k (omega (arith, lt, n))) there.1
-    (ran_at events stands commands header sites olds news rans same fresh each all.1 k site there.0 at there.1) in
-    let hs = chosen (λ k site h. IsHistoryAt events stands commands header tells.lines rans pieces k site h) sites found in
+    let had = there_is disks k (omega (arith, lt, n, o)) in
+    history_at content area_faults events stands commands header tells.lines disks rans pieces l w back replies early whole k site had.0 there.0 (given.each k (omega (arith, lt, n))) had.1
+    there.1 (ran_at content area_faults events stands commands header sites disks olds news rans same own fresh each all.1 k site had.0 there.0 at had.1 there.1) in
+    let hs = chosen (λ k site h. IsHistoryAt content area_faults events stands commands header tells.lines disks rans pieces k site h) sites found in
     let long : length hs.0 ≡ length sites = hs.1 in
     let seats : length (map (λ (x : Ran O T A). x.writer) rans) ≡ length hs.0 = omega (arith, length-map rans (λ (x : Ran O T A). x.writer), m, len, n, long) in
     record {
@@ -279,28 +335,35 @@ told_all {D} {C} {P} {V} {A} {O} {T} events stands commands header sites olds ne
       machines_are = omega (arith, many, len, n, long);
       count = whole.settled.count ∙ replies_are header sites hs.0 rans long (omega (arith, m, len, n))
           (λ k s h at at_h. let x = hs.2 k s h at at_h in (x.ran, x.there, x.replies));
+      served = record {
+        counted = ap length whole.disks_are ∙ length-map rans (λ (r : Ran O T A). disks_after r) ∙ omega (arith, m, len, n, long);
+        each = λ place site h d x at at_h at_d at_x.
+            served_at content area_faults events stands commands header tells.lines disks rans pieces place site h back d x whole.disks_are (hs.2 place site h at at_h) at_d at_x;
+      };
     }
 
 -- ---- a case
 
-stop_at : {D C P V A O T T' E : Type 0} (events : Bool) (stands : D → Setting → Trace → Type 0) (commands : Header → List (Form Command)) (header : Header) (sites : List Site)
-    (olds news : List (Machine C P V A O T)) (before after : List LiveLine → Type 0) (early : Bool) (l : LedgerState GivenLine) (w : SeatState (List ℕ)) (told : Result T' E) (m : ℕ) (d : LiveDiffer) (rans : List (Ran O T A))
-    → map site_of olds ≡ map (λ s. Some s) sites → length news ≡ length olds → AreFresh olds
-    → ((k : ℕ) → (d : Machine C P V A O T) → k < length olds → Runs events commands stands header (slice_index_or olds k d) (slice_index_or news k d))
+stop_at : {D C P V A O T T' E : Type 0} (content : A → Option (List ℕ)) (area_faults : A → ℕ) (events : Bool) (stands : D → Setting → Trace → Type 0) (commands : Header → List (Form Command)) (header : Header) (sites : List Site)
+    (disks : List (Both A)) (olds news : List (Machine C P V A O T)) (before after : List LiveLine → Type 0) (early : Bool) (l : LedgerState GivenLine) (w : SeatState (List ℕ)) (told : Result T' E) (m : ℕ) (d : LiveDiffer) (rans : List (Ran O T A))
+    → map site_of olds ≡ map (λ s. Some s) sites → map disks_of olds ≡ map (λ d. Some d) disks → length news ≡ length olds → AreFresh olds
+    → ((k : ℕ) → (d : Machine C P V A O T) → k < length olds → Runs content area_faults events commands stands header (slice_index_or olds k d) (slice_index_or news k d))
     → HasTold (length olds) before after l w told → (early ≡ false → IsOk told) → AreRansOf news rans → IsCaseOf early l rans m d
     → IsLiveStop stands commands header sites before after (Differ m d)
-stop_at {D} {C} {P} {V} {A} {O} {T} events stands commands header sites olds news before after early l w told m d rans same len fresh each tells in_time left so =
+stop_at {D} {C} {P} {V} {A} {O} {T} content area_faults events stands commands header sites disks olds news before after early l w told m d rans same own len fresh each tells in_time left so =
     let place : ℕ = so.place in
     let r : Ran O T A = so.ran in
     let lt = inside rans place r so.there in
     let n = counts sites olds same in
     let c = rans_count news rans left in
     let there = there_is sites place (omega (arith, lt, c, len, n)) in
+    let o = disks_count disks olds own in
+    let had = there_is disks place (omega (arith, lt, c, len, o)) in
     let site : Site = there.0 in
     let st : Setting = begun_with commands header site in
     let a : AlongState = begun_on header site in
     let inside_olds : place < length olds = omega (arith, lt, c, len) in
-    let at = ran_at events stands commands header sites olds news rans same fresh each left place site r there.1 so.there in
+    let at = ran_at content area_faults events stands commands header sites disks olds news rans same own fresh each left place site had.0 r there.1 had.1 so.there in
     let run = at.run in
     let due : List GivenLine = lines_for m tells.lines in
     let first : IsPrefix (entries (given_by r.reader.by l.front)) due
@@ -319,17 +382,17 @@ stop_at {D} {C} {P} {V} {A} {O} {T} events stands commands header sites olds new
     } in
     (tells.lines, tells.gave, here)
 
-live_stop : {D C P V A O T T' E : Type 0} (events : Bool) (stands : D → Setting → Trace → Type 0) (commands : Header → List (Form Command)) (header : Header) (sites : List Site)
-    (olds news : List (Machine C P V A O T)) (before after : List LiveLine → Type 0) (early : Bool) (l : LedgerState GivenLine) (w : SeatState (List ℕ)) (told : Result T' E) (s : LiveStop)
-    → map site_of olds ≡ map (λ s. Some s) sites → length news ≡ length olds → AreFresh olds
-    → ((k : ℕ) → (d : Machine C P V A O T) → k < length olds → Runs events commands stands header (slice_index_or olds k d) (slice_index_or news k d))
+live_stop : {D C P V A O T T' E : Type 0} (content : A → Option (List ℕ)) (area_faults : A → ℕ) (events : Bool) (stands : D → Setting → Trace → Type 0) (commands : Header → List (Form Command)) (header : Header) (sites : List Site)
+    (disks : List (Both A)) (olds news : List (Machine C P V A O T)) (before after : List LiveLine → Type 0) (early : Bool) (l : LedgerState GivenLine) (w : SeatState (List ℕ)) (told : Result T' E) (s : LiveStop)
+    → map site_of olds ≡ map (λ s. Some s) sites → map disks_of olds ≡ map (λ d. Some d) disks → length news ≡ length olds → AreFresh olds
+    → ((k : ℕ) → (d : Machine C P V A O T) → k < length olds → Runs content area_faults events commands stands header (slice_index_or olds k d) (slice_index_or news k d))
     → HasTold (length olds) before after l w told → (early ≡ false → IsOk told) → (s ≡ NoMemory) ⊎ StopsOne early l news s
     → IsLiveStop stands commands header sites before after s
-live_stop events stands commands header sites olds news before after early l w told s same len fresh each tells in_time (inl is) =
+live_stop content area_faults events stands commands header sites disks olds news before after early l w told s same own len fresh each tells in_time (inl is) =
     subst (IsLiveStop stands commands header sites before after) (sym is) tt
-live_stop events stands commands header sites olds news before after early l w told NoMemory same len fresh each tells in_time (inr so) = tt
-live_stop events stands commands header sites olds news before after early l w told (Differ m d) same len fresh each tells in_time (inr so) =
-    stop_at events stands commands header sites olds news before after early l w told m d so.0 same len fresh each tells in_time so.1 so.2
+live_stop content area_faults events stands commands header sites disks olds news before after early l w told NoMemory same own len fresh each tells in_time (inr so) = tt
+live_stop content area_faults events stands commands header sites disks olds news before after early l w told (Differ m d) same own len fresh each tells in_time (inr so) =
+    stop_at content area_faults events stands commands header sites disks olds news before after early l w told m d so.0 same own len fresh each tells in_time so.1 so.2
 
 -- ---- of a result
 
@@ -343,41 +406,46 @@ if_err_on (Err e) Was Is f so = f e so
 
 -- ---- the whole run
 
-pub has_run_all : {D K C P V A O T T' E : Type 0} (events : Bool) (stands : D → Setting → Trace → Type 0) (commands : Header → List (Form Command)) (header : Header) (sites : List Site)
-    (olds news : List (Machine C P V A O T)) (before after : List LiveLine → Type 0) (early : Bool) (l : LedgerState GivenLine) (w : SeatState (List ℕ)) (told : Result T' E) (taken now : Option (List ℕ)) (faults later : ℕ)
-    (r : LiveRun K A) → map site_of olds ≡ map (λ s. Some s) sites → length news ≡ length olds → AreFresh olds
-    → ((k : ℕ) → (d : Machine C P V A O T) → k < length olds → Runs events commands stands header (slice_index_or olds k d) (slice_index_or news k d))
+pub has_run_all : {D K C P V A O T T' E : Type 0} (content : A → Option (List ℕ)) (area_faults : A → ℕ) (events : Bool) (stands : D → Setting → Trace → Type 0) (commands : Header → List (Form Command)) (header : Header) (sites : List Site)
+    (disks : List (Both A)) (olds news : List (Machine C P V A O T)) (before after : List LiveLine → Type 0) (early : Bool) (l : LedgerState GivenLine) (w : SeatState (List ℕ)) (told : Result T' E) (taken now : Option (List ℕ)) (faults later : ℕ)
+    (r : LiveRun K A) → map site_of olds ≡ map (λ s. Some s) sites → map disks_of olds ≡ map (λ d. Some d) disks → length news ≡ length olds → AreFresh olds
+    → ((k : ℕ) → (d : Machine C P V A O T) → k < length olds → Runs content area_faults events commands stands header (slice_index_or olds k d) (slice_index_or news k d))
     → HasTold (length olds) before after l w told → (early ≡ false → IsOk told) → HasLeft early l w news taken now faults later r
-    → HasRunAll events stands commands header sites before after taken now faults later r
-has_run_all {D} {K} {C} {P} {V} {A} {O} {T} events stands commands header sites olds news before after early l w told taken now faults later r same len fresh each tells in_time left = record {
+    → HasRunAll content area_faults events stands commands header sites disks before after taken now faults later r
+has_run_all {D} {K} {C} {P} {V} {A} {O} {T} content area_faults events stands commands header sites disks olds news before after early l w told taken now faults later r same own len fresh each tells in_time left = record {
   pieces = left.pieces;
   put = left.put;
-  ok = if_ok_on r.replies (AreAllWhole early l w news left.pieces) (HasToldAll events stands commands header sites before after left.pieces r.machines)
-      (λ n all. told_all events stands commands header sites olds news before after early l w told left.pieces r.machines n same len fresh each tells in_time left.machines_are all) left.ok;
+  ok = if_ok_on r.replies (AreAllWhole early l w news left.pieces r.disks.items)
+      (λ n. HasToldAll content area_faults events stands commands header sites disks before after left.pieces r.machines n (map disks_back r.disks.items))
+      (λ n all. told_all content area_faults events stands commands header sites disks olds news before after early l w told left.pieces r.machines n r.disks.items same own len fresh each tells in_time
+      left.machines_are all) left.ok;
   stop = if_err_on r.replies (λ s. (s ≡ NoMemory) ⊎ StopsOne early l news s) (IsLiveStop stands commands header sites before after)
-      (λ s so. live_stop events stands commands header sites olds news before after early l w told s same len fresh each tells in_time so) left.stop;
+      (λ s so. live_stop content area_faults events stands commands header sites disks olds news before after early l w told s same own len fresh each tells in_time so) left.stop;
 }
 
 -- There was no memory to run.
-pub no_run_all : {D K A : Type 0} (events : Bool) (stands : D → Setting → Trace → Type 0) (commands : Header → List (Form Command)) (header : Header) (sites : List Site) (before after : List LiveLine → Type 0)
+pub no_run_all : {D K A : Type 0} (content : A → Option (List ℕ)) (area_faults : A → ℕ) (events : Bool) (stands : D → Setting → Trace → Type 0) (commands : Header → List (Form Command)) (header : Header) (sites : List Site) (disks : List (Both A)) (before after : List LiveLine → Type 0)
     (taken now : Option (List ℕ)) (faults later : ℕ) (r : LiveRun K A) → r.replies ≡ Err NoMemory → (ps : List Piece) × IsPut taken now faults later ps r.cut
-    → HasRunAll events stands commands header sites before after taken now faults later r
-no_run_all events stands commands header sites before after taken now faults later r is put = record {
+    → HasRunAll content area_faults events stands commands header sites disks before after taken now faults later r
+no_run_all content area_faults events stands commands header sites disks before after taken now faults later r is put = record {
   pieces = put.0;
   put = put.1;
-  ok = subst (λ (x : Result ℕ LiveStop). IfOk x (HasToldAll events stands commands header sites before after put.0 r.machines)) (sym is) tt;
+  ok = subst (λ (x : Result ℕ LiveStop). IfOk x (λ n. HasToldAll content area_faults events stands commands header sites disks before after put.0 r.machines n (map disks_back r.disks.items))) (sym is) tt;
   stop = subst (λ (x : Result ℕ LiveStop). IfErr x (IsLiveStop stands commands header sites before after)) (sym is) tt;
 }
 
 -- .. for one machine.
-pub no_run_of : {D O T A : Type 0} (stands : D → Setting → Trace → Type 0) (st : Setting) (t : Telling) (a : AlongState) (r : Ran O T A) → r.end ≡ Err NoMemoryClose → r.writer.by ≡ r.reader.by
-    → HasRun stands st t a r
-no_run_of stands st t a r is by = record {
+pub no_run_of : {D O T A : Type 0} (content : A → Option (List ℕ)) (area_faults : A → ℕ) (sector : ℕ) (stands : D → Setting → Trace → Type 0) (st : Setting) (t : Telling)
+    (a : AlongState) (delta resource : List (Disk A)) (r : Ran O T A) → r.end ≡ Err NoMemoryClose → r.writer.by ≡ r.reader.by
+    → HasRun content area_faults sector stands st t a delta resource r
+no_run_of content area_faults sector stands st t a delta resource r is by = record {
   by = by;
   history = [];
   ends = subst (EndsWith stands st a [] (lines_read r.reader)) (sym is) tt;
   told = subst (Told t a [] r.reader r.writer r.replies) (sym is) tt;
   counted = subst (Counts [] r.entries) (sym is) tt;
+  delta = subst (λ x. OnWhole x (ServedDisks content area_faults sector st Delta [] delta r.delta.items)) (sym is) tt;
+  resource = subst (λ x. OnWhole x (ServedDisks content area_faults sector st Resource [] resource r.resource.items)) (sym is) tt;
 }
 
 -- ---- before the run
@@ -403,13 +471,15 @@ can_run {C} {P} {V} {A} {O} {T} commands header ms sites same fresh is so k d lt
 pub pushed : {A : Type 0} (xs ys zs : List A) (x : A) → ys ≡ xs → zs ≡ ys ++ x ∷ [] → zs ≡ xs ++ x ∷ []
 pushed xs ys zs x same more = more ∙ ap (λ l. l ++ x ∷ []) same
 
--- One machine more has begun, of what was ready.
-pub one_begun : {C P V A O T S : Type 0} (ms ms' : List (Machine C P V A O T)) (m : Machine C P V A O T) (w : Work C P V A O T) (ps : List S) (p : S) (site : S → Site)
-    → ms' ≡ ms ++ m ∷ [] → m.work ≡ Some w → w.site ≡ site p → map site_of ms ≡ map (λ s. Some s) (map site ps) → map site_of ms' ≡ map (λ s. Some s) (map site (ps ++ p ∷ []))
-one_begun {C} {P} {V} {A} {O} {T} ms ms' m w ps p site is work its so =
-    let of : Machine C P V A O T → Option Site = λ (x : Machine C P V A O T). site_of x in
-    ap (map of) is ∙ map-append of ms (m ∷ []) ∙ ap (λ o. map of ms ++ o ∷ []) (ap (option_map (λ (x : Work C P V A O T). x.site)) work ∙ ap Some its)
-    ∙ ap (λ xs. xs ++ Some (site p) ∷ []) so ∙ sym (ap (map (λ s. Some s)) (map-append site ps (p ∷ [])) ∙ map-append (λ s. Some s) (map site ps) (site p ∷ []))
+-- One machine more has begun, of what was ready: so is what each has of it.
+pub one_begun : {C P V A O T S B : Type 0} (ms ms' : List (Machine C P V A O T)) (m : Machine C P V A O T) (w : Work C P V A O T) (ps : List S) (p : S) (of_work : Work C P V A O T → B)
+    (of_ready : S → B) → ms' ≡ ms ++ m ∷ [] → m.work ≡ Some w → of_work w ≡ of_ready p
+    → map (λ (x : Machine C P V A O T). option_map of_work x.work) ms ≡ map (λ b. Some b) (map of_ready ps)
+    → map (λ (x : Machine C P V A O T). option_map of_work x.work) ms' ≡ map (λ b. Some b) (map of_ready (ps ++ p ∷ []))
+one_begun {C} {P} {V} {A} {O} {T} {S} {B} ms ms' m w ps p of_work of_ready is work its so =
+    let of : Machine C P V A O T → Option B = λ (x : Machine C P V A O T). option_map of_work x.work in
+    ap (map of) is ∙ map-append of ms (m ∷ []) ∙ ap (λ o. map of ms ++ o ∷ []) (ap (option_map of_work) work ∙ ap Some its)
+    ∙ ap (λ xs. xs ++ Some (of_ready p) ∷ []) so ∙ sym (ap (map (λ b. Some b)) (map-append of_ready ps (p ∷ [])) ∙ map-append (λ b. Some b) (map of_ready ps) (of_ready p ∷ []))
 
 pub none_fresh : {C P V A O T : Type 0} (ms : List (Machine C P V A O T)) → ms ≡ [] → AreFresh ms
 none_fresh {C} {P} {V} {A} {O} {T} ms none place m at = absurd (none_some m (sym (ap (λ (xs : List (Machine C P V A O T)). slice_get xs place) none) ∙ at))
@@ -425,9 +495,9 @@ fresh_more {C} {P} {V} {A} {O} {T} ms ms' m w is work by fresh so place x at =
         subst (λ (o : Option (Work C P V A O T)). IfSome o (λ w. (w.reader.by ≡ place) × IsFresh w)) (sym (ap (λ (y : Machine C P V A O T). y.work) same ∙ work)) (by ∙ sym here, fresh)
 
 -- All that were ready have begun.
-pub begun_all : {C P V A O T S : Type 0} (ms : List (Machine C P V A O T)) (ps qs : List S) (site : S → Site) → map site_of ms ≡ map (λ s. Some s) (map site ps) → ps ≡ qs
-    → map site_of ms ≡ map (λ s. Some s) (map site qs)
-begun_all {C} {P} {V} {A} {O} {T} {S} ms ps qs site so same = so ∙ ap (λ (xs : List S). map (λ s. Some s) (map site xs)) same
+pub begun_all : {B S : Type 0} (bs : List (Option B)) (ps qs : List S) (of_ready : S → B) → bs ≡ map (λ b. Some b) (map of_ready ps) → ps ≡ qs
+    → bs ≡ map (λ b. Some b) (map of_ready qs)
+begun_all {B} {S} bs ps qs of_ready so same = so ∙ ap (λ (xs : List S). map (λ b. Some b) (map of_ready xs)) same
 
 -- ---- behind the run
 
@@ -435,9 +505,9 @@ pub rans_all : {C P V A O T : Type 0} (ms all : List (Machine C P V A O T)) (ran
 rans_all {C} {P} {V} {A} {O} {T} ms all rans so same = subst (λ (xs : List (Machine C P V A O T)). AreRansOf xs rans) same so
 
 pub all_whole : {C P V A O T E : Type 0} (r : Result ℕ E) (early : Bool) (l : LedgerState GivenLine) (w : SeatState (List ℕ)) (machines : List (Machine C P V A O T)) (rans : List (Ran O T A))
-    (pieces : List Piece) → AreRansOf machines rans → IfOk r (AreWhole early l w rans pieces) → IfOk r (AreAllWhole early l w machines pieces)
-all_whole (Ok n) early l w machines rans pieces left so = (rans, left, so)
-all_whole (Err e) early l w machines rans pieces left so = tt
+    (pieces : List Piece) (disks : List (Disks A)) → AreRansOf machines rans → IfOk r (AreWhole early l w rans pieces disks) → IfOk r (AreAllWhole early l w machines pieces disks)
+all_whole (Ok n) early l w machines rans pieces disks left so = (rans, left, so)
+all_whole (Err e) early l w machines rans pieces disks left so = tt
 
 pub all_stop : {C P V A O T N : Type 0} (r : Result N LiveStop) (early : Bool) (l : LedgerState GivenLine) (machines : List (Machine C P V A O T)) (rans : List (Ran O T A))
     → AreRansOf machines rans → IfErr r (StopsSome early l rans) → IfErr r (λ s. (s ≡ NoMemory) ⊎ StopsOne early l machines s)

@@ -2,14 +2,19 @@
 use Rattle.sl_book.specs.Logs.{entries, given_by as given_in}
 use Rattle.sl_book.specs.Mails.{LedgerState}
 use Rattle.sl_book.specs.Seats.{IsMine, SeatState}
+use Rattle.sl_cell.specs.declared.part.Part.TheVariants.{Delta, Resource}
+use Rattle.sl_live.specs.declared.disks.Disk.{Disk}
 use Rattle.sl_live_lines.specs.AuditedHistory.{AreLines, IsAnswered, IsLeft, KeepsAsks, LineDiffers, lines_along}
 use Rattle.sl_book.specs.Closings.{AreBelow}
 use Rattle.sl_live_lines.specs.EventTexts.{Telling, first_telling}
 use Rattle.sl_live_lines.specs.LiveTexts.{count_replies, history_text}
 use Rattle.sl_live_machine.specs.MachineEnds.{HasRun, IsWhole}
 use Rattle.sl_live_machine.specs.Printing.{lines_read}
+use Rattle.sl_live_machine.specs.ServedDisks.{ServedDisks}
+use Rattle.sl_live_machine.specs.declared.machine.Parts.{Parts}
 use Rattle.sl_live_machine.specs.ThreadSeats.{IsCaseOfRun}
 use Rattle.sl_live_run.specs.declared.machine_runs.Work.{Work}
+use Rattle.sl_live_run.specs.declared.run.Disks.{Disks}
 use Rattle.sl_live_run.specs.declared.run.LiveRun.{LiveRun}
 use Rattle.sl_output.specs.Outputs.{IsPut}
 use Rattle.sl_output.specs.Pieces.{Piece, text_by}
@@ -36,7 +41,7 @@ use Rattle.sl_trace.specs.Traces.{Setting, Trace}
 use Rattle.sl_trace.specs.declared.command.Command.{Command}
 use Rattle.sl_trace.specs.declared.effects.Entry.{Entry}
 use Rattle.std.specs.List.{concat, flat_map}
-use Rattle.std.specs.Prelude.{Bool, IfErr, IfOk, IfSome, List, None, OnOk, Option, Result, Some, if◌then◌else◌, length, option_map, slice_get, [], ℕ, ◌++◌, ◌+◌, ◌<◌, ◌==◌, ◌∷◌, ◌≡◌}
+use Rattle.std.specs.Prelude.{Bool, IfErr, IfOk, IfSome, List, None, OnOk, Option, Result, Some, if◌then◌else◌, length, map, option_map, slice_get, [], ℕ, ◌++◌, ◌+◌, ◌<◌, ◌==◌, ◌∷◌, ◌≡◌}
 use mathlib.Core.List.{IsPrefix}
 
 -- ---- what the script gives
@@ -104,6 +109,22 @@ pub record HasTold {A E : Type 0} (machines : ℕ) (before after : List LiveLine
 abbrev pub site_of : {C P V A O T : Type 0} → Machine C P V A O T → Option Site
 site_of m = option_map (λ w. w.site) m.work
 
+-- The disks of both workers of a machine: of the one whose part the delta leases are, and of the other.
+abbrev pub Both : Type 0 → Type 0
+Both A = List (Disk A) × List (Disk A)
+
+-- .. among what it runs on.
+abbrev pub disks_in : {C P V A : Type 0} → Parts C P V A → Both A
+disks_in p = (p.delta.items, p.resource.items)
+
+-- .. of a machine that is to run.
+abbrev pub disks_of : {C P V A O T : Type 0} → Machine C P V A O T → Option (Both A)
+disks_of m = option_map (λ w. disks_in w.parts) m.work
+
+-- .. that are given back.
+abbrev pub disks_back : {A : Type 0} → Disks A → Both A
+disks_back d = (d.delta.items, d.resource.items)
+
 -- Its printer has read nothing and put out nothing.
 pub record IsFresh {C P V A O T : Type 0} (w : Work C P V A O T) : Type 0 where
   pub unread : lines_read w.reader ≡ []
@@ -126,10 +147,12 @@ begun_on header site = begun_along header site.first.job
 abbrev pub begun_telling : Bool → Header → Site → Telling
 begun_telling events header site = first_telling events header.timing site.given
 
--- It has run.
-abbrev pub Runs : {D C P V A O T : Type 0} → Bool → (Header → List (Form Command)) → (D → Setting → Trace → Type 0) → Header → Machine C P V A O T → Machine C P V A O T → Type 0
-Runs events commands stands h before after =
-    IfSome before.work (λ w. IfSome after.ran (λ r. HasRun stands (begun_with commands h w.site) (begun_telling events h w.site) (begun_on h w.site) r × (r.reader.by ≡ w.reader.by)))
+-- It has run, on the disks that it had.
+abbrev pub Runs : {D C P V A O T : Type 0} → (A → Option (List ℕ)) → (A → ℕ) → Bool → (Header → List (Form Command)) → (D → Setting → Trace → Type 0) → Header
+    → Machine C P V A O T → Machine C P V A O T → Type 0
+Runs content area_faults events commands stands h before after =
+    IfSome before.work (λ w. IfSome after.ran (λ r. HasRun content area_faults h.geometry.sector stands (begun_with commands h w.site) (begun_telling events h w.site) (begun_on h w.site)
+        w.parts.delta.items w.parts.resource.items r × (r.reader.by ≡ w.reader.by)))
 
 -- ---- a whole run
 
@@ -179,6 +202,18 @@ IsLiveStop stands commands header sites before after NoMemory = Unit {0}
 abbrev pub IsTold : Telling → AlongState → ℕ → List Entry → List Piece → Type 0
 IsTold t a place h pieces = text_by place pieces ≡ history_text (place + 1) t a h
 
+-- The disks of a machine's workers went from these to those by just the calls of its history, each worker's by those of its part.
+pub record AreServed {A : Type 0} (content : A → Option (List ℕ)) (area_faults : A → ℕ) (sector : ℕ) (st : Setting) (h : List Entry) (disks left : Both A) : Type 0 where
+  pub delta : ServedDisks content area_faults sector st Delta h disks.0 left.0
+  pub resource : ServedDisks content area_faults sector st Resource h disks.1 left.1
+
+-- .. each machine's by those of its own, by its place.
+pub record AreAllServed {A : Type 0} (content : A → Option (List ℕ)) (area_faults : A → ℕ) (commands : Header → List (Form Command)) (header : Header) (sites : List Site)
+    (hs : List (List Entry)) (disks left : List (Both A)) : Type 0 where
+  pub counted : length left ≡ length hs
+  pub each : (place : ℕ) (site : Site) (h : List Entry) (d l : Both A) → slice_get sites place ≡ Some site → slice_get hs place ≡ Some h → slice_get disks place ≡ Some d
+      → slice_get left place ≡ Some l → AreServed content area_faults header.geometry.sector (begun_with commands header site) h d l
+
 -- How many replies these histories have, of machines with these sites.
 abbrev pub replies_of : Header → List Site → List (List Entry) → ℕ
 replies_of header [] hs = 0
@@ -186,9 +221,10 @@ replies_of header (s ∷ ss) [] = 0
 replies_of header (s ∷ ss) (h ∷ hs) = count_replies (begun_on header s) h + replies_of header ss hs
 
 -- All machines have such histories, for the lines that the script gave in this run, with so many replies; and these pieces are what is told of them, with
--- their events or without, and of which lines are refused.
-pub record HasToldAll {D : Type 0} (events : Bool) (stands : D → Setting → Trace → Type 0) (commands : Header → List (Form Command)) (header : Header) (sites : List Site)
-    (before after : List LiveLine → Type 0) (pieces : List Piece) (machines replies : ℕ) : Type 0 where
+-- their events or without, and of which lines are refused. The disks that are left are made of those that the machines had, by the calls of these histories.
+pub record HasToldAll {D A : Type 0} (content : A → Option (List ℕ)) (area_faults : A → ℕ) (events : Bool) (stands : D → Setting → Trace → Type 0)
+    (commands : Header → List (Form Command)) (header : Header) (sites : List Site) (disks : List (Both A)) (before after : List LiveLine → Type 0) (pieces : List Piece)
+    (machines replies : ℕ) (left : List (Both A)) : Type 0 where
   pub lines : List LiveLine
   pub gave : Gave before after lines
   pub histories : List (List Entry)
@@ -199,11 +235,13 @@ pub record HasToldAll {D : Type 0} (events : Bool) (stands : D → Setting → T
   pub below : AreBelow (length histories + 1) pieces
   pub machines_are : machines ≡ length histories
   pub count : replies ≡ replies_of header sites histories
+  pub served : AreAllServed content area_faults commands header sites histories disks left
 
 -- What a run leaves: such histories, or why there are none; and a sink that has taken pieces behind what it had, or a front of them after a fault.
-pub record HasRunAll {D K A : Type 0} (events : Bool) (stands : D → Setting → Trace → Type 0) (commands : Header → List (Form Command)) (header : Header) (sites : List Site)
-    (before after : List LiveLine → Type 0) (taken now : Option (List ℕ)) (faults later : ℕ) (r : LiveRun K A) : Type 0 where
+pub record HasRunAll {D K A : Type 0} (content : A → Option (List ℕ)) (area_faults : A → ℕ) (events : Bool) (stands : D → Setting → Trace → Type 0)
+    (commands : Header → List (Form Command)) (header : Header) (sites : List Site) (disks : List (Both A)) (before after : List LiveLine → Type 0)
+    (taken now : Option (List ℕ)) (faults later : ℕ) (r : LiveRun K A) : Type 0 where
   pub pieces : List Piece
   pub put : IsPut taken now faults later pieces r.cut
-  pub ok : IfOk r.replies (HasToldAll events stands commands header sites before after pieces r.machines)
+  pub ok : IfOk r.replies (λ n. HasToldAll content area_faults events stands commands header sites disks before after pieces r.machines n (map disks_back r.disks.items))
   pub stop : IfErr r.replies (IsLiveStop stands commands header sites before after)

@@ -11,6 +11,8 @@ use Rattle.sl_live_lines.specs.declared.given_lines.GivenLine.{GivenLine}
 use Rattle.sl_live_machine.specs.declared.machine.CloseError.TheVariants as close
 use Rattle.sl_live_machine.specs.declared.machine.CloseError.{CloseError}
 use Rattle.sl_live_machine.specs.declared.machine.Ran.{Ran}
+use Rattle.sl_live_run.specs.Runs.{Both, disks_back}
+use Rattle.sl_live_run.specs.declared.run.Disks.{Disks}
 use Rattle.sl_live_run.specs.declared.compare.LiveDiffer.TheVariants.{Cell, Left, Line, Untold}
 use Rattle.sl_live_run.specs.declared.compare.LiveDiffer.{LiveDiffer}
 use Rattle.sl_live_run.specs.declared.compare.LiveStop.TheVariants.{Differ, NoMemory}
@@ -64,12 +66,18 @@ pub record AreSettled {O T A : Type 0} (l : LedgerState GivenLine) (rans : List 
   pub each : (place : ℕ) (r : Ran O T A) → slice_get rans place ≡ Some r → (r.end ≡ Ok tt) × (given_by r.reader.by r.reader.front ≡ given_by r.reader.by l.front)
   pub count : replies ≡ sum_by (λ (r : Ran O T A). r.replies) rans
 
--- .. and threads ended in time, and these pieces are just those that they put, and the script's thread.
-pub record AreWhole {O T A : Type 0} (early : Bool) (l : LedgerState GivenLine) (w : SeatState (List ℕ)) (rans : List (Ran O T A)) (pieces : List Piece) (replies : ℕ) : Type 0 where
+-- The disks of what is left of a machine's run.
+abbrev pub disks_after : {O T A : Type 0} → Ran O T A → Both A
+disks_after r = (r.delta.items, r.resource.items)
+
+-- .. and threads ended in time, and these pieces are just those that they put, and the script's thread, and these disks are theirs.
+pub record AreWhole {O T A : Type 0} (early : Bool) (l : LedgerState GivenLine) (w : SeatState (List ℕ)) (rans : List (Ran O T A)) (pieces : List Piece) (disks : List (Disks A))
+    (replies : ℕ) : Type 0 where
   pub in_time : early ≡ false
   pub settled : AreSettled l rans replies
   pub exact : AreExact 0 (map (λ (r : Ran O T A). r.writer) rans ++ w ∷ []) pieces
   pub below : AreBelow (length rans + 1) pieces
+  pub disks_are : map disks_back disks ≡ map (λ (r : Ran O T A). disks_after r) rans
 
 -- The case is that of the machine at this place, as it was read.
 pub record IsCaseOf {O T A : Type 0} (early : Bool) (l : LedgerState GivenLine) (rans : List (Ran O T A)) (machine : ℕ) (d : LiveDiffer) : Type 0 where
@@ -91,8 +99,8 @@ abbrev pub AreRansOf : {C P V A O T : Type 0} → List (Machine C P V A O T) →
 AreRansOf {C} {P} {V} {A} {O} {T} machines rans = map (λ (m : Machine C P V A O T). m.ran) machines ≡ map (λ r. Some r) rans
 
 -- So many replies were given to machines that have whole histories.
-abbrev pub AreAllWhole : {C P V A O T : Type 0} → Bool → LedgerState GivenLine → SeatState (List ℕ) → List (Machine C P V A O T) → List Piece → ℕ → Type 0
-AreAllWhole {C} {P} {V} {A} {O} {T} early l w machines pieces n = (rans : List (Ran O T A)) × AreRansOf machines rans × AreWhole early l w rans pieces n
+abbrev pub AreAllWhole : {C P V A O T : Type 0} → Bool → LedgerState GivenLine → SeatState (List ℕ) → List (Machine C P V A O T) → List Piece → List (Disks A) → ℕ → Type 0
+AreAllWhole {C} {P} {V} {A} {O} {T} early l w machines pieces disks n = (rans : List (Ran O T A)) × AreRansOf machines rans × AreWhole early l w rans pieces disks n
 
 -- Why machines have no histories.
 abbrev pub StopsOne : {C P V A O T : Type 0} → Bool → LedgerState GivenLine → List (Machine C P V A O T) → LiveStop → Type 0
@@ -104,5 +112,5 @@ pub record HasLeft {K C P V A O T : Type 0} (early : Bool) (l : LedgerState Give
   pub pieces : List Piece
   pub put : IsPut taken now faults later pieces r.cut
   pub machines_are : r.machines ≡ length machines
-  pub ok : IfOk r.replies (AreAllWhole early l w machines pieces)
+  pub ok : IfOk r.replies (AreAllWhole early l w machines pieces r.disks.items)
   pub stop : IfErr r.replies (λ s. (s ≡ NoMemory) ⊎ StopsOne early l machines s)

@@ -1,6 +1,6 @@
 //! What is there before the threads of a run begin: its machines, with a post and a mail for each.
 
-ghost use Rattle.sl_live_run.specs.Runs.{AreFresh, IsFresh, site_of};
+ghost use Rattle.sl_live_run.specs.Runs.{AreFresh, IsFresh, disks_in, disks_of, site_of};
 ghost use Rattle.sl_live_run.specs.declared.machine_runs.Machine.{Machine as MachineOf};
 ghost use Rattle.std.specs.Prelude.{IfOk, OnOk, Some, [], map, ◌++◌, ◌<◌, ◌∷◌, ◌≡◌};
 ghost use Rattle.std.specs.Vec.{vec_capacity, vec_len};
@@ -84,6 +84,7 @@ fn work_of<V: LiveDevices, O: Press, T: Shelf>(
 ) -> Work<V::Clock, V::Spawner, V::Device, V::Area, O, T>
     requires unread { unread.now ≡ [] }
     ensures site { result.site ≡ ready.site }
+    ensures parts { result.parts ≡ ready.parts }
     ensures by { result.reader.by ≡ place }
     ensures fresh { IsFresh result }
 {
@@ -107,6 +108,7 @@ pub(crate) fn begin<V: LiveDevices, O: Press, T: Shelf>(
     requires unread { unread.now ≡ [] }
     requires pieces { pieces.now ≡ [] }
     ensures sites { IfOk result (λ b. map site_of b.machines.items ≡ map (λ s. Some s) (map (λ p. p.site) prepared.items)) }
+    ensures disks { IfOk result (λ b. map disks_of b.machines.items ≡ map (λ d. Some d) (map (λ p. disks_in p.parts) prepared.items)) }
     ensures fresh { IfOk result (λ b. AreFresh b.machines.items) }
 {
     let mut begun = Begun::new(alloc);

@@ -1,6 +1,7 @@
 //! What is left of a run once all its threads have ended.
 
-ghost use Rattle.sl_live_run.specs.Settling.{AreAllWhole, AreRansOf, AreSettled, AreWhole, HasLeft, StopsOne, StopsSome};
+ghost use Rattle.sl_live_run.specs.Settling.{AreAllWhole, AreRansOf, AreSettled, AreWhole, HasLeft, StopsOne, StopsSome, disks_after};
+ghost use Rattle.sl_live_run.specs.Runs.{disks_back};
 ghost use Rattle.sl_live_run.specs.declared.compare.LiveStop.TheVariants.{NoMemory as NoMemoryStop};
 ghost use Rattle.std.specs.Prelude.{IfErr, IfOk, [], false, map, ◌++◌, ◌∷◌, ◌≡◌, ◌⊎◌};
 
@@ -48,7 +49,8 @@ fn take_ends<O: Press, T: Shelf, A: Area>(
     alloc: Global,
     rans: Vec<Ran<O, T, A>>,
 ) -> Result<Ends<O, A>, AllocError>
-    ensures { IfOk result (λ e. e.writers.items ≡ map (λ r. r.writer) rans.items) }
+    ensures writers { IfOk result (λ e. e.writers.items ≡ map (λ r. r.writer) rans.items) }
+    ensures disks { IfOk result (λ e. map disks_back e.disks.items ≡ map disks_after rans.items) }
 {
     let mut writers = Vec::new(alloc);
     let mut disks = Vec::new(alloc);
@@ -74,7 +76,8 @@ fn take_all_ends<O: Press, T: Shelf, A: Area>(
     rans: Vec<Ran<O, T, A>>,
     last: Writer<O>,
 ) -> Result<Ends<O, A>, AllocError>
-    ensures { IfOk result (λ e. e.writers.items ≡ map (λ r. r.writer) rans.items ++ last ∷ []) }
+    ensures writers { IfOk result (λ e. e.writers.items ≡ map (λ r. r.writer) rans.items ++ last ∷ []) }
+    ensures disks { IfOk result (λ e. map disks_back e.disks.items ≡ map disks_after rans.items) }
 {
     let Ends { mut writers, disks } = take_ends(alloc, rans)?;
     writers.push(last)?;
@@ -107,7 +110,7 @@ fn finish<O: Press, T: Shelf, A: Area>(
     pieces: &Pieces<O>,
     rans: Vec<Ran<O, T, A>>,
 ) -> (Result<u64, LiveStop>, Vec<Disks<A>>)
-    ensures ok { IfOk result.0 (AreWhole early ledger.now writer rans.items pieces.now) }
+    ensures ok { IfOk result.0 (AreWhole early ledger.now writer rans.items pieces.now result.1.items) }
     ensures err { IfErr result.0 (StopsSome early ledger.now rans.items) }
 {
     let settled = settle(early, ledger, &rans);
@@ -132,7 +135,7 @@ fn end_all<C: Clock, P: Spawner, V: Device, A: Area, O: Press, T: Shelf>(
     pieces: &Pieces<O>,
     machines: Vec<Machine<C, P, V, A, O, T>>,
 ) -> (Result<u64, LiveStop>, Vec<Disks<A>>)
-    ensures ok { IfOk result.0 (AreAllWhole early ledger.now writer machines.items pieces.now) }
+    ensures ok { IfOk result.0 (AreAllWhole early ledger.now writer machines.items pieces.now result.1.items) }
     ensures err { IfErr result.0 (λ s. (s ≡ NoMemoryStop) ⊎ StopsOne early ledger.now machines.items s) }
 {
     match take_apart(alloc, machines) {

@@ -117,7 +117,9 @@ fn run_as<
     requires site { J.setting ≡ begun_with D.Daemon.commands shared.now.header.now work.site }
     requires book { opened.seen.book ≡ J.book }
     requires fresh { IsFresh work }
-    ensures goes { HasRun D.Daemon.stands J.setting (first_telling shared.now.events shared.now.header.now.timing work.site.given) (begun_along shared.now.header.now work.site.first.job) result }
+    ensures goes { HasRun A.content A.faults shared.now.header.now.geometry.sector D.Daemon.stands J.setting
+        (first_telling shared.now.events shared.now.header.now.timing work.site.given) (begun_along shared.now.header.now work.site.first.job)
+        work.parts.delta.items work.parts.resource.items result }
     ensures by { result.reader.by ≡ work.reader.by }
 {
     let (Some(post), Some(mail)) = (shared.posts.get(place), shared.mails.get(place)) else {
@@ -179,8 +181,9 @@ fn run_work<
     requires header { IsHeader shared.now.header.now }
     requires setting { IsSetting (begun_with D.Daemon.commands shared.now.header.now work.site) }
     requires fresh { IsFresh work }
-    ensures goes { HasRun D.Daemon.stands (begun_with D.Daemon.commands shared.now.header.now work.site)
-        (first_telling shared.now.events shared.now.header.now.timing work.site.given) (begun_along shared.now.header.now work.site.first.job) result }
+    ensures goes { HasRun A.content A.faults shared.now.header.now.geometry.sector D.Daemon.stands (begun_with D.Daemon.commands shared.now.header.now work.site)
+        (first_telling shared.now.events shared.now.header.now.timing work.site.given) (begun_along shared.now.header.now work.site.first.job)
+        work.parts.delta.items work.parts.resource.items result }
     ensures by { result.reader.by ≡ work.reader.by }
 {
     run_as::<D, Brand, K, O, T, R, C, P, V, A, G>(
@@ -222,7 +225,7 @@ impl<
         G: Gate + Sync,
     >(&mut self, rt: &R, alloc: Global, gate: &G, shared: &Shared<'_, K, O, T>, place: usize)
         requires { CanRun D.Daemon.commands shared.now.header.now self.old }
-        ensures { Runs shared.now.events D.Daemon.commands D.Daemon.stands shared.now.header.now self.old self.new }
+        ensures { Runs A.content A.faults shared.now.events D.Daemon.commands D.Daemon.stands shared.now.header.now self.old self.new }
     {
         if let Some(work) = self.work.take() {
             self.ran = Some(run_work::<D, K, O, T, R, C, P, V, A, G>(

@@ -1,6 +1,6 @@
 //! A whole run: what the ground hands out, run and compared, and what its machines told put out as it came.
 
-ghost use Rattle.sl_live_run.specs.Runs.{AreFresh, AreGiven, CanRun, HasPutOut, HasRunAll, site_of};
+ghost use Rattle.sl_live_run.specs.Runs.{AreFresh, AreGiven, Both, CanRun, HasPutOut, HasRunAll, disks_in, disks_of, site_of};
 ghost use Rattle.sl_live_run.specs.declared.compare.LiveStop.TheVariants.{NoMemory as NoMemoryStop};
 ghost use Rattle.sl_output.specs.Outputs.{IsPut};
 ghost use Rattle.sl_output.specs.Pieces.{Piece};
@@ -108,7 +108,8 @@ fn run_begun<
     requires given { AreGiven ledger (length begun.machines.items) [] }
     requires writer { HasPutOut writer [] }
     ensures { (sites : List SiteOf) → map site_of begun.machines.items ≡ map (λ s. Some s) sites
-        → HasRunAll events D.Daemon.stands D.Daemon.commands header.now sites (L.has_given lines.old) (L.has_given lines.new) O.taken (K.taken result.sink) O.faults (K.faults result.sink) result }
+        → (disks : List (Both A)) → map disks_of begun.machines.items ≡ map (λ d. Some d) disks
+        → HasRunAll A.content A.faults events D.Daemon.stands D.Daemon.commands header.now sites disks (L.has_given lines.old) (L.has_given lines.new) O.taken (K.taken result.sink) O.faults (K.faults result.sink) result }
 {
     let Begun {
         machines,
@@ -206,7 +207,8 @@ where
     requires told { told.seen.book ≡ O.book }
     requires taken { K.taken sink ≡ O.taken }
     requires faults { K.faults sink ≡ O.faults }
-    ensures { HasRunAll events D.Daemon.stands D.Daemon.commands header.now (map (λ p. p.site) prepared.items) (L.has_given lines.old) (L.has_given lines.new) O.taken (K.taken result.sink) O.faults (K.faults result.sink) result }
+    ensures { HasRunAll V.Area.content V.Area.faults events D.Daemon.stands D.Daemon.commands header.now (map (λ p. p.site) prepared.items)
+        (map (λ p. disks_in p.parts) prepared.items) (L.has_given lines.old) (L.has_given lines.new) O.taken (K.taken result.sink) O.faults (K.faults result.sink) result }
 {
     let (book, unread) = given.named::<T>();
     let (output, pieces) = Output::<K, O>::new(sink, told);
@@ -250,7 +252,8 @@ where
     requires told { told.seen.book ≡ O.book }
     requires taken { K.taken sink ≡ O.taken }
     requires faults { K.faults sink ≡ O.faults }
-    ensures { HasRunAll events D.Daemon.stands D.Daemon.commands header.now (map (λ p. p.site) prepared.items) (L.has_given lines.old) (L.has_given lines.new) O.taken (K.taken result.sink) O.faults (K.faults result.sink) result }
+    ensures { HasRunAll V.Area.content V.Area.faults events D.Daemon.stands D.Daemon.commands header.now (map (λ p. p.site) prepared.items)
+        (map (λ p. disks_in p.parts) prepared.items) (L.has_given lines.old) (L.has_given lines.new) O.taken (K.taken result.sink) O.faults (K.faults result.sink) result }
 {
     run_ready::<D, V, L, K, O, Brand, R>(
         rt,
@@ -272,7 +275,8 @@ where
 /// An `Ok` has for each machine, in order, a history: a daemon of its site stood for it, its entries are exactly what its threads applied, its lines are
 /// exactly those that the script gave it in this run, in order, each for lvmlockd with its asks and answered, and no call and no start of it is
 /// unanswered; and what was put out are pieces, of which each machine's are what is told of its history, with its events or without them, and of which
-/// the script's are the refusals of the lines that it went on behind. Else a case that holds of a machine; or want of
+/// the script's are the refusals of the lines that it went on behind. The disks that come back are, machine by machine, made of those of the ground by
+/// just the calls of that machine's history, with the answers that stand there. Else a case that holds of a machine; or want of
 /// memory, which ends all machines. The header and the sink come back.
 pub fn run_machines<
     D: Teller + Send,
@@ -293,7 +297,8 @@ where
     requires header { IsHeader ground.header }
     requires settings { All (λ s. IsSetting (begun_with D.Daemon.commands ground.header s)) (map (λ p. p.site) ground.machines.items) }
     ensures header { result.1 ≡ ground.header }
-    ensures run { HasRunAll events D.Daemon.stands D.Daemon.commands ground.header (map (λ p. p.site) ground.machines.items) (L.has_given lines.old) (L.has_given lines.new)
+    ensures run { HasRunAll V.Area.content V.Area.faults events D.Daemon.stands D.Daemon.commands ground.header (map (λ p. p.site) ground.machines.items)
+        (map (λ p. disks_in p.parts) ground.machines.items) (L.has_given lines.old) (L.has_given lines.new)
         (K.taken sink) (K.taken result.0.sink) (K.faults sink) (K.faults result.0.sink) result.0 }
 {
     let Ground {

@@ -1,4 +1,4 @@
-use Rattle.sl_live_machine.proofs.RunLaws.{close_case, close_run, close_stood, few_seats}
+use Rattle.sl_live_machine.proofs.RunLaws.{close_case, close_counts, close_run, close_stood, few_seats}
 use Rattle.sl_live_machine.proofs.machine.close_with.Goals as goal
 use Rattle.sl_live_machine.specs.ThreadSeats.{AreSeats}
 use Rattle.std.proofs.Common.{subst, sym}
@@ -18,3 +18,7 @@ pub returns-clause-differ : goal.returns-clause-differ
 returns-clause-differ g c =
     close_case g.J.Station.setting c.deref.result.now c.args.mine.now c.close.result (subst (AreSeats g.J.Station.setting) (sym c.deref.ensures.value) c.requires.seats)
     c.close.ensures.differ
+
+pub returns-clause-counts : goal.returns-clause-counts
+returns-clause-counts g c =
+    close_counts g.J.Station.setting c.args.seats.items c.deref.result.now c.args.mine.now c.close.result c.deref.ensures.value c.close.ensures.exact c.close.ensures.below c.close.ensures.trace

@@ -1,5 +1,6 @@
+use Rattle.sl_live_machine.proofs.RunLaws.{threads_serving}
 use Rattle.sl_live_machine.proofs.threads.run_threads.Goals as goal
-use Rattle.std.proofs.Common.{rules}
+use Rattle.std.proofs.Common.{ap, rules}
 
 -- what the closures send and share are the function's own parameters
 pub join-delta-requires-after_bounds : goal.join-delta-requires-after_bounds
@@ -7,3 +8,11 @@ join-delta-requires-after_bounds g c κs within = (
   (search rules, (search rules, (search rules, (search rules, (search rules, (search rules, (search rules, (search rules, (search rules, search rules, search rules, search rules, search rules, search rules, search rules, search rules))))))))),
   (search rules, (search rules, (search rules, (search rules, (search rules, (search rules, (search rules, (search rules, search rules, search rules, search rules, search rules, search rules, search rules)))))))),
 )
+
+pub returns : goal.returns
+returns g c =
+    let left = c.gather_threads.result in
+    let worked = c.join-delta.result.0 in
+    threads_serving g.A.Area.content g.A.Area.faults c.args.room.now.geometry.sector g.J.Station.setting left.seats (λ v. v.items) worked.0.seat worked.1.seat c.args.delta.items
+    worked.0.disks.items left.delta.items c.args.resource.items worked.1.disks.items left.resource.items (ap (λ d. d.items) c.gather_threads.ensures.delta_disks)
+    (ap (λ d. d.items) c.gather_threads.ensures.resource_disks) (search (rules, c.join-delta.ensures.first)) (search (rules, c.join-delta.ensures.first)) c.gather_threads.ensures.seats

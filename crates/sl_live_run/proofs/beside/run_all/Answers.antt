@@ -12,4 +12,4 @@ run_beside-requires-after_bounds g c κs within =
 pub returns-clause-each : goal.returns-clause-each
 returns-clause-each g c = λ k d lt.
     let at = (c.run_beside.ensures.each k d lt).1 in
-    changed_on (Runs c.args.shared.now.events g.D.Daemon.commands g.D.Daemon.stands c.args.shared.now.header.now) _ _ _ _ at.argument_is at.left at.call
+    changed_on (Runs g.A.Area.content g.A.Area.faults c.args.shared.now.events g.D.Daemon.commands g.D.Daemon.stands c.args.shared.now.header.now) _ _ _ _ at.argument_is at.left at.call
