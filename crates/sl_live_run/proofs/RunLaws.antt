@@ -99,20 +99,20 @@ one_ran : {D C P V A O T : Type 0} (content : A → Option (List ℕ)) (area_fau
     → option_map (λ (w : Work C P V A O T). w.site) before ≡ Some site → option_map (λ (w : Work C P V A O T). disks_in w.parts) before ≡ Some disks → after ≡ Some r
     → IfSome before (λ w. (w.reader.by ≡ place) × IsFresh w)
     → IfSome before (λ w. IfSome after (λ x. HasRun content area_faults header.geometry.sector stands (begun_with commands header w.site) (begun_telling events header w.site)
-        (begun_on header w.site) w.parts.delta.items w.parts.resource.items x × (x.reader.by ≡ w.reader.by)))
+    (begun_on header w.site) w.parts.delta.items w.parts.resource.items x × (x.reader.by ≡ w.reader.by)))
     → RanAt content area_faults events stands commands header place site disks r
 one_ran content area_faults events stands commands header place site disks None after r at had is fresh run = absurd (none_some site at)
 one_ran {D} {C} {P} {V} {A} {O} {T} content area_faults events stands commands header place site disks (Some w) after r at had is fresh run =
     let same : w.site ≡ site = some_value w.site site at in
     let own : disks_in w.parts ≡ disks = some_value (disks_in w.parts) disks had in
     let here : HasRun content area_faults header.geometry.sector stands (begun_with commands header w.site) (begun_telling events header w.site) (begun_on header w.site)
-        w.parts.delta.items w.parts.resource.items r × (r.reader.by ≡ w.reader.by)
+    w.parts.delta.items w.parts.resource.items r × (r.reader.by ≡ w.reader.by)
     = subst (λ (o : Option (Ran O T A)). IfSome o (λ x. HasRun content area_faults header.geometry.sector stands (begun_with commands header w.site) (begun_telling events header w.site)
-        (begun_on header w.site) w.parts.delta.items w.parts.resource.items x × (x.reader.by ≡ w.reader.by))) is run in
+    (begun_on header w.site) w.parts.delta.items w.parts.resource.items x × (x.reader.by ≡ w.reader.by))) is run in
     let its : HasRun content area_faults header.geometry.sector stands (begun_with commands header site) (begun_telling events header site) (begun_on header site)
-        w.parts.delta.items w.parts.resource.items r
+    w.parts.delta.items w.parts.resource.items r
     = subst (λ s. HasRun content area_faults header.geometry.sector stands (begun_with commands header s) (begun_telling events header s) (begun_on header s)
-        w.parts.delta.items w.parts.resource.items r) same here.0 in
+    w.parts.delta.items w.parts.resource.items r) same here.0 in
     record {
       run = subst (λ (b : Both A). HasRun content area_faults header.geometry.sector stands (begun_with commands header site) (begun_telling events header site) (begun_on header site) b.0 b.1 r)
           own its;

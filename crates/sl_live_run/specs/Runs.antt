@@ -152,7 +152,7 @@ abbrev pub Runs : {D C P V A O T : Type 0} → (A → Option (List ℕ)) → (A 
     → Machine C P V A O T → Machine C P V A O T → Type 0
 Runs content area_faults events commands stands h before after =
     IfSome before.work (λ w. IfSome after.ran (λ r. HasRun content area_faults h.geometry.sector stands (begun_with commands h w.site) (begun_telling events h w.site) (begun_on h w.site)
-        w.parts.delta.items w.parts.resource.items r × (r.reader.by ≡ w.reader.by)))
+    w.parts.delta.items w.parts.resource.items r × (r.reader.by ≡ w.reader.by)))
 
 -- ---- a whole run
 
