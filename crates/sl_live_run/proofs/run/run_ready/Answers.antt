@@ -3,16 +3,16 @@ use Rattle.sl_live_run.proofs.run.run_ready.Goals as goal
 use Rattle.std.proofs.Common.{◌∙◌}
 
 pub returns-in_default : goal.returns-in_default
-returns-in_default g c = no_run_all g.V.Area.content g.V.Area.faults c.args.events g.D.Daemon.stands g.D.Daemon.commands c.args.header.now _ _ _ _ _ _ _ _ c.no_run.result c.no_run.ensures.replies c.no_run.ensures.put
+returns-in_default g c = no_run_all g.V.Area.Area.content g.V.Area.Area.faults c.args.events g.D.Daemon.stands g.D.Daemon.commands c.args.header.now _ _ _ _ _ _ _ _ c.no_run.result c.no_run.ensures.replies c.no_run.ensures.put
 
 pub returns-in_default-begin : goal.returns-in_default-begin
 returns-in_default-begin g c =
-    no_run_all g.V.Area.content g.V.Area.faults c.args.events g.D.Daemon.stands g.D.Daemon.commands c.args.header.now _ _ _ _ _ _ _ _ c.no_run-in_default-begin.result c.no_run-in_default-begin.ensures.replies
+    no_run_all g.V.Area.Area.content g.V.Area.Area.faults c.args.events g.D.Daemon.stands g.D.Daemon.commands c.args.header.now _ _ _ _ _ _ _ _ c.no_run-in_default-begin.result c.no_run-in_default-begin.ensures.replies
     c.no_run-in_default-begin.ensures.put
 
 pub returns-in_default-script_writer : goal.returns-in_default-script_writer
 returns-in_default-script_writer g c =
-    no_run_all g.V.Area.content g.V.Area.faults c.args.events g.D.Daemon.stands g.D.Daemon.commands c.args.header.now _ _ _ _ _ _ _ _ c.no_run-in_default-script_writer.result c.no_run-in_default-script_writer.ensures.replies
+    no_run_all g.V.Area.Area.content g.V.Area.Area.faults c.args.events g.D.Daemon.stands g.D.Daemon.commands c.args.header.now _ _ _ _ _ _ _ _ c.no_run-in_default-script_writer.result c.no_run-in_default-script_writer.ensures.replies
     c.no_run-in_default-script_writer.ensures.put
 
 pub run_begun-requires-clause-settings : goal.run_begun-requires-clause-settings
