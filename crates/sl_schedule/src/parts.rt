@@ -11,6 +11,7 @@ ghost use Rattle.sl_words.specs.Words.{choose};
 ghost use Rattle.std.specs.Prelude.{bytes_eq, codes, nat_le, IfOk, IfSome, ◌%◌, ◌<◌, ◌==◌, ◌≡◌, ◌≤◌};
 
 use sl_text::number::{is_multiple, read_number, read_number_within};
+use sl_text::same::is_same;
 use sl_text::words::Words;
 
 /// The greatest number of a process.
@@ -23,7 +24,7 @@ const GREATEST_READING: u64 = 999_999_999_999;
 pub fn is_verb(word: &[u8], verb: &[u8]) -> bool
     ensures { result ≡ exactly verb.now word.now }
 {
-    verb == word
+    is_same(verb, word)
 }
 
 /// Reads the number of a process.

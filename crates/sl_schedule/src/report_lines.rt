@@ -8,7 +8,7 @@ ghost use Rattle.sl_report.specs.RefusalLines.{refusal_line, refusal_words};
 ghost use Rattle.sl_schedule.specs.CountTexts.{count_text};
 ghost use Rattle.sl_text.specs.Forms.{as_bytes, spaced};
 ghost use Rattle.sl_trace.specs.EffectTexts.{machine_line};
-ghost use Rattle.std.specs.Prelude.{codes, decimal, [], OnErr, OnOk, ◌++◌, ◌∷◌, ◌≡◌};
+ghost use Rattle.std.specs.Prelude.{codes, decimal, length, take, [], OnErr, OnOk, ◌++◌, ◌∷◌, ◌≡◌};
 
 use sl_run::Refusal;
 use sl_text::number::push_number;
@@ -165,12 +165,14 @@ fn test_text(holds: bool) -> &'static [u8]
     if holds { b"test ok" } else { b"test failed" }
 }
 
-/// Adds a machine's number and the words of a test on it.
-fn add_test(line: &mut Vec<u8>, machine: u32, text: &[u8]) -> Result<(), AllocError>
-    ensures { OnOk result (line.new.items ≡ line.old.items ++ decimal machine ++ 32 ∷ text.now) }
+/// Adds the line of a test on a machine. What was there stays, also after an `Err`.
+fn add_test(out: &mut Vec<u8>, machine: u32, text: &[u8]) -> Result<(), AllocError>
+    ensures ok { OnOk result (out.new.items ≡ out.old.items ++ decimal machine ++ 32 ∷ (text.now ++ 10 ∷ [])) }
+    ensures kept { take (length out.old.items) out.new.items ≡ out.old.items }
 {
-    push_number(line, u64::from(machine))?;
-    add_word(line, text)
+    push_number(out, u64::from(machine))?;
+    out.push(b' ')?;
+    push_line(out, text)
 }
 
 /// Writes the line of a watchdog test on a machine: whether it holds. After an `Err`, which is want of memory, the text is as it was.
@@ -178,7 +180,10 @@ pub fn push_test_line(out: &mut Vec<u8>, machine: u32, holds: bool) -> Result<()
     ensures ok { OnOk result (out.new.items ≡ out.old.items ++ as_bytes (machine_line machine (test_words holds) ∷ [])) }
     ensures err { OnErr result (out.new.items ≡ out.old.items) }
 {
-    let mut line = Vec::new(*out.allocator());
-    add_test(&mut line, machine, test_text(holds))?;
-    push_line(out, &line)
+    let len = out.len();
+    let pushed = add_test(out, machine, test_text(holds));
+    if pushed.is_err() {
+        out.truncate(len);
+    }
+    pushed
 }

@@ -13,6 +13,9 @@ use sl_text::Name;
 use sl_text::number::push_number;
 use std::alloc::AllocError;
 
+/// As long are the texts of most records at most: only one with many bits is longer.
+const MOST_TEXT: usize = 256;
+
 /// A leader's state.
 fn held_word(held: bool) -> &'static str
     ensures { result.now ≡ texts.held_word held }
@@ -242,7 +245,7 @@ pub fn push_record_text(out: &mut Vec<u8>, record: &Rec) -> Result<(), AllocErro
     ensures ok { OnOk result (out.new.items ≡ out.old.items ++ texts.record_text «record».now) }
     ensures err { OnErr result (out.new.items ≡ out.old.items) }
 {
-    let mut text = Vec::new(*out.allocator());
+    let mut text = Vec::with_capacity(*out.allocator(), MOST_TEXT)?;
     push_text(&mut text, record)?;
     out.extend_from_slice(&text)
 }

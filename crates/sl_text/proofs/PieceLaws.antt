@@ -11,7 +11,7 @@ use Rattle.std.proofs.lemmas.Bool.{and_from, both_ways, eq-eqb, eqb-true, false_
 use Rattle.std.proofs.lemmas.List.Quantifiers.{position-Some}
 use Rattle.std.proofs.lemmas.List.Splits.{join_with_byte-slice_split, slice_split-cons_no, slice_split-cons_yes, slice_split_first, slice_split_none}
 use Rattle.std.proofs.lemmas.List.Sums.{prefix_len_passes}
-use Rattle.std.proofs.lemmas.List.{append-nil, drop_more, get_or-take, take-append-drop}
+use Rattle.std.proofs.lemmas.List.{append-nil, drop_more, get_or-take, take-append-drop, take-append-le, take_all}
 use Rattle.std.proofs.lemmas.Option.{cond_some}
 use Rattle.std.proofs.lemmas.Slice.Eq.{bytes_eq-Decides, starts_is}
 use Rattle.std.specs.List.{flat_map, join_with_byte, list_all, onto_first, position, position_or_len, starts_with}
@@ -146,9 +146,36 @@ other_front word bs w rest other split = false_from_ne_true _ (λ same.
     let is = (bytes_eq-Decides word w).0 same in
     true_is_false (sym ((starts_is (λ a b. (eqb-true a b, eq-eqb a b)) bs word _ refl).1 rest (split ∙ ap (λ front. front ++ rest) (sym is))) ∙ other))
 
+-- Two tests that follow from each other are one.
+both_tests : (s t : Bool) → (s ≡ true → t ≡ true) → (t ≡ true → s ≡ true) → s ≡ t
+both_tests true true there back = refl
+both_tests true false there back = sym (there refl)
+both_tests false true there back = back refl
+both_tests false false there back = refl
+
+-- Fronts of one text that are as long are the same.
+same_length : (v w x y : List ℕ) → v ++ x ≡ w ++ y → length v ≡ length w → v ≡ w
+same_length v w x y whole long = sym (take_all (length v) v (omega arith)) ∙ sym (take-append-le (length v) v x (omega arith)) ∙ ap (take (length v)) whole
+    ∙ take-append-le (length v) w y (omega (arith, long)) ∙ take_all (length v) w (omega (arith, long))
+
 -- So its first piece is another.
 pub another_piece : (c : ℕ) (word bs : List ℕ) → starts_with nat_eq bs word ≡ false → some_is (bytes_eq word) (first_of_list (pieces c bs)) ≡ false
 another_piece c word bs other = elim (position (λ b. eqb b c) bs) as (λ p. position (λ b. eqb b c) bs ≡ p → some_is (bytes_eq word) (first_of_list (pieces c bs)) ≡ false) [
   | None ↦ λ h. rw (pieces_alone c bs h) (other_front word bs bs [] other (sym (append-nil bs)))
   | Some at ↦ λ h. rw (pieces_at c bs at h) (other_front word bs (take at bs) (c ∷ drop (at + 1) bs) other (text_at c bs at h))
+] refl
+
+-- A text that begins with this word: its first piece is the word where it is as long.
+same_front : (word bs w rest : List ℕ) → starts_with nat_eq bs word ≡ true → bs ≡ w ++ rest → bytes_eq word w ≡ eqb (length w) (length word)
+same_front word bs w rest begins split =
+    let front = (starts_is (λ a b. (eqb-true a b, eq-eqb a b)) bs word _ refl).0 begins in
+    both_tests (bytes_eq word w) (eqb (length w) (length word)) (λ same. eq-eqb _ _ (ap length (sym ((bytes_eq-Decides word w).0 same))))
+    (λ long. (bytes_eq-Decides word w).1 (same_length word w (drop (length word) bs) rest (sym front ∙ split) (sym (eqb-true _ _ long))))
+
+pub same_piece : (c : ℕ) (word bs : List ℕ) → starts_with nat_eq bs word ≡ true
+    → some_is (bytes_eq word) (first_of_list (pieces c bs)) ≡ some_is (λ w. eqb (length w) (length word)) (first_of_list (pieces c bs))
+same_piece c word bs begins = elim (position (λ b. eqb b c) bs)
+    as (λ p. position (λ b. eqb b c) bs ≡ p → some_is (bytes_eq word) (first_of_list (pieces c bs)) ≡ some_is (λ w. eqb (length w) (length word)) (first_of_list (pieces c bs))) [
+  | None ↦ λ h. rw (pieces_alone c bs h) (same_front word bs bs [] begins (sym (append-nil bs)))
+  | Some at ↦ λ h. rw (pieces_at c bs at h) (same_front word bs (take at bs) (c ∷ drop (at + 1) bs) begins (text_at c bs at h))
 ] refl

@@ -10,18 +10,19 @@
 //! from the left so, forms make what they make of the whole line, and fail at the same column
 //! (`laws::forms_are_followed_from_the_left`).
 
-ghost use Rattle.std.specs.Prelude.{if◌then◌else◌, nat_lt, option_copied, false, IfOk, IsFalse, IsTrue, ◌==◌, ◌≡◌, ◌∷◌, ◌<◌, ◌^◌};
+ghost use Rattle.std.specs.Prelude.{if◌then◌else◌, length, nat_lt, option_copied, false, IfOk, IsFalse, IsTrue, ◌==◌, ◌≡◌, ◌∷◌, ◌<◌, ◌^◌};
 ghost use Rattle.std.specs.Int.{is_in_range};
 ghost use Rattle.std.specs.Option.{ok_or};
 ghost use Rattle.std.specs.List.{join_with_byte, position};
 ghost use Rattle.sl_text.specs.Forms as forms;
 ghost use Rattle.sl_text.specs.Numbers as numbers;
 ghost use Rattle.sl_text.specs.Walks.{IsCut, at_end, column_past, left_after, next_as, next_passes, past_word, pieces_behind, unread, with_behind, Passed};
-ghost use Rattle.sl_words.specs.Words.{first_of_list};
+ghost use Rattle.sl_words.specs.Words.{first_of_list, some_is};
 ghost use Rattle.sl_text.specs.Names.{is_name, is_path};
 
 use crate::hex::read_hex;
 use crate::number::{read_number, read_number_within, read_short_number};
+use crate::same::begins_with;
 use crate::short::{Data, FilePath, Name};
 use std::marker::Model;
 
@@ -53,6 +54,16 @@ fn column_past(column: usize, word: &[u8], rest: Option<&[u8]>) -> usize
     match rest {
         Some(_) => column + word.len() + 1,
         None => column + word.len(),
+    }
+}
+
+/// Whether there is a word, of so many bytes.
+fn is_long(word: Option<&[u8]>, len: usize) -> bool
+    ensures { result ≡ some_is (λ w. length w == len) (option_copied word.entry) }
+{
+    match word {
+        Some(word) => word.len() == len,
+        None => false,
     }
 }
 
@@ -192,13 +203,14 @@ impl<'a, const SEPARATOR: u8> Pieces<'a, SEPARATOR> {
     }
 
     /// Whether what is left begins with this text, as it does where the next piece is it. Most texts that are asked for differ in their first bytes, so
-    /// nothing is cut off for them.
-    #[tactic(auto, using(crate::proofs::PieceLaws::another_piece))]
+    /// nothing is cut off for them; where it begins so, the next piece is it if it is as long.
+    #[tactic(auto, using(crate::proofs::PieceLaws::another_piece, crate::proofs::PieceLaws::same_piece))]
     fn may_be(&self, text: &[u8]) -> bool
-        ensures { IsFalse result → next_passes (forms.exactly text.now) self.now ≡ false }
+        ensures other { IsFalse result → next_passes (forms.exactly text.now) self.now ≡ false }
+        ensures same { IsTrue result → next_passes (forms.exactly text.now) self.now ≡ next_passes (λ w. length w == length text.now) self.now }
     {
         match self.rest {
-            Some(left) => left.starts_with(text),
+            Some(left) => begins_with(left, text),
             None => false,
         }
     }
@@ -212,7 +224,7 @@ impl<'a, const SEPARATOR: u8> Pieces<'a, SEPARATOR> {
             return false;
         }
         let cut = self.cut();
-        let found = cut.word == Some(text);
+        let found = is_long(cut.word, text.len());
         if found {
             self.pass(cut);
         }
