@@ -101,12 +101,12 @@ fn taken<T>(alloc: Global, list: &mut Room<T>, spare: &mut Room<T>) -> Vec<T>
 }
 
 /// Of a list of nothing and one whose elements go, the memory of that with more.
-fn keep<T: Drop>(list: &mut Room<T>, used: Vec<T>)
+fn keep<T: Drop>(list: &mut Room<T>, used: &mut Seq<T>)
     requires { list.old.items ≡ [] }
     ensures { list.new.items ≡ [] }
 {
     if used.capacity() > list.room() {
-        *list = Room::again(used);
+        *list = Room::again(used.take());
     }
 }
 
@@ -284,27 +284,18 @@ impl Buffers {
         Ok(())
     }
 
-    /// The memory of effects that were told may serve a later step.
-    pub fn give_back(&mut self, told: Effects)
+    /// The memory of effects that were told may serve a later step, and is then taken out of them.
+    pub fn give_back(&mut self, told: &mut Effects)
         requires { self.old ≡ no_buffers }
         ensures { self.new ≡ self.old }
     {
-        let Effects {
-            ends,
-            signals,
-            moves,
-            grants,
-            starts,
-            replies,
-            calls,
-        } = told;
-        keep(&mut self.ends, ends.into_vec());
-        keep(&mut self.signals, signals.into_vec());
-        keep(&mut self.moves, moves.into_vec());
-        keep(&mut self.grants, grants.into_vec());
-        keep(&mut self.starts, starts.into_vec());
-        keep(&mut self.replies, replies.into_vec());
-        keep(&mut self.calls, calls.into_vec());
+        keep(&mut self.ends, &mut told.ends);
+        keep(&mut self.signals, &mut told.signals);
+        keep(&mut self.moves, &mut told.moves);
+        keep(&mut self.grants, &mut told.grants);
+        keep(&mut self.starts, &mut told.starts);
+        keep(&mut self.replies, &mut told.replies);
+        keep(&mut self.calls, &mut told.calls);
     }
 
     /// The effects are taken out, and nothing is left to be made until memory is taken anew. A class of which none was made keeps its memory; the

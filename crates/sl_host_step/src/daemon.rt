@@ -168,7 +168,7 @@ impl Daemon for HostDaemon {
         step_at(self.alloc, &mut self.host, &mut self.scratch, now, input)
     }
 
-    fn take_back(&mut self, told: Effects) {
+    fn take_back(&mut self, told: &mut Effects) {
         self.scratch.take_back(told);
     }
 

@@ -95,7 +95,7 @@ impl Scratch {
     }
 
     /// The memory of effects that were told may serve a later step.
-    pub(crate) fn take_back(&mut self, told: Effects)
+    pub(crate) fn take_back(&mut self, told: &mut Effects)
         ensures { self.new ≡ self.old }
     {
         self.none.give_back(told);

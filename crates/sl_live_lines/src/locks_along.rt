@@ -204,8 +204,13 @@ impl Along {
         self.locks.reserve()?;
         let (input, heard) = heard_by(self.alloc, self.asked_by(entry), entry)?;
         self.locks.leave(&entry.effects);
-        let StepTold { line, .. } = self.locks.turn(self.job, input, heard);
+        let mut told = StepTold {
+            effects: heard,
+            line: None,
+        };
+        self.locks.turn(self.job, input, &mut told);
         self.job = next;
+        let StepTold { line, .. } = told;
         Ok(line)
     }
 }

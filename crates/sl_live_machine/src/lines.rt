@@ -13,7 +13,7 @@ use crate::thread_numbers::LINES;
 use crate::turn::{Turn, give};
 use sl_cell::{Seat, Station, Teller};
 use sl_live_lines::GivenLine;
-use sl_locks::{LockInput, LvmLocks};
+use sl_locks::{LockInput, LvmLocks, StepTold};
 use sl_outside::Spawner;
 use sl_text::{Bytes, Seq};
 use sl_time::Clock;
@@ -50,7 +50,11 @@ fn turn(
     replies: Vec<JobReply>,
 ) -> Result<(), AllocError> {
     locks.reserve()?;
-    locks.turn(number, input, effects_of(alloc, replies));
+    let mut told = StepTold {
+        effects: effects_of(alloc, replies),
+        line: None,
+    };
+    locks.turn(number, input, &mut told);
     Ok(())
 }
 

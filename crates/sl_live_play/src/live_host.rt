@@ -68,7 +68,7 @@ impl Daemon for LiveHost {
         self.host.step(now, input)
     }
 
-    fn take_back(&mut self, told: Effects) {
+    fn take_back(&mut self, told: &mut Effects) {
         self.host.take_back(told);
     }
 

@@ -4,14 +4,16 @@ ghost use Rattle.sl_locks.specs.Replies.{told_as};
 ghost use Rattle.sl_locks.specs.Steps.{IsTurned, given_number, heard_by, is_asked, is_quiet, lock_input, turned_by};
 ghost use Rattle.sl_locks.specs.Tables.{has_room, left_by, locks_of};
 ghost use Rattle.sl_run.specs.Locks.{Told, ended_locks, is_lock_exit, locks_after, told_effects};
+ghost use Rattle.sl_trace.specs.Traces.{no_effects};
 ghost use Rattle.std.specs.List.{position};
-ghost use Rattle.std.specs.Prelude.{filter, find, not, true, ◌≡◌};
+ghost use Rattle.std.specs.Prelude.{None, filter, find, not, true, ◌≡◌};
 
 use crate::ask::LOCK_PROCESS;
 use crate::reply::LineReply;
 use crate::table::{Answer, LvmLocks};
 use sl_text::{Bytes, Seq};
 use sl_trace::{Effects, JobReply};
+use std::alloc::Global;
 
 /// What the locks take of the input that the daemon is given: that it is a line for the host, a line for lvmlockd, or the exit of a process.
 #[derive(Drop)]
@@ -88,33 +90,36 @@ fn without_replies(replies: &mut Vec<JobReply>, asked: Option<u64>)
     replies.retain(|reply| !answers_ask(reply, asked));
 }
 
-/// The effects without the replies to the ask, and the first of these.
-fn split_reply(effects: Effects, asked: Option<u64>) -> (Effects, Option<JobReply>)
-    ensures rest { result.0 ≡ record effects { replies = filter (λ a. not (is_asked asked a)) effects.replies } }
-    ensures found { result.1 ≡ find (is_asked asked) effects.replies }
+/// The replies to the ask go out of the effects; the first of them.
+fn split_reply(effects: &mut Effects, asked: Option<u64>) -> Option<JobReply>
+    ensures rest { effects.new ≡ record effects.old { replies = filter (λ a. not (is_asked asked a)) effects.old.replies } }
+    ensures found { result ≡ find (is_asked asked) effects.old.replies }
 {
-    let Effects {
-        ends,
-        signals,
-        moves,
-        grants,
-        starts,
-        replies,
-        calls,
-    } = effects;
-    let mut others = replies.into_vec();
+    let mut others = effects.replies.take();
     let found = first_reply(&mut others, asked);
     without_replies(&mut others, asked);
-    let told = Effects {
-        ends,
-        signals,
-        moves,
-        grants,
-        starts,
-        replies: Seq::new(others),
-        calls,
-    };
-    (told, found)
+    effects.replies = Seq::new(others);
+    found
+}
+
+impl StepTold {
+    /// A place in which a step is told: nothing, so far.
+    pub fn nothing(alloc: Global) -> StepTold
+        ensures { (result.effects ≡ no_effects) × (result.line ≡ None) }
+    {
+        StepTold {
+            effects: Effects {
+                ends: Seq::new(Vec::new(alloc)),
+                signals: Seq::new(Vec::new(alloc)),
+                moves: Seq::new(Vec::new(alloc)),
+                grants: Seq::new(Vec::new(alloc)),
+                starts: Seq::new(Vec::new(alloc)),
+                replies: Seq::new(Vec::new(alloc)),
+                calls: Seq::new(Vec::new(alloc)),
+            },
+            line: None,
+        }
+    }
 }
 
 impl LvmLocks {
@@ -171,42 +176,39 @@ impl LvmLocks {
     }
 
     /// What a step brings that may bring a turn: its replies are looked through for that to the ask.
-    fn turn_by(&mut self, input: &LockInput, effects: Effects) -> StepTold
+    fn turn_by(&mut self, input: &LockInput, told: &mut StepTold)
         requires { has_room self.old ≡ true }
-        ensures { IsTurned input.now effects self.old self.new result }
+        ensures { IsTurned input.now told.old.effects self.old self.new told.new }
     {
         let asked = self.asked;
-        let (effects, reply) = split_reply(effects, asked);
-        let line = self.hear(input, reply);
+        let reply = split_reply(&mut told.effects, asked);
+        told.line = self.hear(input, reply);
         self.end_by(input);
-        StepTold { effects, line }
     }
 
     /// What a step brings. Few bring a turn, and what a turn keeps of a reply is large: so it stands in a function of its own, and a step without
     /// one sets and moves nothing of it.
-    fn turn_numbered(&mut self, input: &LockInput, effects: Effects) -> StepTold
+    fn turn_numbered(&mut self, input: &LockInput, told: &mut StepTold)
         requires { has_room self.old ≡ true }
-        ensures { IsTurned input.now effects self.old self.new result }
+        ensures { IsTurned input.now told.old.effects self.old self.new told.new }
     {
         if is_quiet(input, self.asked) {
             self.end_by(input);
-            return StepTold {
-                effects,
-                line: None,
-            };
+            told.line = None;
+        } else {
+            self.turn_by(input, told);
         }
-        self.turn_by(input, effects)
     }
 
-    /// The step with this number, input and effects; the answer is what is told of it. It takes no memory.
-    pub fn turn(&mut self, number: u64, input: LockInput, effects: Effects) -> StepTold
+    /// The step with this number, input and effects, which stand where it is told: there it is told as it is for others. It takes no memory.
+    pub fn turn(&mut self, number: u64, input: LockInput, told: &mut StepTold)
         requires { has_room self.old ≡ true }
-        ensures stays { locks_of self.new ≡ (locks_after number (lock_input input) effects (locks_of self.old)).0 }
-        ensures line { told_as result.line ≡ (locks_after number (lock_input input) effects (locks_of self.old)).1 }
-        ensures effects { result.effects ≡ told_effects number (lock_input input) effects (locks_of self.old) }
+        ensures stays { locks_of self.new ≡ (locks_after number (lock_input input) told.old.effects (locks_of self.old)).0 }
+        ensures line { told_as told.new.line ≡ (locks_after number (lock_input input) told.old.effects (locks_of self.old)).1 }
+        ensures effects { told.new.effects ≡ told_effects number (lock_input input) told.old.effects (locks_of self.old) }
     {
-        self.leave(&effects);
+        self.leave(&told.effects);
         self.take_number(number, &input);
-        self.turn_numbered(&input, effects)
+        self.turn_numbered(&input, told);
     }
 }

@@ -163,29 +163,17 @@ impl<L: LockTable> Kept<L> {
         Ok(())
     }
 
-    /// The daemon of a machine has taken a step; the answer is what is told of it: the effects without the reply to an ask, and the reply to
-    /// lvmlockd's line, if it has come. It takes no memory.
-    pub fn step(
-        &mut self,
-        machine: u32,
-        heard: Heard,
-        input: LockInput,
-        effects: Effects,
-    ) -> StepTold
-        requires { AtMachine (λ a. TakesStep L.has_room a effects) self.old machine }
+    /// The daemon of a machine has taken a step whose effects stand where it is told: there are then the effects without the reply to an ask,
+    /// and the reply to lvmlockd's line, if it has come. It takes no memory.
+    pub fn step(&mut self, machine: u32, heard: Heard, input: LockInput, told: &mut StepTold)
+        requires { AtMachine (λ a. TakesStep L.has_room a told.old.effects) self.old machine }
         ensures stays { kept_state L.locks self.new
-            ≡ change_machine_in machine (stepped_by self.old.disks.header heard (lock_input input) effects) (kept_state L.locks self.old) }
-        ensures told { (s : MachineState) → machine_in (kept_state L.locks self.old) machine ≡ Some s → HasTold result (lock_input input) effects s }
+            ≡ change_machine_in machine (stepped_by self.old.disks.header heard (lock_input input) told.old.effects) (kept_state L.locks self.old) }
+        ensures told { (s : MachineState) → machine_in (kept_state L.locks self.old) machine ≡ Some s → HasTold told.new (lock_input input) told.old.effects s }
     {
         let alloc = *self.machines.allocator();
-        match place_of(self.machines.len(), machine) {
-            None => StepTold {
-                effects,
-                line: None,
-            },
-            Some(index) => {
-                self.machines[index].step(alloc, self.disks.header(), heard, input, effects)
-            }
+        if let Some(index) = place_of(self.machines.len(), machine) {
+            self.machines[index].step(alloc, self.disks.header(), heard, input, told);
         }
     }
 

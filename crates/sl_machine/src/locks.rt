@@ -46,13 +46,13 @@ pub trait LockTable: Drop {
     fn asked(&self) -> Option<u64>
         ensures { result ≡ (locks self.now).asked };
 
-    /// The step with this number, input and effects; the answer is what is told of it: the effects without the reply to an ask, which is
-    /// kept or told by the line, and the reply to the line that runs, if it has come, with the line's number. It takes no memory.
-    fn turn(&mut self, number: u64, input: LockInput, effects: Effects) -> StepTold
+    /// The step with this number, input and effects, which stand where it is told: there are then the effects without the reply to an ask,
+    /// which is kept or told by the line, and the reply to the line that runs, if it has come, with the line's number. It takes no memory.
+    fn turn(&mut self, number: u64, input: LockInput, told: &mut StepTold)
         requires { has_room self.old ≡ true }
-        ensures stays { locks self.new ≡ (locks_after number (lock_input input) effects (locks self.old)).0 }
-        ensures line { told_as result.line ≡ (locks_after number (lock_input input) effects (locks self.old)).1 }
-        ensures effects { result.effects ≡ told_effects number (lock_input input) effects (locks self.old) };
+        ensures stays { locks self.new ≡ (locks_after number (lock_input input) told.old.effects (locks self.old)).0 }
+        ensures line { told_as told.new.line ≡ (locks_after number (lock_input input) told.old.effects (locks self.old)).1 }
+        ensures effects { told.new.effects ≡ told_effects number (lock_input input) told.old.effects (locks self.old) };
 
     /// The locks whose holdings the machine itself has ended, without its daemon, leave the table. They take no memory.
     fn leave(&mut self, effects: &Effects)
@@ -88,8 +88,8 @@ impl LockTable for LvmLocks {
         LvmLocks::asked(self)
     }
 
-    fn turn(&mut self, number: u64, input: LockInput, effects: Effects) -> StepTold {
-        LvmLocks::turn(self, number, input, effects)
+    fn turn(&mut self, number: u64, input: LockInput, told: &mut StepTold) {
+        LvmLocks::turn(self, number, input, told);
     }
 
     fn leave(&mut self, effects: &Effects) {

@@ -194,36 +194,36 @@ impl<L: LockTable> Machine<L> {
         take_effects(&mut self.held, effects);
     }
 
-    /// The step of lvmlockd's locks; the answer is what is told of it. It takes no memory.
+    /// The step of lvmlockd's locks, which is told there. It takes no memory.
     #[tactic(auto, unfolding(crate::specs::Machines::machine_state))]
-    fn turn_locks(&mut self, number: u64, input: LockInput, effects: Effects) -> StepTold
+    fn turn_locks(&mut self, number: u64, input: LockInput, told: &mut StepTold)
         requires { L.has_room self.old.locks ≡ true }
         ensures stays { machine_state L.locks self.new
-            ≡ record (machine_state L.locks self.old) { locks = (locks_after number (lock_input input) effects (machine_state L.locks self.old).locks).0 } }
-        ensures effects { result.effects ≡ told_effects number (lock_input input) effects (machine_state L.locks self.old).locks }
-        ensures line { told_as result.line ≡ (locks_after number (lock_input input) effects (machine_state L.locks self.old).locks).1 }
+            ≡ record (machine_state L.locks self.old) { locks = (locks_after number (lock_input input) told.old.effects (machine_state L.locks self.old).locks).0 } }
+        ensures effects { told.new.effects ≡ told_effects number (lock_input input) told.old.effects (machine_state L.locks self.old).locks }
+        ensures line { told_as told.new.line ≡ (locks_after number (lock_input input) told.old.effects (machine_state L.locks self.old).locks).1 }
     {
-        self.locks.turn(number, input, effects)
+        self.locks.turn(number, input, told);
     }
 
-    /// The daemon that runs has taken a step; the answer is what is told of it: the effects without the reply to an ask, and the reply to
-    /// lvmlockd's line, if it has come. It takes no memory.
+    /// The daemon that runs has taken a step whose effects stand where it is told: there are then the effects without the reply to an ask, and
+    /// the reply to lvmlockd's line, if it has come. It takes no memory.
     pub fn step(
         &mut self,
         alloc: Global,
         header: &Header,
         heard: Heard,
         input: LockInput,
-        effects: Effects,
-    ) -> StepTold
+        told: &mut StepTold,
+    )
         requires lawful { IsHeader header.now }
-        requires room { TakesStep L.has_room self.old effects }
-        ensures stays { machine_state L.locks self.new ≡ stepped_by header.now heard (lock_input input) effects (machine_state L.locks self.old) }
-        ensures told { HasTold result (lock_input input) effects (machine_state L.locks self.old) }
+        requires room { TakesStep L.has_room self.old told.old.effects }
+        ensures stays { machine_state L.locks self.new ≡ stepped_by header.now heard (lock_input input) told.old.effects (machine_state L.locks self.old) }
+        ensures told { HasTold told.new (lock_input input) told.old.effects (machine_state L.locks self.old) }
     {
         let number = self.job;
-        self.put_away(alloc, header, heard, &effects);
-        self.turn_locks(number, input, effects)
+        self.put_away(alloc, header, heard, &told.effects);
+        self.turn_locks(number, input, told);
     }
 
     /// What the machine does without a daemon. It takes no memory.

@@ -170,15 +170,16 @@ impl<D: Daemon, L: LockTable> Play<D, L> {
     {
         let machine = machine_of(&event);
         let ask = is_ask(&event);
-        match self.world.apply(event) {
+        let mut told = StepTold::nothing(*out.allocator());
+        match self.world.apply(event, &mut told) {
             Err(error) => after_error(error),
-            Ok(told) => {
+            Ok(()) => {
                 let left = self
                     .world
                     .conflicts_left(machine, granted(&told), self.calm);
                 self.calm = left.calm;
                 self.tell(out, machine, ask, &told, left.count)?;
-                self.world.take_back(machine, told);
+                self.world.take_back(machine, &mut told);
                 Ok(None)
             }
         }

@@ -138,7 +138,7 @@ impl Daemon for Script {
     }
 
     // a script's effects are written out anew each time
-    fn take_back(&mut self, told: Effects) {}
+    fn take_back(&mut self, told: &mut Effects) {}
 
     #[tactic(auto, using(crate::proofs::ScriptsFollow::step_stays, crate::proofs::ScriptsFollow::step_is_sound))]
     fn read(&mut self, now: u64, call: u64, sectors: &Images) -> Result<Effects, AllocError> {

@@ -14,7 +14,7 @@ ghost use Rattle.sl_world.specs.ToldEvents.{ComesTold, is_untold};
 ghost use Rattle.sl_run.specs.Refusals as refusals;
 ghost use Rattle.sl_run.specs.Worlds as worlds;
 ghost use Rattle.sl_run.specs.declared.event.Refusal.{Refusal as RefusalOf};
-ghost use Rattle.std.specs.Prelude.{Err, IfOk, OnErr, Some, false, true, ◌≡◌, ◌⊎◌};
+ghost use Rattle.std.specs.Prelude.{Err, IfOk, OnErr, OnOk, Some, false, true, ◌≡◌, ◌⊎◌};
 
 use crate::world::World;
 use sl_locks::StepTold;
@@ -54,49 +54,48 @@ impl<D: Daemon, L: LockTable> World<D, L> {
         self.kept.refusal(event, locks)
     }
 
-    /// An event of which something is told comes to pass; the answer is what is told of it. An `Err` is want of memory or of numbers.
-    fn happen_told(&mut self, event: Event) -> Result<StepTold, AllocError>
+    /// An event of which something is told comes to pass, and is told. An `Err` is want of memory or of numbers.
+    fn happen_told(&mut self, event: Event, told: &mut StepTold) -> Result<(), AllocError>
         requires allowed { IsAllowed D.commands D.stands (kept_state L.locks self.old.kept) self.old.hosts event }
         requires told { is_untold event ≡ false }
-        ensures ok { IfOk result (ComesTold D.commands D.stands (kept_state L.locks self.old.kept) self.old.hosts event (kept_state L.locks self.new.kept) self.new.hosts) }
+        ensures ok { OnOk result (ComesTold D.commands D.stands (kept_state L.locks self.old.kept) self.old.hosts event (kept_state L.locks self.new.kept) self.new.hosts told.new) }
         ensures err { OnErr result (IsSame (kept_state L.locks self.old.kept) self.old.hosts (kept_state L.locks self.new.kept) self.new.hosts) }
     {
         match event {
-            Event::WakeUp { machine } => self.wake(machine),
-            Event::GiveCommand { machine, text } => self.command(machine, text),
-            Event::GiveLvm { machine, line } => self.lvm_line(machine, line),
-            Event::GiveAsk { machine } => self.ask(machine),
-            Event::AnswerCall { machine, call, ok } => self.answer(machine, call, ok),
-            Event::Do { machine, call } => self.do_call(machine, call),
-            Event::ExitOf { machine, process } => self.exit(machine, process),
+            Event::WakeUp { machine } => self.wake(machine, told),
+            Event::GiveCommand { machine, text } => self.command(machine, text, told),
+            Event::GiveLvm { machine, line } => self.lvm_line(machine, line, told),
+            Event::GiveAsk { machine } => self.ask(machine, told),
+            Event::AnswerCall { machine, call, ok } => self.answer(machine, call, ok, told),
+            Event::Do { machine, call } => self.do_call(machine, call, told),
+            Event::ExitOf { machine, process } => self.exit(machine, process, told),
             Event::SpawnedOf {
                 machine,
                 process,
                 ok,
-            } => self.spawned(machine, process, ok),
-            Event::Reset { machine } => self.reset(machine),
+            } => self.spawned(machine, process, ok, told),
+            Event::Reset { machine } => self.reset(machine, told),
             _ => unreachable!(),
         }
     }
 
-    /// An event of which something is told comes to pass, unless something refuses it; the answer is what is told of it: the effects of its
-    /// daemon or of the machine itself, without the reply to an ask, and the reply to lvmlockd's line, if it has come. After an `Err`
-    /// nothing has changed that is seen.
-    pub fn apply(&mut self, event: Event) -> Result<StepTold, ApplyError>
+    /// An event of which something is told comes to pass, unless something refuses it, and it is told: the effects of its daemon or of the machine
+    /// itself, without the reply to an ask, and the reply to lvmlockd's line, if it has come. After an `Err` nothing has changed that is seen.
+    pub fn apply(&mut self, event: Event, told: &mut StepTold) -> Result<(), ApplyError>
         requires stands { StandsForSome D.commands D.stands (kept_state L.locks self.old.kept) self.old.hosts }
         requires told { is_untold event ≡ false }
         ensures refused { (w : worlds.World) → WorldStands D.commands D.stands (kept_state L.locks self.old.kept) self.old.hosts w → (r : RefusalOf)
             → refusals.refusal_of w event ≡ Some r → (result ≡ Err (ApplyError.Refused r)) ⊎ ((is_tear event ≡ true) × (result ≡ Err ApplyError.OutOfMemory)) }
         ensures only { (w : worlds.World) → WorldStands D.commands D.stands (kept_state L.locks self.old.kept) self.old.hosts w → (r : RefusalOf)
             → result ≡ Err (ApplyError.Refused r) → refusals.refusal_of w event ≡ Some r }
-        ensures ok { IfOk result (ComesTold D.commands D.stands (kept_state L.locks self.old.kept) self.old.hosts event (kept_state L.locks self.new.kept) self.new.hosts) }
+        ensures ok { OnOk result (ComesTold D.commands D.stands (kept_state L.locks self.old.kept) self.old.hosts event (kept_state L.locks self.new.kept) self.new.hosts told.new) }
         ensures err { OnErr result (IsSame (kept_state L.locks self.old.kept) self.old.hosts (kept_state L.locks self.new.kept) self.new.hosts) }
     {
         match self.refusal(&event) {
             Err(_) => Err(ApplyError::OutOfMemory),
             Ok(Some(why)) => Err(ApplyError::Refused(why)),
-            Ok(None) => match self.happen_told(event) {
-                Ok(told) => Ok(told),
+            Ok(None) => match self.happen_told(event, told) {
+                Ok(()) => Ok(()),
                 Err(_) => Err(ApplyError::OutOfMemory),
             },
         }

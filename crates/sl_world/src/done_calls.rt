@@ -12,7 +12,7 @@ ghost use Rattle.sl_run.specs.declared.event.Event.TheVariants.{AnswerCall, Do};
 ghost use Rattle.sl_world.specs.AllowedEvents.{IsAllowed, MayGive};
 ghost use Rattle.sl_world.specs.GivenSteps.{HasSampled, IsLeft, IsSame, written_by};
 ghost use Rattle.sl_world.specs.ToldEvents.{ComesTold, GivesTold};
-ghost use Rattle.std.specs.Prelude.{IfOk, IfSome, OnErr, Some, false, is_none, is_some, length, option_map, true, ◌≡◌};
+ghost use Rattle.std.specs.Prelude.{IfOk, IfSome, OnErr, OnOk, Some, false, is_none, is_some, length, option_map, true, ◌≡◌};
 
 use crate::world::{World, has_numbers, reading};
 use sl_locks::{LockInput, StepTold};
@@ -116,16 +116,17 @@ fn put<L: LockTable>(kept: &mut Kept<L>, landing: Option<Landing>)
 }
 
 impl<D: Daemon, L: LockTable> World<D, L> {
-    /// The daemon of a machine takes a step at the answer ok of a read. An `Err` is want of memory or of numbers, and changes nothing that
+    /// The daemon of a machine takes a step at the answer ok of a read, and it is told. An `Err` is want of memory or of numbers, and changes nothing that
     /// is seen.
     fn give_read(
         &mut self,
         machine: u32,
         call: u64,
         sectors: &Images,
-    ) -> Result<StepTold, AllocError>
+        told: &mut StepTold,
+    ) -> Result<(), AllocError>
         requires { MayGive D.stands (kept_state L.locks self.old.kept) self.old.hosts machine (read_of call sectors.now) }
-        ensures ok { IfOk result (GivesTold D.stands D.makes (kept_state L.locks self.old.kept) self.old.hosts machine (read_of call sectors.now) (kept_state L.locks self.new.kept) self.new.hosts) }
+        ensures ok { OnOk result (GivesTold D.stands D.makes (kept_state L.locks self.old.kept) self.old.hosts machine (read_of call sectors.now) (kept_state L.locks self.new.kept) self.new.hosts told.new) }
         ensures err { OnErr result (IsSame (kept_state L.locks self.old.kept) self.old.hosts (kept_state L.locks self.new.kept) self.new.hosts) }
     {
         let left = has_numbers(&self.kept, machine);
@@ -137,15 +138,15 @@ impl<D: Daemon, L: LockTable> World<D, L> {
         let most = self.hosts.most(index);
         let heard = hear_read(call);
         self.kept.reserve(machine, &most)?;
-        let effects = self.hosts.read(index, now, call, sectors)?;
-        let told = self.kept.step(machine, heard, LockInput::Nothing, effects);
-        Ok(told)
+        told.effects = self.hosts.read(index, now, call, sectors)?;
+        self.kept.step(machine, heard, LockInput::Nothing, told);
+        Ok(())
     }
 
     /// A call is answered failed.
-    fn fail(&mut self, machine: u32, call: u64) -> Result<StepTold, AllocError>
+    fn fail(&mut self, machine: u32, call: u64, told: &mut StepTold) -> Result<(), AllocError>
         requires { IsAllowed D.commands D.stands (kept_state L.locks self.old.kept) self.old.hosts (AnswerCall machine call false) }
-        ensures ok { IfOk result (ComesTold D.commands D.stands (kept_state L.locks self.old.kept) self.old.hosts (AnswerCall machine call false) (kept_state L.locks self.new.kept) self.new.hosts) }
+        ensures ok { OnOk result (ComesTold D.commands D.stands (kept_state L.locks self.old.kept) self.old.hosts (AnswerCall machine call false) (kept_state L.locks self.new.kept) self.new.hosts told.new) }
         ensures err { OnErr result (IsSame (kept_state L.locks self.old.kept) self.old.hosts (kept_state L.locks self.new.kept) self.new.hosts) }
     {
         self.give(
@@ -154,24 +155,31 @@ impl<D: Daemon, L: LockTable> World<D, L> {
                 call,
                 answer: Answer::Failed,
             },
+            told,
         )
     }
 
     /// A call is answered ok as it stands.
-    fn answer_ok(&mut self, machine: u32, call: u64) -> Result<StepTold, AllocError>
+    fn answer_ok(
+        &mut self,
+        machine: u32,
+        call: u64,
+        told: &mut StepTold,
+    ) -> Result<(), AllocError>
         requires { IsAllowed D.commands D.stands (kept_state L.locks self.old.kept) self.old.hosts (AnswerCall machine call true) }
-        ensures ok { IfOk result (ComesTold D.commands D.stands (kept_state L.locks self.old.kept) self.old.hosts (AnswerCall machine call true) (kept_state L.locks self.new.kept) self.new.hosts) }
+        ensures ok { OnOk result (ComesTold D.commands D.stands (kept_state L.locks self.old.kept) self.old.hosts (AnswerCall machine call true) (kept_state L.locks self.new.kept) self.new.hosts told.new) }
         ensures err { OnErr result (IsSame (kept_state L.locks self.old.kept) self.old.hosts (kept_state L.locks self.new.kept) self.new.hosts) }
     {
         let sectors = sampled(&self.kept, machine, call)?;
         match sectors {
-            Some(sectors) => self.give_read(machine, call, &sectors),
+            Some(sectors) => self.give_read(machine, call, &sectors, told),
             None => self.give(
                 machine,
                 Input::Answer {
                     call,
                     answer: Answer::Written,
                 },
+                told,
             ),
         }
     }
@@ -182,47 +190,54 @@ impl<D: Daemon, L: LockTable> World<D, L> {
         machine: u32,
         call: u64,
         ok: bool,
-    ) -> Result<StepTold, AllocError>
+        told: &mut StepTold,
+    ) -> Result<(), AllocError>
         requires { IsAllowed D.commands D.stands (kept_state L.locks self.old.kept) self.old.hosts (AnswerCall machine call ok) }
-        ensures ok { IfOk result (ComesTold D.commands D.stands (kept_state L.locks self.old.kept) self.old.hosts (AnswerCall machine call ok) (kept_state L.locks self.new.kept) self.new.hosts) }
+        ensures ok { OnOk result (ComesTold D.commands D.stands (kept_state L.locks self.old.kept) self.old.hosts (AnswerCall machine call ok) (kept_state L.locks self.new.kept) self.new.hosts told.new) }
         ensures err { OnErr result (IsSame (kept_state L.locks self.old.kept) self.old.hosts (kept_state L.locks self.new.kept) self.new.hosts) }
     {
         if ok {
-            self.answer_ok(machine, call)
+            self.answer_ok(machine, call, told)
         } else {
-            self.fail(machine, call)
+            self.fail(machine, call, told)
         }
     }
 
     /// A write is answered ok that may still have to take effect: it does so in the same event.
-    fn do_write(&mut self, machine: u32, call: u64) -> Result<StepTold, AllocError>
+    fn do_write(&mut self, machine: u32, call: u64, told: &mut StepTold) -> Result<(), AllocError>
         requires allowed { IsAllowed D.commands D.stands (kept_state L.locks self.old.kept) self.old.hosts (Do machine call) }
         requires writes { (f : FlightState) → flight_of_machine (kept_state L.locks self.old.kept) machine call ≡ Some f → is_some f.write ≡ true }
-        ensures ok { IfOk result (ComesTold D.commands D.stands (kept_state L.locks self.old.kept) self.old.hosts (Do machine call) (kept_state L.locks self.new.kept) self.new.hosts) }
+        ensures ok { OnOk result (ComesTold D.commands D.stands (kept_state L.locks self.old.kept) self.old.hosts (Do machine call) (kept_state L.locks self.new.kept) self.new.hosts told.new) }
         ensures err { OnErr result (IsSame (kept_state L.locks self.old.kept) self.old.hosts (kept_state L.locks self.new.kept) self.new.hosts) }
     {
         let landing = unlanded(&self.kept, machine, call)?;
-        let told = self.give(
+        self.give(
             machine,
             Input::Answer {
                 call,
                 answer: Answer::Written,
             },
+            told,
         )?;
         put(&mut self.kept, landing);
-        Ok(told)
+        Ok(())
     }
 
     /// The rest of a call is sampled or landed, and it is answered ok.
-    pub(crate) fn do_call(&mut self, machine: u32, call: u64) -> Result<StepTold, AllocError>
+    pub(crate) fn do_call(
+        &mut self,
+        machine: u32,
+        call: u64,
+        told: &mut StepTold,
+    ) -> Result<(), AllocError>
         requires { IsAllowed D.commands D.stands (kept_state L.locks self.old.kept) self.old.hosts (Do machine call) }
-        ensures ok { IfOk result (ComesTold D.commands D.stands (kept_state L.locks self.old.kept) self.old.hosts (Do machine call) (kept_state L.locks self.new.kept) self.new.hosts) }
+        ensures ok { OnOk result (ComesTold D.commands D.stands (kept_state L.locks self.old.kept) self.old.hosts (Do machine call) (kept_state L.locks self.new.kept) self.new.hosts told.new) }
         ensures err { OnErr result (IsSame (kept_state L.locks self.old.kept) self.old.hosts (kept_state L.locks self.new.kept) self.new.hosts) }
     {
         let sectors = gathered(&mut self.kept, machine, call)?;
         match sectors {
-            Some(sectors) => self.give_read(machine, call, &sectors),
-            None => self.do_write(machine, call),
+            Some(sectors) => self.give_read(machine, call, &sectors, told),
+            None => self.do_write(machine, call, told),
         }
     }
 }

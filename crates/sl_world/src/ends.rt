@@ -8,7 +8,7 @@ ghost use Rattle.sl_run.specs.declared.event.Event.TheVariants.{ExitOf, Reset};
 ghost use Rattle.sl_world.specs.AllowedEvents.{IsAllowed};
 ghost use Rattle.sl_world.specs.GivenSteps.{IsSame};
 ghost use Rattle.sl_world.specs.ToldEvents.{ComesTold, told_view};
-ghost use Rattle.std.specs.Prelude.{IfOk, None, OnErr, Some, false, ◌≡◌};
+ghost use Rattle.std.specs.Prelude.{IfOk, None, OnErr, OnOk, Some, false, ◌≡◌};
 
 use crate::world::World;
 use sl_locks::StepTold;
@@ -44,41 +44,46 @@ fn exit_alone<L: LockTable>(
     Ok(effects)
 }
 
-/// What is told of effects that no daemon made.
-pub(crate) fn told_alone(effects: Effects) -> StepTold
-    ensures { told_view result ≡ record { effects = effects; line = None } }
+/// Effects that no daemon made are told.
+pub(crate) fn tell_alone(told: &mut StepTold, effects: Effects)
+    ensures { told_view told.new ≡ record { effects = effects; line = None } }
 {
-    StepTold {
-        effects,
-        line: None,
-    }
+    told.effects = effects;
+    told.line = None;
 }
 
 impl<D: Daemon, L: LockTable> World<D, L> {
     /// A process ends. An `Err` is want of memory or of numbers.
-    pub(crate) fn exit(&mut self, machine: u32, process: u32) -> Result<StepTold, AllocError>
+    pub(crate) fn exit(
+        &mut self,
+        machine: u32,
+        process: u32,
+        told: &mut StepTold,
+    ) -> Result<(), AllocError>
         requires { IsAllowed D.commands D.stands (kept_state L.locks self.old.kept) self.old.hosts (ExitOf machine process) }
-        ensures ok { IfOk result (ComesTold D.commands D.stands (kept_state L.locks self.old.kept) self.old.hosts (ExitOf machine process) (kept_state L.locks self.new.kept) self.new.hosts) }
+        ensures ok { OnOk result (ComesTold D.commands D.stands (kept_state L.locks self.old.kept) self.old.hosts (ExitOf machine process) (kept_state L.locks self.new.kept) self.new.hosts told.new) }
         ensures err { OnErr result (IsSame (kept_state L.locks self.old.kept) self.old.hosts (kept_state L.locks self.new.kept) self.new.hosts) }
     {
         let runs = runs_on(&self.kept, machine);
         if runs {
-            self.give(machine, Input::Exit { process })
+            self.give(machine, Input::Exit { process }, told)
         } else {
             let effects = exit_alone(&mut self.kept, machine, process)?;
-            Ok(told_alone(effects))
+            tell_alone(told, effects);
+            Ok(())
         }
     }
 
     /// A machine goes down. An `Err` is want of memory.
-    pub(crate) fn reset(&mut self, machine: u32) -> Result<StepTold, AllocError>
+    pub(crate) fn reset(&mut self, machine: u32, told: &mut StepTold) -> Result<(), AllocError>
         requires { IsAllowed D.commands D.stands (kept_state L.locks self.old.kept) self.old.hosts (Reset machine) }
-        ensures ok { IfOk result (ComesTold D.commands D.stands (kept_state L.locks self.old.kept) self.old.hosts (Reset machine) (kept_state L.locks self.new.kept) self.new.hosts) }
+        ensures ok { OnOk result (ComesTold D.commands D.stands (kept_state L.locks self.old.kept) self.old.hosts (Reset machine) (kept_state L.locks self.new.kept) self.new.hosts told.new) }
         ensures err { OnErr result (IsSame (kept_state L.locks self.old.kept) self.old.hosts (kept_state L.locks self.new.kept) self.new.hosts) }
     {
         let effects = self.kept.reset_effects(machine)?;
         self.kept.reset(machine)?;
         self.hosts.end(machine as usize - 1);
-        Ok(told_alone(effects))
+        tell_alone(told, effects);
+        Ok(())
     }
 }

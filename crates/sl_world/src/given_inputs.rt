@@ -6,7 +6,7 @@ ghost use Rattle.sl_world.specs.AllowedEvents.{IsAllowed};
 ghost use Rattle.sl_world.specs.GivenSteps.{IsSame};
 ghost use Rattle.sl_world.specs.ToldEvents.{ComesTold};
 ghost use Rattle.sl_world_state.specs.KeptWorld.{MachineState, machine_in};
-ghost use Rattle.std.specs.Prelude.{IfOk, OnErr, Some, ◌≡◌};
+ghost use Rattle.std.specs.Prelude.{IfOk, OnErr, OnOk, Some, ◌≡◌};
 
 use crate::world::World;
 use sl_locks::StepTold;
@@ -31,40 +31,50 @@ fn ask_of<L: LockTable>(kept: &Kept<L>, machine: u32) -> Result<Bytes, AllocErro
 
 impl<D: Daemon, L: LockTable> World<D, L> {
     /// The daemon is woken.
-    pub(crate) fn wake(&mut self, machine: u32) -> Result<StepTold, AllocError>
+    pub(crate) fn wake(&mut self, machine: u32, told: &mut StepTold) -> Result<(), AllocError>
         requires { IsAllowed D.commands D.stands (kept_state L.locks self.old.kept) self.old.hosts (WakeUp machine) }
-        ensures ok { IfOk result (ComesTold D.commands D.stands (kept_state L.locks self.old.kept) self.old.hosts (WakeUp machine) (kept_state L.locks self.new.kept) self.new.hosts) }
+        ensures ok { OnOk result (ComesTold D.commands D.stands (kept_state L.locks self.old.kept) self.old.hosts (WakeUp machine) (kept_state L.locks self.new.kept) self.new.hosts told.new) }
         ensures err { OnErr result (IsSame (kept_state L.locks self.old.kept) self.old.hosts (kept_state L.locks self.new.kept) self.new.hosts) }
     {
-        self.give(machine, Input::Wake)
+        self.give(machine, Input::Wake, told)
     }
 
     /// A command line is given.
-    pub(crate) fn command(&mut self, machine: u32, text: Bytes) -> Result<StepTold, AllocError>
+    pub(crate) fn command(
+        &mut self,
+        machine: u32,
+        text: Bytes,
+        told: &mut StepTold,
+    ) -> Result<(), AllocError>
         requires { IsAllowed D.commands D.stands (kept_state L.locks self.old.kept) self.old.hosts (GiveCommand machine text) }
-        ensures ok { IfOk result (ComesTold D.commands D.stands (kept_state L.locks self.old.kept) self.old.hosts (GiveCommand machine text) (kept_state L.locks self.new.kept) self.new.hosts) }
+        ensures ok { OnOk result (ComesTold D.commands D.stands (kept_state L.locks self.old.kept) self.old.hosts (GiveCommand machine text) (kept_state L.locks self.new.kept) self.new.hosts told.new) }
         ensures err { OnErr result (IsSame (kept_state L.locks self.old.kept) self.old.hosts (kept_state L.locks self.new.kept) self.new.hosts) }
     {
-        self.give(machine, Input::Line(text))
+        self.give(machine, Input::Line(text), told)
     }
 
     /// A line is given to lvmlockd.
-    pub(crate) fn lvm_line(&mut self, machine: u32, line: Bytes) -> Result<StepTold, AllocError>
+    pub(crate) fn lvm_line(
+        &mut self,
+        machine: u32,
+        line: Bytes,
+        told: &mut StepTold,
+    ) -> Result<(), AllocError>
         requires { IsAllowed D.commands D.stands (kept_state L.locks self.old.kept) self.old.hosts (GiveLvm machine line) }
-        ensures ok { IfOk result (ComesTold D.commands D.stands (kept_state L.locks self.old.kept) self.old.hosts (GiveLvm machine line) (kept_state L.locks self.new.kept) self.new.hosts) }
+        ensures ok { OnOk result (ComesTold D.commands D.stands (kept_state L.locks self.old.kept) self.old.hosts (GiveLvm machine line) (kept_state L.locks self.new.kept) self.new.hosts told.new) }
         ensures err { OnErr result (IsSame (kept_state L.locks self.old.kept) self.old.hosts (kept_state L.locks self.new.kept) self.new.hosts) }
     {
-        self.give(machine, Input::Number(line))
+        self.give(machine, Input::Number(line), told)
     }
 
     /// What lvmlockd's locks ask is given to the daemon.
-    pub(crate) fn ask(&mut self, machine: u32) -> Result<StepTold, AllocError>
+    pub(crate) fn ask(&mut self, machine: u32, told: &mut StepTold) -> Result<(), AllocError>
         requires { IsAllowed D.commands D.stands (kept_state L.locks self.old.kept) self.old.hosts (GiveAsk machine) }
-        ensures ok { IfOk result (ComesTold D.commands D.stands (kept_state L.locks self.old.kept) self.old.hosts (GiveAsk machine) (kept_state L.locks self.new.kept) self.new.hosts) }
+        ensures ok { OnOk result (ComesTold D.commands D.stands (kept_state L.locks self.old.kept) self.old.hosts (GiveAsk machine) (kept_state L.locks self.new.kept) self.new.hosts told.new) }
         ensures err { OnErr result (IsSame (kept_state L.locks self.old.kept) self.old.hosts (kept_state L.locks self.new.kept) self.new.hosts) }
     {
         let text = ask_of(&self.kept, machine)?;
-        self.give(machine, Input::Line(text))
+        self.give(machine, Input::Line(text), told)
     }
 
     /// The start of a child is answered.
@@ -73,11 +83,12 @@ impl<D: Daemon, L: LockTable> World<D, L> {
         machine: u32,
         process: u32,
         ok: bool,
-    ) -> Result<StepTold, AllocError>
+        told: &mut StepTold,
+    ) -> Result<(), AllocError>
         requires { IsAllowed D.commands D.stands (kept_state L.locks self.old.kept) self.old.hosts (SpawnedOf machine process ok) }
-        ensures ok { IfOk result (ComesTold D.commands D.stands (kept_state L.locks self.old.kept) self.old.hosts (SpawnedOf machine process ok) (kept_state L.locks self.new.kept) self.new.hosts) }
+        ensures ok { OnOk result (ComesTold D.commands D.stands (kept_state L.locks self.old.kept) self.old.hosts (SpawnedOf machine process ok) (kept_state L.locks self.new.kept) self.new.hosts told.new) }
         ensures err { OnErr result (IsSame (kept_state L.locks self.old.kept) self.old.hosts (kept_state L.locks self.new.kept) self.new.hosts) }
     {
-        self.give(machine, Input::Spawned { process, ok })
+        self.give(machine, Input::Spawned { process, ok }, told)
     }
 }

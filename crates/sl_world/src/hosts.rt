@@ -104,7 +104,7 @@ fn read_host<D: Daemon>(
 }
 
 /// The effects of a step of the daemon were told, if one runs. Nothing that is seen changes.
-fn take_back_host<D: Daemon>(host: &mut Option<D>, told: Effects)
+fn take_back_host<D: Daemon>(host: &mut Option<D>, told: &mut Effects)
     ensures { host.new ≡ host.old }
 {
     match host {
@@ -151,7 +151,7 @@ impl<D: Daemon> Hosts<D> {
     }
 
     /// The effects of a step of the daemon at this place were told: their memory may serve a later step. Nothing that is seen changes.
-    pub fn take_back(&mut self, index: usize, told: Effects)
+    pub fn take_back(&mut self, index: usize, told: &mut Effects)
         ensures { self.new ≡ self.old }
     {
         if index < self.items.len() {

@@ -10,7 +10,7 @@ ghost use Rattle.sl_time.specs.Times.{reading_of};
 ghost use Rattle.sl_world.specs.AllowedEvents.{LacksAt, LeavesAt, MayGive};
 ghost use Rattle.sl_world.specs.GivenSteps.{IsSame};
 ghost use Rattle.sl_world.specs.ToldEvents.{GivesTold};
-ghost use Rattle.std.specs.Prelude.{IfOk, None, OnErr, Some, false, true, ◌≡◌};
+ghost use Rattle.std.specs.Prelude.{None, OnErr, OnOk, Some, false, true, ◌≡◌};
 
 use crate::hosts::Hosts;
 use sl_locks::StepTold;
@@ -54,18 +54,25 @@ pub(crate) fn has_numbers<L: LockTable>(kept: &Kept<L>, machine: u32) -> bool
 
 impl<D: Daemon, L: LockTable> World<D, L> {
     /// What was told of a step of a machine is written: its memory may serve a later step. Nothing that is seen changes.
-    pub fn take_back(&mut self, machine: u32, told: StepTold)
+    pub fn take_back(&mut self, machine: u32, told: &mut StepTold)
         ensures { self.new ≡ self.old }
     {
         if machine > 0 {
-            self.hosts.take_back(machine as usize - 1, told.effects);
+            self.hosts
+                .take_back(machine as usize - 1, &mut told.effects);
         }
     }
 
-    /// The daemon of a machine takes a step at this input. An `Err` is want of memory or of numbers, and changes nothing that is seen.
-    pub(crate) fn give(&mut self, machine: u32, input: Input) -> Result<StepTold, AllocError>
+    /// The daemon of a machine takes a step at this input, and it is told. An `Err` is want of memory or of numbers, and changes nothing that is
+    /// seen.
+    pub(crate) fn give(
+        &mut self,
+        machine: u32,
+        input: Input,
+        told: &mut StepTold,
+    ) -> Result<(), AllocError>
         requires { MayGive D.stands (kept_state L.locks self.old.kept) self.old.hosts machine input }
-        ensures ok { IfOk result (GivesTold D.stands D.makes (kept_state L.locks self.old.kept) self.old.hosts machine input (kept_state L.locks self.new.kept) self.new.hosts) }
+        ensures ok { OnOk result (GivesTold D.stands D.makes (kept_state L.locks self.old.kept) self.old.hosts machine input (kept_state L.locks self.new.kept) self.new.hosts told.new) }
         ensures err { OnErr result (IsSame (kept_state L.locks self.old.kept) self.old.hosts (kept_state L.locks self.new.kept) self.new.hosts) }
     {
         let left = has_numbers(&self.kept, machine);
@@ -78,8 +85,8 @@ impl<D: Daemon, L: LockTable> World<D, L> {
         let heard = hear(&input);
         let locks = lock_input_of(*self.kept.machines.allocator(), &input)?;
         self.kept.reserve(machine, &most)?;
-        let effects = self.hosts.step(index, now, &input)?;
-        let told = self.kept.step(machine, heard, locks, effects);
-        Ok(told)
+        told.effects = self.hosts.step(index, now, &input)?;
+        self.kept.step(machine, heard, locks, told);
+        Ok(())
     }
 }

@@ -94,8 +94,9 @@ pub trait Daemon: Drop {
         ensures spared { spare self.old ≡ 1 → takes_more self.old input.now ≡ false → IsOk result }
         ensures spent { spare self.new ≤ spare self.old };
 
-    /// The effects of a step were told: their memory may serve a later step. Nothing that is seen changes.
-    fn take_back(&mut self, told: Effects)
+    /// The effects of a step were told: their memory may serve a later step, and is then taken out of them. Nothing that is seen of the daemon
+    /// changes.
+    fn take_back(&mut self, told: &mut Effects)
         ensures { self.new ≡ self.old };
 
     /// One step, at the answer ok of a read, with the sectors as the world has them. An `Err` is want of memory, and changes nothing.
