@@ -12,6 +12,7 @@ ghost use Rattle.sl_trace.specs.declared.effects.Move.TheVariants.{Unregister};
 ghost use Rattle.sl_trace.specs.declared.effects.Purpose.TheVariants.{Survey};
 ghost use Rattle.sl_words.specs.Words.{choose};
 ghost use Rattle.sl_words.specs.Bounds.{moments};
+ghost use Rattle.std.specs.Option.{option_copied};
 ghost use Rattle.std.specs.Prelude.{IfOk, IfSome, IsTrue, OnErr, OnOk, ℕ, false, ◌+◌, ◌<◌, ◌≡◌, ◌≤◌};
 
 use crate::answer::{SectorAnswer, sector_answer};
@@ -50,15 +51,15 @@ pub(crate) fn purpose_of(call: &DeltaCall) -> Purpose
 }
 
 /// The record that it writes.
-pub(crate) fn record_in(call: &DeltaCall) -> Option<DeltaRec>
-    ensures { result ≡ record_in_call call.now }
+pub(crate) fn record_in(call: &DeltaCall) -> Option<&DeltaRec>
+    ensures { option_copied result ≡ record_in_call call.now }
 {
     match call {
         DeltaCall::ReadOwn(_) => None,
-        DeltaCall::WriteOwn { step: _, record } => Some(*record),
-        DeltaCall::RenewOwn(record) => Some(*record),
+        DeltaCall::WriteOwn { step: _, record } => Some(record),
+        DeltaCall::RenewOwn(record) => Some(record),
         DeltaCall::ReadAll => None,
-        DeltaCall::FreeOwn(record) => Some(*record),
+        DeltaCall::FreeOwn(record) => Some(record),
     }
 }
 
@@ -216,7 +217,7 @@ impl DeltaLease {
     {
         if let Some(call) = call {
             let purpose = purpose_of(call);
-            self.own.called(now, &purpose, &record_in(call));
+            self.own.called(now, &purpose, record_in(call));
             self.waits = Some(OpenDelta { purpose, made: now });
         }
     }

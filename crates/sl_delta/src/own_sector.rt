@@ -11,7 +11,7 @@ ghost use Rattle.sl_trace.specs.declared.effects.JoinStep.TheVariants.{FirstRead
 ghost use Rattle.sl_trace.specs.declared.input.Answer.{Answer};
 ghost use Rattle.sl_words.specs.Bounds.{moments};
 ghost use Rattle.std.specs.Arc.{arc_value};
-ghost use Rattle.std.specs.Option.{option_map_or};
+ghost use Rattle.std.specs.Option.{option_copied, option_map_or};
 ghost use Rattle.sl_trace.specs.declared.effects.Purpose.TheVariants.{Joining};
 ghost use Rattle.std.specs.Prelude.{ℕ, cond, option_map, IfSome, IsTrue, List, None, Some, false, true, is_none, [], ◌<◌, ◌∷◌, ◌≡◌, ◌≤◌};
 
@@ -160,28 +160,28 @@ impl OwnSector {
 
     /// A call of the session for this purpose is submitted, which writes this delta record, if any. It counts from here on, whatever comes
     /// of it. What is kept stands for the list with that call, where it is on a delta sector and no other such call waits for its answer.
-    pub fn called(&mut self, now: u64, purpose: &Purpose, written: &Option<DeltaRec>)
+    pub fn called(&mut self, now: u64, purpose: &Purpose, written: Option<&DeltaRec>)
         requires moment { now < moments }
-        requires rules { IfSome written.now IsOwnRecord }
-        ensures state { self.new ≡ after_call purpose.now written.now now self.old }
-        ensures stands { (s : Session) (m : Submitted) (ms : List Submitted) → OwnStands s self.old ms → IsMade purpose.now written.now now m
+        requires rules { IfSome (option_copied written) IsOwnRecord }
+        ensures state { self.new ≡ after_call purpose.now (option_copied written.entry) now self.old }
+        ensures stands { (s : Session) (m : Submitted) (ms : List Submitted) → OwnStands s self.old ms → IsMade purpose.now (option_copied written.entry) now m
             → self.old.busy ≡ false → OwnStands s self.new (m ∷ ms) }
     {
         self.take_call(now, purpose, written);
     }
 
     /// The call is submitted.
-    fn take_call(&mut self, now: u64, purpose: &Purpose, written: &Option<DeltaRec>)
+    fn take_call(&mut self, now: u64, purpose: &Purpose, written: Option<&DeltaRec>)
         requires moment { now < moments }
-        requires rules { IfSome written.now IsOwnRecord }
-        ensures { self.new ≡ after_call purpose.now written.now now self.old }
+        requires rules { IfSome (option_copied written) IsOwnRecord }
+        ensures { self.new ≡ after_call purpose.now (option_copied written.entry) now self.old }
     {
         let first = is_first_read(purpose);
         if first {
             self.watched = None;
         }
         self.since = unless(first, self.since);
-        self.claim = claim_after(is_claim(purpose), written, &self.claim);
+        note_claim(&mut self.claim, is_claim(purpose), written);
         self.newest = newest_of(now, purpose);
         self.generation = generation_after(written, self.generation);
         self.seq = seq_after(written, self.seq);
@@ -268,16 +268,14 @@ fn unless(anew: bool, since: Option<u64>) -> Option<u64>
     if anew { None } else { since }
 }
 
-/// The claim after a call that writes this record, if any, and is a claim or not.
-fn claim_after(
-    claims: bool,
-    written: &Option<DeltaRec>,
-    before: &Option<DeltaRec>,
-) -> Option<DeltaRec>
-    ensures exact { result ≡ cond claims written.now before.now }
-    ensures bounds { IfSome written.now IsOwnRecord → IfSome before.now IsOwnRecord → IfSome result IsOwnRecord }
+/// The claim after a call that writes this record, if any, and is a claim or not. Few are, and a record is large.
+fn note_claim(claim: &mut Option<DeltaRec>, claims: bool, written: Option<&DeltaRec>)
+    ensures exact { claim.new ≡ cond claims (option_copied written.entry) claim.old }
+    ensures bounds { IfSome (option_copied written.entry) IsOwnRecord → IfSome claim.old IsOwnRecord → IfSome claim.new IsOwnRecord }
 {
-    if claims { *written } else { *before }
+    if claims {
+        *claim = written.copied();
+    }
 }
 
 /// The reading of the last renewal's submission.
@@ -330,9 +328,9 @@ fn newest_told(joins: bool, now: u64, newest: Option<JoinCall>) -> Option<JoinCa
 }
 
 /// The generation after a record was submitted, if any was.
-fn generation_after(written: &Option<DeltaRec>, before: u64) -> u64
-    ensures exact { result ≡ option_map_or (λ d. d.generation) written.now before }
-    ensures bounds { IfSome written.now IsOwnRecord → Fits before → Fits result }
+fn generation_after(written: Option<&DeltaRec>, before: u64) -> u64
+    ensures exact { result ≡ option_map_or (λ d. d.generation) (option_copied written.entry) before }
+    ensures bounds { IfSome (option_copied written.entry) IsOwnRecord → Fits before → Fits result }
 {
     match written {
         Some(record) => record.generation,
@@ -341,9 +339,9 @@ fn generation_after(written: &Option<DeltaRec>, before: u64) -> u64
 }
 
 /// The seq after a record was submitted, if any was.
-fn seq_after(written: &Option<DeltaRec>, before: u64) -> u64
-    ensures exact { result ≡ option_map_or (λ d. d.seq) written.now before }
-    ensures bounds { IfSome written.now IsOwnRecord → Fits before → Fits result }
+fn seq_after(written: Option<&DeltaRec>, before: u64) -> u64
+    ensures exact { result ≡ option_map_or (λ d. d.seq) (option_copied written.entry) before }
+    ensures bounds { IfSome (option_copied written.entry) IsOwnRecord → Fits before → Fits result }
 {
     match written {
         Some(record) => record.seq,

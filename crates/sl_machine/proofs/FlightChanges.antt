@@ -323,3 +323,10 @@ answered_after c g [] same open_ = refl
 answered_after c g (f ∷ fs) same open_ =
     let both = and_true (stays_open f) (list_all stays_open fs) open_ in
     without_by c g f fs (f.number == c) refl same both.0 (answered_after c g fs same both.1) (stays_open (g f)) refl
+
+-- Of one call that goes nothing is left.
+pub remove_only : {A : Type 0} (xs : List A) (i : ℕ) → length xs ≡ 1 → i < length xs → [] ≡ remove xs i
+remove_only [] i one inside = absurd (omega (arith, inside))
+remove_only (x ∷ []) zero one inside = refl
+remove_only (x ∷ []) (suc i) one inside = absurd (omega (arith, inside))
+remove_only (x ∷ y ∷ xs) i one inside = absurd (omega (arith, one))

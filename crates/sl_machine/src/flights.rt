@@ -175,7 +175,7 @@ fn close(items: &mut VecDeque<Flight>, index: usize)
     ensures room { deque_capacity items.new ≡ deque_capacity items.old }
 {
     if !items[index].stays_open() {
-        let _gone = items.remove(index);
+        remove_at(items, index);
     }
 }
 
@@ -208,14 +208,19 @@ fn sample_at(
     Ok(())
 }
 
-/// The call at a place is gone.
+/// The call at a place is gone. Mostly it is the only one, which then goes where it stands: a call is large.
+#[tactic(auto, using(crate::proofs::FlightChanges::remove_only))]
 fn remove_at(items: &mut VecDeque<Flight>, index: usize)
     requires { index < deque_len items.old }
     ensures items { items.new.items ≡ remove items.old.items index }
     ensures room { deque_capacity items.new ≡ deque_capacity items.old }
     ensures len { deque_len items.new ≤ deque_len items.old }
 {
-    let _gone = items.remove(index);
+    if items.len() == 1 {
+        items.clear();
+    } else {
+        let _gone = items.remove(index);
+    }
 }
 
 /// Reads go, and so does a write that may land no more.

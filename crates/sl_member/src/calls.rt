@@ -6,6 +6,7 @@ ghost use Rattle.sl_host_state.specs.HostStands.{pair_of};
 ghost use Rattle.sl_trace.specs.Leases.{lease_step, spot_of_call, value_of_record};
 ghost use Rattle.sl_trace.specs.Sessions.{delta_of_record};
 ghost use Rattle.sl_trace.specs.Traces.{new_call, record_of};
+ghost use Rattle.std.specs.Option.{option_copied};
 ghost use Rattle.std.specs.Prelude.{option_and_then, option_map, ◌≡◌};
 
 use sl_area::Geometry;
@@ -14,13 +15,13 @@ use sl_sector::{DeltaRec, Rec};
 use sl_trace::{Call, LeaseStep, Op, Purpose, Spot, Work};
 
 /// The delta record that is written.
-pub(crate) fn delta_of(op: &Op) -> Option<DeltaRec>
-    ensures { result ≡ option_and_then delta_of_record (record_of op.now) }
+pub(crate) fn delta_of(op: &Op) -> Option<&DeltaRec>
+    ensures { option_copied result ≡ option_and_then delta_of_record (record_of op.now) }
 {
     match op {
         Op::WriteRecord {
             record: Rec::DeltaIs(record),
-        } => Some(*record),
+        } => Some(record),
         _ => None,
     }
 }

@@ -441,7 +441,7 @@ impl Member {
         requires room { begins_lease (layout_of self.old.run.sizes) (new_call 0 now call.now) self.old.state.leases ≡ true → 0 < self.old.room }
         ensures { (at : ℕ) → self.new ≡ kept_called (new_call at now call.now) self.old }
     {
-        self.own.called(now, &call.purpose, &delta_of(&call.op));
+        self.own.called(now, &call.purpose, delta_of(&call.op));
         self.leases.calling(&self.geometry, call);
     }
 
