@@ -138,7 +138,8 @@ impl<D: Daemon, L: LockTable> World<D, L> {
         let most = self.hosts.most(index);
         let heard = hear_read(call);
         self.kept.reserve(machine, &most)?;
-        told.effects = self.hosts.read(index, now, call, sectors)?;
+        let effects = self.hosts.read(index, now, call, sectors)?;
+        told.effects = effects;
         self.kept.step(machine, heard, LockInput::Nothing, told);
         Ok(())
     }

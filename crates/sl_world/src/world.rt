@@ -85,7 +85,8 @@ impl<D: Daemon, L: LockTable> World<D, L> {
         let heard = hear(&input);
         let locks = lock_input_of(*self.kept.machines.allocator(), &input)?;
         self.kept.reserve(machine, &most)?;
-        told.effects = self.hosts.step(index, now, &input)?;
+        let effects = self.hosts.step(index, now, &input)?;
+        told.effects = effects;
         self.kept.step(machine, heard, locks, told);
         Ok(())
     }

@@ -11,17 +11,17 @@ pub returns-clause-stays : goal.returns-clause-stays
 returns-clause-stays c =
     let k = locks_of c.take_number.new.self in
     ap (λ (p : Locks × Told). p.0) (c.turn_numbered.ensures.left
-    ∙ step_is c.args.number c.args.input c.args.effects c.args.self.now c.leave.new.self k (turned_by c.args.input (find (is_asked k.asked) c.args.effects.replies) k)
+    ∙ step_is c.args.number c.args.input c.args.told.now.effects c.args.self.now c.leave.new.self k (turned_by c.args.input (find (is_asked k.asked) c.args.told.now.effects.replies) k)
     c.leave.ensures.left (ap locks_of c.take_number.ensures) refl)
 
 pub returns-clause-line : goal.returns-clause-line
 returns-clause-line c =
     let k = locks_of c.take_number.new.self in
     ap (λ (p : Locks × Told). p.1) (c.turn_numbered.ensures.left
-    ∙ step_is c.args.number c.args.input c.args.effects c.args.self.now c.leave.new.self k (turned_by c.args.input (find (is_asked k.asked) c.args.effects.replies) k)
+    ∙ step_is c.args.number c.args.input c.args.told.now.effects c.args.self.now c.leave.new.self k (turned_by c.args.input (find (is_asked k.asked) c.args.told.now.effects.replies) k)
     c.leave.ensures.left (ap locks_of c.take_number.ensures) refl)
 
 pub returns-clause-effects : goal.returns-clause-effects
 returns-clause-effects c =
     c.turn_numbered.ensures.effects
-    ∙ told_is c.args.number c.args.input c.args.effects c.args.self.now c.leave.new.self c.take_number.new.self.asked c.leave.ensures.left (ap (λ (t : LvmLocks). t.asked) c.take_number.ensures)
+    ∙ told_is c.args.number c.args.input c.args.told.now.effects c.args.self.now c.leave.new.self c.take_number.new.self.asked c.leave.ensures.left (ap (λ (t : LvmLocks). t.asked) c.take_number.ensures)

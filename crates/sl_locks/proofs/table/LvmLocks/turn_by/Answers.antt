@@ -9,7 +9,7 @@ pub returns : goal.returns
 returns c =
     let i = c.args.input.now in
     record {
-      left = c.end_by.ensures (told_as c.hear-line.result)
-          ∙ ap (ended_locks (lock_input i)) (c.hear-line.ensures ∙ ap (λ o. turned_by i o (locks_of c.args.self.now)) c.split_reply-effects.ensures.found);
-      effects = c.split_reply-effects.ensures.rest;
+      left = c.end_by.ensures (told_as c.hear.result)
+          ∙ ap (ended_locks (lock_input i)) (c.hear.ensures ∙ ap (λ o. turned_by i o (locks_of c.args.self.now)) c.split_reply-reply.ensures.found);
+      effects = c.split_reply-reply.ensures.rest;
     }

@@ -13,25 +13,25 @@ returns-in-Some-clause-stays g c =
     changed (machine_state g.L.LockTable.locks) _ _ _ _ c.args.self.now.machines.items c.len.result c.args.machine c.in-Some.index _ c.step.new.self _
     (c.len.ensures ∙ c.args.self.now.machines.ok.0) (sym c.place_of.ensures.exact ∙ c.in-Some.is) c.index_mut.ensures.value
     (c.step.ensures.stays
-    ∙ ap (λ (h : Header). stepped_by h c.args.heard (lock_input c.args.input) c.args.effects (machine_state g.L.LockTable.locks c.index_mut.result.now)) c.header.ensures.exact)
+    ∙ ap (λ (h : Header). stepped_by h c.args.heard (lock_input c.args.input) c.args.told.now.effects (machine_state g.L.LockTable.locks c.index_mut.result.now)) c.header.ensures.exact)
 
-pub returns-in-None-clause-stays : goal.returns-in-None-clause-stays
+pub returns-clause-stays : goal.returns-clause-stays
 unfolding kept_state
-returns-in-None-clause-stays g c =
+returns-clause-stays g c =
     unchanged (machine_state g.L.LockTable.locks) _ _ _ _ c.args.self.now.machines.items c.len.result c.args.machine _ (c.len.ensures ∙ c.args.self.now.machines.ok.0)
-    (sym c.place_of.ensures.exact ∙ c.in-None.is)
+    (sym c.place_of.ensures.exact ∙ c.in_default.not-Some)
 
 pub returns-in-Some-clause-told : goal.returns-in-Some-clause-told
 unfolding kept_state
 returns-in-Some-clause-told g c s is =
-    subst (λ x. HasTold c.step.result (lock_input c.args.input) c.args.effects x)
+    subst (λ x. HasTold c.step.new.told (lock_input c.args.input) c.args.told.now.effects x)
     (some_value (machine_state g.L.LockTable.locks c.index_mut.result.now) s
     (sym (somewhere (machine_state g.L.LockTable.locks) c.args.self.now.machines.items c.len.result c.args.machine c.in-Some.index c.index_mut.result.now
     (c.len.ensures ∙ c.args.self.now.machines.ok.0) (sym c.place_of.ensures.exact ∙ c.in-Some.is) c.index_mut.ensures.value) ∙ is))
     c.step.ensures.told
 
-pub returns-in-None-clause-told : goal.returns-in-None-clause-told
+pub returns-clause-told : goal.returns-clause-told
 unfolding kept_state
-returns-in-None-clause-told g c s is =
+returns-clause-told g c s is =
     absurd (none_some s (sym (nowhere_mapped (machine_state g.L.LockTable.locks) c.args.self.now.machines.items c.len.result c.args.machine (c.len.ensures ∙ c.args.self.now.machines.ok.0)
-    (sym c.place_of.ensures.exact ∙ c.in-None.is)) ∙ is))
+    (sym c.place_of.ensures.exact ∙ c.in_default.not-Some)) ∙ is))

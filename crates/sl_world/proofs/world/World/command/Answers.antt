@@ -3,9 +3,8 @@ use Rattle.sl_run.specs.declared.event.Event.TheVariants.{GiveCommand}
 use Rattle.sl_trace.specs.declared.input.Input.TheVariants.{Line}
 use Rattle.sl_world.proofs.AllowedEvents.{first_command, command_given, may_give}
 use Rattle.sl_world.proofs.ToldSteps.{simply_told}
-use Rattle.sl_world.proofs.GivenSteps.{if_ok_then}
 use Rattle.sl_world.proofs.world.World.command.Goals as goal
-use Rattle.sl_world.specs.ToldEvents.{ComesTold, GivesTold}
+use Rattle.std.proofs.lemmas.Result.{on_ok_weaker}
 
 pub give-requires : goal.give-requires
 give-requires g c =
@@ -14,9 +13,7 @@ give-requires g c =
 
 pub returns-clause-ok : goal.returns-clause-ok
 returns-clause-ok g c =
-    if_ok_then (GivesTold g.D.Daemon.stands g.D.Daemon.makes (kept_state g.L.LockTable.locks c.args.self.now.kept) c.args.self.now.hosts c.args.machine (Line c.args.text) (kept_state g.L.LockTable.locks c.give.new.self.kept) c.give.new.self.hosts)
-    (ComesTold g.D.Daemon.commands g.D.Daemon.stands (kept_state g.L.LockTable.locks c.args.self.now.kept) c.args.self.now.hosts (GiveCommand c.args.machine c.args.text) (kept_state g.L.LockTable.locks c.give.new.self.kept) c.give.new.self.hosts)
-    c.give.result
-    (λ fx given. simply_told g.D.Daemon.commands g.D.Daemon.stands g.D.Daemon.makes (kept_state g.L.LockTable.locks c.args.self.now.kept) c.args.self.now.hosts (GiveCommand c.args.machine c.args.text) (Line c.args.text) fx
+    on_ok_weaker c.give.result
+    (λ given. simply_told g.D.Daemon.commands g.D.Daemon.stands g.D.Daemon.makes (kept_state g.L.LockTable.locks c.args.self.now.kept) c.args.self.now.hosts (GiveCommand c.args.machine c.args.text) (Line c.args.text) c.give.new.told
     (kept_state g.L.LockTable.locks c.give.new.self.kept) c.give.new.self.hosts c.requires (command_given g.D.Daemon.commands (kept_state g.L.LockTable.locks c.args.self.now.kept) c.args.machine c.args.text) (first_command (kept_state g.L.LockTable.locks c.args.self.now.kept) c.args.machine c.args.text) given)
     c.give.ensures.ok

@@ -16,15 +16,15 @@ give-requires g c =
 pub put-requires : goal.put-requires
 put-requires g c =
     sized_after g.D.Daemon.stands g.D.Daemon.makes (kept_state g.L.LockTable.locks c.args.self.now.kept) (kept_state g.L.LockTable.locks c.give.new.self.kept) c.args.self.now.hosts c.give.new.self.hosts c.args.machine c.args.call
-    c.in_ok-landing.landing c.in_ok-told.ensures.ok.effects
-    (record { none = c.in_ok-landing.ensures.none; some = c.in_ok-landing.ensures.some; flies = c.in_ok-landing.ensures.flies }) c.in_ok-told.ensures.ok.given
+    c.in_ok-landing.landing c.in_ok-give.ensures.ok.effects
+    (record { none = c.in_ok-landing.ensures.none; some = c.in_ok-landing.ensures.some; flies = c.in_ok-landing.ensures.flies }) c.in_ok-give.ensures.ok.given
 
 pub returns-clause-ok : goal.returns-clause-ok
 returns-clause-ok g c =
     let k = kept_state g.L.LockTable.locks c.args.self.now.kept in
-    told_comes g.D.Daemon.commands g.D.Daemon.stands g.D.Daemon.makes k c.args.self.now.hosts (Do c.args.machine c.args.call) (Told c.args.call Written) c.in_ok-told.told
+    told_comes g.D.Daemon.commands g.D.Daemon.stands g.D.Daemon.makes k c.args.self.now.hosts (Do c.args.machine c.args.call) (Told c.args.call Written) c.give.new.told
     (kept_state g.L.LockTable.locks c.give.new.self.kept) (kept_state g.L.LockTable.locks c.put.new.kept) c.give.new.self.hosts
-    (do_given g.D.Daemon.commands k c.args.machine c.args.call None c.requires.writes c.requires.allowed.unrefused) c.in_ok-told.ensures.ok
+    (do_given g.D.Daemon.commands k c.args.machine c.args.call None c.requires.writes c.requires.allowed.unrefused) c.in_ok-give.ensures.ok
     (λ fx given. write_comes g.D.Daemon.commands g.D.Daemon.stands g.D.Daemon.makes k c.args.self.now.hosts c.args.machine c.args.call c.in_ok-landing.landing fx
     (kept_state g.L.LockTable.locks c.give.new.self.kept) (kept_state g.L.LockTable.locks c.put.new.kept) c.give.new.self.hosts c.requires.allowed c.requires.writes
     (record { none = c.in_ok-landing.ensures.none; some = c.in_ok-landing.ensures.some; flies = c.in_ok-landing.ensures.flies }) given c.put.ensures)

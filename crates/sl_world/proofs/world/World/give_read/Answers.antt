@@ -6,8 +6,8 @@ use Rattle.sl_world.proofs.ToldSteps.{heard_part, step_told}
 use Rattle.sl_world.proofs.world.World.give_read.Goals as goal
 use Rattle.std.proofs.Common.{refl, ◌∙◌}
 
-pub step-told-requires : goal.step-told-requires
-step-told-requires g c =
+pub step-requires : goal.step-requires
+step-requires g c =
     takes_step g.D.Daemon.commands g.D.Daemon.stands g.D.Daemon.makes g.L.LockTable.locks g.L.LockTable.has_room c.args.self.now.kept c.reserve.new.self c.args.self.now.hosts
     c.read.new.self c.args.machine c.reading-now.result (read_of c.args.call c.args.sectors.now) c.in_ok-effects.effects c.most-most.result
     (c.requires.ready (c.has_numbers-left.ensures.left c.if-not-left.false)) c.most-most.ensures c.reading-now.ensures.there
@@ -17,11 +17,11 @@ pub returns-clause-ok : goal.returns-clause-ok
 returns-clause-ok g c =
     record {
       effects = c.in_ok-effects.effects;
-      given = is_given g.D.Daemon.stands g.D.Daemon.makes (kept_state g.L.LockTable.locks c.args.self.now.kept) (kept_state g.L.LockTable.locks c.step-told.new.self) c.args.self.now.hosts
+      given = is_given g.D.Daemon.stands g.D.Daemon.makes (kept_state g.L.LockTable.locks c.args.self.now.kept) (kept_state g.L.LockTable.locks c.step.new.self) c.args.self.now.hosts
           c.read.new.self c.args.machine c.reading-now.result (read_of c.args.call c.args.sectors.now) c.in_ok-effects.effects c.reading-now.ensures.there c.in_ok-effects.ensures.ok
-          (c.step-told.ensures.stays ∙ taken_up g.L.LockTable.locks c.args.self.now.kept c.reserve.new.self c.args.machine (read_of c.args.call c.args.sectors.now) Nothing
+          (c.step.ensures.stays ∙ taken_up g.L.LockTable.locks c.args.self.now.kept c.reserve.new.self c.args.machine (read_of c.args.call c.args.sectors.now) Nothing
           c.in_ok-effects.effects c.hear_read-heard.result
           c.reserve.ensures.same (c.hear_read-heard.ensures c.args.sectors.now.bytes) (heard_part (read_of c.args.call c.args.sectors.now) Nothing refl)) (c.has_numbers-left.ensures.left c.if-not-left.false);
-      told_is = step_told c.step-told.result (read_of c.args.call c.args.sectors.now) Nothing c.in_ok-effects.effects (kept_state g.L.LockTable.locks c.args.self.now.kept)
-          (kept_state g.L.LockTable.locks c.reserve.new.self) c.args.machine c.reserve.ensures.same refl c.step-told.ensures.told;
+      told_is = step_told c.step.new.told (read_of c.args.call c.args.sectors.now) Nothing c.in_ok-effects.effects (kept_state g.L.LockTable.locks c.args.self.now.kept)
+          (kept_state g.L.LockTable.locks c.reserve.new.self) c.args.machine c.reserve.ensures.same refl c.step.ensures.told;
     }

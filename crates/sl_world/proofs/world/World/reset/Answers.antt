@@ -21,7 +21,7 @@ end-requires g c =
 pub returns-clause-ok : goal.returns-clause-ok
 returns-clause-ok g c =
     let k = kept_state g.L.LockTable.locks c.args.self.now.kept in
-    own_told g.D.Daemon.commands g.D.Daemon.stands k c.args.self.now.hosts (Reset c.args.machine) c.in_ok-effects.effects (kept_state g.L.LockTable.locks c.reset.new.self) c.end.new.self c.told_alone.result
+    own_told g.D.Daemon.commands g.D.Daemon.stands k c.args.self.now.hosts (Reset c.args.machine) c.in_ok-effects.effects (kept_state g.L.LockTable.locks c.reset.new.self) c.end.new.self c.tell_alone.new.told
     (reset_comes g.D.Daemon.commands g.D.Daemon.stands k c.args.self.now.hosts c.end.new.self c.args.machine
     (kept_state g.L.LockTable.locks c.reset.new.self) c.in_ok-effects.effects c.requires c.in_ok-effects.ensures c.in_ok-reset.ensures.ok c.end.ensures)
-    (no_input (machine_in k c.args.machine)) c.told_alone.ensures
+    (no_input (machine_in k c.args.machine)) c.tell_alone.ensures
