@@ -17,7 +17,9 @@ ghost use Rattle.sl_words.specs.Words.{choose};
 use sl_area::Geometry;
 use sl_text::number::read_number_within;
 use sl_text::words::{Parts, Words};
+use sl_text::{NameText, PathText};
 use sl_trace::{LockspaceArg, ResourceArg};
+use std::marker::Model;
 
 /// The greatest process that a command may name: one of the machine's, up to 1,000,000, or a child of the daemon behind those.
 const MOST_PROCESSES: u32 = 2_000_000;
@@ -27,6 +29,37 @@ const MOST_LVER: u64 = (1 << 63) - 1;
 
 /// Bases of areas stay below this offset.
 const BASES: u64 = 1_000_000_000_000;
+
+/// A resource as a word names it, its texts where they stand: they are copied once the whole command is read.
+#[derive(Drop)]
+pub(crate) struct ResourceText<'a> {
+    lockspace: NameText<'a>,
+    name: NameText<'a>,
+    path: PathText<'a>,
+    offset: u64,
+}
+
+impl<'a> Model for ResourceText<'a> {
+    ghost use Rattle.sl_trace.specs.declared.command.ResourceArg.{ResourceArg};
+
+    ghost Value = { ResourceArg };
+
+    ghost view = { λ r. record { lockspace = r.lockspace; name = r.name; path = r.path; offset = r.offset } };
+}
+
+impl<'a> ResourceText<'a> {
+    /// The resource, its texts copied.
+    pub(crate) fn resource(&self) -> ResourceArg
+        ensures { result ≡ self.now }
+    {
+        ResourceArg {
+            lockspace: self.lockspace.name(),
+            name: self.name.name(),
+            path: self.path.path(),
+            offset: self.offset,
+        }
+    }
+}
 
 /// The number that a word writes, if it is from 1 to `high`.
 fn read_short(word: &[u8], high: u32) -> Option<u32>
@@ -85,15 +118,18 @@ fn lockspace_of(word: &[u8], geometry: &Geometry) -> Option<LockspaceArg>
 }
 
 /// Reads the four parts of a resource's word, whatever stands behind them.
-fn resource_front(parts: &mut Parts<'_>, geometry: &Geometry) -> Result<ResourceArg, usize>
+fn resource_front<'a>(
+    parts: &mut Parts<'a>,
+    geometry: &Geometry,
+) -> Result<ResourceText<'a>, usize>
     ensures exact { result ≡ arguments.front_read (layout_of geometry.now) parts.old }
     ensures left { IfOk result (λ _. parts.new ≡ past_words 4 parts.old) }
 {
-    let lockspace = parts.name()?;
-    let name = parts.name()?;
-    let path = parts.path()?;
+    let lockspace = parts.name_text()?;
+    let name = parts.name_text()?;
+    let path = parts.path_text()?;
     let offset = base_part(parts, geometry)?;
-    Ok(ResourceArg {
+    Ok(ResourceText {
         lockspace,
         name,
         path,
@@ -102,7 +138,10 @@ fn resource_front(parts: &mut Parts<'_>, geometry: &Geometry) -> Result<Resource
 }
 
 /// Reads the parts of a resource's word.
-fn resource_parts(parts: &mut Parts<'_>, geometry: &Geometry) -> Result<ResourceArg, usize>
+fn resource_parts<'a>(
+    parts: &mut Parts<'a>,
+    geometry: &Geometry,
+) -> Result<ResourceText<'a>, usize>
     ensures { result ≡ arguments.resource_read (layout_of geometry.now) parts.old }
 {
     let resource = resource_front(parts, geometry)?;
@@ -111,7 +150,10 @@ fn resource_parts(parts: &mut Parts<'_>, geometry: &Geometry) -> Result<Resource
 }
 
 /// Reads the parts of a resource's word that ends with the mark of the shared mode.
-fn shared_parts(parts: &mut Parts<'_>, geometry: &Geometry) -> Result<ResourceArg, usize>
+fn shared_parts<'a>(
+    parts: &mut Parts<'a>,
+    geometry: &Geometry,
+) -> Result<ResourceText<'a>, usize>
     ensures { result ≡ arguments.shared_read (layout_of geometry.now) parts.old }
 {
     let resource = resource_front(parts, geometry)?;
@@ -121,7 +163,10 @@ fn shared_parts(parts: &mut Parts<'_>, geometry: &Geometry) -> Result<ResourceAr
 }
 
 /// Reads the parts of a resource's word that ends with an lver.
-fn asked_parts(parts: &mut Parts<'_>, geometry: &Geometry) -> Result<(ResourceArg, u64), usize>
+fn asked_parts<'a>(
+    parts: &mut Parts<'a>,
+    geometry: &Geometry,
+) -> Result<(ResourceText<'a>, u64), usize>
     ensures { result ≡ arguments.asked_read (layout_of geometry.now) parts.old }
 {
     let resource = resource_front(parts, geometry)?;
@@ -130,32 +175,42 @@ fn asked_parts(parts: &mut Parts<'_>, geometry: &Geometry) -> Result<(ResourceAr
     Ok((resource, lver))
 }
 
-/// The resource that a word names, if it names one and no more.
-pub fn resource_of(word: &[u8], geometry: &Geometry) -> Option<ResourceArg>
+/// The resource that a word names, if it names one and no more, its texts where they stand.
+fn resource_text_of<'a>(word: &'a [u8], geometry: &Geometry) -> Option<ResourceText<'a>>
     ensures { result ≡ choose (commands.is_resource_word (layout_of geometry.now) word.now) (commands.resource_of_word word.now) }
 {
     resource_parts(&mut Parts::new(word), geometry).ok()
 }
 
+/// The resource that a word names, if it names one and no more.
+pub fn resource_of(word: &[u8], geometry: &Geometry) -> Option<ResourceArg>
+    ensures { result ≡ choose (commands.is_resource_word (layout_of geometry.now) word.now) (commands.resource_of_word word.now) }
+{
+    match resource_text_of(word, geometry) {
+        Some(text) => Some(text.resource()),
+        None => None,
+    }
+}
+
 /// The resource that a word names in the shared mode, if it names one so.
-fn shared_of(word: &[u8], geometry: &Geometry) -> Option<ResourceArg>
+fn shared_of<'a>(word: &'a [u8], geometry: &Geometry) -> Option<ResourceText<'a>>
     ensures { result ≡ choose (commands.is_shared_word (layout_of geometry.now) word.now) (commands.resource_of_word word.now) }
 {
     shared_parts(&mut Parts::new(word), geometry).ok()
 }
 
 /// The resource that a word names, and whether in the shared mode.
-fn moded_of(word: &[u8], geometry: &Geometry) -> Option<(ResourceArg, bool)>
+fn moded_of<'a>(word: &'a [u8], geometry: &Geometry) -> Option<(ResourceText<'a>, bool)>
     ensures { result ≡ choose (arguments.is_moded_word (layout_of geometry.now) word.now) (arguments.moded_of_word (layout_of geometry.now) word.now) }
 {
-    match resource_of(word, geometry) {
+    match resource_text_of(word, geometry) {
         Some(resource) => Some((resource, false)),
         None => Some((shared_of(word, geometry)?, true)),
     }
 }
 
 /// The resource that a word names, and the lver that it asks for.
-fn request_of(word: &[u8], geometry: &Geometry) -> Option<(ResourceArg, u64)>
+fn request_of<'a>(word: &'a [u8], geometry: &Geometry) -> Option<(ResourceText<'a>, u64)>
     ensures { result ≡ choose (arguments.is_request_word (layout_of geometry.now) word.now) (arguments.request_of_word word.now) }
 {
     asked_parts(&mut Parts::new(word), geometry).ok()
@@ -171,19 +226,22 @@ pub(crate) fn lockspace(words: &mut Words<'_>, geometry: &Geometry) -> Result<Lo
 }
 
 /// Reads the next word as a resource; else gives its column.
-pub(crate) fn resource(words: &mut Words<'_>, geometry: &Geometry) -> Result<ResourceArg, usize>
+pub(crate) fn resource<'a>(
+    words: &mut Words<'a>,
+    geometry: &Geometry,
+) -> Result<ResourceText<'a>, usize>
     ensures exact { result ≡ next_as (commands.is_resource_word (layout_of geometry.now)) commands.resource_of_word words.old }
     ensures left { words.new ≡ left_after result words.old }
 {
     let word = words.peek().ok_or(words.column())?;
-    words.accept(resource_of(word, geometry))
+    words.accept(resource_text_of(word, geometry))
 }
 
 /// Reads the next word as a resource in one mode or the other; else gives its column.
-pub(crate) fn moded(
-    words: &mut Words<'_>,
+pub(crate) fn moded<'a>(
+    words: &mut Words<'a>,
     geometry: &Geometry,
-) -> Result<(ResourceArg, bool), usize>
+) -> Result<(ResourceText<'a>, bool), usize>
     ensures exact { result ≡ next_as (arguments.is_moded_word (layout_of geometry.now)) (arguments.moded_of_word (layout_of geometry.now)) words.old }
     ensures left { words.new ≡ left_after result words.old }
 {
@@ -192,10 +250,10 @@ pub(crate) fn moded(
 }
 
 /// Reads the next word as a resource with the lver that is asked for; else gives its column.
-pub(crate) fn request(
-    words: &mut Words<'_>,
+pub(crate) fn request<'a>(
+    words: &mut Words<'a>,
     geometry: &Geometry,
-) -> Result<(ResourceArg, u64), usize>
+) -> Result<(ResourceText<'a>, u64), usize>
     ensures exact { result ≡ next_as (arguments.is_request_word (layout_of geometry.now)) arguments.request_of_word words.old }
     ensures left { words.new ≡ left_after result words.old }
 {

@@ -14,10 +14,11 @@ ghost use Rattle.sl_trace.specs.declared.command.Command.TheVariants.{AddLockspa
 ghost use Rattle.sl_words.specs.Results as results;
 
 use crate::arguments;
+use crate::arguments::ResourceText;
 use sl_area::Geometry;
 use sl_text::words::Words;
 use sl_text::{Data, FilePath};
-use sl_trace::{BadCommand, Command, LockspaceArg, ResourceArg};
+use sl_trace::{BadCommand, Command, LockspaceArg};
 
 /// Reads `-s` and a lockspace.
 fn lockspace(words: &mut Words<'_>, geometry: &Geometry) -> Result<LockspaceArg, usize>
@@ -126,14 +127,15 @@ fn holder(words: &mut Words<'_>) -> Result<(u32, bool, bool), usize>
 
 /// The command of a holder.
 fn acquiring(
-    resource: ResourceArg,
+    named: &ResourceText<'_>,
     shared: bool,
     process: u32,
     persistent: bool,
     orphan: bool,
 ) -> Command
-    ensures { result ≡ verbs.acquiring resource shared (process, persistent, orphan) }
+    ensures { result ≡ verbs.acquiring named.now shared (process, persistent, orphan) }
 {
+    let resource = named.resource();
     if orphan {
         return Command::TakeOver {
             resource,
@@ -155,9 +157,9 @@ fn acquire(words: &mut Words<'_>, geometry: &Geometry) -> Result<Command, usize>
     ensures { result ≡ verbs.acquire_read (layout_of geometry.now) words.old }
 {
     words.expect(b"-r")?;
-    let (resource, shared) = arguments::moded(words, geometry)?;
+    let (named, shared) = arguments::moded(words, geometry)?;
     let (process, persistent, orphan) = holder(words)?;
-    Ok(acquiring(resource, shared, process, persistent, orphan))
+    Ok(acquiring(&named, shared, process, persistent, orphan))
 }
 
 /// Reads `-O` and its 1, or else `-p` and a process.
@@ -177,10 +179,13 @@ fn release(words: &mut Words<'_>, geometry: &Geometry) -> Result<Command, usize>
     ensures { result ≡ verbs.release_read (layout_of geometry.now) words.old }
 {
     words.expect(b"-r")?;
-    let resource = arguments::resource(words, geometry)?;
+    let named = arguments::resource(words, geometry)?;
     match releaser(words)? {
-        Some(process) => Ok(Command::Release { resource, process }),
-        None => Ok(Command::ReleaseOrphan(resource)),
+        Some(process) => Ok(Command::Release {
+            resource: named.resource(),
+            process,
+        }),
+        None => Ok(Command::ReleaseOrphan(named.resource())),
     }
 }
 
@@ -189,10 +194,10 @@ fn convert(words: &mut Words<'_>, geometry: &Geometry) -> Result<Command, usize>
     ensures { result ≡ verbs.convert_read (layout_of geometry.now) words.old }
 {
     words.expect(b"-r")?;
-    let (resource, shared) = arguments::moded(words, geometry)?;
+    let (named, shared) = arguments::moded(words, geometry)?;
     let process = process(words)?;
     Ok(Command::Convert {
-        resource,
+        resource: named.resource(),
         shared,
         process,
     })
@@ -215,10 +220,10 @@ fn run_program(words: &mut Words<'_>, geometry: &Geometry) -> Result<Command, us
     ensures { result ≡ verbs.program_read (layout_of geometry.now) words.old }
 {
     words.expect(b"-r")?;
-    let (resource, shared) = arguments::moded(words, geometry)?;
+    let (named, shared) = arguments::moded(words, geometry)?;
     let program = program(words)?;
     Ok(Command::RunProgram {
-        resource,
+        resource: named.resource(),
         shared,
         program,
     })
@@ -229,10 +234,10 @@ fn request(words: &mut Words<'_>, geometry: &Geometry) -> Result<Command, usize>
     ensures { result ≡ verbs.request_read (layout_of geometry.now) words.old }
 {
     words.expect(b"-r")?;
-    let (resource, lver) = arguments::request(words, geometry)?;
+    let (named, lver) = arguments::request(words, geometry)?;
     let force = force(words, lver)?;
     Ok(Command::Request {
-        resource,
+        resource: named.resource(),
         lver,
         force,
     })
@@ -243,9 +248,12 @@ fn get_lvb(words: &mut Words<'_>, geometry: &Geometry) -> Result<Command, usize>
     ensures { result ≡ verbs.for_process (layout_of geometry.now) (λ r p. GetLvb r p) words.old }
 {
     words.expect(b"-r")?;
-    let resource = arguments::resource(words, geometry)?;
+    let named = arguments::resource(words, geometry)?;
     let process = process(words)?;
-    Ok(Command::GetLvb { resource, process })
+    Ok(Command::GetLvb {
+        resource: named.resource(),
+        process,
+    })
 }
 
 /// Reads what stands behind `set_lvb`.
@@ -253,10 +261,10 @@ fn set_lvb(words: &mut Words<'_>, geometry: &Geometry) -> Result<Command, usize>
     ensures { result ≡ verbs.value_read (layout_of geometry.now) words.old }
 {
     words.expect(b"-r")?;
-    let resource = arguments::resource(words, geometry)?;
+    let named = arguments::resource(words, geometry)?;
     let (process, value) = value(words)?;
     Ok(Command::SetLvb {
-        resource,
+        resource: named.resource(),
         process,
         value,
     })

@@ -23,7 +23,7 @@ ghost use Rattle.sl_text.specs.Names.{is_name, is_path};
 use crate::hex::read_hex;
 use crate::number::{read_number, read_number_within, read_short_number};
 use crate::same::begins_with;
-use crate::short::{Data, FilePath, Name};
+use crate::short::{Data, FilePath, Name, NameText, PathText};
 use std::marker::Model;
 
 /// Where the first separator stands.
@@ -254,6 +254,16 @@ impl<'a, const SEPARATOR: u8> Pieces<'a, SEPARATOR> {
         self.accept_cut(cut, cut.word.and_then(Name::new))
     }
 
+    /// Reads the next piece as a name, where it stands; else gives its column.
+    pub fn name_text(&mut self) -> Result<NameText<'a>, usize>
+        ensures exact { result ≡ next_as is_name (λ w. w) self.old }
+        ensures left { self.new ≡ left_after result self.old }
+        ensures found { IfOk result (Passed is_name (λ w. w) self.old self.new) }
+    {
+        let cut = self.cut();
+        self.accept_cut(cut, cut.word.and_then(NameText::new))
+    }
+
     /// Reads the next piece as a path; else gives its column.
     pub fn path(&mut self) -> Result<FilePath, usize>
         ensures exact { result ≡ next_as is_path (λ w. w) self.old }
@@ -262,6 +272,16 @@ impl<'a, const SEPARATOR: u8> Pieces<'a, SEPARATOR> {
     {
         let cut = self.cut();
         self.accept_cut(cut, cut.word.and_then(FilePath::new))
+    }
+
+    /// Reads the next piece as a path, where it stands; else gives its column.
+    pub fn path_text(&mut self) -> Result<PathText<'a>, usize>
+        ensures exact { result ≡ next_as is_path (λ w. w) self.old }
+        ensures left { self.new ≡ left_after result self.old }
+        ensures found { IfOk result (Passed is_path (λ w. w) self.old self.new) }
+    {
+        let cut = self.cut();
+        self.accept_cut(cut, cut.word.and_then(PathText::new))
     }
 
     /// Reads the next piece as a number, capped at 2^64 - 1; else gives its column.

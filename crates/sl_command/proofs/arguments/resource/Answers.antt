@@ -8,5 +8,5 @@ pub returns-clause-exact : goal.returns-clause-exact
 returns-clause-exact c =
     let g = layout_of c.args.geometry.now in
     c.accept.ensures.exact
-    ∙ accepted (is_resource_word g) resource_of_word c.args.words.now.column c.args.words.now.words c.in_ok-word.word.now c.resource_of.result
-    (grind (arith, c.peek.ensures, c.ok_or.ensures.value, c.in_ok-word.was)) c.resource_of.ensures
+    ∙ accepted (is_resource_word g) resource_of_word c.args.words.now.column c.args.words.now.words c.in_ok-word.word.now c.resource_text_of.result
+    (grind (arith, c.peek.ensures, c.ok_or.ensures.value, c.in_ok-word.was)) c.resource_text_of.ensures

@@ -1,6 +1,6 @@
 use Rattle.sl_area.specs.AreaSizes.{layout_of}
 use Rattle.sl_command.proofs.ArgumentLaws.{resource_read-is, taken}
-use Rattle.sl_command.proofs.arguments.resource_of.Goals as goal
+use Rattle.sl_command.proofs.arguments.resource_text_of.Goals as goal
 use Rattle.sl_command.specs.Arguments.{resource_read}
 
 pub returns : goal.returns
