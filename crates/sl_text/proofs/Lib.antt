@@ -1,6 +1,7 @@
 pub mod NameLaws
 pub mod NumberLaws
 pub mod PieceLaws
+pub mod SameTexts
 pub mod FormLaws
 pub mod HexLaws
 pub mod LineLaws
