@@ -4,17 +4,19 @@ use Rattle.sl_run.specs.Worlds.{first_that}
 use Rattle.sl_run.specs.declared.event.Refusal.TheVariants.{LimitBytes, Syntax}
 use Rattle.sl_run.specs.declared.event.Refusal.{Refusal}
 use Rattle.sl_reader.specs.LineReads.{FirstLine, Judges, RefusesLine, feed_of, with_feed}
-use Rattle.sl_text.proofs.PieceLaws.{first_piece, pieces-front}
+use Rattle.memchr.specs.Find.{IsFirstByte, is_byte}
+use Rattle.sl_text.proofs.PieceLaws.{first_piece, free_alone, free_at, pieces-front, text_at}
 use Rattle.sl_text.specs.Forms.{is_free_of, lines_of, pieces, without_empty_last}
 use Rattle.sl_words.proofs.WordLaws.{and_true}
-use Rattle.std.proofs.Common.{Bool, List, None, Option, Some, [], ap, arith, drop, eqb, false, length, length-append, min, not, refl, subst, suc, sym, true, zero, ℕ, ◌&&◌, ◌++◌, ◌+◌, ◌<◌, ◌≡◌, ◌≤◌, ◌∙◌, ◌∷◌}
+use Rattle.std.proofs.Common.{Bool, List, None, Option, Some, [], ap, arith, cond, drop, eqb, false, length, length-append, ltb, min, not, refl, subst, suc, sym, true, zero, ℕ, ◌&&◌, ◌++◌, ◌+◌, ◌<◌, ◌≡◌, ◌≤◌, ◌∙◌, ◌∷◌}
 use Rattle.std.proofs.lemmas.Bool.Decides.{nat_tests}
-use Rattle.std.proofs.lemmas.Bool.{and_from, not-true}
+use Rattle.std.proofs.lemmas.Bool.{and_from, false_from_ne_true, not-true}
 use Rattle.std.proofs.lemmas.List.Folds.{list_all-append}
 use Rattle.std.proofs.lemmas.List.Prefix.{front_rest}
 use Rattle.std.proofs.lemmas.List.Splits.{slice_split-cons_no}
+use Rattle.std.proofs.lemmas.List.Sums.{position_or_len_is}
 use Rattle.std.proofs.lemmas.List.{append-nil, append_assoc}
-use Rattle.std.specs.List.{onto_first}
+use Rattle.std.specs.List.{list_all, onto_first, position}
 use Rattle.std.specs.Prelude.{nat_le, nat_lt}
 
 -- ---- cutting
@@ -31,6 +33,20 @@ pub cut_none : (all : List ℕ) → all ≡ all ++ drop (length all) all
 cut_none all = sym (append-nil all) ∙ ap (λ r. all ++ r) (sym (front_rest all all [] (sym (append-nil all))))
 
 pub ruleset cutting = (cut_at, cut_none)
+
+-- Where the search finds a line feed is the first of them.
+pub feed_found : (bs : List ℕ) (r : Option ℕ) → IsFirstByte (is_byte 10) bs r → r ≡ position (λ b. eqb b 10) bs
+feed_found bs None none =
+    let at = position_or_len_is (λ b. eqb b 10) bs (length bs) 0 (omega arith) (λ k before. false_from_ne_true _ (none k (omega arith) before)) (λ behind. absurd (omega (arith, behind))) in
+    let off : ltb (length bs) (length bs) ≡ false = grind (arith, nat_tests) in
+    sym (ap (λ n. cond (ltb n (length bs)) (Some n) None) at ∙ ap (λ t. cond t (Some (length bs)) None) off)
+feed_found bs (Some k) (before, here) =
+    let at = position_or_len_is (λ b. eqb b 10) bs k 0 (let high = before.high in omega (arith, high)) (λ j low. false_from_ne_true _ (before.before j (omega arith) low)) (λ inside. here) in
+    let on : ltb k (length bs) ≡ true = (let high = before.high in grind (arith, nat_tests, high)) in
+    sym (ap (λ n. cond (ltb n (length bs)) (Some n) None) at ∙ ap (λ t. cond t (Some k) None) on)
+
+-- What is known of a text that is cut there.
+pub ruleset feeds = (text_at, free_at, free_alone)
 
 pub free_both : (front more : List ℕ) → is_free_of 10 front ≡ true → is_free_of 10 more ≡ true → is_free_of 10 (front ++ more) ≡ true
 free_both front more a b = list_all-append (λ b. not (eqb b 10)) front more ∙ and_from _ _ a b

@@ -4,10 +4,11 @@ ghost use Rattle.sl_reader.specs.LineReads.{feed_of, with_feed};
 ghost use Rattle.sl_text.specs.Forms.{is_free_of};
 ghost use Rattle.sl_io.specs.FaultCauses.{HasCause};
 ghost use Rattle.std.specs.Io.KnownBytes.{Consumes, IsAtEnd, Keeps};
-ghost use Rattle.std.specs.Prelude.{IfOk, IsTrue, OnErr, drop, false, length, true, [], ◌++◌, ◌<◌, ◌≡◌, ◌≤◌};
+ghost use Rattle.std.specs.List.{position};
+ghost use Rattle.std.specs.Prelude.{IfOk, IsTrue, OnErr, drop, false, length, true, [], ◌++◌, ◌<◌, ◌==◌, ◌≡◌, ◌≤◌};
 
+use memchr::memchr;
 use sl_io::{Failed, Source};
-use sl_text::words::split_piece;
 use std::marker::Model;
 
 /// How many bytes are asked for in one read.
@@ -31,6 +32,14 @@ impl Model for Piece {
     ghost invariant = { λ p. (p.at ≤ p.end) × (p.end ≤ 4096) };
 }
 
+/// Where the first line feed stands. A line is long beside its words, so this looks at many bytes at a time.
+#[tactic(auto, using(crate::proofs::FirstLines::feed_found))]
+fn feed_in(bytes: &[u8]) -> Option<usize>
+    ensures { result ≡ position (λ b. b == 10) bytes.now }
+{
+    memchr(b'\n', bytes)
+}
+
 impl Piece {
     /// Nothing.
     pub fn new() -> Piece
@@ -52,16 +61,17 @@ impl Piece {
     }
 
     /// The bytes up to the next line feed, and whether there is one.
-    #[tactic(auto, using(crate::proofs::FirstLines::cutting))]
+    #[tactic(auto, using(crate::proofs::FirstLines::cutting, crate::proofs::FirstLines::feeds))]
     pub fn front(&self) -> (&[u8], bool)
         ensures free { IsTrue (is_free_of 10 result.0.now) }
         ensures cut { self.now ≡ result.0.now ++ (feed_of result.1 ++ drop (with_feed result.1 (length result.0.now)) self.now) }
         ensures all { result.1 ≡ false → result.0.now ≡ self.now }
         ensures few { length result.0.now ≤ 4096 }
     {
-        match split_piece(b'\n', self.left()) {
-            (front, Some(_)) => (front, true),
-            (front, None) => (front, false),
+        let left = self.left();
+        match feed_in(left) {
+            Some(at) => (left.split_at(at).0, true),
+            None => (left, false),
         }
     }
 
