@@ -118,10 +118,7 @@ fn lockspace_of(word: &[u8], geometry: &Geometry) -> Option<LockspaceArg>
 }
 
 /// Reads the four parts of a resource's word, whatever stands behind them.
-fn resource_front<'a>(
-    parts: &mut Parts<'a>,
-    geometry: &Geometry,
-) -> Result<ResourceText<'a>, usize>
+fn resource_front<'a>(parts: &mut Parts<'a>, geometry: &Geometry) -> Result<ResourceText<'a>, usize>
     ensures exact { result ≡ arguments.front_read (layout_of geometry.now) parts.old }
     ensures left { IfOk result (λ _. parts.new ≡ past_words 4 parts.old) }
 {
@@ -138,10 +135,7 @@ fn resource_front<'a>(
 }
 
 /// Reads the parts of a resource's word.
-fn resource_parts<'a>(
-    parts: &mut Parts<'a>,
-    geometry: &Geometry,
-) -> Result<ResourceText<'a>, usize>
+fn resource_parts<'a>(parts: &mut Parts<'a>, geometry: &Geometry) -> Result<ResourceText<'a>, usize>
     ensures { result ≡ arguments.resource_read (layout_of geometry.now) parts.old }
 {
     let resource = resource_front(parts, geometry)?;
@@ -150,10 +144,7 @@ fn resource_parts<'a>(
 }
 
 /// Reads the parts of a resource's word that ends with the mark of the shared mode.
-fn shared_parts<'a>(
-    parts: &mut Parts<'a>,
-    geometry: &Geometry,
-) -> Result<ResourceText<'a>, usize>
+fn shared_parts<'a>(parts: &mut Parts<'a>, geometry: &Geometry) -> Result<ResourceText<'a>, usize>
     ensures { result ≡ arguments.shared_read (layout_of geometry.now) parts.old }
 {
     let resource = resource_front(parts, geometry)?;

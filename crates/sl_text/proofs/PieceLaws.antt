@@ -176,6 +176,6 @@ pub same_piece : (c : ℕ) (word bs : List ℕ) → starts_with nat_eq bs word �
     → some_is (bytes_eq word) (first_of_list (pieces c bs)) ≡ some_is (λ w. eqb (length w) (length word)) (first_of_list (pieces c bs))
 same_piece c word bs begins = elim (position (λ b. eqb b c) bs)
     as (λ p. position (λ b. eqb b c) bs ≡ p → some_is (bytes_eq word) (first_of_list (pieces c bs)) ≡ some_is (λ w. eqb (length w) (length word)) (first_of_list (pieces c bs))) [
-  | None ↦ λ h. rw (pieces_alone c bs h) (same_front word bs bs [] begins (sym (append-nil bs)))
-  | Some at ↦ λ h. rw (pieces_at c bs at h) (same_front word bs (take at bs) (c ∷ drop (at + 1) bs) begins (text_at c bs at h))
-] refl
+      | None ↦ λ h. rw (pieces_alone c bs h) (same_front word bs bs [] begins (sym (append-nil bs)))
+      | Some at ↦ λ h. rw (pieces_at c bs at h) (same_front word bs (take at bs) (c ∷ drop (at + 1) bs) begins (text_at c bs at h))
+    ] refl

@@ -161,12 +161,7 @@ impl<D: Daemon, L: LockTable> World<D, L> {
     }
 
     /// A call is answered ok as it stands.
-    fn answer_ok(
-        &mut self,
-        machine: u32,
-        call: u64,
-        told: &mut StepTold,
-    ) -> Result<(), AllocError>
+    fn answer_ok(&mut self, machine: u32, call: u64, told: &mut StepTold) -> Result<(), AllocError>
         requires { IsAllowed D.commands D.stands (kept_state L.locks self.old.kept) self.old.hosts (AnswerCall machine call true) }
         ensures ok { OnOk result (ComesTold D.commands D.stands (kept_state L.locks self.old.kept) self.old.hosts (AnswerCall machine call true) (kept_state L.locks self.new.kept) self.new.hosts told.new) }
         ensures err { OnErr result (IsSame (kept_state L.locks self.old.kept) self.old.hosts (kept_state L.locks self.new.kept) self.new.hosts) }
