@@ -103,3 +103,7 @@ decimal-number_of (d ∷ ds) h fits =
 
 -- Numbers and their texts.
 pub ruleset texts = (is_number_text-decimal, number_of-decimal, decimal-number_of)
+
+-- A number of one digit.
+pub one_digit : (n : ℕ) → n < 10 → decimal n ≡ (48 + n) ∷ []
+one_digit n few = decimal_digit n few

@@ -124,11 +124,17 @@ pub fn is_multiple(word: &[u8], step: u64) -> bool
 }
 
 /// Writes the number to the end of a text. After an `Err` the text is as it was.
+#[tactic(auto, using(crate::proofs::NumberLaws::one_digit))]
 pub fn push_number(out: &mut Vec<u8>, number: u64) -> Result<(), AllocError>
     ensures ok { OnOk result (out.new.items ≡ out.old.items ++ decimal number) }
     ensures err { OnErr result (out.new.items ≡ out.old.items) }
     ensures full { OnErr result (vec_capacity out.old < vec_len out.old + length (decimal number)) }
 {
+    // Most numbers of a report have one digit.
+    if number < 10 {
+        out.push(b'0' + number as u8)?;
+        return Ok(());
+    }
     let mut digits = Buffer::new();
     out.extend_from_slice(digits.format(number).as_bytes())
 }
