@@ -6,7 +6,6 @@ ghost use Rattle.sl_trace.specs.Traces.{first_child};
 ghost use Rattle.sl_host.specs.BookQuestions.{leases_in, most_counted, sought_on};
 ghost use Rattle.sl_host.specs.Views.{books_of};
 ghost use Rattle.std.specs.List.{list_any};
-ghost use Rattle.std.specs.Option.{option_copied};
 ghost use Rattle.std.specs.Prelude.{bytes_eq, find, length, min, option_and_then, option_map, ◌+◌, ◌==◌, ◌≡◌, ◌≤◌};
 
 use crate::books::{Books, Config};
@@ -114,12 +113,12 @@ impl Host {
         has_job(&self.books.jobs, job)
     }
 
-    /// What the command of a running job says, to be read where it stands.
-    pub fn command_of(&self, job: u64) -> Option<&Command>
-        ensures { option_copied result ≡ option_and_then (λ j. j.command) (find (λ j. j.number == job) self.now.kept.jobs) }
+    /// What the command of a running job says.
+    pub fn command_of(&self, job: u64) -> Option<Command>
+        ensures { result ≡ option_and_then (λ j. j.command) (find (λ j. j.number == job) self.now.kept.jobs) }
     {
         match self.books.jobs.get(job) {
-            Some(job) => job.command.as_ref(),
+            Some(job) => job.command,
             None => None,
         }
     }

@@ -74,7 +74,7 @@ fn aim_of(host: &Host, work: &Work) -> Option<Aim>
 {
     match work {
         Work::ForJob { job } => match host.command_of(*job) {
-            Some(command) => aim_of_command(command),
+            Some(command) => aim_of_command(&command),
             None => None,
         },
         Work::Settling => Some(Aim::Settles),

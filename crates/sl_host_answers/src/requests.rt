@@ -282,7 +282,7 @@ fn request_for<S: Sectors>(host: &mut Host, who: &Session, call: &OpenCall, job:
     ensures run { SameRun host.old host.new }
 {
     if host.runs(job) {
-        if let Some(command) = host.command_of(job).copied() {
+        if let Some(command) = host.command_of(job) {
             request_by(host, who, job, &command, sectors);
         }
     }

@@ -228,7 +228,7 @@ pub(crate) fn converted(
     ensures left { Spends host.old host.new 3 0 }
 {
     if let Some(job) = work_job(work) {
-        if let Some(command) = host.command_of(job).copied() {
+        if let Some(command) = host.command_of(job) {
             convert_for(host, who, at, job, &command, mode, lver);
         }
     }
@@ -242,7 +242,7 @@ pub(crate) fn grant_job(host: &mut Host, who: &Session, work: &Work, mode: Mode,
     ensures left { Spends host.old host.new 2 0 }
 {
     if let Some(job) = work_job(work) {
-        if let Some(command) = host.command_of(job).copied() {
+        if let Some(command) = host.command_of(job) {
             grant_for(host, who, job, &command, mode, lver);
         }
     }
