@@ -209,7 +209,6 @@ fn sample_at(
 }
 
 /// The call at a place is gone. Mostly it is the only one, which then goes where it stands: a call is large.
-#[tactic(auto, using(crate::proofs::FlightChanges::remove_only))]
 fn remove_at(items: &mut VecDeque<Flight>, index: usize)
     requires { index < deque_len items.old }
     ensures items { items.new.items ≡ remove items.old.items index }
