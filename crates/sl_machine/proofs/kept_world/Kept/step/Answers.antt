@@ -15,11 +15,11 @@ returns-in-Some-clause-stays g c =
     (c.step.ensures.stays
     ∙ ap (λ (h : Header). stepped_by h c.args.heard (lock_input c.args.input) c.args.told.now.effects (machine_state g.L.LockTable.locks c.index_mut.result.now)) c.header.ensures.exact)
 
-pub returns-clause-stays : goal.returns-clause-stays
+pub returns-in_default-clause-stays : goal.returns-in_default-clause-stays
 unfolding kept_state
-returns-clause-stays g c =
+returns-in_default-clause-stays g c =
     unchanged (machine_state g.L.LockTable.locks) _ _ _ _ c.args.self.now.machines.items c.len.result c.args.machine _ (c.len.ensures ∙ c.args.self.now.machines.ok.0)
-    (sym c.place_of.ensures.exact ∙ c.in_default.not-Some)
+    (sym c.place_of.ensures.exact ∙ c.in_default.is)
 
 pub returns-in-Some-clause-told : goal.returns-in-Some-clause-told
 unfolding kept_state
@@ -30,8 +30,8 @@ returns-in-Some-clause-told g c s is =
     (c.len.ensures ∙ c.args.self.now.machines.ok.0) (sym c.place_of.ensures.exact ∙ c.in-Some.is) c.index_mut.ensures.value) ∙ is))
     c.step.ensures.told
 
-pub returns-clause-told : goal.returns-clause-told
+pub returns-in_default-clause-told : goal.returns-in_default-clause-told
 unfolding kept_state
-returns-clause-told g c s is =
+returns-in_default-clause-told g c s is =
     absurd (none_some s (sym (nowhere_mapped (machine_state g.L.LockTable.locks) c.args.self.now.machines.items c.len.result c.args.machine (c.len.ensures ∙ c.args.self.now.machines.ok.0)
-    (sym c.place_of.ensures.exact ∙ c.in_default.not-Some)) ∙ is))
+    (sym c.place_of.ensures.exact ∙ c.in_default.is)) ∙ is))
