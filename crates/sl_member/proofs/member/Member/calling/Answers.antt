@@ -10,13 +10,14 @@ use Rattle.sl_member.specs.declared.member.Member.TheInside.{Inside}
 use Rattle.sl_trace.specs.Sessions.{delta_written}
 use Rattle.sl_trace.specs.Traces.{Submitted, new_call}
 use Rattle.std.proofs.Common.{ap, refl, sym, ◌∙◌}
+use Rattle.std.specs.Option.{option_copied}
 
 pub returns : goal.returns
 returns c at =
     let fields : Inside = c.self.inside in
     let m : Submitted = new_call at c.args.now c.args.call.now in
     let with_parts : OwnState → LeasesState → Inside = λ o ls. record fields { own = o; leases = ls } in
-    let called : OwnState = after_call c.args.call.now.purpose c.delta_of.result c.args.now fields.own in
+    let called : OwnState = after_call c.args.call.now.purpose (option_copied c.delta_of.result) c.args.now fields.own in
     let leases : LeasesState = leases_after (layout_of fields.geometry) (new_call 0 0 c.args.call.now) fields.leases in
     let joined : JoinState → MemberKept = λ j.
     let v : MemberKept = the_view (with_parts (after_call c.args.call.now.purpose (delta_written m) c.args.now fields.own) leases) in
