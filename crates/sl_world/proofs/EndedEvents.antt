@@ -28,7 +28,7 @@ use Rattle.sl_world_law.proofs.OwnEvents.{ends_stand, own_stands}
 use Rattle.sl_world_law.specs.WorldsStand.{Comes, HaveBegun}
 use Rattle.std.proofs.Common.{ap, ap₂, refl, subst, sym, ◌∙◌}
 use Rattle.std.specs.List.{list_any, slice_set}
-use Rattle.std.specs.Prelude.{Bool, Err, IfErr, IfOk, List, None, Ok, OnOk, Option, Result, Some, bytes_eq, false, not, option_and_then, true, [], ℕ, ◌-◌, ◌∷◌, ◌≡◌}
+use Rattle.std.specs.Prelude.{Bool, Err, IfErr, List, None, Ok, OnOk, Option, Result, Some, bytes_eq, false, not, option_and_then, true, [], ℕ, ◌-◌, ◌∷◌, ◌≡◌}
 
 -- ---- beginnings
 

@@ -1,5 +1,5 @@
 -- Where no two of some uses conflict, no two of fewer do; and a use that lingers conflicts with no more than the holding did.
-use Rattle.sl_run.specs.Conflicts.{Holding, conflicts, has_conflict, is_one_user}
+use Rattle.sl_run.specs.Conflicts.{Holding, conflicts, has_conflict}
 use Rattle.sl_trace.specs.Traces.{is_shared, same_place}
 use Rattle.sl_words.proofs.CaseLaws.{false_is_true, some_value}
 use Rattle.std.proofs.Common.{ap, ap₂, arith, refl, sym, ◌∙◌}

@@ -35,7 +35,7 @@ use Rattle.std.proofs.lemmas.List.Elements.{filter-append}
 use Rattle.std.proofs.lemmas.Option.{slice_get-map}
 use Rattle.std.specs.List.{enumerate_from}
 use Rattle.std.specs.Option.{option_map_or}
-use Rattle.std.specs.Prelude.{Bool, IsSome, List, None, Option, Some, cond, drop, false, filter, flat_map, if◌then◌else◌, length, map, not, option_and_then, option_map, slice_get, slice_set, suc, take, true, unwrap_or, zero, [], ℕ, ◌++◌, ◌+◌, ◌-◌, ◌<◌, ◌==◌, ◌∷◌, ◌≡◌, ◌≤◌}
+use Rattle.std.specs.Prelude.{Bool, IsSome, List, None, Option, Some, drop, false, filter, if◌then◌else◌, length, map, not, option_and_then, option_map, slice_get, slice_set, suc, take, true, unwrap_or, zero, [], ℕ, ◌++◌, ◌+◌, ◌-◌, ◌<◌, ◌==◌, ◌∷◌, ◌≡◌, ◌≤◌}
 
 -- Whether the event is a reset.
 abbrev pub is_reset : Event → Bool

@@ -17,7 +17,7 @@ use Rattle.sl_run.specs.declared.event.Event.TheVariants.{ExitOf}
 use Rattle.sl_run.specs.declared.event.Event.{Event}
 use Rattle.sl_run.specs.declared.header.Header.{Header}
 use Rattle.sl_text.specs.Forms.{Form}
-use Rattle.sl_trace.specs.Traces.{Setting, Trace, no_effects}
+use Rattle.sl_trace.specs.Traces.{Setting, Trace}
 use Rattle.sl_trace.specs.declared.command.Command.{Command}
 use Rattle.sl_trace.specs.declared.effects.Effects.{Effects}
 use Rattle.sl_trace.specs.declared.input.Input.TheVariants.{Answer as Answered, Exit, Line, Number, Spawned, Wake}
@@ -29,7 +29,7 @@ use Rattle.sl_world.specs.ToldEvents.{ComesTold, GivesTold, told_view}
 use Rattle.sl_words.proofs.CaseLaws.{none_some}
 use Rattle.sl_words.specs.Words.{choose}
 use Rattle.sl_world_law.specs.ToldEvents.{told_in, told_of}
-use Rattle.std.proofs.Common.{List, None, Option, Some, ap, ap₂, false, refl, subst, sym, ℕ, ◌≡◌, ◌∙◌}
+use Rattle.std.proofs.Common.{List, None, Option, Some, ap, ap₂, false, refl, sym, ℕ, ◌≡◌, ◌∙◌}
 use Rattle.std.specs.Option.{option_map_or}
 use Rattle.std.specs.Prelude.{option_and_then}
 

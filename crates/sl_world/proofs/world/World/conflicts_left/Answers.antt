@@ -1,5 +1,5 @@
 -- What is counted of the uses as they are kept.
-use Rattle.sl_world.proofs.HeldThere.{IsNow, before_are, calm_is, left_are}
+use Rattle.sl_world.proofs.HeldThere.{before_are, calm_is, left_are}
 use Rattle.sl_world.proofs.world.World.conflicts_left.Goals as goal
 use Rattle.std.proofs.Common.{◌∙◌}
 

@@ -4,8 +4,8 @@ use Rattle.sl_world.proofs.ToldSteps.{heard_part, step_told}
 use Rattle.sl_world.proofs.world.World.give.Goals as goal
 use Rattle.std.proofs.Common.{◌∙◌}
 
-pub step-2-requires : goal.step-2-requires
-step-2-requires g c =
+pub step-requires-2 : goal.step-requires-2
+step-requires-2 g c =
     takes_step g.D.Daemon.commands g.D.Daemon.stands g.D.Daemon.makes g.L.LockTable.locks g.L.LockTable.has_room c.args.self.now.kept c.reserve.new.self c.args.self.now.hosts
     c.step.new.self c.args.machine c.reading-now.result c.args.input c.in_ok-effects.effects c.most-most.result (c.requires.ready (c.has_numbers-left.ensures.left c.if-not-left.false)) c.most-most.ensures c.reading-now.ensures.there
     c.in_ok-effects.ensures.ok c.reserve.ensures.same c.in_ok-reserve.ensures.room
