@@ -16,7 +16,7 @@ use Rattle.std.proofs.lemmas.List.Prefix.{front_rest}
 use Rattle.std.proofs.lemmas.List.Splits.{slice_split-cons_no}
 use Rattle.std.proofs.lemmas.List.Sums.{position_or_len_is}
 use Rattle.std.proofs.lemmas.List.{append-nil, append_assoc}
-use Rattle.std.specs.List.{list_all, onto_first, position}
+use Rattle.std.specs.List.{onto_first, position}
 use Rattle.std.specs.Prelude.{nat_le, nat_lt}
 
 -- ---- cutting

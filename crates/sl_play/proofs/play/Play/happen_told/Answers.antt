@@ -33,15 +33,15 @@ returns-in-Err-clause-refused g c w s why there = refused_so c.in-Err.error c.af
 pub returns-in-Err-clause-many : goal.returns-in-Err-clause-many
 returns-in-Err-clause-many g c = λ is. never_many c.in-Err.error c.after_error.result c.after_error.ensures is
 
-pub returns-in_ok-tell-in-Ok-clause-ok : goal.returns-in_ok-tell-in-Ok-clause-ok
-returns-in_ok-tell-in-Ok-clause-ok g c =
+pub returns-clause-ok : goal.returns-clause-ok
+returns-clause-ok g c =
     told_so g.L.LockTable.locks g.D.Daemon.commands g.D.Daemon.stands (state_of g.L.LockTable.locks c.args.self.now) c.apply.new.self c.take_back.new.self c.tell.new.self.counts c.args.event
     c.machine_of-machine.result c.is_ask-ask.result None c.apply.new.told c.args.out.now.items c.tell.new.out.items (c.take_back.ensures ∙ c.tell.ensures.world) c.in-Ok.ensures.ok c.machine_of-machine.ensures
     c.is_ask-ask.ensures (untested (state_of g.L.LockTable.locks c.args.self.now).kept c.args.event c.requires.told)
     (c.in_ok-tell-in-Ok.ensures.counts ∙ ap (λ n. counts_with c.is_ask-ask.result c.apply.new.told n c.args.self.now.counts) (c.conflicts_left-left.ensures.count ∙ ap (conflicts_left (kept_state g.L.LockTable.locks c.apply.new.self.kept) c.machine_of-machine.result) c.granted.ensures)) c.in_ok-tell-in-Ok.ensures.text
 
-pub returns-in_ok-tell-in-Ok-clause-stands : goal.returns-in_ok-tell-in-Ok-clause-stands
-returns-in_ok-tell-in-Ok-clause-stands g c =
+pub returns-clause-stands : goal.returns-clause-stands
+returns-clause-stands g c =
     stands_so g.L.LockTable.locks g.D.Daemon.commands g.D.Daemon.stands (state_of g.L.LockTable.locks c.args.self.now) c.apply.new.self c.take_back.new.self c.args.event c.apply.new.told (c.take_back.ensures ∙ c.tell.ensures.world)
     c.requires.stands c.in-Ok.ensures.ok
 
