@@ -288,24 +288,18 @@ pub(crate) fn plan(
     Ok(())
 }
 
-/// What an act that told a line, or none, leaves to be done at once.
+/// What an act at which a line was told leaves to be done at once.
 pub(crate) fn go_on(
     agenda: &mut VecDeque<Act>,
     draws: &mut Draws,
     act: Act,
-    told: Option<&str>,
+    line: &[u8],
 ) -> Result<(), AllocError> {
-    match (act, told) {
-        (Act::Pass, Some(line)) if !line.as_bytes().starts_with(b"pass") => {
-            agenda.push_front(Act::Pass)?;
-        }
-        (Act::Call(number), Some(_)) => {
-            if !draws.once_in(12) {
-                agenda.push_front(Act::Call(number))?;
-            }
-        }
-        (Act::Ended(number), Some(_)) => agenda.push_front(Act::Ended(number))?,
-        (Act::Comeback(number), Some(line)) if line.as_bytes().starts_with(b"start") => {
+    match act {
+        Act::Pass if !line.starts_with(b"pass") => agenda.push_front(Act::Pass)?,
+        Act::Call(number) if !draws.once_in(12) => agenda.push_front(Act::Call(number))?,
+        Act::Ended(number) => agenda.push_front(Act::Ended(number))?,
+        Act::Comeback(number) if line.starts_with(b"start ") => {
             agenda.push_front(Act::Join(number, 1))?;
             agenda.push_front(Act::Join(number, 0))?;
         }

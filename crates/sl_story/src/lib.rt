@@ -6,10 +6,12 @@ mod acts;
 mod cast;
 mod commands;
 mod draws;
-mod heard;
 mod header;
+mod heard;
+pub mod laws;
 mod lvm_lines;
 mod mishaps;
+mod place;
 mod story;
 
 pub use story::{Told, tell_schedule};

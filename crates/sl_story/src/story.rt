@@ -1,15 +1,27 @@
 //! A story that is told line by line.
+//!
+//! At each act the teller gives the lines that may stand next. The first that the play takes is told: its event comes to pass, with the asks
+//! behind it, what it and its report tell is heard, and it is put out. A line that is refused changes nothing, so each is tried by playing it.
+
+ghost use Rattle.sl_play.specs.Plays.{IsPlaying, state_of};
+ghost use Rattle.sl_play.specs.Replays.{MayPlay};
+ghost use Rattle.sl_run.specs.Headers.{IsHeader};
+ghost use Rattle.sl_story.specs.StoryPlays.{IsTelling, Opens, PutsLine, TakesFirst, TakesText, TellsOne};
+ghost use Rattle.sl_story.specs.ToldSchedules.{Tells};
+ghost use Rattle.sl_world_state.specs.SaneWorlds.{ReadsCommands};
+ghost use Rattle.std.specs.Io.KnownBytes.{Appends};
+ghost use Rattle.std.specs.Prelude.{Bool, IfOk, List, OnOk, Option, string_bytes, ℕ, ◌≡◌, ◌≤◌};
 
 use crate::acts::{Act, Lines, go_on, lines_of, plan};
 use crate::cast::Cast;
 use crate::draws::Draws;
-use crate::header::header_text;
+use crate::header::{Opening, opening};
 use crate::heard::{hear_line, hear_reports};
+use crate::place::{Place, says};
 use sl_io::{Sink, write_all};
 use sl_machine::LockTable;
 use sl_play::{Play, PlayError};
-use sl_schedule::{Line, Lines as SourceLines, read_header};
-use sl_run::Header;
+use sl_schedule::Line;
 use sl_world_state::Daemon;
 use std::alloc::{AllocError, Global};
 use std::collections::VecDeque;
@@ -17,64 +29,34 @@ use std::collections::VecDeque;
 /// How a story ended.
 #[derive(Clone, Copy, Debug, PartialEq, Eq)]
 pub enum Told {
+    /// So many events are told.
     Done,
+    /// Fewer are: a schedule has no room for more bytes, or at no act of many was there a line that may stand next. What is written is a schedule.
+    Short,
+    /// A write failed. What is written begins a schedule.
+    WriteFault,
+    /// There was no memory, or no number for a call, a job or a count. Nothing is written, or a schedule of fewer events.
+    NoMemory,
+}
+
+/// How one act ended.
+enum One {
+    /// A line was told, and this is the place behind it.
+    Line(Place),
+    Nothing,
     WriteFault,
     NoMemory,
 }
 
-/// How often an act is tried for each line that is to be told.
-const TRIES: u64 = 16;
+/// How many acts there are at most for each event.
+const ACTS: u64 = 16;
 
-/// The most bytes of a schedule.
-const GREATEST_SOURCE: u64 = 1_000_000_000;
-
-/// Where the next line stands.
-#[derive(Clone, Copy)]
-struct Place {
-    number: u64,
-    start: u64,
-}
-
-impl Place {
-    /// Where the line behind a text of so many bytes stands.
-    fn behind(self, text: usize) -> Place {
-        Place {
-            number: self.number.saturating_add(1),
-            start: self.start.saturating_add(text as u64).saturating_add(1),
-        }
-    }
-}
-
-/// What tells a story: its machines, its draws, and what is to be done.
+/// What tells a story: its machines, its draws, and the acts that are to come.
 #[derive(Drop)]
 struct Teller {
     cast: Cast,
     draws: Draws,
     agenda: VecDeque<Act>,
-}
-
-/// The first of these lines that the play takes; its report is in `out`.
-fn take_first<D: Daemon, L: LockTable>(
-    play: &mut Play<D, L>,
-    out: &mut Vec<u8>,
-    place: Place,
-    lines: Lines,
-) -> Result<Option<String>, PlayError> {
-    let mut lines = lines;
-    while let Some(text) = lines.pop_front() {
-        out.clear();
-        let end = place.start.saturating_add(text.len() as u64).saturating_add(1);
-        let line = Line {
-            number: place.number,
-            start: place.start,
-            text: text.as_bytes(),
-            is_past: GREATEST_SOURCE < end,
-        };
-        if play.take_line(out, &line)?.is_none() {
-            return Ok(Some(text));
-        }
-    }
-    Ok(None)
 }
 
 impl Teller {
@@ -89,16 +71,113 @@ impl Teller {
     }
 
     /// What was told at an act is heard.
-    fn hear(&mut self, act: Act, told: Option<&str>, report: &[u8]) -> Result<(), AllocError> {
-        if let Some(line) = told {
-            hear_line(&mut self.cast, line.as_bytes())?;
-            hear_reports(&mut self.cast, report)?;
-        }
-        go_on(&mut self.agenda, &mut self.draws, act, told)
+    fn hear(&mut self, act: Act, line: &str, report: &[u8]) -> Result<(), AllocError> {
+        hear_line(&mut self.cast, line.as_bytes())?;
+        hear_reports(&mut self.cast, report)?;
+        go_on(&mut self.agenda, &mut self.draws, act, line.as_bytes())
     }
 }
 
-/// Tells so many lines at most.
+/// A line that was told, and the place behind it.
+#[derive(Drop)]
+struct Taken {
+    line: String,
+    place: Place,
+}
+
+/// The play takes this text as the line at a place, and what is answered is the place behind it, with its report in `report`; or nothing has
+/// changed, and None is.
+fn take_text<D: Daemon, L: LockTable>(
+    play: &mut Play<D, L>,
+    report: &mut Vec<u8>,
+    place: Place,
+    text: &[u8],
+) -> Result<Option<Place>, PlayError>
+    requires { IsPlaying D.commands D.stands (state_of L.locks play.old) }
+    ensures takes { IfOk result (TakesText D.commands D.stands place text.now (state_of L.locks play.old) (state_of L.locks play.new)) }
+    ensures plays { OnOk result (IsPlaying D.commands D.stands (state_of L.locks play.new)) }
+{
+    if !says(text) {
+        return Ok(None);
+    }
+    let Some(behind) = place.behind(text) else {
+        return Ok(None);
+    };
+    report.clear();
+    let line = Line {
+        number: behind.lines,
+        start: place.bytes,
+        text,
+        is_past: false,
+    };
+    match play.take_line(report, &line)? {
+        None => Ok(Some(behind)),
+        Some(_) => Ok(None),
+    }
+}
+
+/// The first of these lines that the play takes; its report is in `report`.
+fn take_first<D: Daemon, L: LockTable>(
+    play: &mut Play<D, L>,
+    report: &mut Vec<u8>,
+    place: Place,
+    lines: Lines,
+) -> Result<Option<Taken>, PlayError>
+    requires { IsPlaying D.commands D.stands (state_of L.locks play.old) }
+    ensures takes { IfOk result (TakesFirst D.commands D.stands place (state_of L.locks play.old) (state_of L.locks play.new)) }
+    ensures plays { OnOk result (IsPlaying D.commands D.stands (state_of L.locks play.new)) }
+{
+    let mut lines = lines;
+    while let Some(line) = lines.pop_front() {
+        if let Some(place) = take_text(play, report, place, line.as_bytes())? {
+            return Ok(Some(Taken { line, place }));
+        }
+    }
+    Ok(None)
+}
+
+/// Puts out a line that was told.
+fn put_line<K: Sink>(sink: &mut K, taken: Taken) -> One
+    ensures { PutsLine (string_bytes taken.line) taken.place (K.taken sink.old) (K.taken sink.new) (K.faults sink.old) (K.faults sink.new) result }
+{
+    let Taken { line, place } = taken;
+    let mut text = line;
+    if text.push_str("\n").is_err() {
+        return One::NoMemory;
+    }
+    match write_all(sink, text.as_bytes()) {
+        Ok(()) => One::Line(place),
+        Err(_) => One::WriteFault,
+    }
+}
+
+/// What is told at the next act.
+fn tell_one<K: Sink, D: Daemon, L: LockTable>(
+    play: &mut Play<D, L>,
+    teller: &mut Teller,
+    report: &mut Vec<u8>,
+    place: Place,
+    sink: &mut K,
+) -> One
+    requires { IsPlaying D.commands D.stands (state_of L.locks play.old) }
+    ensures tells { TellsOne D.commands D.stands place (K.taken sink.old) (K.taken sink.new) (K.faults sink.old) (K.faults sink.new)
+        (state_of L.locks play.old) (state_of L.locks play.new) result }
+    ensures later { K.faults sink.old ≤ K.faults sink.new }
+{
+    let Ok((act, lines)) = teller.next(*report.allocator()) else {
+        return One::NoMemory;
+    };
+    match take_first(play, report, place, lines) {
+        Err(_) => One::NoMemory,
+        Ok(None) => One::Nothing,
+        Ok(Some(taken)) => match teller.hear(act, taken.line.as_str(), report) {
+            Err(_) => One::NoMemory,
+            Ok(()) => put_line(sink, taken),
+        },
+    }
+}
+
+/// Tells so many lines, if so many may stand.
 fn tell_lines<K: Sink, D: Daemon, L: LockTable>(
     alloc: Global,
     play: &mut Play<D, L>,
@@ -106,55 +185,70 @@ fn tell_lines<K: Sink, D: Daemon, L: LockTable>(
     place: Place,
     events: u64,
     sink: &mut K,
-) -> Told {
+) -> Told
+    requires { IsPlaying D.commands D.stands (state_of L.locks play.old) }
+    ensures { (hosts : ℕ) → (paired : Bool) → (written : List ℕ) → (before : Option (List ℕ)) → (faults : ℕ)
+        → IsTelling D.commands D.stands hosts paired 0 place.lines place.bytes written (state_of L.locks play.old)
+        → Appends before (K.taken sink.old) written → faults ≤ K.faults sink.old
+        → Tells D.commands D.stands hosts events paired before (K.taken sink.new) faults (K.faults sink.new) result }
+{
     let mut place = place;
-    let mut out = Vec::new(alloc);
+    let mut report = Vec::new(alloc);
     let mut left = events;
-    let mut tries = events.saturating_mul(TRIES);
-    while left > 0 && tries > 0 {
-        tries -= 1;
-        let Ok((act, lines)) = teller.next(alloc) else {
-            return Told::NoMemory;
-        };
-        let Ok(told) = take_first(play, &mut out, place, lines) else {
-            return Told::NoMemory;
-        };
-        let told = match told {
-            Some(line) => {
-                let mut text = line;
-                place = place.behind(text.len());
+    let mut acts = events.saturating_mul(ACTS);
+    while left > 0 && acts > 0 {
+        acts -= 1;
+        match tell_one(play, teller, &mut report, place, sink) {
+            One::Nothing => {}
+            One::NoMemory => return Told::NoMemory,
+            One::WriteFault => return Told::WriteFault,
+            One::Line(behind) => {
+                place = behind;
                 left -= 1;
-                if text.push_str("\n").is_err() {
-                    return Told::NoMemory;
-                }
-                if write_all(sink, text.as_bytes()).is_err() {
-                    return Told::WriteFault;
-                }
-                Some(text)
             }
-            None => None,
-        };
-        let line = match &told {
-            Some(text) => text.as_str().strip_suffix("\n"),
-            None => None,
-        };
-        if teller.hear(act, line, &out).is_err() {
-            return Told::NoMemory;
         }
     }
-    Told::Done
+    if left == 0 { Told::Done } else { Told::Short }
 }
 
-/// The header of a text.
-fn header_of(alloc: Global, text: &[u8]) -> Result<Option<Header>, AllocError> {
-    let mut lines = SourceLines::new(text);
-    match read_header(alloc, &mut lines)? {
-        Ok(header) => Ok(Some(header)),
-        Err(_) => Ok(None),
+/// The machines of a story, and what is drawn from a seed. An `Err` is want of memory.
+fn teller(alloc: Global, seed: u64, hosts: u32) -> Result<Teller, AllocError> {
+    Ok(Teller {
+        cast: Cast::new(alloc, hosts)?,
+        draws: Draws::new(seed),
+        agenda: VecDeque::new(alloc),
+    })
+}
+
+/// Puts out the first lines, and tells the story behind them.
+fn tell_behind<K: Sink, D: Daemon, L: LockTable>(
+    alloc: Global,
+    opening: Opening,
+    teller: Teller,
+    events: u64,
+    sink: &mut K,
+) -> Told
+    requires { IsHeader opening.header × ReadsCommands D.commands opening.header }
+    ensures { (hosts : ℕ) → (paired : Bool) → Opens hosts paired opening
+        → Tells D.commands D.stands hosts events paired (K.taken sink.old) (K.taken sink.new) (K.faults sink.old) (K.faults sink.new) result }
+{
+    let Opening {
+        text,
+        header,
+        place,
+    } = opening;
+    let mut teller = teller;
+    let Ok(mut play) = Play::<D, L>::new(alloc, header) else {
+        return Told::NoMemory;
+    };
+    match write_all(sink, &text) {
+        Ok(()) => tell_lines(alloc, &mut play, &mut teller, place, events, sink),
+        Err(_) => Told::WriteFault,
     }
 }
 
-/// Tells a schedule of so many events at most, for 1 to 16 hosts whose areas have pairs or not, drawn from a seed.
+/// Tells a schedule of so many events for 1 to 16 hosts, whose areas have pairs or not, drawn from a seed, and puts it out line by line, each
+/// once its event has come to pass: so what is written is accepted to its end.
 pub fn tell_schedule<K: Sink, D: Daemon, L: LockTable>(
     alloc: Global,
     seed: u64,
@@ -162,30 +256,16 @@ pub fn tell_schedule<K: Sink, D: Daemon, L: LockTable>(
     events: u64,
     paired: bool,
     sink: &mut K,
-) -> Told {
-    let Ok(text) = header_text(alloc, hosts, paired) else {
+) -> Told
+    requires hosts { (1 ≤ hosts) × (hosts ≤ 16) }
+    requires may { MayPlay D.commands }
+    ensures { Tells D.commands D.stands hosts events paired (K.taken sink.old) (K.taken sink.new) (K.faults sink.old) (K.faults sink.new) result }
+{
+    let Ok(opening) = opening(alloc, hosts, paired) else {
         return Told::NoMemory;
     };
-    let Ok(Some(header)) = header_of(alloc, text.as_bytes()) else {
-        return Told::NoMemory;
-    };
-    let Ok(mut play) = Play::<D, L>::new(alloc, header) else {
-        return Told::NoMemory;
-    };
-    let Ok(cast) = Cast::new(alloc, hosts) else {
-        return Told::NoMemory;
-    };
-    let mut teller = Teller {
-        cast,
-        draws: Draws::new(seed),
-        agenda: VecDeque::new(alloc),
-    };
-    if write_all(sink, text.as_bytes()).is_err() {
-        return Told::WriteFault;
+    match teller(alloc, seed, hosts) {
+        Err(_) => Told::NoMemory,
+        Ok(teller) => tell_behind::<K, D, L>(alloc, opening, teller, events, sink),
     }
-    let place = Place {
-        number: 100,
-        start: text.len() as u64,
-    };
-    tell_lines(alloc, &mut play, &mut teller, place, events, sink)
 }

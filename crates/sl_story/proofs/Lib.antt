@@ -1,0 +1,3 @@
+pub mod HeaderBefore
+pub mod StoriesBegin
+pub mod StoryPlays

@@ -1,0 +1,3 @@
+pub mod StoryHeaders
+pub mod StoryPlays
+pub mod ToldSchedules
