@@ -111,10 +111,10 @@ fn call_lines(
                 lines.push_back(format!(in alloc; "sample {number} {call} 1")?)?;
             }
         }
-        4 | 5 => lines.push_back(format!(in alloc; "answer {number} {call} ok")?)?,
         _ => {}
     }
     lines.push_back(format!(in alloc; "do {number} {call}")?)?;
+    lines.push_back(format!(in alloc; "answer {number} {call} ok")?)?;
     lines.push_back(format!(in alloc; "answer {number} {call} failed")?)?;
     Ok(lines)
 }
@@ -172,13 +172,6 @@ fn of_machine(
             },
             _ => Ok(None),
         },
-        Act::Ended(number) => match cast.machine(number) {
-            Some(machine) if !machine.daemon => match machine.flights.front() {
-                Some(flight) => Ok(Some(queue(alloc, fates(alloc, draws, number, flight.number)?)?)),
-                None => Ok(None),
-            },
-            _ => Ok(None),
-        },
         Act::Process(number) => match cast.machine(number) {
             Some(machine) if machine.up => Ok(Some(process_lines(alloc, draws, machine, number)?)),
             _ => Ok(None),
@@ -194,6 +187,23 @@ fn queue(alloc: Global, lines: Vec<String>) -> Result<Lines, AllocError> {
         queue.push_back(line)?;
     }
     Ok(queue)
+}
+
+/// What becomes of the next write of a machine on which no daemon runs, if there is one: it is thought of no more.
+fn ended_lines(
+    alloc: Global,
+    cast: &mut Cast,
+    draws: &mut Draws,
+    number: u32,
+) -> Result<Lines, AllocError> {
+    let flight = match cast.machine_mut(number) {
+        Some(machine) if !machine.daemon => machine.flights.pop_front(),
+        _ => None,
+    };
+    match flight {
+        Some(flight) => queue(alloc, fates(alloc, draws, number, flight.number)?),
+        None => Ok(Lines::new(alloc)),
+    }
 }
 
 /// Whether the daemon of a machine acts.
@@ -222,6 +232,7 @@ pub(crate) fn lines_of(
             let text = join(alloc, lockspace, number)?;
             only(alloc, format!(in alloc; "command {number} {text}")?)
         }
+        Act::Ended(number) => ended_lines(alloc, cast, draws, number),
         Act::Comeback(number) => queue(alloc, comeback(alloc, cast, number)?),
         Act::Mishap(number) => match mishap(alloc, cast, draws, number)? {
             Some(line) => only(alloc, line),

@@ -142,14 +142,15 @@ fn of_session(alloc: Global, draws: &mut Draws, id: u32) -> Result<String, Alloc
 
 /// What a host refuses.
 fn refused(alloc: Global, draws: &mut Draws) -> Result<String, AllocError> {
-    match draws.below(8) {
+    match draws.below(9) {
         0 => format!(in alloc; "acquire -r l2:r1:/d:1048576 -p 1"),
         1 => format!(in alloc; "acquire -r ls:x:/d:1048576 -p 1"),
         2 => format!(in alloc; "acquire -r ls:r7:/d:7340032 -p 1"),
         3 => format!(in alloc; "acquire -r ls:q:/e:0 -p 1"),
         4 => format!(in alloc; "acquire -r ls:r1:/d:5 -p 1"),
         5 => format!(in alloc; "acquire -r ls:r1:/d:1048576 -p 1000099"),
-        6 => format!(in alloc; "add_lockspace -s ls:1:/d:1048576"),
+        6 => format!(in alloc; "add_lockspace -s l2:1:/d:1048576"),
+        7 => format!(in alloc; "add_lockspace -s l2:1:/d:0"),
         _ => format!(in alloc; "renew"),
     }
 }
