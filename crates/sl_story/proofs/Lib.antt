@@ -1,3 +1,4 @@
 pub mod HeaderBefore
+pub mod Openings
 pub mod StoriesBegin
 pub mod StoryPlays

@@ -11,30 +11,26 @@ use Rattle.std.specs.Prelude.{Bool, List, codes, decimal, if◌then◌else◌, m
 
 -- ---- the lines
 
--- Of a resource of the hosts' own.
-abbrev pub resource_line : ℕ → List ℕ
-resource_line k = codes "resource ls r" ++ decimal k ++ codes " /d " ++ decimal (k * mebibyte)
-
 -- Of machine m's session in a lockspace.
 abbrev pub session_line : List ℕ → ℕ → List ℕ
 session_line lockspace m = codes "session " ++ decimal m ++ codes " " ++ lockspace ++ codes " " ++ decimal m ++ codes " h" ++ decimal m
 
--- Up to the resources.
-unfoldable pub front_lines : ℕ → Bool → List (List ℕ)
-front_lines hosts paired =
-    (if paired then codes "sanlock 2" else codes "sanlock 1") ∷ codes "time 100 600 100 10 300" ∷ (codes "hosts " ++ decimal hosts) ∷ (codes "ids " ++ decimal hosts) ∷ codes "lvm 2"
-    ∷ codes "disk /d 8" ∷ codes "disk /dev/mapper/vg-lvmlock 4" ∷ codes "lockspace ls /d 0" ∷ codes "lockspace lvm_vg /dev/mapper/vg-lvmlock 0" ∷ []
+-- The first lines, for so many machines, whose areas have pairs or not.
+unfoldable pub number_lines : ℕ → Bool → List (List ℕ)
+number_lines hosts paired =
+    (if paired then codes "sanlock 2" else codes "sanlock 1") ∷ codes "time 100 600 100 10 300" ∷ (codes "hosts " ++ decimal hosts) ∷ (codes "ids " ++ decimal hosts) ∷ []
 
--- Of the areas of a volume group: the global lock's, the group's and a volume's.
-unfoldable pub group_lines : List (List ℕ)
-group_lines =
-    codes "resource lvm_vg GLLK /dev/mapper/vg-lvmlock 1048576" ∷ codes "resource lvm_vg VGLK /dev/mapper/vg-lvmlock 2097152" ∷ codes "resource lvm_vg lv /dev/mapper/vg-lvmlock 3145728" ∷ []
+-- The lines that each story has: a disk with four resources, and one with a volume group's locks: the global one, the group's, a volume's.
+unfoldable pub fixed_lines : List (List ℕ)
+fixed_lines =
+    codes "lvm 2" ∷ codes "disk /d 8" ∷ codes "disk /dev/mapper/vg-lvmlock 4" ∷ codes "lockspace ls /d 0" ∷ codes "lockspace lvm_vg /dev/mapper/vg-lvmlock 0"
+    ∷ codes "resource ls r1 /d 1048576" ∷ codes "resource ls r2 /d 2097152" ∷ codes "resource ls r3 /d 3145728" ∷ codes "resource ls r4 /d 4194304"
+    ∷ codes "resource lvm_vg GLLK /dev/mapper/vg-lvmlock 1048576" ∷ codes "resource lvm_vg VGLK /dev/mapper/vg-lvmlock 2097152" ∷ codes "resource lvm_vg lv /dev/mapper/vg-lvmlock 3145728" ∷ []
 
--- All of them, for so many machines, whose areas have pairs or not.
+-- All of them.
 unfoldable pub story_lines : ℕ → Bool → List (List ℕ)
 story_lines hosts paired =
-    front_lines hosts paired ++ map resource_line (range_with_len 1 4) ++ group_lines ++ map (session_line (codes "ls")) (range_with_len 1 hosts)
-    ++ map (session_line (codes "lvm_vg")) (range_with_len 1 hosts) ++ codes "begin" ∷ []
+    number_lines hosts paired ++ fixed_lines ++ map (session_line (codes "ls")) (range_with_len 1 hosts) ++ map (session_line (codes "lvm_vg")) (range_with_len 1 hosts) ++ codes "begin" ∷ []
 
 -- ---- the header
 
@@ -62,7 +58,7 @@ story_header hosts paired =
       clocks = [];
       disks = record { path = codes "/d"; mebibytes = 8 } ∷ record { path = group_disk; mebibytes = 4 } ∷ [];
       lockspaces = record { name = codes "ls"; path = codes "/d"; offset = 0 } ∷ record { name = codes "lvm_vg"; path = group_disk; offset = 0 } ∷ [];
-      resources = map story_resource (range_with_len 1 4) ++ group_resource (codes "GLLK") 1 ∷ group_resource (codes "VGLK") 2 ∷ group_resource (codes "lv") 3 ∷ [];
+      resources = story_resource 1 ∷ story_resource 2 ∷ story_resource 3 ∷ story_resource 4 ∷ group_resource (codes "GLLK") 1 ∷ group_resource (codes "VGLK") 2 ∷ group_resource (codes "lv") 3 ∷ [];
       sessions = map (story_session (codes "ls")) (range_with_len 1 hosts) ++ map (story_session (codes "lvm_vg")) (range_with_len 1 hosts);
     }
 

@@ -1,15 +1,14 @@
 //! The header of a story: two disks, a lockspace of the hosts' own and one of a volume group, and a session of each machine in both.
 
-ghost use Rattle.sl_story.specs.StoryHeaders.{front_lines, group_lines, resource_line, session_line, story_header, story_lines};
+ghost use Rattle.sl_story.specs.StoryHeaders.{fixed_lines, number_lines, session_line, story_lines};
 ghost use Rattle.sl_story.specs.StoryPlays.{Opens};
 ghost use Rattle.sl_text.specs.Forms.{as_bytes};
 ghost use Rattle.std.specs.List.{range_with_len};
-ghost use Rattle.std.specs.Prelude.{IfOk, OnOk, codes, decimal, map, ◌*◌, ◌++◌, ◌≡◌, ◌≤◌};
+ghost use Rattle.std.specs.Prelude.{IfOk, OnOk, codes, if◌then◌else◌, map, ◌++◌, ◌∷◌, ◌≡◌, ◌≤◌, []};
 
 use crate::place::Place;
 use sl_run::Header;
 use sl_schedule::{Lines, read_header};
-use sl_text::write::push_line;
 use std::alloc::{AllocError, Global};
 
 /// Bytes of an area.
@@ -21,6 +20,9 @@ pub(crate) const RESOURCES: u32 = 4;
 /// The disk of the volume group.
 pub(crate) const GROUP_DISK: &str = "/dev/mapper/vg-lvmlock";
 
+/// The lines that each story has: a disk with four resources, and one with a volume group's locks.
+const FIXED: &[u8] = b"lvm 2\ndisk /d 8\ndisk /dev/mapper/vg-lvmlock 4\nlockspace ls /d 0\nlockspace lvm_vg /dev/mapper/vg-lvmlock 0\nresource ls r1 /d 1048576\nresource ls r2 /d 2097152\nresource ls r3 /d 3145728\nresource ls r4 /d 4194304\nresource lvm_vg GLLK /dev/mapper/vg-lvmlock 1048576\nresource lvm_vg VGLK /dev/mapper/vg-lvmlock 2097152\nresource lvm_vg lv /dev/mapper/vg-lvmlock 3145728\n";
+
 /// The first lines of a story, what they are read as, and the place behind them.
 #[derive(Drop)]
 pub(crate) struct Opening {
@@ -29,49 +31,35 @@ pub(crate) struct Opening {
     pub(crate) place: Place,
 }
 
-/// Adds the lines up to those of the resources.
-fn push_front(out: &mut Vec<u8>, hosts: u32, paired: bool) -> Result<(), AllocError>
-    ensures { OnOk result (out.new.items ≡ out.old.items ++ as_bytes (front_lines hosts paired)) }
+/// The first line's words.
+fn version(paired: bool) -> &'static str
+    ensures { result.now ≡ (if paired then codes "sanlock 2" else codes "sanlock 1") }
 {
-    let machines = format!(in *out.allocator(); "hosts {hosts}")?;
-    let ids = format!(in *out.allocator(); "ids {hosts}")?;
-    push_line(out, if paired { b"sanlock 2" } else { b"sanlock 1" })?;
-    push_line(out, b"time 100 600 100 10 300")?;
-    push_line(out, machines.as_bytes())?;
-    push_line(out, ids.as_bytes())?;
-    push_line(out, b"lvm 2")?;
-    push_line(out, b"disk /d 8")?;
-    push_line(out, b"disk /dev/mapper/vg-lvmlock 4")?;
-    push_line(out, b"lockspace ls /d 0")?;
-    push_line(out, b"lockspace lvm_vg /dev/mapper/vg-lvmlock 0")
+    if paired { "sanlock 2" } else { "sanlock 1" }
 }
 
-/// Adds the line of a resource of the hosts' own.
-fn push_resource(out: &mut Vec<u8>, number: u32) -> Result<(), AllocError>
-    ensures { OnOk result (out.new.items ≡ out.old.items ++ as_bytes (map resource_line (range_with_len number 1))) }
+/// Adds the first lines.
+fn push_numbers(out: &mut Vec<u8>, hosts: u32, paired: bool) -> Result<(), AllocError>
+    ensures { OnOk result (out.new.items ≡ out.old.items ++ as_bytes (number_lines hosts paired)) }
 {
-    let offset = u64::from(number) * AREA;
-    let line = format!(in *out.allocator(); "resource ls r{number} /d {offset}")?;
-    push_line(out, line.as_bytes())
+    let version = version(paired);
+    let text = format!(in *out.allocator(); "{version}\ntime 100 600 100 10 300\nhosts {hosts}\nids {hosts}\n")?;
+    out.extend_from_slice(text.as_bytes())
 }
 
-/// Adds the lines of the resources.
-fn push_resources(out: &mut Vec<u8>) -> Result<(), AllocError>
-    ensures { OnOk result (out.new.items ≡ out.old.items ++ as_bytes (map resource_line (range_with_len 1 4))) }
+/// Adds the lines that each story has.
+fn push_fixed(out: &mut Vec<u8>) -> Result<(), AllocError>
+    ensures { OnOk result (out.new.items ≡ out.old.items ++ as_bytes fixed_lines) }
 {
-    push_resource(out, 1)?;
-    push_resource(out, 2)?;
-    push_resource(out, 3)?;
-    push_resource(out, 4)
+    out.extend_from_slice(FIXED)
 }
 
-/// Adds the lines of the areas of the volume group.
-fn push_group(out: &mut Vec<u8>) -> Result<(), AllocError>
-    ensures { OnOk result (out.new.items ≡ out.old.items ++ as_bytes group_lines) }
+/// Adds the line of a machine's session in a lockspace.
+fn push_session(out: &mut Vec<u8>, lockspace: &str, machine: u32) -> Result<(), AllocError>
+    ensures { OnOk result (out.new.items ≡ out.old.items ++ as_bytes (session_line lockspace.now machine ∷ [])) }
 {
-    push_line(out, b"resource lvm_vg GLLK /dev/mapper/vg-lvmlock 1048576")?;
-    push_line(out, b"resource lvm_vg VGLK /dev/mapper/vg-lvmlock 2097152")?;
-    push_line(out, b"resource lvm_vg lv /dev/mapper/vg-lvmlock 3145728")
+    let line = format!(in *out.allocator(); "session {machine} {lockspace} {machine} h{machine}\n")?;
+    out.extend_from_slice(line.as_bytes())
 }
 
 /// Adds the lines of the sessions in a lockspace: each machine has joined under its own number.
@@ -81,10 +69,16 @@ fn push_sessions(out: &mut Vec<u8>, lockspace: &str, hosts: u32) -> Result<(), A
     let mut machine = 0;
     while machine < hosts {
         machine += 1;
-        let line = format!(in *out.allocator(); "session {machine} {lockspace} {machine} h{machine}")?;
-        push_line(out, line.as_bytes())?;
+        push_session(out, lockspace, machine)?;
     }
     Ok(())
+}
+
+/// Adds the last line.
+fn push_begin(out: &mut Vec<u8>) -> Result<(), AllocError>
+    ensures { OnOk result (out.new.items ≡ out.old.items ++ as_bytes (codes "begin" ∷ [])) }
+{
+    out.extend_from_slice(b"begin\n")
 }
 
 /// The lines of the header of a story of so many machines, whose areas have pairs or not. An `Err` is want of memory.
@@ -92,12 +86,11 @@ fn header_text(alloc: Global, hosts: u32, paired: bool) -> Result<Vec<u8>, Alloc
     ensures { IfOk result (λ text. text.items ≡ as_bytes (story_lines hosts paired)) }
 {
     let mut text = Vec::new(alloc);
-    push_front(&mut text, hosts, paired)?;
-    push_resources(&mut text)?;
-    push_group(&mut text)?;
+    push_numbers(&mut text, hosts, paired)?;
+    push_fixed(&mut text)?;
     push_sessions(&mut text, "ls", hosts)?;
     push_sessions(&mut text, "lvm_vg", hosts)?;
-    push_line(&mut text, b"begin")?;
+    push_begin(&mut text)?;
     Ok(text)
 }
 

@@ -8,9 +8,6 @@ ghost use Rattle.std.specs.Prelude.{IfSome, length, ◌+◌, ◌≡◌, ◌≤�
 /// The most bytes of a schedule.
 const GREATEST_SOURCE: u64 = 1_000_000_000;
 
-/// The most bytes of a line.
-const LONGEST_LINE: u64 = 4096;
-
 /// How many lines of a schedule stand, and how many bytes.
 #[derive(Clone, Copy)]
 pub(crate) struct Place {
@@ -45,12 +42,12 @@ pub(crate) fn says(line: &[u8]) -> bool
 }
 
 impl Place {
-    /// Where the line stands that comes behind one more of these bytes; None where a schedule has no room for it, or it is longer than a line may be.
+    /// Where the line stands that comes behind one more of these bytes; None where a schedule has no room for it.
     pub(crate) fn behind(self, line: &[u8]) -> Option<Place>
-        ensures { IfSome result (λ p. (p.lines ≡ self.lines + 1) × (p.bytes ≡ self.bytes + length line.now + 1)) }
+        ensures { IfSome result (λ p. (p.lines ≡ self.lines + 1) × (p.bytes ≡ self.bytes + length line.now + 1) × (p.bytes ≤ 1000000000)) }
     {
         let len = line.len() as u64;
-        if len <= LONGEST_LINE && self.bytes + len < GREATEST_SOURCE {
+        if self.bytes + len < GREATEST_SOURCE {
             Some(Place {
                 lines: self.lines + 1,
                 bytes: self.bytes + len + 1,
