@@ -156,10 +156,10 @@ module _ {D : Type 0} (commands : Header → List (Form Command)) (stands : D �
   small : (n : ℕ) → nat_le n 10000 ≡ true → n ≤ greatest_source
   small n h = grind (arith, nat_tests)
 
-  pub telling_first : (hosts : ℕ) (paired : Bool) (o : Opening) (p : PlayState D) → 1 ≤ hosts → hosts ≤ 16 → Opens hosts paired o → Begins commands stands o.header p
+  pub telling_first : (hosts : ℕ) (paired : Bool) (o : Opening) (p : PlayState D) → Opens hosts paired o → Begins commands stands o.header p
       → IsTelling commands stands hosts paired 0 o.place.lines o.place.bytes o.text.items p
-  telling_first hosts paired o p low high opens begins =
-      let s = are_stories hosts paired low high in
+  telling_first hosts paired o p opens begins =
+      let s = are_stories hosts paired opens.hosts_are.0 opens.hosts_are.1 in
       let ls : List (List ℕ) = story_lines hosts paired in
       let h : Header = story_header hosts paired in
       let begins_so : Begins commands stands h p = subst (λ (k : Header). Begins commands stands k p) opens.header_is begins in

@@ -18,10 +18,11 @@ use Rattle.sl_trace.specs.Traces.{Setting, Trace}
 use Rattle.sl_trace.specs.declared.command.Command.{Command}
 use Rattle.std.specs.Io.KnownBytes.{Appends}
 use Rattle.std.specs.List.{list_all}
-use Rattle.std.specs.Prelude.{Bool, List, None, Option, Some, length, string_bytes, true, [], ℕ, ◌*◌, ◌++◌, ◌+◌, ◌∷◌, ◌≡◌}
+use Rattle.std.specs.Prelude.{Bool, List, None, Option, Some, length, string_bytes, true, [], ℕ, ◌*◌, ◌++◌, ◌+◌, ◌∷◌, ◌≡◌, ◌≤◌}
 
 -- The first lines, and what they are read as.
 pub record Opens (hosts : ℕ) (paired : Bool) (o : Opening) : Type 0 where
+  pub hosts_are : (1 ≤ hosts) × (hosts ≤ 16)
   pub text_is : o.text.items ≡ as_bytes (story_lines hosts paired)
   pub header_is : o.header ≡ story_header hosts paired
   pub lines_are : o.place.lines ≡ 17 + 2 * hosts
