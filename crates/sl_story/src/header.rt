@@ -95,7 +95,7 @@ fn header_text(alloc: Global, hosts: u32, paired: bool) -> Result<Vec<u8>, Alloc
 }
 
 /// What a story of so many machines, 1 to 16, whose areas have pairs or not, begins with. An `Err` is want of memory.
-pub(crate) fn opening(alloc: Global, hosts: u32, paired: bool) -> Result<Opening, AllocError>
+pub(crate) fn first_lines(alloc: Global, hosts: u32, paired: bool) -> Result<Opening, AllocError>
     requires { (1 ≤ hosts) × (hosts ≤ 16) }
     ensures { IfOk result (Opens hosts paired) }
 {

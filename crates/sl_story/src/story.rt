@@ -15,7 +15,7 @@ ghost use Rattle.std.specs.Prelude.{Bool, IfOk, List, OnOk, Option, string_bytes
 use crate::acts::{Act, Lines, go_on, lines_of, plan};
 use crate::cast::Cast;
 use crate::draws::Draws;
-use crate::header::{Opening, opening};
+use crate::header::{Opening, first_lines};
 use crate::heard::{hear_line, hear_reports};
 use crate::place::{Place, says};
 use sl_io::{Sink, write_all};
@@ -212,7 +212,7 @@ fn tell_lines<K: Sink, D: Daemon, L: LockTable>(
 }
 
 /// The machines of a story, and what is drawn from a seed. An `Err` is want of memory.
-fn teller(alloc: Global, seed: u64, hosts: u32) -> Result<Teller, AllocError> {
+fn new_teller(alloc: Global, seed: u64, hosts: u32) -> Result<Teller, AllocError> {
     Ok(Teller {
         cast: Cast::new(alloc, hosts)?,
         draws: Draws::new(seed),
@@ -261,10 +261,10 @@ pub fn tell_schedule<K: Sink, D: Daemon, L: LockTable>(
     requires may { MayPlay D.commands }
     ensures { Tells D.commands D.stands hosts events paired (K.taken sink.old) (K.taken sink.new) (K.faults sink.old) (K.faults sink.new) result }
 {
-    let Ok(opening) = opening(alloc, hosts, paired) else {
+    let Ok(opening) = first_lines(alloc, hosts, paired) else {
         return Told::NoMemory;
     };
-    match teller(alloc, seed, hosts) {
+    match new_teller(alloc, seed, hosts) {
         Err(_) => Told::NoMemory,
         Ok(teller) => tell_behind::<K, D, L>(alloc, opening, teller, events, sink),
     }
