@@ -79,7 +79,7 @@ fn push_overdue(
 
 /// Time that passes, or else what must come before it.
 fn pass(alloc: Global, cast: &Cast, draws: &mut Draws) -> Result<Lines, AllocError> {
-    let time = draws.one_of(&[20, 50, 100, 100, 100, 150, 200], 100);
+    let time = draws.one_of(&[10, 20, 20, 30, 30, 40, 40, 50, 50, 50, 60, 150], 50);
     let mut lines = only(alloc, pass_line(alloc, cast, draws, time)?)?;
     let until = cast.moment.saturating_add(u64::from(time));
     for (index, machine) in cast.machines.iter().enumerate() {
@@ -253,28 +253,28 @@ fn plan_machine(
     number: u32,
 ) -> Result<(), AllocError> {
     agenda.push_back(Act::Test(number))?;
-    if draws.once_in(2) {
+    if draws.once_in(3) {
         agenda.push_back(Act::Wake(number))?;
     }
     agenda.push_back(Act::Call(number))?;
-    if draws.once_in(3) {
+    if draws.once_in(5) {
         agenda.push_back(Act::Command(number))?;
         agenda.push_back(Act::Call(number))?;
     }
-    if draws.once_in(10) {
+    if draws.once_in(20) {
         agenda.push_back(Act::Lvm(number))?;
         agenda.push_back(Act::Call(number))?;
     }
     match cast.machine(number) {
         Some(machine) if !machine.daemon => {
             agenda.push_back(Act::Ended(number))?;
-            if draws.once_in(8) {
+            if draws.once_in(12) {
                 agenda.push_back(Act::Comeback(number))?;
             }
         }
         Some(machine) if !machine.starts.is_empty() => agenda.push_back(Act::Process(number))?,
         _ => {
-            if draws.once_in(12) {
+            if draws.once_in(25) {
                 agenda.push_back(Act::Process(number))?;
             }
         }
@@ -292,7 +292,7 @@ pub(crate) fn plan(
     for number in 0..cast.count() {
         plan_machine(agenda, cast, draws, number.saturating_add(1))?;
     }
-    if draws.once_in(10) {
+    if draws.once_in(25) {
         let number = 1 + draws.below(cast.count().max(1));
         agenda.push_back(Act::Mishap(number))?;
     }
@@ -308,7 +308,7 @@ pub(crate) fn go_on(
 ) -> Result<(), AllocError> {
     match act {
         Act::Pass if !line.starts_with(b"pass") => agenda.push_front(Act::Pass)?,
-        Act::Call(number) if !draws.once_in(12) => agenda.push_front(Act::Call(number))?,
+        Act::Call(number) if !draws.once_in(5) => agenda.push_front(Act::Call(number))?,
         Act::Ended(number) => agenda.push_front(Act::Ended(number))?,
         Act::Comeback(number) if line.starts_with(b"start ") => {
             agenda.push_front(Act::Join(number, 1))?;
