@@ -1,5 +1,11 @@
 //! A case, as its line tells it.
 
+use crate::outcome::ROOM;
+use sl_host_step::HostDaemon;
+use sl_io::MemSink;
+use sl_locks::LvmLocks;
+use sl_play::laws::headers::whole_language_may_play;
+use sl_story::tell_schedule;
 use sl_text::line::split_line;
 use std::alloc::{AllocError, Global};
 use std::rt::Files;
@@ -105,6 +111,26 @@ fn with_line<R: Files + AllocGlobal>(
     Ok(source)
 }
 
+/// The number of a word, and 0 where it has none.
+fn number_in(word: Option<&str>) -> u64 {
+    word.and_then(|word| word.parse().ok()).unwrap_or(0)
+}
+
+/// The schedule that is told of `SEED HOSTS EVENTS`, and with a 2 behind it of areas with pairs.
+fn told(alloc: Global, said: &str) -> Result<Vec<u8>, AllocError> {
+    let mut words = said.split(' ');
+    let seed = number_in(words.next());
+    let hosts = number_in(words.next()).clamp(1, 16) as u32;
+    let events = number_in(words.next());
+    let paired = words.next() == Some("2");
+    let mut sink = MemSink::new(alloc, ROOM, Vec::new(alloc), Vec::new(alloc))?;
+    whole_language_may_play();
+    let _told = tell_schedule::<MemSink, HostDaemon, LvmLocks>(
+        alloc, seed, hosts, events, paired, &mut sink,
+    );
+    Ok(sink.into_taken())
+}
+
 /// The words, the source and what is due of a command line.
 fn parts<R: Files + AllocGlobal>(
     rt: &R,
@@ -118,6 +144,9 @@ fn parts<R: Files + AllocGlobal>(
             file(rt, name, "schedule")?,
             Some(due),
         ));
+    }
+    if let Some(said) = line.strip_prefix("told ") {
+        return Ok((words(alloc, "replay")?, told(alloc, said)?, None));
     }
     if let Some(rest) = line.strip_prefix("lives ") {
         let (name, folder) = rest.split_once(' ').unwrap_or((rest, ""));
