@@ -7,7 +7,7 @@ use Rattle.sl_run.specs.declared.header.ResourceLine.{ResourceLine}
 use Rattle.sl_run.specs.declared.header.SessionLine.{SessionLine}
 use Rattle.sl_text.specs.Forms.{as_bytes}
 use Rattle.std.specs.List.{range_with_len}
-use Rattle.std.specs.Prelude.{Bool, List, codes, decimal, if◌then◌else◌, map, [], ℕ, ◌*◌, ◌++◌, ◌∷◌, ◌≡◌, ◌≤◌}
+use Rattle.std.specs.Prelude.{Bool, List, codes, decimal, if◌then◌else◌, map, [], ℕ, ◌*◌, ◌++◌, ◌+◌, ◌∷◌, ◌≡◌, ◌≤◌}
 
 -- ---- the lines
 
@@ -18,7 +18,7 @@ session_line lockspace m = codes "session " ++ decimal m ++ codes " " ++ lockspa
 -- The first lines, for so many machines, whose areas have pairs or not.
 unfoldable pub number_lines : ℕ → Bool → List (List ℕ)
 number_lines hosts paired =
-    (if paired then codes "sanlock 2" else codes "sanlock 1") ∷ codes "time 100 600 100 10 300" ∷ (codes "hosts " ++ decimal hosts) ∷ (codes "ids " ++ decimal hosts) ∷ []
+    (if paired then codes "sanlock 2" else codes "sanlock 1") ∷ codes "time 100 600 100 10 300" ∷ (codes "hosts " ++ decimal hosts) ∷ (codes "ids " ++ decimal (hosts + 8)) ∷ []
 
 -- The lines that each story has: a disk with four resources, and one with a volume group's locks: the global one, the group's, a volume's.
 unfoldable pub fixed_lines : List (List ℕ)
@@ -53,7 +53,7 @@ story_header hosts paired =
       timing = record { io = 100; fire = 600; land = 100; rho = 10 };
       grace = 300;
       machines = hosts;
-      geometry = record { sector = default_sector; area = default_area; hosts = hosts; paired = paired };
+      geometry = record { sector = default_sector; area = default_area; hosts = hosts + 8; paired = paired };
       retries = 2;
       clocks = [];
       disks = record { path = codes "/d"; mebibytes = 8 } ∷ record { path = group_disk; mebibytes = 4 } ∷ [];

@@ -3,6 +3,7 @@
 use crate::cast::{Cast, FIRE, Flight, Machine};
 use crate::commands::{command, join};
 use crate::draws::Draws;
+use crate::header::SPARE_IDS;
 use crate::lvm_lines::lvm_line;
 use crate::mishaps::{comeback, fates, mishap};
 use std::alloc::{AllocError, Global};
@@ -229,8 +230,7 @@ pub(crate) fn lines_of(
         }
         Act::Lvm(number) if acts(cast, number) => only(alloc, lvm_line(alloc, draws, number)?),
         Act::Join(number, lockspace) if acts(cast, number) => {
-            let text = join(alloc, lockspace, number)?;
-            only(alloc, format!(in alloc; "command {number} {text}")?)
+            only(alloc, join_line(alloc, cast, draws, number, lockspace)?)
         }
         Act::Ended(number) => ended_lines(alloc, cast, draws, number),
         Act::Comeback(number) => queue(alloc, comeback(alloc, cast, number)?),
@@ -243,6 +243,45 @@ pub(crate) fn lines_of(
             None => Ok(Lines::new(alloc)),
         },
     }
+}
+
+/// A joining, mostly under the machine's own number.
+fn join_line(
+    alloc: Global,
+    cast: &mut Cast,
+    draws: &mut Draws,
+    number: u32,
+    lockspace: u32,
+) -> Result<String, AllocError> {
+    let most = cast.count().saturating_add(SPARE_IDS).max(1);
+    let id = if draws.once_in(4) {
+        draws.below(most).saturating_add(1)
+    } else {
+        number
+    };
+    if lockspace == 0 {
+        if let Some(machine) = cast.machine_mut(number) {
+            machine.id = id;
+        }
+    }
+    let text = join(alloc, lockspace, id)?;
+    format!(in alloc; "command {number} {text}")
+}
+
+/// The joinings of a machine that has no session, now and then.
+fn plan_joining(
+    agenda: &mut VecDeque<Act>,
+    machine: &Machine,
+    draws: &mut Draws,
+    number: u32,
+) -> Result<(), AllocError> {
+    if machine.daemon && !machine.joined && draws.once_in(25) {
+        agenda.push_back(Act::Join(number, 0))?;
+    }
+    if machine.daemon && !machine.in_group && draws.once_in(50) {
+        agenda.push_back(Act::Join(number, 1))?;
+    }
+    Ok(())
 }
 
 /// The acts of a machine in a round.
@@ -264,6 +303,9 @@ fn plan_machine(
     if draws.once_in(20) {
         agenda.push_back(Act::Lvm(number))?;
         agenda.push_back(Act::Call(number))?;
+    }
+    if let Some(machine) = cast.machine(number) {
+        plan_joining(agenda, machine, draws, number)?;
     }
     match cast.machine(number) {
         Some(machine) if !machine.daemon => {

@@ -35,6 +35,12 @@ pub(crate) struct Machine {
     pub(crate) tested: u64,
     pub(crate) flights: VecDeque<Flight>,
     pub(crate) holdings: Vec<Holding>,
+    /// The id under which it last asked to join the hosts' own lockspace.
+    pub(crate) id: u32,
+    /// Whether it has a session there.
+    pub(crate) joined: bool,
+    /// Whether it has one in the volume group's lockspace.
+    pub(crate) in_group: bool,
     /// Children whose start is under way.
     pub(crate) starts: VecDeque<u32>,
     /// Children that run.
@@ -51,8 +57,8 @@ pub(crate) struct Cast {
 }
 
 impl Machine {
-    /// A machine on which a daemon runs, at moment 0.
-    fn new(alloc: Global) -> Machine {
+    /// A machine on which a daemon runs that has joined under this id, at moment 0.
+    fn new(alloc: Global, id: u32) -> Machine {
         Machine {
             up: true,
             daemon: true,
@@ -61,6 +67,9 @@ impl Machine {
             tested: 0,
             flights: VecDeque::new(alloc),
             holdings: Vec::new(alloc),
+            id,
+            joined: true,
+            in_group: true,
             starts: VecDeque::new(alloc),
             children: VecDeque::new(alloc),
         }
@@ -79,6 +88,8 @@ impl Machine {
     /// The daemon has ended: what it read is answered no more, and no child of it is known.
     pub(crate) fn end(&mut self) {
         self.daemon = false;
+        self.joined = false;
+        self.in_group = false;
         self.flights.retain(|flight| flight.writes);
         self.starts.clear();
     }
@@ -100,8 +111,9 @@ impl Cast {
             machines: Vec::new(alloc),
             names: 0,
         };
-        for _ in 0..machines {
-            cast.machines.push(Machine::new(alloc))?;
+        for number in 0..machines {
+            let machine = Machine::new(alloc, number.saturating_add(1));
+            cast.machines.push(machine)?;
         }
         Ok(cast)
     }

@@ -126,6 +126,14 @@ pub(crate) fn join(alloc: Global, lockspace: u32, id: u32) -> Result<String, All
     }
 }
 
+/// The id under which a machine last asked to join.
+fn session_id(cast: &Cast, number: u32) -> u32 {
+    match cast.machine(number) {
+        Some(machine) => machine.id,
+        None => number,
+    }
+}
+
 /// What is asked of a session under an id.
 fn of_session(alloc: Global, draws: &mut Draws, id: u32) -> Result<String, AllocError> {
     match draws.below(6) {
@@ -133,10 +141,8 @@ fn of_session(alloc: Global, draws: &mut Draws, id: u32) -> Result<String, Alloc
         1 => format!(in alloc; "inq_lockspace -s ls:{id}:/d:0"),
         2 => format!(in alloc; "status"),
         3 => format!(in alloc; "rem_lockspace -s ls:{id}:/d:0"),
-        _ => {
-            let lockspace = draws.below(2);
-            join(alloc, lockspace, id)
-        }
+        4 => join(alloc, 0, id),
+        _ => join(alloc, 1, id),
     }
 }
 
@@ -174,9 +180,7 @@ pub(crate) fn command(
         }
         78..=84 => request(alloc, draws)?,
         85..=94 => {
-            let other = 1 + draws.below(cast.count().max(1));
-            let id = if draws.once_in(4) { other } else { machine };
-            of_session(alloc, draws, id)?
+            of_session(alloc, draws, session_id(cast, machine))?
         }
         _ => refused(alloc, draws)?,
     };

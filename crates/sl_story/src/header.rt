@@ -17,6 +17,9 @@ pub(crate) const AREA: u64 = 1_048_576;
 /// How many resources the hosts have of their own.
 pub(crate) const RESOURCES: u32 = 4;
 
+/// How many ids there are beside those of the machines.
+pub(crate) const SPARE_IDS: u32 = 8;
+
 /// The disk of the volume group.
 pub(crate) const GROUP_DISK: &str = "/dev/mapper/vg-lvmlock";
 
@@ -40,10 +43,12 @@ fn version(paired: bool) -> &'static str
 
 /// Adds the first lines.
 fn push_numbers(out: &mut Vec<u8>, hosts: u32, paired: bool) -> Result<(), AllocError>
+    requires { hosts ≤ 16 }
     ensures { OnOk result (out.new.items ≡ out.old.items ++ as_bytes (number_lines hosts paired)) }
 {
     let version = version(paired);
-    let text = format!(in *out.allocator(); "{version}\ntime 100 600 100 10 300\nhosts {hosts}\nids {hosts}\n")?;
+    let ids = hosts + SPARE_IDS;
+    let text = format!(in *out.allocator(); "{version}\ntime 100 600 100 10 300\nhosts {hosts}\nids {ids}\n")?;
     out.extend_from_slice(text.as_bytes())
 }
 
@@ -83,6 +88,7 @@ fn push_begin(out: &mut Vec<u8>) -> Result<(), AllocError>
 
 /// The lines of the header of a story of so many machines, whose areas have pairs or not. An `Err` is want of memory.
 fn header_text(alloc: Global, hosts: u32, paired: bool) -> Result<Vec<u8>, AllocError>
+    requires { hosts ≤ 16 }
     ensures { IfOk result (λ text. text.items ≡ as_bytes (story_lines hosts paired)) }
 {
     let mut text = Vec::new(alloc);

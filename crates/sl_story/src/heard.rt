@@ -59,6 +59,19 @@ fn hear_end(machine: &mut Machine, words: &mut Words<'_>) {
     }
 }
 
+/// A connection to the watchdog daemon was renewed, or is no more: so its session is known to stand, or not to.
+fn hear_connection(machine: &mut Machine, words: &mut Words<'_>) {
+    let stands = words.skip(b"renew");
+    if !stands && !words.skip(b"unregister") {
+        return;
+    }
+    if words.skip(b"ls") {
+        machine.joined = stands;
+    } else {
+        machine.in_group = stands;
+    }
+}
+
 /// A child is to be started.
 fn hear_start(machine: &mut Machine, words: &mut Words<'_>) -> Result<(), AllocError> {
     let Ok(process) = words.number() else {
@@ -89,6 +102,9 @@ fn hear_report(cast: &mut Cast, line: &[u8]) -> Result<(), AllocError> {
         Ok(())
     } else if words.skip(b"start") {
         hear_start(machine, &mut words)
+    } else if words.skip(b"wdmd") {
+        hear_connection(machine, &mut words);
+        Ok(())
     } else {
         if words.skip(b"test") && words.skip(b"ok") {
             machine.tested = moment;
