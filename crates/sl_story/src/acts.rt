@@ -112,10 +112,10 @@ fn call_lines(
                 lines.push_back(format!(in alloc; "sample {number} {call} 1")?)?;
             }
         }
+        4..=11 => lines.push_back(format!(in alloc; "answer {number} {call} ok")?)?,
         _ => {}
     }
     lines.push_back(format!(in alloc; "do {number} {call}")?)?;
-    lines.push_back(format!(in alloc; "answer {number} {call} ok")?)?;
     lines.push_back(format!(in alloc; "answer {number} {call} failed")?)?;
     Ok(lines)
 }
@@ -292,11 +292,11 @@ fn plan_machine(
     number: u32,
 ) -> Result<(), AllocError> {
     agenda.push_back(Act::Test(number))?;
-    if draws.once_in(3) {
+    if draws.once_in(4) {
         agenda.push_back(Act::Wake(number))?;
     }
     agenda.push_back(Act::Call(number))?;
-    if draws.once_in(5) {
+    if draws.once_in(4) {
         agenda.push_back(Act::Command(number))?;
         agenda.push_back(Act::Call(number))?;
     }
