@@ -9,7 +9,7 @@ use Rattle.sl_run.specs.declared.header.Header.{Header}
 use Rattle.sl_text.specs.Forms.{as_bytes, is_free_of, lines_of}
 use Rattle.sl_words.proofs.WordLaws.{and_true}
 use Rattle.sl_words.specs.Words.{some_is}
-use Rattle.std.proofs.Common.{Bool, List, None, Option, Some, [], ap, ap₂, arith, false, length, length-append, refl, sym, true, ℕ, ◌++◌, ◌+◌, ◌∙◌, ◌∷◌, ◌≡◌, ◌≤◌}
+use Rattle.std.proofs.Common.{Bool, List, None, Option, Some, [], ap, ap₂, arith, false, length, length-append, refl, suc, sym, true, ℕ, ◌++◌, ◌+◌, ◌∙◌, ◌∷◌, ◌≡◌, ◌≤◌}
 use Rattle.std.proofs.lemmas.Bool.Decides.{nat_tests}
 use Rattle.std.proofs.lemmas.List.{append-nil, append_assoc}
 use Rattle.std.specs.List.{list_all}
@@ -31,7 +31,7 @@ one_longer l bytes = omega (arith, length-append (l ++ 10 ∷ []) bytes, length-
 same_end : (start l bytes all : ℕ) → all ≡ l + 1 + bytes → start + l + 1 + bytes ≡ start + all
 same_end start l bytes all h = omega (arith, h)
 
-same_number : (number count : ℕ) → number + 1 + count ≡ number + (count + 1)
+same_number : (number count : ℕ) → number + 1 + count ≡ number + suc count
 same_number number count = omega arith
 
 ends_so : (start l bytes all : ℕ) → all ≡ l + 1 + bytes → start + all ≤ greatest_source → start + l + 1 + bytes ≤ greatest_source

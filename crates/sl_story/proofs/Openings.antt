@@ -4,6 +4,7 @@ use Rattle.sl_report.specs.Languages.{whole_language}
 use Rattle.sl_report.specs.Schedules.{HeaderReading, Header_read, Header_refused, NumberedLine, numbered_lines, read_header}
 use Rattle.sl_run.specs.declared.event.Refusal.{Refusal}
 use Rattle.sl_run.specs.declared.header.Header.{Header}
+use Rattle.sl_schedule.specs.Lines.{header_reading}
 use Rattle.sl_story.proofs.StoriesBegin.{are_stories}
 use Rattle.sl_story.specs.StoryHeaders.{session_line, story_header, story_lines}
 use Rattle.sl_text.specs.Forms.{as_bytes}
@@ -12,7 +13,7 @@ use Rattle.std.proofs.lemmas.Bool.Decides.{nat_tests}
 use Rattle.std.proofs.lemmas.List.FromFn.{map-range_with_len_more}
 use Rattle.std.proofs.lemmas.List.{append_assoc}
 use Rattle.std.specs.List.{range_with_len}
-use Rattle.std.specs.Prelude.{nat_le}
+use Rattle.std.specs.Prelude.{Err, Ok, Result, nat_le}
 
 next_of : (n : ℕ) → 1 + n ≡ n + 1
 next_of n = omega arith
@@ -54,3 +55,22 @@ short_text hosts paired text low high is = low_of (length text) 10000 (ap (λ b.
 
 pub long_text : (hosts : ℕ) (paired : Bool) (text : List ℕ) → 1 ≤ hosts → hosts ≤ 16 → text ≡ as_bytes (story_lines hosts paired) → 17 + 2 * hosts ≤ length text
 long_text hosts paired text low high is = low_of (17 + 2 * hosts) (length text) (ap (λ b. nat_le (17 + 2 * hosts) (length b)) is ∙ (are_stories hosts paired low high).4)
+
+pub refused_never : (hosts : ℕ) (paired : Bool) (read : Result Header (ℕ × Refusal)) (e : ℕ × Refusal) (rest lines : List NumberedLine) (text : List ℕ) → 1 ≤ hosts → hosts ≤ 16
+    → text ≡ as_bytes (story_lines hosts paired) → lines ≡ numbered_lines text → read ≡ Err e → header_reading read rest ≡ read_header whole_language [] 1 lines → ⊥
+refused_never hosts paired read e rest lines text low high is numbered failed exact =
+    never_refused e.0 e.1 (story_header hosts paired) (read_header whole_language [] 1 lines) (ap (λ r. header_reading r rest) (sym failed) ∙ exact)
+    (read_so hosts paired text lines low high is numbered)
+
+pub read_as : (hosts : ℕ) (paired : Bool) (read : Result Header (ℕ × Refusal)) (h : Header) (rest lines : List NumberedLine) (text : List ℕ) → 1 ≤ hosts → hosts ≤ 16
+    → text ≡ as_bytes (story_lines hosts paired) → lines ≡ numbered_lines text → read ≡ Ok h → header_reading read rest ≡ read_header whole_language [] 1 lines
+    → h ≡ story_header hosts paired
+read_as hosts paired read h rest lines text low high is numbered was exact =
+    same_header h (story_header hosts paired) rest (read_header whole_language [] 1 lines) (ap (λ r. header_reading r rest) (sym was) ∙ exact)
+    (read_so hosts paired text lines low high is numbered)
+
+pub few_lines : (hosts from len : ℕ) (text : List ℕ) → 17 + 2 * hosts ≤ length text → from ≡ hosts → len ≡ length text → 17 + 2 * from ≤ len
+few_lines hosts from len text few same long = omega (arith, few, same, long)
+
+pub few_bytes : (len : ℕ) (text : List ℕ) → length text ≤ 10000 → len ≡ length text → len ≤ 1000000000
+few_bytes len text short long = omega (arith, short, long)

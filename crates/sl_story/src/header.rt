@@ -4,7 +4,7 @@ ghost use Rattle.sl_story.specs.StoryHeaders.{fixed_lines, number_lines, session
 ghost use Rattle.sl_story.specs.StoryPlays.{Opens};
 ghost use Rattle.sl_text.specs.Forms.{as_bytes};
 ghost use Rattle.std.specs.List.{range_with_len};
-ghost use Rattle.std.specs.Prelude.{IfOk, OnOk, codes, if◌then◌else◌, map, ◌++◌, ◌∷◌, ◌≡◌, ◌≤◌, []};
+ghost use Rattle.std.specs.Prelude.{IfOk, OnOk, codes, if◌then◌else◌, map, string_bytes, ◌++◌, ◌∷◌, ◌≡◌, ◌≤◌, []};
 
 use crate::place::Place;
 use sl_run::Header;
@@ -41,30 +41,55 @@ fn version(paired: bool) -> &'static str
     if paired { "sanlock 2" } else { "sanlock 1" }
 }
 
+/// Adds a text.
+fn push_text(out: &mut Vec<u8>, text: &[u8]) -> Result<(), AllocError>
+    ensures { OnOk result (out.new.items ≡ out.old.items ++ text.now) }
+{
+    out.extend_from_slice(text)
+}
+
+/// The first lines.
+fn number_text(alloc: Global, hosts: u32, paired: bool) -> Result<String, AllocError>
+    requires { hosts ≤ 16 }
+    ensures { IfOk result (λ text. string_bytes text ≡ as_bytes (number_lines hosts paired)) }
+{
+    let version = version(paired);
+    let ids = hosts + SPARE_IDS;
+    let text = format!(in alloc; "{version}\ntime 100 600 100 10 300\nhosts {hosts}\nids {ids}\n")?;
+    Ok(text)
+}
+
 /// Adds the first lines.
 fn push_numbers(out: &mut Vec<u8>, hosts: u32, paired: bool) -> Result<(), AllocError>
     requires { hosts ≤ 16 }
     ensures { OnOk result (out.new.items ≡ out.old.items ++ as_bytes (number_lines hosts paired)) }
 {
-    let version = version(paired);
-    let ids = hosts + SPARE_IDS;
-    let text = format!(in *out.allocator(); "{version}\ntime 100 600 100 10 300\nhosts {hosts}\nids {ids}\n")?;
-    out.extend_from_slice(text.as_bytes())
+    let text = number_text(*out.allocator(), hosts, paired)?;
+    push_text(out, text.as_bytes())
 }
 
 /// Adds the lines that each story has.
+#[tactic(auto, unfolding(crate::specs::StoryHeaders::fixed_lines))]
 fn push_fixed(out: &mut Vec<u8>) -> Result<(), AllocError>
     ensures { OnOk result (out.new.items ≡ out.old.items ++ as_bytes fixed_lines) }
 {
-    out.extend_from_slice(FIXED)
+    push_text(out, FIXED)
+}
+
+/// The line of a machine's session in a lockspace.
+fn session_text(alloc: Global, lockspace: &str, machine: u32) -> Result<String, AllocError>
+    ensures { IfOk result (λ text. string_bytes text ≡ as_bytes (session_line lockspace.now machine ∷ [])) }
+{
+    let text = format!(in alloc; "session {machine} {lockspace} {machine} h{machine}\n")?;
+    Ok(text)
 }
 
 /// Adds the line of a machine's session in a lockspace.
 fn push_session(out: &mut Vec<u8>, lockspace: &str, machine: u32) -> Result<(), AllocError>
     ensures { OnOk result (out.new.items ≡ out.old.items ++ as_bytes (session_line lockspace.now machine ∷ [])) }
 {
-    let line = format!(in *out.allocator(); "session {machine} {lockspace} {machine} h{machine}\n")?;
-    out.extend_from_slice(line.as_bytes())
+    let text = session_text(*out.allocator(), lockspace, machine)?;
+    push_text(out, text.as_bytes())
 }
 
 /// Adds the lines of the sessions in a lockspace: each machine has joined under its own number.
@@ -83,7 +108,7 @@ fn push_sessions(out: &mut Vec<u8>, lockspace: &str, hosts: u32) -> Result<(), A
 fn push_begin(out: &mut Vec<u8>) -> Result<(), AllocError>
     ensures { OnOk result (out.new.items ≡ out.old.items ++ as_bytes (codes "begin" ∷ [])) }
 {
-    out.extend_from_slice(b"begin\n")
+    push_text(out, b"begin\n")
 }
 
 /// The lines of the header of a story of so many machines, whose areas have pairs or not. An `Err` is want of memory.

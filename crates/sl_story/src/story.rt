@@ -6,11 +6,11 @@
 ghost use Rattle.sl_play.specs.Plays.{IsPlaying, state_of};
 ghost use Rattle.sl_play.specs.Replays.{MayPlay};
 ghost use Rattle.sl_run.specs.Headers.{IsHeader};
-ghost use Rattle.sl_story.specs.StoryPlays.{IsTelling, Opens, PutsLine, TakesFirst, TakesText, TellsOne};
+ghost use Rattle.sl_story.specs.StoryPlays.{IsTelling, Opens, fed, PutsLine, TakesFirst, TakesText, TellsOne};
 ghost use Rattle.sl_story.specs.ToldSchedules.{Tells};
 ghost use Rattle.sl_world_state.specs.SaneWorlds.{ReadsCommands};
 ghost use Rattle.std.specs.Io.KnownBytes.{Appends};
-ghost use Rattle.std.specs.Prelude.{Bool, IfOk, List, OnOk, Option, string_bytes, ℕ, ◌≡◌, ◌≤◌};
+ghost use Rattle.std.specs.Prelude.{Bool, IfOk, IfSome, List, OnOk, Option, string_bytes, ℕ, ◌≡◌, ◌≤◌};
 
 use crate::acts::{Act, Lines, go_on, lines_of, plan};
 use crate::cast::Cast;
@@ -136,15 +136,25 @@ fn take_first<D: Daemon, L: LockTable>(
     Ok(None)
 }
 
+/// A line with its line feed; None where there is no memory.
+fn with_feed(line: String) -> Option<String>
+    ensures { IfSome result (λ text. string_bytes text ≡ fed (string_bytes line)) }
+{
+    let mut text = line;
+    match text.push_str("\n") {
+        Ok(()) => Some(text),
+        Err(_) => None,
+    }
+}
+
 /// Puts out a line that was told.
 fn put_line<K: Sink>(sink: &mut K, taken: Taken) -> One
     ensures { PutsLine (string_bytes taken.line) taken.place (K.taken sink.old) (K.taken sink.new) (K.faults sink.old) (K.faults sink.new) result }
 {
     let Taken { line, place } = taken;
-    let mut text = line;
-    if text.push_str("\n").is_err() {
+    let Some(text) = with_feed(line) else {
         return One::NoMemory;
-    }
+    };
     match write_all(sink, text.as_bytes()) {
         Ok(()) => One::Line(place),
         Err(_) => One::WriteFault,
