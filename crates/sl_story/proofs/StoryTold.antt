@@ -13,23 +13,28 @@ use Rattle.sl_run.specs.declared.header.Header.{Header}
 use Rattle.sl_story.proofs.StoriesBegin.{are_stories}
 use Rattle.sl_story.proofs.StoryPlays.{line_at, same_play, telling_first, tells_on, told_so}
 use Rattle.sl_story.specs.StoryHeaders.{story_header, story_lines}
-use Rattle.sl_story.specs.StoryPlays.{In_part, IsTelling, No_line, No_memory, One_line, Opens, Part, PutsLine, TakesText, TellsOn, TellsOne, Unput, Whole, fed}
+use Rattle.sl_story.specs.StoryPlays.{GoesOn, In_part, IsTelling, No_line, No_memory, One_line, Opens, Part, PutsLine, TakesFirst, TakesText, TellsOn, TellsOne, Unput, Whole, fed, left_behind}
 use Rattle.sl_story.specs.ToldSchedules.{All, Fewer, Lacks, Nothing, Part as In_front, Tells, ToldBy, says}
 use Rattle.sl_story.specs.declared.header.Opening.{Opening}
 use Rattle.sl_story.specs.declared.place.Place.{Place}
 use Rattle.sl_story.specs.declared.story.One.TheVariants as one
 use Rattle.sl_story.specs.declared.story.One.{One}
+use Rattle.sl_story.specs.declared.story.Left.{Left}
+use Rattle.sl_story.specs.declared.story.Taken.{Taken}
 use Rattle.sl_story.specs.declared.story.Told.TheVariants as ended
+use Rattle.sl_story.specs.declared.story.Told.{Told}
 use Rattle.sl_text.specs.Forms.{Form, as_bytes}
 use Rattle.sl_trace.specs.Traces.{Setting, Trace}
 use Rattle.sl_trace.specs.declared.command.Command.{Command}
 use Rattle.sl_world_state.specs.Daemons.{program_of}
 use Rattle.sl_world_state.specs.SaneWorlds.{ReadsCommands}
-use Rattle.std.proofs.Common.{Bool, List, None, Option, Some, [], ap, arith, length, refl, subst, sym, true, ℕ, ◌++◌, ◌+◌, ◌-◌, ◌<◌, ◌∙◌, ◌∷◌, ◌≡◌, ◌≤◌}
+use Rattle.std.proofs.Common.{Bool, List, None, Option, Some, [], ap, arith, false, if◌then◌else◌, length, refl, string_bytes, subst, sym, true, ℕ, ◌++◌, ◌+◌, ◌-◌, ◌<◌, ◌==◌, ◌∙◌, ◌∷◌, ◌≡◌, ◌≤◌}
 use Rattle.std.proofs.KnownBytes.{Appends-nil, Appends-trans}
 use Rattle.std.proofs.lemmas.List.{append-nil, append_assoc}
 use Rattle.std.specs.Io.KnownBytes.{Appends}
+use Rattle.std.proofs.lemmas.Bool.Decides.{nat_tests}
 use Rattle.std.specs.Option.{option_to_list}
+use Rattle.std.specs.Prelude.{Err, Ok}
 
 module _ {D : Type 0} (commands : Header → List (Form Command)) (stands : D → Setting → Trace → Type 0) where
   -- ---- a text is tried
@@ -54,6 +59,27 @@ module _ {D : Type 0} (commands : Header → List (Form Command)) (stands : D �
       let x : TakesLines commands stands s.world p (option_to_list (event_line whole_language p.kept.header l)) l.number out n now (Some why) =
       subst (TakesLines commands stands s.world p (option_to_list (event_line whole_language p.kept.header l)) l.number out n now) is (plays s.world s.plays) in
       same_play commands stands p n x.same
+
+  pub first_taken : (a b : Place) (line text : List ℕ) (p q n : PlayState D) (o : Option Place) → text ≡ line → q ≡ p → o ≡ Some b → TakesText commands stands a text q n o
+      → TellsOn commands stands a line p b n
+  first_taken a b line text p q n o same still is takes =
+      subst (λ l. TellsOn commands stands a l p b n) same (subst (λ (s : PlayState D). TellsOn commands stands a text s b n) still (subst (TakesText commands stands a text q n) is takes))
+
+  pub none_taken : (a : Place) (text : List ℕ) (p q n : PlayState D) (o : Option Place) → q ≡ p → o ≡ None → TakesText commands stands a text q n o → n ≡ p
+  none_taken a text p q n o still is takes = subst (TakesText commands stands a text q n) is takes ∙ still
+
+  pub none_first : (a : Place) (p n : PlayState D) (o : Option Taken) → o ≡ None → TakesFirst commands stands a p n o → n ≡ p
+  none_first a p n o is takes = subst (TakesFirst commands stands a p n) is takes
+
+  pub some_first : (a : Place) (p n : PlayState D) (o : Option Taken) (t : Taken) → o ≡ Some t → TakesFirst commands stands a p n o
+      → TellsOn commands stands a (string_bytes t.line) p t.place n
+  some_first a p n o t is takes = subst (TakesFirst commands stands a p n) is takes
+
+  pub goes_on : (o : One) (P : Type 0) → P → GoesOn o P
+  goes_on (one.Line b) P x = x
+  goes_on one.Nothing P x = x
+  goes_on one.WriteFault P x = tt
+  goes_on one.NoMemory P x = tt
 
   pub still_plays : (p n : PlayState D) → n ≡ p → IsPlaying commands stands p → IsPlaying commands stands n
   still_plays p n is s = subst (IsPlaying commands stands) (sym is) s
@@ -115,8 +141,40 @@ module _ {D : Type 0} (commands : Header → List (Form Command)) (stands : D �
       let x = so hosts paired written before t since_it in
       (x.0, subst (Appends before now) (append-nil x.0) (Appends-trans before taken now x.0 [] x.1 appends), told_so commands stands hosts paired told b.lines b.bytes x.0 p x.2)
 
+  -- What is left, by what the act came to.
+  pub kept_on : (a : Place) (first n : PlayState D) (since now : Option (List ℕ)) (events faults later : ℕ) (at next : Left) (o : One) → 0 < at.lines → at.lines ≤ events
+      → Ok next ≡ left_behind at o → AfterOne a first since (events - at.lines) at.place now faults later n o
+      → (next.lines ≤ events) × ToldSoFar a first since (events - next.lines) next.place n now
+  kept_on a first n since now events faults later at next (one.Line c) some few is after =
+      let same : next ≡ record { lines = at.lines - 1; place = c } = cc in
+      subst (λ (x : Left). (x.lines ≤ events) × ToldSoFar a first since (events - x.lines) x.place n now) (sym same)
+      (fewer at.lines events few, subst (λ k. ToldSoFar a first since k c n now) (one_more at.lines events some few) after)
+    where
+      fewer : (k n : ℕ) → k ≤ n → k - 1 ≤ n
+      fewer k n h = omega (arith, h)
+
+      one_more : (k n : ℕ) → 0 < k → k ≤ n → n - k + 1 ≡ n - (k - 1)
+      one_more k n h i = omega (arith, h, i)
+  kept_on a first n since now events faults later at next one.Nothing some few is after =
+      let same : next ≡ at = cc in
+      subst (λ (x : Left). (x.lines ≤ events) × ToldSoFar a first since (events - x.lines) x.place n now) (sym same) (few, after)
+  kept_on a first n since now events faults later at next one.WriteFault some few is after = absurd cc
+  kept_on a first n since now events faults later at next one.NoMemory some few is after = absurd cc
+
+  pub plays_on : (at next : Left) (o : One) (P : Type 0) → Ok next ≡ left_behind at o → GoesOn o P → P
+  plays_on at next (one.Line c) P is x = x
+  plays_on at next one.Nothing P is x = x
+  plays_on at next one.WriteFault P is x = absurd cc
+  plays_on at next one.NoMemory P is x = absurd cc
+
   pub told_none : (a : Place) (p : PlayState D) (since : Option (List ℕ)) → ToldSoFar a p since 0 a p since
   told_none a p since hosts paired written before t appends = (written, appends, t)
+
+  pub told_first : (a : Place) (p : PlayState D) (since : Option (List ℕ)) (events : ℕ) → ToldSoFar a p since (events - events) a p since
+  told_first a p since events = subst (λ k. ToldSoFar a p since k a p since) (none_left events) (told_none a p since)
+    where
+      none_left : (n : ℕ) → 0 ≡ n - n
+      none_left n = omega arith
 
   -- ---- the end
 
@@ -147,6 +205,45 @@ module _ {D : Type 0} (commands : Header → List (Form Command)) (stands : D �
       → Tells commands stands hosts events paired before now faults later ended.NoMemory
   told_lacking a first since now told events hosts paired written before faults later few so t appends =
       let x = so hosts paired written before t appends in Lacks told x.0 few x.1 x.2
+
+  -- The story ended at an act.
+  pub stopped : (a : Place) (first n : PlayState D) (since now : Option (List ℕ)) (events : ℕ) (at : Left) (o : One) (end : Told) (hosts : ℕ) (paired : Bool) (written : List ℕ)
+      (before : Option (List ℕ)) (f faults later : ℕ) → 0 < at.lines → at.lines ≤ events → f ≤ faults → Err end ≡ left_behind at o
+      → AfterOne a first since (events - at.lines) at.place now faults later n o → IsTelling commands stands hosts paired 0 a.lines a.bytes written first → Appends before since written
+      → Tells commands stands hosts events paired before now f later end
+  stopped a first n since now events at (one.Line c) end hosts paired written before f faults later some few earlier is after t appends = absurd cc
+  stopped a first n since now events at one.Nothing end hosts paired written before f faults later some few earlier is after t appends = absurd cc
+  stopped a first n since now events at one.WriteFault end hosts paired written before f faults later some few earlier is after t appends =
+      let same : end ≡ ended.WriteFault = cc in
+      subst (Tells commands stands hosts events paired before now f later) (sym same)
+      (told_part a first since now (events - at.lines + 1) events hosts paired written before f faults later (one_fewer at.lines events some few) earlier after t appends)
+    where
+      one_fewer : (k n : ℕ) → 0 < k → k ≤ n → n - k + 1 ≤ n
+      one_fewer k n h i = omega (arith, h, i)
+  stopped a first n since now events at one.NoMemory end hosts paired written before f faults later some few earlier is after t appends =
+      let same : end ≡ ended.NoMemory = cc in
+      subst (Tells commands stands hosts events paired before now f later) (sym same)
+      (told_lacking a first since now (events - at.lines) events hosts paired written before f later (no_more at.lines events) after t appends)
+    where
+      no_more : (k n : ℕ) → n - k ≤ n
+      no_more k n = omega arith
+
+  -- The acts are over.
+  pub told_end : (a : Place) (first p : PlayState D) (since now : Option (List ℕ)) (events : ℕ) (at : Left) (end : Told) (hosts : ℕ) (paired : Bool) (written : List ℕ) (before : Option (List ℕ))
+      (faults later : ℕ) → at.lines ≤ events → end ≡ (if at.lines == 0 then ended.Done else ended.Short) → ToldSoFar a first since (events - at.lines) at.place p now
+      → IsTelling commands stands hosts paired 0 a.lines a.bytes written first → Appends before since written → Tells commands stands hosts events paired before now faults later end
+  told_end a first p since now events at end hosts paired written before faults later few is so t appends =
+      subst (Tells commands stands hosts events paired before now faults later) (sym is) (by_test (at.lines == 0) refl)
+    where
+      all_of : (k n : ℕ) → (k == 0) ≡ true → n - k ≡ n
+      all_of k n h = let none : k ≡ 0 = grind (arith, nat_tests) in omega (arith, none)
+
+      not_all : (k n : ℕ) → (k == 0) ≡ false → k ≤ n → n - k < n
+      not_all k n h i = grind (arith, nat_tests)
+
+      by_test : (b : Bool) → (at.lines == 0) ≡ b → Tells commands stands hosts events paired before now faults later (if b then ended.Done else ended.Short)
+      by_test true e = told_all a at.place first p since now (events - at.lines) events hosts paired written before faults later (all_of at.lines events e) so t appends
+      by_test false e = told_few a at.place first p since now (events - at.lines) events hosts paired written before faults later (not_all at.lines events e few) so t appends
 
   pub nothing_told : (hosts events : ℕ) (paired : Bool) (taken : Option (List ℕ)) (faults : ℕ) → Tells commands stands hosts events paired taken taken faults faults ended.NoMemory
   nothing_told hosts events paired taken faults = Nothing (Appends-nil taken)

@@ -12,13 +12,16 @@ use Rattle.sl_story.specs.declared.header.Opening.{Opening}
 use Rattle.sl_story.specs.declared.place.Place.{Place}
 use Rattle.sl_story.specs.declared.story.One.TheVariants as one
 use Rattle.sl_story.specs.declared.story.One.{One}
+use Rattle.sl_story.specs.declared.story.Left.{Left}
 use Rattle.sl_story.specs.declared.story.Taken.{Taken}
+use Rattle.sl_story.specs.declared.story.Told.TheVariants as told
+use Rattle.sl_story.specs.declared.story.Told.{Told}
 use Rattle.sl_text.specs.Forms.{Form, as_bytes, lines_of}
 use Rattle.sl_trace.specs.Traces.{Setting, Trace}
 use Rattle.sl_trace.specs.declared.command.Command.{Command}
 use Rattle.std.specs.Io.KnownBytes.{Appends}
 use Rattle.std.specs.List.{list_all}
-use Rattle.std.specs.Prelude.{Bool, List, None, Option, Some, length, string_bytes, true, [], ℕ, ◌*◌, ◌++◌, ◌+◌, ◌∷◌, ◌≡◌, ◌≤◌}
+use Rattle.std.specs.Prelude.{Bool, Err, List, None, Ok, Option, Result, Some, length, string_bytes, true, [], ℕ, ◌*◌, ◌++◌, ◌+◌, ◌-◌, ◌∷◌, ◌≡◌, ◌≤◌}
 
 -- The first lines, and what they are read as.
 pub record Opens (hosts : ℕ) (paired : Bool) (o : Opening) : Type 0 where
@@ -78,3 +81,16 @@ pub data TellsOne {D : Type 0} (commands : Header → List (Form Command)) (stan
   In_part : (line front : List ℕ) (b : Place) → Appends taken now front → IsFrontOf front (fed line) → Rose faults later → TellsOn commands stands a line p b n
       → TellsOne commands stands a taken now faults later p n one.WriteFault
   No_memory : Appends taken now [] → TellsOne commands stands a taken now faults later p n one.NoMemory
+
+-- This holds where the story goes on.
+abbrev pub GoesOn : One → Type 0 → Type 0
+GoesOn (one.Line b) P = P
+GoesOn one.Nothing P = P
+GoesOn o P = Unit {0}
+
+-- What is left behind an act.
+abbrev pub left_behind : Left → One → Result Left Told
+left_behind a (one.Line b) = Ok (record { lines = a.lines - 1; place = b })
+left_behind a one.Nothing = Ok a
+left_behind a one.WriteFault = Err told.WriteFault
+left_behind a one.NoMemory = Err told.NoMemory

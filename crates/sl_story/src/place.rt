@@ -3,7 +3,7 @@
 ghost use Rattle.sl_report.specs.Languages.{is_skipped};
 ghost use Rattle.sl_story.specs.ToldSchedules.{says};
 ghost use Rattle.sl_text.specs.Forms.{is_free_of};
-ghost use Rattle.std.specs.Prelude.{IfSome, length, ◌+◌, ◌≡◌, ◌≤◌};
+ghost use Rattle.std.specs.Prelude.{IfSome, length, true, ◌+◌, ◌≡◌, ◌≤◌};
 
 /// The most bytes of a schedule.
 const GREATEST_SOURCE: u64 = 1_000_000_000;
@@ -35,19 +35,22 @@ fn is_free(text: &[u8]) -> bool
 }
 
 /// Whether a line says something: it is neither empty nor a comment, and has no line feed.
-pub(crate) fn says(line: &[u8]) -> bool
+fn says(line: &[u8]) -> bool
     ensures { result ≡ says line.now }
 {
     !is_skipped(line) && is_free(line)
 }
 
 impl Place {
-    /// Where the line stands that comes behind one more of these bytes; None where a schedule has no room for it.
+    /// Where the line stands that comes behind this one; None where it says nothing, or a schedule has no room for it.
     pub(crate) fn behind(self, line: &[u8]) -> Option<Place>
-        ensures { IfSome result (λ p. (p.lines ≡ self.lines + 1) × (p.bytes ≡ self.bytes + length line.now + 1) × (p.bytes ≤ 1000000000)) }
+        ensures says { IfSome result (λ p. says line.now ≡ true) }
+        ensures lines { IfSome result (λ p. p.lines ≡ self.lines + 1) }
+        ensures bytes { IfSome result (λ p. p.bytes ≡ self.bytes + length line.now + 1) }
+        ensures inside { IfSome result (λ p. p.bytes ≤ 1000000000) }
     {
         let len = line.len() as u64;
-        if self.bytes + len < GREATEST_SOURCE {
+        if says(line) && self.bytes + len < GREATEST_SOURCE {
             Some(Place {
                 lines: self.lines + 1,
                 bytes: self.bytes + len + 1,

@@ -6,18 +6,19 @@
 ghost use Rattle.sl_play.specs.Plays.{IsPlaying, state_of};
 ghost use Rattle.sl_play.specs.Replays.{MayPlay};
 ghost use Rattle.sl_run.specs.Headers.{IsHeader};
-ghost use Rattle.sl_story.specs.StoryPlays.{IsTelling, Opens, fed, PutsLine, TakesFirst, TakesText, TellsOne};
+ghost use Rattle.sl_story.specs.StoryPlays.{GoesOn, IsTelling, Opens, PutsLine, TakesFirst, TakesText, TellsOne, fed, left_behind};
 ghost use Rattle.sl_story.specs.ToldSchedules.{Tells};
+ghost use Rattle.sl_story.specs.declared.story.Told.TheVariants as told;
 ghost use Rattle.sl_world_state.specs.SaneWorlds.{ReadsCommands};
 ghost use Rattle.std.specs.Io.KnownBytes.{Appends};
-ghost use Rattle.std.specs.Prelude.{Bool, IfOk, IfSome, List, OnOk, Option, string_bytes, ℕ, ◌≡◌, ◌≤◌};
+ghost use Rattle.std.specs.Prelude.{Bool, IfOk, IfSome, List, OnOk, Option, if◌then◌else◌, string_bytes, ℕ, ◌<◌, ◌==◌, ◌≡◌, ◌≤◌};
 
 use crate::acts::{Act, Lines, go_on, lines_of, plan};
 use crate::cast::Cast;
 use crate::draws::Draws;
 use crate::header::{Opening, first_lines};
 use crate::heard::{hear_line, hear_reports};
-use crate::place::{Place, says};
+use crate::place::Place;
 use sl_io::{Sink, write_all};
 use sl_machine::LockTable;
 use sl_play::{Play, PlayError};
@@ -97,9 +98,6 @@ fn take_text<D: Daemon, L: LockTable>(
     ensures takes { IfOk result (TakesText D.commands D.stands place text.now (state_of L.locks play.old) (state_of L.locks play.new)) }
     ensures plays { OnOk result (IsPlaying D.commands D.stands (state_of L.locks play.new)) }
 {
-    if !says(text) {
-        return Ok(None);
-    }
     let Some(behind) = place.behind(text) else {
         return Ok(None);
     };
@@ -129,8 +127,9 @@ fn take_first<D: Daemon, L: LockTable>(
 {
     let mut lines = lines;
     while let Some(line) = lines.pop_front() {
-        if let Some(place) = take_text(play, report, place, line.as_bytes())? {
-            return Ok(Some(Taken { line, place }));
+        match take_text(play, report, place, line.as_bytes())? {
+            Some(place) => return Ok(Some(Taken { line, place })),
+            None => {}
         }
     }
     Ok(None)
@@ -149,7 +148,8 @@ fn with_feed(line: String) -> Option<String>
 
 /// Puts out a line that was told.
 fn put_line<K: Sink>(sink: &mut K, taken: Taken) -> One
-    ensures { PutsLine (string_bytes taken.line) taken.place (K.taken sink.old) (K.taken sink.new) (K.faults sink.old) (K.faults sink.new) result }
+    ensures puts { PutsLine (string_bytes taken.line) taken.place (K.taken sink.old) (K.taken sink.new) (K.faults sink.old) (K.faults sink.new) result }
+    ensures later { K.faults sink.old ≤ K.faults sink.new }
 {
     let Taken { line, place } = taken;
     let Some(text) = with_feed(line) else {
@@ -158,6 +158,23 @@ fn put_line<K: Sink>(sink: &mut K, taken: Taken) -> One
     match write_all(sink, text.as_bytes()) {
         Ok(()) => One::Line(place),
         Err(_) => One::WriteFault,
+    }
+}
+
+/// A line that was told at an act is heard with its report, and put out.
+fn hear_and_put<K: Sink>(
+    teller: &mut Teller,
+    act: Act,
+    taken: Taken,
+    report: &[u8],
+    sink: &mut K,
+) -> One
+    ensures puts { PutsLine (string_bytes taken.line) taken.place (K.taken sink.old) (K.taken sink.new) (K.faults sink.old) (K.faults sink.new) result }
+    ensures later { K.faults sink.old ≤ K.faults sink.new }
+{
+    match teller.hear(act, taken.line.as_str(), report) {
+        Err(_) => One::NoMemory,
+        Ok(()) => put_line(sink, taken),
     }
 }
 
@@ -173,18 +190,48 @@ fn tell_one<K: Sink, D: Daemon, L: LockTable>(
     ensures tells { TellsOne D.commands D.stands place (K.taken sink.old) (K.taken sink.new) (K.faults sink.old) (K.faults sink.new)
         (state_of L.locks play.old) (state_of L.locks play.new) result }
     ensures later { K.faults sink.old ≤ K.faults sink.new }
+    ensures plays { GoesOn result (IsPlaying D.commands D.stands (state_of L.locks play.new)) }
 {
     let Ok((act, lines)) = teller.next(*report.allocator()) else {
         return One::NoMemory;
     };
-    match take_first(play, report, place, lines) {
-        Err(_) => One::NoMemory,
-        Ok(None) => One::Nothing,
-        Ok(Some(taken)) => match teller.hear(act, taken.line.as_str(), report) {
-            Err(_) => One::NoMemory,
-            Ok(()) => put_line(sink, taken),
-        },
+    let Ok(taken) = take_first(play, report, place, lines) else {
+        return One::NoMemory;
+    };
+    match taken {
+        None => One::Nothing,
+        Some(taken) => hear_and_put(teller, act, taken, report, sink),
     }
+}
+
+/// How many lines are left to be told, and where the next one stands.
+#[derive(Clone, Copy)]
+struct Left {
+    lines: u64,
+    place: Place,
+}
+
+/// What is left behind an act; or how the story ended at it.
+fn left_behind(at: Left, one: One) -> Result<Left, Told>
+    requires { 0 < at.lines }
+    ensures { result ≡ left_behind at one }
+{
+    match one {
+        One::Line(place) => Ok(Left {
+            lines: at.lines - 1,
+            place,
+        }),
+        One::Nothing => Ok(at),
+        One::WriteFault => Err(Told::WriteFault),
+        One::NoMemory => Err(Told::NoMemory),
+    }
+}
+
+/// How a story ends of which so many lines were not told.
+fn ending(left: u64) -> Told
+    ensures { result ≡ (if left == 0 then told.Done else told.Short) }
+{
+    if left == 0 { Told::Done } else { Told::Short }
 }
 
 /// Tells so many lines, if so many may stand.
@@ -202,23 +249,21 @@ fn tell_lines<K: Sink, D: Daemon, L: LockTable>(
         → Appends before (K.taken sink.old) written → faults ≤ K.faults sink.old
         → Tells D.commands D.stands hosts events paired before (K.taken sink.new) faults (K.faults sink.new) result }
 {
-    let mut place = place;
+    let mut at = Left {
+        lines: events,
+        place,
+    };
     let mut report = Vec::new(alloc);
-    let mut left = events;
     let mut acts = events.saturating_mul(ACTS);
-    while left > 0 && acts > 0 {
+    while at.lines > 0 && acts > 0 {
         acts -= 1;
-        match tell_one(play, teller, &mut report, place, sink) {
-            One::Nothing => {}
-            One::NoMemory => return Told::NoMemory,
-            One::WriteFault => return Told::WriteFault,
-            One::Line(behind) => {
-                place = behind;
-                left -= 1;
-            }
+        let one = tell_one(play, teller, &mut report, at.place, sink);
+        match left_behind(at, one) {
+            Err(told) => return told,
+            Ok(next) => at = next,
         }
     }
-    if left == 0 { Told::Done } else { Told::Short }
+    ending(at.lines)
 }
 
 /// The machines of a story, and what is drawn from a seed. An `Err` is want of memory.
