@@ -129,14 +129,22 @@ module _ {D : Type 0} (commands : Header → List (Form Command)) (stands : D �
       let x = so hosts paired written before t since_it in
       (x.0 ++ fed line, Appends-trans before taken now x.0 (fed line) x.1 appends, on hosts paired told x.0 x.2)
   after_one a b first p n since taken now told faults later o so (No_line appends same) = λ hosts paired written before t since_it.
-      let x = so hosts paired written before t since_it in
-      (x.0, subst (Appends before now) (append-nil x.0) (Appends-trans before taken now x.0 [] x.1 appends),
-      subst (IsTelling commands stands hosts paired told b.lines b.bytes x.0) (sym same) x.2)
-  after_one a b first p n since taken now told faults later o so (In_part line front c appends begins rose on) =
-      ((λ hosts paired written before t since_it.
-      let x = so hosts paired written before t since_it in
-      (x.0 ++ front, x.0 ++ fed line, Appends-trans before taken now x.0 front x.1 appends, (begins.0, ap (λ z. x.0 ++ z) begins.1 ∙ sym (append_assoc x.0 front begins.0)),
-      told_so commands stands hosts paired (told + 1) c.lines c.bytes (x.0 ++ fed line) n (on hosts paired told x.0 x.2))), rose)
+      let x = so hosts paired written before t since_it in (
+        x.0,
+        subst (Appends before now) (append-nil x.0) (Appends-trans before taken now x.0 [] x.1 appends),
+        subst (IsTelling commands stands hosts paired told b.lines b.bytes x.0) (sym same) x.2,
+      )
+  after_one a b first p n since taken now told faults later o so (In_part line front c appends begins rose on) = (
+    (λ hosts paired written before t since_it.
+        let x = so hosts paired written before t since_it in (
+          x.0 ++ front,
+          x.0 ++ fed line,
+          Appends-trans before taken now x.0 front x.1 appends,
+          (begins.0, ap (λ z. x.0 ++ z) begins.1 ∙ sym (append_assoc x.0 front begins.0)),
+          told_so commands stands hosts paired (told + 1) c.lines c.bytes (x.0 ++ fed line) n (on hosts paired told x.0 x.2),
+        )),
+    rose,
+  )
   after_one a b first p n since taken now told faults later o so (No_memory appends) = λ hosts paired written before t since_it.
       let x = so hosts paired written before t since_it in
       (x.0, subst (Appends before now) (append-nil x.0) (Appends-trans before taken now x.0 [] x.1 appends), told_so commands stands hosts paired told b.lines b.bytes x.0 p x.2)

@@ -46,11 +46,17 @@ fn only(alloc: Global, line: String) -> Result<Lines, AllocError> {
 }
 
 /// So many milliseconds, in which each clock may grow by some more or fewer.
-fn pass_line(alloc: Global, cast: &Cast, draws: &mut Draws, time: u32) -> Result<String, AllocError> {
+fn pass_line(
+    alloc: Global,
+    cast: &Cast,
+    draws: &mut Draws,
+    time: u32,
+) -> Result<String, AllocError> {
     let mut line = format!(in alloc; "pass {time}")?;
     if draws.once_in(4) {
         for _ in 0..cast.count() {
-            let growth = u64::from(time) * 990 + u64::from(draws.below(time.saturating_mul(20).saturating_add(1).max(1)));
+            let growth = u64::from(time) * 990
+                + u64::from(draws.below(time.saturating_mul(20).saturating_add(1).max(1)));
             let word = format!(in alloc; " {growth}")?;
             line.push_str(&word)?;
         }

@@ -179,9 +179,7 @@ pub(crate) fn command(
             format!(in alloc; "command -r {word}{mode} -c /bin/vm")?
         }
         78..=84 => request(alloc, draws)?,
-        85..=94 => {
-            of_session(alloc, draws, session_id(cast, machine))?
-        }
+        85..=94 => { of_session(alloc, draws, session_id(cast, machine))? }
         _ => refused(alloc, draws)?,
     };
     format!(in alloc; "command {machine} {text}")

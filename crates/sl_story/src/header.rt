@@ -24,7 +24,8 @@ pub(crate) const SPARE_IDS: u32 = 8;
 pub(crate) const GROUP_DISK: &str = "/dev/mapper/vg-lvmlock";
 
 /// The lines that each story has: a disk with four resources, and one with a volume group's locks.
-const FIXED: &[u8] = b"lvm 2\ndisk /d 8\ndisk /dev/mapper/vg-lvmlock 4\nlockspace ls /d 0\nlockspace lvm_vg /dev/mapper/vg-lvmlock 0\nresource ls r1 /d 1048576\nresource ls r2 /d 2097152\nresource ls r3 /d 3145728\nresource ls r4 /d 4194304\nresource lvm_vg GLLK /dev/mapper/vg-lvmlock 1048576\nresource lvm_vg VGLK /dev/mapper/vg-lvmlock 2097152\nresource lvm_vg lv /dev/mapper/vg-lvmlock 3145728\n";
+const FIXED: &[u8] =
+    b"lvm 2\ndisk /d 8\ndisk /dev/mapper/vg-lvmlock 4\nlockspace ls /d 0\nlockspace lvm_vg /dev/mapper/vg-lvmlock 0\nresource ls r1 /d 1048576\nresource ls r2 /d 2097152\nresource ls r3 /d 3145728\nresource ls r4 /d 4194304\nresource lvm_vg GLLK /dev/mapper/vg-lvmlock 1048576\nresource lvm_vg VGLK /dev/mapper/vg-lvmlock 2097152\nresource lvm_vg lv /dev/mapper/vg-lvmlock 3145728\n";
 
 /// The first lines of a story, what they are read as, and the place behind them.
 #[derive(Drop)]

@@ -53,9 +53,8 @@ fn hear_end(machine: &mut Machine, words: &mut Words<'_>) {
     };
     let resource = words.next_piece().and_then(|word| resource_in(word));
     if let Some(resource) = resource {
-        machine
-            .holdings
-            .retain(|holding| u64::from(holding.process) != process || holding.resource != resource);
+        machine.holdings.retain(|holding| u64::from(holding.process) != process
+            || holding.resource != resource);
     }
 }
 

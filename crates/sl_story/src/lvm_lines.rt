@@ -4,7 +4,11 @@ use crate::draws::Draws;
 use std::alloc::{AllocError, Global};
 
 /// The line that lvmlockd of a machine is given.
-pub(crate) fn lvm_line(alloc: Global, draws: &mut Draws, machine: u32) -> Result<String, AllocError> {
+pub(crate) fn lvm_line(
+    alloc: Global,
+    draws: &mut Draws,
+    machine: u32,
+) -> Result<String, AllocError> {
     let line = match draws.below(16) {
         0 => format!(in alloc; "lock_start vg -i {machine}")?,
         1 => format!(in alloc; "info")?,

@@ -18,10 +18,10 @@ loop-at-preserved g c =
     let some : 0 < c.loop-at.at.lines = omega arith in
     let is = sym c.in-Ok.is ∙ c.left_behind.ensures in
     let kept = kept_on g.D.Daemon.commands g.D.Daemon.stands c.args.place (state_of g.L.LockTable.locks c.args.play.now) (state_of g.L.LockTable.locks c.tell_one-one.new.play) (g.K.Sink.taken c.args.sink.now) (g.K.Sink.taken c.tell_one-one.new.sink)
-        c.args.events (g.K.Sink.faults c.loop-at.sink) (g.K.Sink.faults c.tell_one-one.new.sink) c.loop-at.at c.in-Ok.next c.tell_one-one.result some c.loop-at.invariant.within is
-        (after_one g.D.Daemon.commands g.D.Daemon.stands c.args.place c.loop-at.at.place (state_of g.L.LockTable.locks c.args.play.now) (state_of g.L.LockTable.locks c.loop-at.play) (state_of g.L.LockTable.locks c.tell_one-one.new.play) (g.K.Sink.taken c.args.sink.now)
-        (g.K.Sink.taken c.loop-at.sink) (g.K.Sink.taken c.tell_one-one.new.sink) (c.args.events - c.loop-at.at.lines) (g.K.Sink.faults c.loop-at.sink)
-        (g.K.Sink.faults c.tell_one-one.new.sink) c.tell_one-one.result c.loop-at.invariant.told c.tell_one-one.ensures.tells) in
+    c.args.events (g.K.Sink.faults c.loop-at.sink) (g.K.Sink.faults c.tell_one-one.new.sink) c.loop-at.at c.in-Ok.next c.tell_one-one.result some c.loop-at.invariant.within is
+    (after_one g.D.Daemon.commands g.D.Daemon.stands c.args.place c.loop-at.at.place (state_of g.L.LockTable.locks c.args.play.now) (state_of g.L.LockTable.locks c.loop-at.play) (state_of g.L.LockTable.locks c.tell_one-one.new.play) (g.K.Sink.taken c.args.sink.now)
+    (g.K.Sink.taken c.loop-at.sink) (g.K.Sink.taken c.tell_one-one.new.sink) (c.args.events - c.loop-at.at.lines) (g.K.Sink.faults c.loop-at.sink)
+    (g.K.Sink.faults c.tell_one-one.new.sink) c.tell_one-one.result c.loop-at.invariant.told c.tell_one-one.ensures.tells) in
     record {
       within = kept.0;
       told = kept.1;
