@@ -226,6 +226,12 @@ next_entry front s s' now i fx gave behind one =
     let is : front ≡ gave.past = prefix_whole front gave.past (prefix_shorter front gave.past all p q le) ge in
     ap entries gave.front ∙ entries_last gave.past gave.entry ∙ ap (λ (l : List Signed). entries l ++ gave.entry.entry ∷ []) (sym is)
 
+abbrev kept_of : List ℕ → List Awaited → Kept
+kept_of ns ws = record { numbers = ns; awaited = ws }
+
+same_kept : (ns ns' : List ℕ) (ws ws' : List Awaited) → ns ≡ ns' → ws ≡ ws' → kept_of ns ws ≡ kept_of ns' ws'
+same_kept ns ns' ws ws' n w = cc (n, w)
+
 module _ {P : Type 0} (told : P → Option (List Act)) (faults : P → ℕ) (running : P → List ℕ) where
   -- an input told of the children, and its step was carried out
   carried_turn : (h : List Entry) (taken taken' : ℕ) (killed : Bool) (c mid c' : ChildrenState P) (e : Entry) → AreCarried told h taken killed c
@@ -235,7 +241,8 @@ module _ {P : Type 0} (told : P → Option (List Act)) (faults : P → ℕ) (run
       let s = so.signalled in
       let k : Kept = kept_in c in
       let now : kept_in c' ≡ after_moment k (Some e)
-      = (let n = carries.numbers in let a = carries.awaited in subst (λ (x : Kept). kept_in c' ≡ with_effects e.effects x) tells cc) in
+      = same_kept c'.numbers (mid.numbers ++ map number_of e.effects.starts) c'.awaited (map (marked e.effects.signals) mid.awaited ++ map ordered e.effects.starts) carries.numbers carries.awaited
+          ∙ ap (with_effects e.effects) tells in
       let all : Grows (told c.spawner) (told c'.spawner) (acts_at k (Some e))
       = grows_on (told c.spawner) (told mid.spawner) (told c'.spawner) (late_kill k e.input) (map sent_by e.effects.signals) grows carries.does.grows in
       record {
@@ -243,3 +250,128 @@ module _ {P : Type 0} (told : P → Option (List Act)) (faults : P → ℕ) (run
         kept = now ∙ ap (λ x. after_moment x (Some e)) so.kept ∙ sym (after_more no_children s.moments (Some e));
         queue = subst (IsQueue (h ++ e ∷ []) taken' killed) (sym carries.awaited) (queue_effects h taken' killed e mid.awaited queue);
       }
+
+  -- .. by an input that tells nothing of a child
+  pub give_carried : (st : Setting) (now : ℕ) (i : Input) (fx : Effects) (front : List Signed) (taken : ℕ) (killed : Bool) (c c' : ChildrenState P) (s s' : SeatState)
+      → is_childless i ≡ true → MakesTurn told faults running st now (Some fx) i c c' s s' → IsPrefix front s'.front → length s'.front ≡ length front + 1
+      → AreCarried told (entries front) taken killed c → AreCarried told (entries s'.front) taken killed c'
+  give_carried st now i fx front taken killed c c' s s' childless turn behind one so =
+      let gave = turn.0 in
+      let e : Entry = gave.entry.entry in
+      let none : is_childless e.input ≡ true = subst (λ x. is_childless x ≡ true) (sym gave.is.same) childless in
+      subst (λ es. AreCarried told es taken killed c') (sym (next_entry front s s' now i fx gave behind one))
+      (carried_turn (entries front) taken taken killed c c c' e so
+      (subst (Grows (told c.spawner) (told c.spawner)) (sym (childless_kill (kept_in c) e.input none)) (grows_none (told c.spawner) (told c.spawner) refl))
+      (sym (childless_told (kept_in c) e.input none)) so.queue (subst (λ f. Carries told faults running f c c') (sym gave.told) turn.1))
+
+  -- .. by an exit
+  pub exit_carried : (st : Setting) (now process : ℕ) (fx : Effects) (front : List Signed) (taken : ℕ) (killed : Bool) (c c' : ChildrenState P) (s s' : SeatState)
+      → TellsExit told faults running process (MakesTurn told faults running st now (Some fx)) c c' s s' → IsPrefix front s'.front → length s'.front ≡ length front + 1
+      → AreCarried told (entries front) taken killed c → AreCarried told (entries s'.front) taken killed c'
+  exit_carried st now process fx front taken killed c c' s s' tells behind one so =
+      let gave = tells.turn.0 in
+      let e : Entry = gave.entry.entry in
+      let mid = tells.polled in
+      let k : Kept = kept_in c in
+      let same : Exit process ≡ e.input = sym gave.is.same in
+      let kept : kept_in mid ≡ with_told k (Exit process)
+      = same_kept mid.numbers (without process c.numbers) mid.awaited c.awaited tells.gone tells.awaited in
+      subst (λ es. AreCarried told es taken killed c') (sym (next_entry front s s' now (Exit process) fx gave behind one))
+      (carried_turn (entries front) taken taken killed c mid c' e so
+      (subst (λ i. Grows (told c.spawner) (told mid.spawner) (late_kill k i)) same (grows_none (told c.spawner) (told mid.spawner) tells.quiet.same))
+      (subst (λ i. kept_in mid ≡ with_told k i) same kept) (subst (IsQueue (entries front) taken killed) (sym tells.awaited) so.queue)
+      (subst (λ f. Carries told faults running f mid c') (sym gave.told) tells.turn.1))
+
+  -- .. by what the first awaited start came to
+  pub start_carried : {C : Type 0} (st : Setting) (now process : ℕ) (child : Option C) (ok : Bool) (fx : Effects) (front : List Signed) (taken taken' : ℕ) (killed : Bool)
+      (c c' : ChildrenState P) (s s' : SeatState) → IsSomeAnd (slice_get c.awaited 0) (λ (w : Awaited). w.start.process ≡ process) → taken' ≡ taken + 1
+      → TellsStart told faults running process child ok (MakesTurn told faults running st now (Some fx)) c c' s s' → IsPrefix front s'.front → length s'.front ≡ length front + 1
+      → AreCarried told (entries front) taken killed c → AreCarried told (entries s'.front) taken' killed c'
+  start_carried st now process child ok fx front taken taken' killed c c' s s' first next tells behind one so =
+      let gave = tells.turn.0 in
+      let e : Entry = gave.entry.entry in
+      let mid = tells.taken in
+      let takes = tells.takes in
+      let k : Kept = kept_in c in
+      let same : Spawned process ok ≡ e.input = sym gave.is.same in
+      let kept : kept_in mid ≡ with_told k (Spawned process ok)
+      = same_kept mid.numbers (if ok then c.numbers else without process c.numbers) mid.awaited (told_off process c.awaited) takes.numbers takes.awaited in
+      let queue : IsQueue (entries front) taken' killed (told_off process c.awaited)
+      = subst (λ n. IsQueue (entries front) n killed (told_off process c.awaited)) (sym next) (queue_off (entries front) taken killed process c.awaited first so.queue) in
+      subst (λ es. AreCarried told es taken' killed c') (sym (next_entry front s s' now (Spawned process ok) fx gave behind one))
+      (carried_turn (entries front) taken taken' killed c mid c' e so
+      (subst (λ i. Grows (told c.spawner) (told mid.spawner) (late_kill k i)) same takes.grows)
+      (subst (λ i. kept_in mid ≡ with_told k i) same kept) (subst (IsQueue (entries front) taken' killed) (sym takes.awaited) queue)
+      (subst (λ f. Carries told faults running f mid c') (sym gave.told) tells.turn.1))
+
+  -- nothing was done
+  pub carried_same : (h : List Entry) (taken : ℕ) (killed : Bool) (c c' : ChildrenState P) → Grows (told c.spawner) (told c'.spawner) [] → c'.numbers ≡ c.numbers
+      → c'.awaited ≡ c.awaited → AreCarried told h taken killed c → AreCarried told h taken killed c'
+  carried_same h taken killed c c' grows numbers awaited so =
+      let s = so.signalled in record {
+        signalled = record {
+          moments = s.moments;
+          entries_are = s.entries_are;
+          alone = s.alone;
+          tells = tells_none (told c.spawner) (told c'.spawner) (acts_along no_children s.moments) s.tells grows;
+        };
+        kept = same_kept c'.numbers c.numbers c'.awaited c.awaited numbers awaited ∙ so.kept;
+        queue = subst (IsQueue h taken killed) (sym awaited) so.queue;
+      }
+
+  pub quiet_grows : (a b : P) → IsQuiet told faults a b → Grows (told a) (told b) []
+  quiet_grows a b quiet = grows_none (told a) (told b) quiet.same
+
+  -- all were killed
+  pub carried_kill : (h : List Entry) (taken : ℕ) (killed : Bool) (c c' : ChildrenState P) → Does told faults running c.spawner c'.spawner (map kill_of c.numbers)
+      → c'.numbers ≡ c.numbers → c'.awaited ≡ map doomed c.awaited → AreCarried told h taken killed c → AreCarried told h taken true c'
+  carried_kill h taken killed c c' does numbers awaited so =
+      let s = so.signalled in record {
+        signalled = signalled_kill h killed (told c.spawner) (told c'.spawner) (kept_in c) s so.kept does.grows;
+        kept = same_kept c'.numbers c.numbers c'.awaited (map doomed c.awaited) numbers awaited ∙ ap (λ (x : Kept). after_moment x None) so.kept
+            ∙ sym (after_more no_children s.moments None);
+        queue = subst (IsQueue h taken true) (sym awaited) (queue_killed h taken killed c.awaited so.queue);
+      }
+
+  -- a test, whether it killed all or not
+  test_carried : (lapsed : Bool) (h : List Entry) (taken : ℕ) (killed : Bool) (c c' : ChildrenState P)
+      → Does told faults running c.spawner c'.spawner (if lapsed then map kill_of c.numbers else []) → c'.numbers ≡ c.numbers
+      → c'.awaited ≡ (if lapsed then map doomed c.awaited else c.awaited) → AreCarried told h taken killed c → AreCarried told h taken (killed || lapsed) c'
+  test_carried true h taken killed c c' does numbers awaited so =
+      subst (λ b. AreCarried told h taken b c') (sym (or_right killed true refl)) (carried_kill h taken killed c c' does numbers awaited so)
+  test_carried false h taken killed c c' does numbers awaited so =
+      subst (λ b. AreCarried told h taken b c') (sym (or_false killed)) (carried_same h taken killed c c' does.grows numbers awaited so) where
+    or_false : (b : Bool) → (b || false) ≡ b
+    or_false true = refl
+    or_false false = refl
+
+  pub guard_carried : (now last last' fire : ℕ) (answer lapsed : Bool) (h : List Entry) (taken : ℕ) (killed : Bool) (c c' : ChildrenState P) → lapsed ≡ is_lapsed last' fire now
+      → Guards told faults running now last last' fire c c' answer → AreCarried told h taken killed c → AreCarried told h taken (killed || lapsed) c'
+  guard_carried now last last' fire answer lapsed h taken killed c c' is guards so =
+      test_carried lapsed h taken killed c c'
+      (subst (λ b. Does told faults running c.spawner c'.spawner (if b then map kill_of c.numbers else [])) (sym is) guards.kills) guards.numbers
+      (subst (λ b. c'.awaited ≡ (if b then map doomed c.awaited else c.awaited)) (sym is) guards.awaited) so
+
+  -- nothing yet
+  pub new_carried : (h : List Entry) (c : ChildrenState P) → h ≡ [] → Tells (told c.spawner) [] → c.numbers ≡ [] → c.awaited ≡ [] → AreCarried told h 0 false c
+  new_carried h c none tells numbers awaited = subst (λ es. AreCarried told es 0 false c) (sym none) (record {
+    signalled = record { moments = []; entries_are = refl; alone = λ not_killed. refl; tells = tells };
+    kept = same_kept c.numbers [] c.awaited [] numbers awaited;
+    queue = subst (IsQueue [] 0 false) (sym awaited) (record { most = omega arith; left = refl; marks = tt });
+  })
+
+-- ---- the next start
+
+get_drop : {A : Type 0} (n : ℕ) (xs : List A) (y : A) (ys : List A) → y ∷ ys ≡ drop n xs → slice_get xs n ≡ Some y
+get_drop zero [] y ys is = absurd cc
+get_drop (suc n) [] y ys is = absurd cc
+get_drop zero (x ∷ xs) y ys is = let same : y ≡ x = cc is in ap Some (sym same)
+get_drop (suc n) (x ∷ xs) y ys is = get_drop n xs y ys is
+
+pub take_first : (h : List Entry) (taken : ℕ) (killed : Bool) (ws : List Awaited) (w : Awaited) → Some w ≡ slice_get ws 0 → IsQueue h taken killed ws
+    → (slice_get (starts_of h) taken ≡ Some w.start) × (w.signalled ≡ true → IsLet h killed w.start.process)
+take_first h taken killed [] w is q = absurd cc
+take_first h taken killed (v ∷ vs) w is q =
+    let same : w ≡ v = cc is in
+    subst (λ (x : Awaited). (slice_get (starts_of h) taken ≡ Some x.start) × (x.signalled ≡ true → IsLet h killed x.start.process)) (sym same)
+    (get_drop taken (starts_of h) v.start (map start_of vs) q.left, q.marks.0)
