@@ -49,20 +49,23 @@ fn is_childless(input: &Input) -> bool
     }
 }
 
-/// Whether the seat has seen one entry more than this front.
-fn is_next<J: Station>(front: &Front<J>, seat: &Seat<J>) -> bool
-    ensures behind { IsTrue result → IsPrefix front.now seat.now.front }
-    ensures one { IsTrue result → length seat.now.front ≡ length front.now + 1 }
-{
-    let seen = seat.front();
-    front.is_behind(seen) && is_one_more(front.len(), seen.len())
-}
-
 /// Whether the second count is the one behind the first.
 fn is_one_more(before: u64, now: u64) -> bool
     ensures { IsTrue result → now ≡ before + 1 }
 {
     now > before && now - before == 1
+}
+
+/// Moves a front to what the seat has seen: whether that is one entry more.
+fn follow<J: Station>(front: &mut Front<J>, seat: &Seat<J>) -> bool
+    ensures moved { front.new ≡ seat.now.front }
+    ensures behind { IsTrue result → IsPrefix front.old seat.now.front }
+    ensures one { IsTrue result → length seat.now.front ≡ length front.old + 1 }
+{
+    let seen = seat.front();
+    let next = front.is_behind(seen) && is_one_more(front.len(), seen.len());
+    *front = seen.again();
+    next
 }
 
 /// Whether an awaited start is of this process.
@@ -180,8 +183,7 @@ impl<P: Spawner, J: Station> Carried<P, J> {
         let whole = self.whole && is_childless(&input);
         match give_step(rt, cell, seat, clock, &mut self.children, input, sectors) {
             Ok(Some(effects)) => {
-                self.whole = whole && is_next(&self.front, seat);
-                self.front = seat.front().again();
+                self.whole = follow(&mut self.front, seat) && whole;
                 Ok(Some(effects))
             }
             Ok(None) => Ok(None),
@@ -214,8 +216,7 @@ impl<P: Spawner, J: Station> Carried<P, J> {
             && is_one_more(self.taken, taken);
         match spawned_step(rt, cell, seat, clock, &mut self.children, process, child) {
             Ok(told) => {
-                self.whole = whole && told.effects.is_some() && is_next(&self.front, seat);
-                self.front = seat.front().again();
+                self.whole = follow(&mut self.front, seat) && whole && told.effects.is_some();
                 self.taken = taken;
                 Ok(told)
             }
@@ -240,8 +241,7 @@ impl<P: Spawner, J: Station> Carried<P, J> {
         match child_step(rt, cell, seat, clock, &mut self.children) {
             Ok(Some(gone)) => {
                 self.whole =
-                    self.whole && gone.effects.is_some() && is_next(&self.front, seat);
-                self.front = seat.front().again();
+                    follow(&mut self.front, seat) && self.whole && gone.effects.is_some();
                 Ok(Some(gone))
             }
             Ok(None) => Ok(None),
