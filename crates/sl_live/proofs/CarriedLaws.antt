@@ -18,9 +18,12 @@ use Rattle.sl_trace.specs.declared.effects.Sent.{Sent}
 use Rattle.sl_trace.specs.declared.effects.Start.{Start}
 use Rattle.sl_trace.specs.declared.input.Input.TheVariants.{Answer as Told, Exit, Line, Number, Spawned, Wake}
 use Rattle.sl_trace.specs.declared.input.Input.{Input}
-use Rattle.std.proofs.Common.{append_assoc, append-nil, ap, arith, inl, inr, length-append, refl, subst, sym, ◌∙◌}
+use Rattle.std.proofs.Common.{append_assoc, append-nil, ap, arith, inl, inr, length-append, refl, rules, subst, suc, sym, zero, ◌∙◌}
+use Rattle.sl_words.proofs.Numbers.{number_itself}
+use Rattle.std.proofs.lemmas.Bool.Decides.{nat_tests}
 use Rattle.std.proofs.lemmas.List.{map-append}
-use Rattle.std.specs.Prelude.{Bool, IsSomeAnd, List, None, Option, Some, drop, false, if◌then◌else◌, length, map, slice_get, true, [], ℕ, ◌&&◌, ◌++◌, ◌+◌, ◌==◌, ◌||◌, ◌∷◌, ◌≡◌, ◌≤◌, ◌⊎◌}
+use Rattle.std.specs.List.{position, remove}
+use Rattle.std.specs.Prelude.{Bool, IsSomeAnd, List, None, Option, Some, cond, drop, false, if◌then◌else◌, length, map, nat_lt, not, slice_get, true, [], ℕ, ◌&&◌, ◌++◌, ◌+◌, ◌==◌, ◌||◌, ◌∷◌, ◌≡◌, ◌≤◌, ◌⊎◌}
 use mathlib.Core.List.{IsPrefix}
 
 -- ---- what a spawner tells
@@ -178,10 +181,18 @@ queue_effects h taken killed e ws q =
           (marks_ordered (h ++ e ∷ []) killed e.effects.starts);
     }
 
+first_by : (b : Bool) (n m : ℕ) → b ≡ true → cond (nat_lt (cond (not b) (1 + n) 0) (suc m)) (Some (cond (not b) (1 + n) 0)) None ≡ Some 0
+first_by true n m is = let e : nat_lt 0 (suc m) ≡ true = grind (arith, nat_tests) in ap (λ t. cond t (Some 0) None) e
+first_by false n m is = absurd cc
+
+position_first : {X : Type 0} (p : X → Bool) (x : X) (xs : List X) → p x ≡ true → position p (x ∷ xs) ≡ Some 0
+position_first p x xs is = first_by (p x) _ (length xs) is
+
 off_first : (process : ℕ) (w : Awaited) (ws : List Awaited) → w.start.process ≡ process → told_off process (w ∷ ws) ≡ ws
-off_first process w ws is = subst (λ n. told_off n (w ∷ ws) ≡ ws) is (off_self w ws) where
-  off_self : (v : Awaited) (vs : List Awaited) → told_off v.start.process (v ∷ vs) ≡ vs
-  off_self v vs = search (rules, Rattle.std.proofs.lemmas.Nat.eq_same)
+off_first process w ws is =
+    let first : position (λ (v : Awaited). v.start.process == process) (w ∷ ws) ≡ Some 0
+    = position_first (λ (v : Awaited). v.start.process == process) w ws (subst (λ n. (w.start.process == n) ≡ true) is (number_itself w.start.process)) in
+    subst (λ (o : Option ℕ). elim o [ None ↦ w ∷ ws | Some place ↦ remove (w ∷ ws) place ] ≡ ws) (sym first) refl
 
 -- the first of them is dealt with
 queue_off : (h : List Entry) (taken : ℕ) (killed : Bool) (process : ℕ) (ws : List Awaited) → IsSomeAnd (slice_get ws 0) (λ (w : Awaited). w.start.process ≡ process)
