@@ -120,7 +120,7 @@ let_more xs ys killed killed' process later (inr is) = inr (later is)
 marks_more : (xs ys : List Entry) (killed killed' : Bool) (ws : List Awaited) → (killed ≡ true → killed' ≡ true) → AreMarked xs killed ws → AreMarked (xs ++ ys) killed' ws
 marks_more xs ys killed killed' [] later so = tt
 marks_more xs ys killed killed' (w ∷ ws) later so =
-    (λ is. let_more xs ys killed killed' w.start.process later (so.0 is), marks_more xs ys killed killed' ws later so.1)
+    ((λ is. let_more xs ys killed killed' w.start.process later (so.0 is)), marks_more xs ys killed killed' ws later so.1)
 
 marks_append : (h : List Entry) (killed : Bool) (ws vs : List Awaited) → AreMarked h killed ws → AreMarked h killed vs → AreMarked h killed (ws ++ vs)
 marks_append h killed [] vs first then = then
@@ -128,18 +128,18 @@ marks_append h killed (w ∷ ws) vs first then = (first.0, marks_append h killed
 
 marks_ordered : (h : List Entry) (killed : Bool) (ss : List Start) → AreMarked h killed (map ordered ss)
 marks_ordered h killed [] = tt
-marks_ordered h killed (s ∷ ss) = (λ is. absurd cc, marks_ordered h killed ss)
+marks_ordered h killed (s ∷ ss) = ((λ is. absurd cc), marks_ordered h killed ss)
 
 marks_signals : (h : List Entry) (killed : Bool) (e : Entry) (ws : List Awaited) → AreMarked h killed ws → AreMarked (h ++ e ∷ []) killed (map (marked e.effects.signals) ws)
 marks_signals h killed e [] so = tt
-marks_signals h killed e (w ∷ ws) so = (λ is. mark_so (or_cases w.signalled (names e.effects.signals w.start.process) is), marks_signals h killed e ws so.1) where
+marks_signals h killed e (w ∷ ws) so = ((λ is. mark_so (or_cases w.signalled (names e.effects.signals w.start.process) is)), marks_signals h killed e ws so.1) where
   mark_so : (w.signalled ≡ true) ⊎ (names e.effects.signals w.start.process ≡ true) → IsLet (h ++ e ∷ []) killed w.start.process
   mark_so (inl before) = let_more h (e ∷ []) killed killed w.start.process (λ x. x) (so.0 before)
   mark_so (inr now) = inl (named_last w.start.process h e now)
 
 marks_killed : (h : List Entry) (ws : List Awaited) → AreMarked h true ws
 marks_killed h [] = tt
-marks_killed h (w ∷ ws) = (λ is. inr refl, marks_killed h ws)
+marks_killed h (w ∷ ws) = ((λ is. inr refl), marks_killed h ws)
 
 -- ---- starts that are awaited
 
