@@ -97,7 +97,8 @@ fn serve<D: Teller, J: Station, R: Wait, C: Clock, P: Spawner>(
     starter.killed = starter.killed || due.killed;
     let child = start_step(&mut starter.spawner, &due.awaited);
     let process = due.awaited.start.process;
-    Ok(Some(tell(rt, room, seat, clock, process, child)?))
+    let turn = tell(rt, room, seat, clock, process, child)?;
+    Ok(Some(turn))
 }
 
 /// A turn that has begun: whether there was a start to make. An `Err` is want of memory.
