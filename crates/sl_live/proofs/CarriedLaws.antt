@@ -1,12 +1,13 @@
 -- One moment more: what was signalled, and which starts are awaited.
 use Rattle.sl_book.proofs.Fronts.{prefix_shorter, prefix_whole}
 use Rattle.sl_book.proofs.Givens.{entries_last}
+use Rattle.sl_book.proofs.SeatLaws.{seen_told}
 use Rattle.sl_book.specs.Logs.{entries}
 use Rattle.sl_cell.specs.Histories.{Signed}
 use Rattle.sl_cell.specs.Seats.{SeatState}
 use Rattle.sl_cell.specs.Told.{Gave}
 use Rattle.sl_live.proofs.TurnLaws.{grows_none, grows_on}
-use Rattle.sl_live.specs.CarriedOut.{AreCarried, AreMarked, HasSignalled, IsLet, IsQueue, Kept, acts_along, acts_at, after_all, after_moment, as_moment, entries_in, is_childless, is_named, kept_in, late_kill, no_children, start_of, starts_of, with_effects, with_told}
+use Rattle.sl_live.specs.CarriedOut.{AreCarried, AreMarked, HasSignalled, IsLet, IsQueue, Kept, TookStart, acts_along, acts_at, after_all, after_moment, as_moment, entries_in, is_childless, is_named, kept_in, late_kill, no_children, start_of, starts_of, with_effects, with_told}
 use Rattle.sl_live.specs.Turns.{Carries, ChildrenState, Does, Guards, IsQuiet, TakesIn, TellsExit, TellsStart, MakesTurn, doomed, is_doomed, is_lapsed, kill_of, marked, names, number_of, ordered, sent_by, told_off, without}
 use Rattle.sl_live.specs.declared.children.Awaited.{Awaited}
 use Rattle.sl_outside.specs.Acts.{Grows, Tells}
@@ -23,7 +24,7 @@ use Rattle.sl_words.proofs.Numbers.{number_itself}
 use Rattle.std.proofs.lemmas.Bool.Decides.{nat_tests}
 use Rattle.std.proofs.lemmas.List.{map-append}
 use Rattle.std.specs.List.{position, remove}
-use Rattle.std.specs.Prelude.{Bool, IsSomeAnd, List, None, Option, Some, cond, drop, false, if◌then◌else◌, length, map, nat_lt, not, slice_get, true, [], ℕ, ◌&&◌, ◌++◌, ◌+◌, ◌==◌, ◌||◌, ◌∷◌, ◌≡◌, ◌≤◌, ◌⊎◌}
+use Rattle.std.specs.Prelude.{Bool, IsSomeAnd, List, None, Option, Some, cond, drop, false, if◌then◌else◌, is_some, length, map, nat_lt, not, slice_get, true, [], ℕ, ◌&&◌, ◌++◌, ◌+◌, ◌==◌, ◌||◌, ◌∷◌, ◌≡◌, ◌≤◌, ◌⊎◌}
 use mathlib.Core.List.{IsPrefix}
 
 -- ---- what a spawner tells
@@ -315,6 +316,22 @@ module _ {P : Type 0} (told : P → Option (List Act)) (faults : P → ℕ) (run
       (subst (λ i. kept_in mid ≡ with_told k i) same kept) (subst (IsQueue (entries front) taken' killed) (sym takes.awaited) queue)
       (subst (λ f. Carries told faults running f mid c') (sym gave.told) tells.turn.1))
 
+  -- .. where a step was made
+  pub exit_made : (st : Setting) (now process : ℕ) (o : Option Effects) (front : List Signed) (taken : ℕ) (killed : Bool) (c c' : ChildrenState P) (s s' : SeatState)
+      → is_some o ≡ true → TellsExit told faults running process (MakesTurn told faults running st now o) c c' s s' → IsPrefix front s'.front
+      → length s'.front ≡ length front + 1 → AreCarried told (entries front) taken killed c → AreCarried told (entries s'.front) taken killed c'
+  exit_made st now process (Some fx) front taken killed c c' s s' made tells behind one so =
+      exit_carried st now process fx front taken killed c c' s s' tells behind one so
+  exit_made st now process None front taken killed c c' s s' made tells behind one so = absurd cc
+
+  pub start_made : {C : Type 0} (st : Setting) (now process : ℕ) (child : Option C) (ok : Bool) (o : Option Effects) (front : List Signed) (taken taken' : ℕ) (killed : Bool)
+      (c c' : ChildrenState P) (s s' : SeatState) → is_some o ≡ true → IsSomeAnd (slice_get c.awaited 0) (λ (w : Awaited). w.start.process ≡ process) → taken' ≡ taken + 1
+      → TellsStart told faults running process child ok (MakesTurn told faults running st now o) c c' s s' → IsPrefix front s'.front → length s'.front ≡ length front + 1
+      → AreCarried told (entries front) taken killed c → AreCarried told (entries s'.front) taken' killed c'
+  start_made st now process child ok (Some fx) front taken taken' killed c c' s s' made first next tells behind one so =
+      start_carried st now process child ok fx front taken taken' killed c c' s s' first next tells behind one so
+  start_made st now process child ok None front taken taken' killed c c' s s' made first next tells behind one so = absurd cc
+
   -- nothing was done
   pub carried_same : (h : List Entry) (taken : ℕ) (killed : Bool) (c c' : ChildrenState P) → Grows (told c.spawner) (told c'.spawner) [] → c'.numbers ≡ c.numbers
       → c'.awaited ≡ c.awaited → AreCarried told h taken killed c → AreCarried told h taken killed c'
@@ -386,3 +403,20 @@ take_first h taken killed (v ∷ vs) w is q =
     let same : w ≡ v = cc is in
     subst (λ (x : Awaited). (slice_get (starts_of h) taken ≡ Some x.start) × (x.signalled ≡ true → IsLet h killed x.start.process)) (sym same)
     (get_drop taken (starts_of h) v.start (map start_of vs) q.left, q.marks.0)
+
+pub took_start : (s s' : SeatState) (h : List Signed) (n taken : ℕ) (killed : Bool) (ws : List Awaited) (w : Awaited) → IsPrefix s.front h
+    → s' ≡ record { by = s.by; count = s.count; taken = n + 1; front = h } → n ≡ s.taken → s.taken ≡ taken → Some w ≡ slice_get ws 0 → IsQueue (entries h) taken killed ws
+    → TookStart s s' w killed
+took_start s s' h n taken killed ws w before is same count at q =
+    let first = take_first (entries h) taken killed ws w at q in
+    let front : s'.front ≡ h = ap (λ (x : SeatState). x.front) is in record {
+      seen = seen_told s s' (n + 1) h before is;
+      there = subst (λ k. slice_get (starts_of (entries s'.front)) k ≡ Some w.start) (sym count)
+          (subst (λ (l : List Signed). slice_get (starts_of (entries l)) taken ≡ Some w.start) (sym front) first.0);
+      taken = ap (λ (x : SeatState). x.taken) is ∙ ap (λ k. k + 1) same;
+      let_ = subst (λ (l : List Signed). w.signalled ≡ true → IsLet (entries l) killed w.start.process) (sym front) first.1;
+    }
+
+pub both_true : (a b : Bool) → (a && b) ≡ true → (a ≡ true) × (b ≡ true)
+both_true true b is = (refl, is)
+both_true false b is = absurd cc
