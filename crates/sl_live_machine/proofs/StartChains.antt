@@ -269,3 +269,11 @@ module _ (st : Setting) where
   starts_on told faults killed killed' seen_killed start w x y child ok s m s' later saw took starts came (inr passed) so =
       starts_passed killed killed' start (told x) (told y) s m s' w (is_some child) ok later took.seen
       (dealt_with told faults killed' seen_killed w x y child s m s' took passed.seen.before passed.taken saw starts) came passed so
+
+-- ---- what came of a start
+
+-- a child is told only where there is one
+pub runs_so : {C : Type 0} (ok : Bool) (child : Option C) → (child ≡ None → ok ≡ false) → ok ≡ true → is_some child ≡ true
+runs_so ok (Some x) none is = refl
+runs_so true None none is = none refl
+runs_so false None none is = absurd cc
