@@ -272,8 +272,16 @@ module _ (st : Setting) where
 
 -- ---- what came of a start
 
+pub or_first : (k d k' : Bool) → k' ≡ (k || d) → k ≡ true → k' ≡ true
+or_first true d k' is so = is
+or_first false d k' is so = absurd cc
+
+pub or_second : (k d k' : Bool) → k' ≡ (k || d) → d ≡ true → k' ≡ true
+or_second true d k' is so = is
+or_second false d k' is so = is ∙ so
+
 -- a child is told only where there is one
 pub runs_so : {C : Type 0} (ok : Bool) (child : Option C) → (child ≡ None → ok ≡ false) → ok ≡ true → is_some child ≡ true
 runs_so ok (Some x) none is = refl
-runs_so true None none is = none refl
+runs_so true None none is = sym (none refl)
 runs_so false None none is = absurd cc
