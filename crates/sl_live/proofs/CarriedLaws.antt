@@ -55,7 +55,7 @@ after_more k (x ∷ ms) m = after_more (after_moment k x) ms m
 acts_more : (k : Kept) (ms : List (Option Entry)) (m : Option Entry) → acts_along k (ms ++ m ∷ []) ≡ acts_along k ms ++ acts_at (after_all k ms) m
 acts_more k [] m = append-nil (acts_at k m)
 acts_more k (x ∷ ms) m =
-    ap (λ as. acts_at k x ++ as) (acts_more (after_moment k x) ms m) ∙ sym (append_assoc (acts_at k x) (acts_along (after_moment k x) ms) (acts_at (after_all (after_moment k x) ms) m))
+    ap (λ more. acts_at k x ++ more) (acts_more (after_moment k x) ms m) ∙ sym (append_assoc (acts_at k x) (acts_along (after_moment k x) ms) (acts_at (after_all (after_moment k x) ms) m))
 
 -- an entry more
 signalled_entry : (h : List Entry) (killed : Bool) (told told' : Option (List Act)) (e : Entry) (k : Kept) (s : HasSignalled h killed told) → k ≡ after_all no_children s.moments
