@@ -102,12 +102,14 @@ or_cases : (a b : Bool) → (a || b) ≡ true → (a ≡ true) ⊎ (b ≡ true)
 or_cases true b is = inl refl
 or_cases false b is = inr is
 
+or_on : (a b c : Bool) → (b ≡ true → c ≡ true) → (a || b) ≡ true → (a || c) ≡ true
+or_on true b c f is = refl
+or_on false b c f is = f is
+
 pub named_more : (process : ℕ) (xs ys : List Entry) → is_named process xs ≡ true → is_named process (xs ++ ys) ≡ true
 named_more process [] ys is = absurd cc
-named_more process (x ∷ xs) ys is = named_by (or_cases (names x.effects.signals process) (is_named process xs) is) where
-  named_by : (names x.effects.signals process ≡ true) ⊎ (is_named process xs ≡ true) → (names x.effects.signals process || is_named process (xs ++ ys)) ≡ true
-  named_by (inl here) = or_left (names x.effects.signals process) (is_named process (xs ++ ys)) here
-  named_by (inr there) = or_right (names x.effects.signals process) (is_named process (xs ++ ys)) (named_more process xs ys there)
+named_more process (x ∷ xs) ys is =
+    or_on (names x.effects.signals process) (is_named process xs) (is_named process (xs ++ ys)) (λ so. named_more process xs ys so) is
 
 named_last : (process : ℕ) (h : List Entry) (e : Entry) → names e.effects.signals process ≡ true → is_named process (h ++ e ∷ []) ≡ true
 named_last process [] e is = or_left (names e.effects.signals process) false is
@@ -124,8 +126,8 @@ marks_more xs ys killed killed' (w ∷ ws) later so =
     ((λ is. let_more xs ys killed killed' w.start.process later (so.0 is)), marks_more xs ys killed killed' ws later so.1)
 
 marks_append : (h : List Entry) (killed : Bool) (ws vs : List Awaited) → AreMarked h killed ws → AreMarked h killed vs → AreMarked h killed (ws ++ vs)
-marks_append h killed [] vs first then = then
-marks_append h killed (w ∷ ws) vs first then = (first.0, marks_append h killed ws vs first.1 then)
+marks_append h killed [] vs first last = last
+marks_append h killed (w ∷ ws) vs first last = (first.0, marks_append h killed ws vs first.1 last)
 
 marks_ordered : (h : List Entry) (killed : Bool) (ss : List Start) → AreMarked h killed (map ordered ss)
 marks_ordered h killed [] = tt
@@ -249,6 +251,7 @@ module _ {P : Type 0} (told : P → Option (List Act)) (faults : P → ℕ) (run
   carried_turn : (h : List Entry) (taken taken' : ℕ) (killed : Bool) (c mid c' : ChildrenState P) (e : Entry) → AreCarried told h taken killed c
       → Grows (told c.spawner) (told mid.spawner) (late_kill (kept_in c) e.input) → kept_in mid ≡ with_told (kept_in c) e.input → IsQueue h taken' killed mid.awaited
       → Carries told faults running e.effects mid c' → AreCarried told (h ++ e ∷ []) taken' killed c'
+  unfolding signalled_entry
   carried_turn h taken taken' killed c mid c' e so grows tells queue carries =
       let s = so.signalled in
       let k : Kept = kept_in c in
@@ -353,6 +356,7 @@ module _ {P : Type 0} (told : P → Option (List Act)) (faults : P → ℕ) (run
   -- all were killed
   pub carried_kill : (h : List Entry) (taken : ℕ) (killed : Bool) (c c' : ChildrenState P) → Does told faults running c.spawner c'.spawner (map kill_of c.numbers)
       → c'.numbers ≡ c.numbers → c'.awaited ≡ map doomed c.awaited → AreCarried told h taken killed c → AreCarried told h taken true c'
+  unfolding signalled_kill
   carried_kill h taken killed c c' does numbers awaited so =
       let s = so.signalled in record {
         signalled = signalled_kill h killed (told c.spawner) (told c'.spawner) (kept_in c) s so.kept does.grows;

@@ -5,8 +5,8 @@ use Rattle.sl_live.proofs.carried.Carried.tell_exit.Goals as goal
 use Rattle.sl_live.specs.CarriedOut.{AreCarried}
 use Rattle.std.proofs.Common.{List, subst, sym, ◌∙◌}
 
-pub invariant_of-self-in-Ok-Some : goal.invariant_of-self-in-Ok-Some
-invariant_of-self-in-Ok-Some g c = λ whole.
+pub invariant_of-self : goal.invariant_of-self
+invariant_of-self g c = λ whole.
     let k = c.self.inside in
     let first = both_true k.whole c.both-gave.result (sym c.both-whole.ensures ∙ whole) in
     let last = both_true c.follow-next.result c.is_made-made.result (sym c.both-gave.ensures ∙ first.1) in
@@ -22,3 +22,6 @@ invariant_of-self-in-Ok-None g c = λ whole.
     let idle = rw c.in-Ok-None.field-0-is at c.in-Ok-None.ensures.looks in
     carried_same g.P.Spawner.acts g.P.Spawner.faults g.P.Spawner.running (entries k.front) k.taken k.killed k.children c.child_step.new.children
     (quiet_grows g.P.Spawner.acts g.P.Spawner.faults g.P.Spawner.running k.children.spawner c.child_step.new.children.spawner idle.quiet) idle.numbers idle.awaited (c.self.invariant whole)
+
+pub returns-in-Ok-Some-clause-looks : goal.returns-in-Ok-Some-clause-looks
+returns-in-Ok-Some-clause-looks g c = rw c.in-Ok-Some.field-0-is at c.in-Ok-Some.ensures.looks

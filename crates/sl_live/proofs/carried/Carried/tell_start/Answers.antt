@@ -7,8 +7,8 @@ use Rattle.sl_live.specs.declared.children.Awaited.{Awaited}
 use Rattle.std.proofs.Common.{List, subst, sym, ◌∙◌, ◌≡◌}
 use Rattle.std.specs.Prelude.{IsSomeAnd}
 
-pub invariant_of-self-in-Ok : goal.invariant_of-self-in-Ok
-invariant_of-self-in-Ok g c = λ whole.
+pub invariant_of-self : goal.invariant_of-self
+invariant_of-self g c = λ whole.
     let k = c.self.inside in
     let parts = both_true c.both-before.result c.both-gave.result (sym c.both-whole.ensures ∙ whole) in
     let first = both_true k.whole c.both-due.result (sym c.both-before.ensures ∙ parts.0) in
@@ -20,3 +20,6 @@ invariant_of-self-in-Ok g c = λ whole.
     k.killed k.children c.spawned_step.new.children c.args.seat.now c.spawned_step.new.seat (sym c.is_made-made.ensures ∙ last.1)
     (subst (λ o. IsSomeAnd o (λ (w : Awaited). w.start.process ≡ c.args.process)) c.next.ensures (c.is_of-first.ensures due.0)) (c.is_one_more-counted.ensures due.1)
     c.in-Ok.ensures.ok (c.follow-next.ensures.behind last.0) (c.follow-next.ensures.one last.0) (c.self.invariant first.0))
+
+pub returns-in-Ok-clause-ok : goal.returns-in-Ok-clause-ok
+returns-in-Ok-clause-ok g c = c.in-Ok.ensures.ok
