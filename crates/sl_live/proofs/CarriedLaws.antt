@@ -257,7 +257,7 @@ module _ {P : Type 0} (told : P → Option (List Act)) (faults : P → ℕ) (run
       let k : Kept = kept_in c in
       let now : kept_in c' ≡ after_moment k (Some e)
       = same_kept c'.numbers (mid.numbers ++ map number_of e.effects.starts) c'.awaited (map (marked e.effects.signals) mid.awaited ++ map ordered e.effects.starts) carries.numbers carries.awaited
-          ∙ ap (with_effects e.effects) tells in
+      ∙ ap (with_effects e.effects) tells in
       let all : Grows (told c.spawner) (told c'.spawner) (acts_at k (Some e))
       = grows_on (told c.spawner) (told mid.spawner) (told c'.spawner) (late_kill k e.input) (map sent_by e.effects.signals) grows carries.does.grows in
       record {
@@ -373,9 +373,9 @@ module _ {P : Type 0} (told : P → Option (List Act)) (faults : P → ℕ) (run
       subst (λ b. AreCarried told h taken b c') (sym (or_right killed true refl)) (carried_kill h taken killed c c' does numbers awaited so)
   test_carried false h taken killed c c' does numbers awaited so =
       subst (λ b. AreCarried told h taken b c') (sym (or_false killed)) (carried_same h taken killed c c' does.grows numbers awaited so) where
-    or_false : (b : Bool) → (b || false) ≡ b
-    or_false true = refl
-    or_false false = refl
+        or_false : (b : Bool) → (b || false) ≡ b
+        or_false true = refl
+        or_false false = refl
 
   pub guard_carried : (now last last' fire : ℕ) (answer lapsed : Bool) (h : List Entry) (taken : ℕ) (killed : Bool) (c c' : ChildrenState P) → lapsed ≡ is_lapsed last' fire now
       → Guards told faults running now last last' fire c c' answer → AreCarried told h taken killed c → AreCarried told h taken (killed || lapsed) c'
