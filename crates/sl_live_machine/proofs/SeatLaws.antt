@@ -66,6 +66,10 @@ gives_on : (IsInput : Input → Type 0) (st : Setting) (i : Input) (s s' : SeatS
 gives_on IsInput st i s s' is (inl gave) so = gives_more IsInput i s s' gave.0 gave.1 is gave.2 so
 gives_on IsInput st i s s' is (inr passed) so = gives_seen IsInput s s' passed.seen so
 
+-- a starter that takes a start has told nothing more
+pub starter_seen : (s s' : SeatState) → HasSeen s s' → IsStarterThread s → IsStarterThread s'
+starter_seen s s' seen so = gives_seen IsSpawned s s' seen so
+
 -- nothing yet
 pub gave_none : (IsInput : Input → Type 0) (s : SeatState) → s.count ≡ 0 → Gives IsInput s
 gave_none IsInput s none = record { made = []; mine = mine_none s none; each = λ k d below. absurd (omega arith) }
