@@ -8,18 +8,17 @@ use Rattle.sl_cell.specs.Seats.{SeatState}
 use Rattle.sl_cell.specs.Told.{Gave}
 use Rattle.sl_live.proofs.TurnLaws.{grows_none, grows_on}
 use Rattle.sl_live.specs.CarriedOut.{AreCarried, AreMarked, HasSignalled, IsLet, IsQueue, Kept, TookStart, acts_along, acts_at, after_all, after_moment, as_moment, entries_in, is_childless, is_named, kept_in, late_kill, no_children, start_of, starts_of, with_effects, with_told}
-use Rattle.sl_live.specs.Turns.{Carries, ChildrenState, Does, Guards, IsQuiet, TakesIn, TellsExit, TellsStart, MakesTurn, doomed, is_doomed, is_lapsed, kill_of, marked, names, number_of, ordered, sent_by, told_off, without}
+use Rattle.sl_live.specs.Turns.{Carries, ChildrenState, Does, Guards, IsQuiet, TellsExit, TellsStart, MakesTurn, doomed, is_lapsed, kill_of, marked, names, number_of, ordered, sent_by, told_off, without}
 use Rattle.sl_live.specs.declared.children.Awaited.{Awaited}
 use Rattle.sl_outside.specs.Acts.{Grows, Tells}
 use Rattle.sl_outside.specs.declared.act.Act.{Act}
 use Rattle.sl_trace.specs.Traces.{Setting}
 use Rattle.sl_trace.specs.declared.effects.Effects.{Effects}
 use Rattle.sl_trace.specs.declared.effects.Entry.{Entry}
-use Rattle.sl_trace.specs.declared.effects.Sent.{Sent}
 use Rattle.sl_trace.specs.declared.effects.Start.{Start}
 use Rattle.sl_trace.specs.declared.input.Input.TheVariants.{Answer as Told, Exit, Line, Number, Spawned, Wake}
 use Rattle.sl_trace.specs.declared.input.Input.{Input}
-use Rattle.std.proofs.Common.{append_assoc, append-nil, ap, arith, inl, inr, length-append, refl, rules, subst, suc, sym, zero, ◌∙◌}
+use Rattle.std.proofs.Common.{append_assoc, append-nil, ap, arith, inl, inr, length-append, refl, subst, suc, sym, zero, ◌∙◌}
 use Rattle.sl_words.proofs.Numbers.{number_itself}
 use Rattle.std.proofs.lemmas.Bool.Decides.{nat_tests}
 use Rattle.std.proofs.lemmas.List.{map-append}
