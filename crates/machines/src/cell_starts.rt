@@ -4,7 +4,7 @@ ghost use Rattle.sl_world_state.specs.Daemons.{begun_with};
 ghost use Rattle.sl_host_step.specs.HostServes.{whole_commands};
 ghost use Rattle.sl_run.specs.Headers.{IsHeader};
 ghost use Rattle.sl_run.specs.Lawful.{IsSetting};
-ghost use Rattle.std.specs.Prelude.{IfOk, IfSome};
+ghost use Rattle.std.specs.Prelude.{IfOk};
 
 use sl_io::MemSource;
 use sl_live_run::laws::sites_are_settings;

@@ -1,7 +1,5 @@
 //! A live script, played on disks in memory that all threads share, with children in memory and the clock of the system.
 
-ghost use Rattle.std.specs.Prelude.{◌≡◌};
-
 use crate::outside::{Case, Ends};
 use sl_io::{MemSink, MemSource};
 use sl_live_play::{LiveHost, Lived, Manner, play_live};

@@ -5,7 +5,6 @@ ghost use Rattle.sl_world_state.specs.Changes.{write_sector};
 ghost use Rattle.sl_world_state.specs.KeptWorld.{sector_in};
 ghost use Rattle.sl_run.specs.Headers.{IsHeader};
 ghost use Rattle.std.specs.Arc.{arc_value};
-ghost use Rattle.std.specs.Option.{option_copied};
 ghost use Rattle.std.specs.Prelude.{IfOk, IfSome, None, [], length, map, option_map, replicate, unwrap_or, ◌≡◌};
 
 use crate::initial::initial_record;

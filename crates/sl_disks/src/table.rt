@@ -1,10 +1,9 @@
 //! The sectors of a disk, by their numbers.
 
-ghost use Rattle.sl_disks.specs.Disks.{TableState, is_sized, is_table, kept_at, kept_on, path_at, path_if, table_with, tables_with};
+ghost use Rattle.sl_disks.specs.Disks.{TableState, kept_at, kept_on, path_at, path_if, table_with, tables_with};
 ghost use Rattle.std.specs.Arc.{arc_value};
-ghost use Rattle.std.specs.List.{list_all};
 ghost use Rattle.std.specs.Option.{option_copied};
-ghost use Rattle.std.specs.Prelude.{IfOk, IfSome, None, OnOk, Some, [], slice_get, ◌^◌, length, map, option_map, replicate, slice_set, true, ◌++◌, ◌<◌, ◌==◌, ◌∷◌, ◌≡◌};
+ghost use Rattle.std.specs.Prelude.{IfOk, IfSome, None, OnOk, Some, [], slice_get, ◌^◌, length, map, option_map, replicate, slice_set, ◌++◌, ◌<◌, ◌∷◌, ◌≡◌};
 
 use sl_sector::Image;
 use sl_text::FilePath;

@@ -8,9 +8,9 @@ ghost use Rattle.sl_tables.specs.Holdings.{fits};
 ghost use Rattle.sl_trace.specs.CountLimits.{most_children, most_holders};
 ghost use Rattle.sl_trace.specs.Traces.{is_orphan, is_shared};
 ghost use Rattle.sl_host.specs.BookQuestions.{alone, held_under, sought_on};
-ghost use Rattle.sl_words.specs.Words.{choose, least};
+ghost use Rattle.sl_words.specs.Words.{least};
 ghost use Rattle.std.specs.List.{list_any};
-ghost use Rattle.std.specs.Prelude.{filter, find, length, map, nat_le, not, option_and_then, option_map, ◌%◌, ◌&&◌, ◌+◌, ◌==◌, ◌≡◌};
+ghost use Rattle.std.specs.Prelude.{filter, find, length, map, nat_le, not, option_map, ◌%◌, ◌&&◌, ◌+◌, ◌≡◌};
 
 use crate::books::Books;
 use sl_due::Decision;

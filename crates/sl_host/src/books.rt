@@ -1,11 +1,10 @@
 //! What a host keeps besides its members: its configuration, numbers and tables, and the effects of the step in progress.
 
-ghost use Rattle.sl_host_state.specs.MadeEffects.{job_calling, job_starting, names_moved};
-ghost use Rattle.sl_tables.specs.Holdings.{fits};
+ghost use Rattle.sl_host_state.specs.MadeEffects.{job_calling};
 ghost use Rattle.sl_host_state.specs.HostStands.{kept_call, kept_waiting, sectors_of};
-ghost use Rattle.sl_trace.specs.Traces.{first_child, job_of, new_call, new_child, no_effects, same_place};
-ghost use Rattle.sl_host.specs.Books.{books_answering, books_calling, books_counting, books_ending, books_exiting, books_granting, books_hearing, books_lining, books_lowering, books_moving, books_numbering, books_replying, books_signalling, books_spawning, books_starting, ended_by, lver_in, submitted_in, value_in};
-ghost use Rattle.std.specs.Prelude.{Some, cond, filter, is_some, length, map, min, not, ◌&&◌, ◌+◌, ◌++◌, ◌-◌, ◌<◌, ◌==◌, ◌^◌, ◌∷◌, ◌≡◌, ◌≤◌};
+ghost use Rattle.sl_trace.specs.Traces.{first_child, job_of, new_call};
+ghost use Rattle.sl_host.specs.Books.{books_calling, books_counting, books_ending, books_exiting, books_granting, books_lining, books_lowering, books_moving, books_numbering, books_replying, books_signalling, books_spawning, books_starting, ended_by, lver_in, submitted_in, value_in};
+ghost use Rattle.std.specs.Prelude.{Some, cond, is_some, length, map, min, ◌+◌, ◌-◌, ◌<◌, ◌^◌, ◌≡◌, ◌≤◌};
 
 use crate::buffers::Buffers;
 use sl_area::Geometry;

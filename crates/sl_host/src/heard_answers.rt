@@ -28,7 +28,7 @@ ghost use Rattle.sl_host.specs.Host.{Becomes, SameRun};
 ghost use Rattle.sl_words.specs.Bounds.{moments};
 ghost use Rattle.std.specs.List.{list_any};
 ghost use Rattle.std.specs.Option.{option_map_or};
-ghost use Rattle.std.specs.Prelude.{IfSome, IsTrue, List, Option, cond, filter, find, is_some, length, map, min, not, option_map, true, ℕ, ◌*◌, ◌+◌, ◌<◌, ◌==◌, ◌^◌, ◌≡◌};
+ghost use Rattle.std.specs.Prelude.{IfSome, IsTrue, Option, cond, filter, find, is_some, length, map, min, not, option_map, true, ◌*◌, ◌+◌, ◌<◌, ◌==◌, ◌^◌, ◌≡◌};
 
 use crate::books::{Books, job_of};
 use crate::host::{Host, WithinCall};

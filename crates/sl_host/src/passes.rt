@@ -4,10 +4,9 @@ ghost use Rattle.sl_host_law.specs.Questions.Jobs.{is_of_process_in};
 ghost use Rattle.sl_tables.specs.Children.{child_of};
 ghost use Rattle.sl_tables.specs.Holdings.{fits, least_holder, sought_of};
 ghost use Rattle.sl_host.specs.ChosenJobs.{chosen_among, is_chosen, names_lockspace, names_process, noted_with};
-ghost use Rattle.sl_host.specs.Notes.{NotesState};
 ghost use Rattle.sl_host.specs.NextHolder.{above, orphan_on};
 ghost use Rattle.sl_words.specs.Words.{some_is};
-ghost use Rattle.std.specs.Prelude.{bytes_eq, cond, find, is_some, length, map, option_map, slice_get, [], ◌++◌, ◌<◌, ◌==◌, ◌∷◌, ◌≡◌, ◌≤◌};
+ghost use Rattle.std.specs.Prelude.{find, is_some, length, map, option_map, slice_get, ◌<◌, ◌==◌, ◌≡◌, ◌≤◌};
 
 use crate::books::Books;
 use crate::host::Host;

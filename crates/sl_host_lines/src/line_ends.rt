@@ -19,7 +19,7 @@ ghost use Rattle.sl_host.specs.BookQuestions.{state_in};
 ghost use Rattle.sl_host.specs.Host.{Becomes, SameRun, Spends};
 ghost use Rattle.sl_words.specs.Bounds.{moments};
 ghost use Rattle.sl_words.specs.Words.{is_empty};
-ghost use Rattle.std.specs.Prelude.{IfSome, is_some, true, ◌+◌, ◌<◌, ◌≡◌, ◌≤◌};
+ghost use Rattle.std.specs.Prelude.{IfSome, is_some, true, ◌<◌, ◌≡◌, ◌≤◌};
 
 use crate::line_answers::begin;
 use crate::line_grants::end_of;

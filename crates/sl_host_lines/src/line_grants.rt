@@ -5,7 +5,7 @@ ghost use Rattle.sl_host_law.specs.Steps.LineSteps.{deciding};
 ghost use Rattle.sl_host_lines.specs.LineFacts.{IsTimely};
 ghost use Rattle.sl_trace.specs.Traces.{end_of};
 ghost use Rattle.sl_host.specs.Host.{Becomes, SameRun, Spends};
-ghost use Rattle.std.specs.Prelude.{◌+◌, ◌≡◌, ◌≤◌};
+ghost use Rattle.std.specs.Prelude.{◌≡◌, ◌≤◌};
 
 use crate::line_answers::begin;
 use sl_host::Host;

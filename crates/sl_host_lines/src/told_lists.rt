@@ -1,6 +1,5 @@
 //! What a command comes to that tells a list: of the joined sessions, or of what each id looks like to one of them.
 
-ghost use Rattle.sl_host_lines.specs.ListMemory.{ListsState};
 ghost use Rattle.sl_host_lines.specs.CommandRefusals.{report_in};
 ghost use Rattle.sl_host_lines.specs.ToldSessions.{session_in, sessions_in, state_seen, states_in};
 ghost use Rattle.sl_due.specs.declared.decision.Decision.TheVariants.{Replies};

@@ -4,7 +4,7 @@ ghost use Rattle.sl_area.specs.AreaSizes.{layout_of};
 ghost use Rattle.sl_host_step.specs.ExpectedInputs.{expected_in, is_answer_of};
 ghost use Rattle.sl_host.specs.BookQuestions.{state_in};
 ghost use Rattle.std.specs.Option.{option_map_or};
-ghost use Rattle.std.specs.Prelude.{false, find, is_none, length, ◌*◌, ◌==◌, ◌≡◌};
+ghost use Rattle.std.specs.Prelude.{false, find, is_none, ◌*◌, ◌==◌, ◌≡◌};
 
 use sl_host::Host;
 use sl_host_state::OpenCall;

@@ -7,7 +7,7 @@ ghost use Rattle.sl_host_lines.specs.Seats.{HasSeat};
 ghost use Rattle.sl_host_state.specs.KeptState.{HostKept};
 ghost use Rattle.sl_host_step.specs.Moments.{AtEnd, AtInput, HasStepped, StepComes};
 ghost use Rattle.sl_host_step.specs.InputReach.{reach_of};
-ghost use Rattle.sl_host_step.specs.StepMemory.{EndsWith, HasLeft, ScratchState, Suffices};
+ghost use Rattle.sl_host_step.specs.StepMemory.{EndsWith, HasLeft, Suffices};
 ghost use Rattle.sl_host_step.specs.declared.step_memory.Reach.TheVariants.{Few};
 ghost use Rattle.sl_host_step.specs.JoiningSeats.{HasPlace, MayBeSeated};
 ghost use Rattle.sl_host_step.specs.SpareRoom.{Rests};

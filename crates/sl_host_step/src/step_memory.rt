@@ -14,7 +14,7 @@ ghost use Rattle.sl_host_step.specs.HostServes.{IsIdle};
 ghost use Rattle.sl_lease.specs.Reads.{HasPlaces};
 ghost use Rattle.sl_trace.specs.Traces.{no_effects};
 ghost use Rattle.sl_host.specs.BookQuestions.{leases_in};
-ghost use Rattle.std.specs.Prelude.{IfOk, IsOk, OnErr, OnOk, false, length, min, true, ◌<◌, ◌≡◌, ◌≤◌};
+ghost use Rattle.std.specs.Prelude.{IsOk, OnErr, OnOk, false, length, min, true, ◌<◌, ◌≡◌, ◌≤◌};
 
 use sl_area::Geometry;
 use sl_host::{Buffers, Host, Notes};

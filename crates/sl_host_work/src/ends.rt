@@ -7,7 +7,6 @@ ghost use Rattle.sl_host_state.specs.MadeEffects.{with_grant};
 ghost use Rattle.sl_host_work.specs.ProcessHoldings.{HoldsOnce, held_by, leaves_at, with_orphan};
 ghost use Rattle.sl_trace.specs.Traces.{end_of, no_process, orphan_of, orphans_left};
 ghost use Rattle.sl_host.specs.Host.{Becomes, SameRun, Spends};
-ghost use Rattle.sl_host.specs.Notes.{NotesState};
 ghost use Rattle.std.specs.Prelude.{false, length, ◌+◌, ◌<◌, ◌==◌, ◌≡◌, ◌≤◌};
 
 use sl_host::{Host, Notes};

@@ -13,7 +13,6 @@ ghost use Rattle.sl_host_work.specs.RefusalReplies.{reply_of};
 ghost use Rattle.sl_trace.specs.Sessions.{is_join_done};
 ghost use Rattle.sl_host.specs.ChosenJobs.{chosen_among};
 ghost use Rattle.sl_host.specs.Host.{Becomes, SameRun, Spends};
-ghost use Rattle.sl_host.specs.Notes.{NotesState};
 ghost use Rattle.sl_host.specs.declared.passes.Chosen.TheVariants.{OfLockspace, OfProcess};
 ghost use Rattle.sl_words.specs.Words.{some_is};
 ghost use Rattle.std.specs.Prelude.{Some, false, find, length, ◌+◌, ◌==◌, ◌≡◌, ◌≤◌};

@@ -1,6 +1,6 @@
 //! Signals to holders: a process whose kill program is set has it started in place of a term.
 
-ghost use Rattle.sl_host_law.specs.StepParts.Signals.{over, sending, telling};
+ghost use Rattle.sl_host_law.specs.StepParts.Signals.{sending, telling};
 ghost use Rattle.sl_host_work.specs.Holders.{SameButSignals, holders_under, signalling_all};
 ghost use Rattle.sl_host.specs.Host.{Becomes, SameRun, Spends};
 ghost use Rattle.std.specs.Prelude.{length, ◌-◌, ◌<◌, ◌≡◌, ◌≤◌};

@@ -14,7 +14,7 @@ ghost use Rattle.sl_trace.specs.Leases.{shared_elsewhere};
 ghost use Rattle.sl_trace.specs.declared.lease.LeaseNext.TheVariants.{WriteLeader};
 ghost use Rattle.sl_sector.specs.declared.sector.Block.{Block};
 ghost use Rattle.sl_words.specs.Words.{present, some_is};
-ghost use Rattle.std.specs.Prelude.{Bool, IsTrue, List, Option, find, length, ℕ, ◌<◌, ◌^◌, ◌≡◌};
+ghost use Rattle.std.specs.Prelude.{Bool, IsTrue, List, Option, find, ℕ, ◌<◌, ◌≡◌};
 
 use crate::kept_changes::is_ahead;
 use crate::lease::Lease;

@@ -5,7 +5,7 @@ ghost use Rattle.sl_sector.specs.declared.sector.DeltaState.TheVariants.{Free as
 ghost use Rattle.sl_text.specs.Names.{is_data, is_name};
 ghost use Rattle.sl_words.specs.Words.{all_zero};
 ghost use Rattle.std.specs.List.{list_all};
-ghost use Rattle.std.specs.Prelude.{IsSomeAnd, IsTrue, None, nat_lt, replicate, ◌≡◌, ◌≤◌, ◌↔◌};
+ghost use Rattle.std.specs.Prelude.{IsSomeAnd, IsTrue, None, nat_lt, replicate, ◌≡◌, ◌↔◌};
 
 use sl_sector::{Block, DeltaRec, DeltaState, Leader, PairBlock, Rec, Request, ValueRec};
 use sl_text::{Data, Name};

@@ -1,12 +1,10 @@
 //! A call in flight.
 
 ghost use Rattle.sha2.specs.Sha256.{sha256};
-ghost use Rattle.sl_area.specs.AreaSizes.{layout_of, sector_with};
 ghost use Rattle.sl_world_state.specs.Daemons.{IsSoundOp};
 ghost use Rattle.sl_world_state.specs.Changes.{cut_flight, disowned, stays_open};
 ghost use Rattle.sl_world_state.specs.KeptWorld.{FlightState};
 ghost use Rattle.sl_world_state.specs.Refusals.{lands, left_in};
-ghost use Rattle.sl_world_state.specs.ShownWorlds.{write_in};
 ghost use Rattle.sl_world_state.specs.Steps.{new_flight};
 ghost use Rattle.sl_machine.specs.Flights.{ended_flight, grown_flight, late_cut};
 ghost use Rattle.sl_run.specs.Headers.{IsHeader};

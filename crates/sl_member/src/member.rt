@@ -19,7 +19,7 @@ ghost use Rattle.sl_lease.specs.Bounds.{IsSession};
 ghost use Rattle.sl_lease.specs.Changes.{after_failure, after_write};
 ghost use Rattle.sl_member.specs.AskedRequests.{bits_within};
 ghost use Rattle.sl_member.specs.Leases.{begins_lease, first_among, kept_shown, read_shown};
-ghost use Rattle.sl_member.specs.Members.{IsKnown, IsOwnCall, RunOf, blank_member, delta_lease, kept_called, leaving_begun, lease_changed, own_of, own_told, owner_in, recovery_begun, renewal_counted, renewing_after, renewing_told, seen_in, side_in};
+ghost use Rattle.sl_member.specs.Members.{IsKnown, IsOwnCall, blank_member, delta_lease, kept_called, leaving_begun, lease_changed, own_of, own_told, owner_in, recovery_begun, renewal_counted, renewing_after, renewing_told, seen_in, side_in};
 ghost use Rattle.sl_member.specs.SeenSessions.{is_asked_by, shows_other_by};
 ghost use Rattle.sl_member.specs.HostMembers.{late_by};
 ghost use Rattle.sl_sector.specs.Records.{Fits};
@@ -34,7 +34,7 @@ ghost use Rattle.sl_watch.specs.Summaries.{bare, state_by};
 ghost use Rattle.sl_watch.specs.ToldLooks.{told_all};
 ghost use Rattle.sl_watch.specs.Watches.{kept_at};
 ghost use Rattle.sl_words.specs.Bounds.{moments};
-ghost use Rattle.std.specs.Prelude.{IfOk, IfSome, IsTrue, None, OnErr, OnOk, Some, bytes_eq, false, find, is_none, is_some, length, max, nat_le, not, option_map, slice_get, true, ℕ, ◌&&◌, ◌*◌, ◌+◌, ◌<◌, ◌==◌, ◌^◌, ◌≡◌, ◌≤◌};
+ghost use Rattle.std.specs.Prelude.{IfOk, IfSome, IsTrue, None, OnErr, OnOk, Some, bytes_eq, false, find, is_none, is_some, length, max, nat_le, option_map, true, ℕ, ◌&&◌, ◌*◌, ◌+◌, ◌<◌, ◌==◌, ◌^◌, ◌≡◌, ◌≤◌};
 
 use crate::asked_requests::Asked;
 use crate::calls::delta_of;

@@ -1,6 +1,6 @@
 //! The children in memory of live machines: a start may take its time, and how many children run at once, over all machines, is counted.
 ghost use Rattle.sl_outside.specs.MemSpawners.{numbers, told};
-ghost use Rattle.std.specs.Prelude.{OnErr, OnOk, [], ◌++◌, ◌∷◌, ◌≡◌, ◌≤◌};
+ghost use Rattle.std.specs.Prelude.{◌≡◌};
 
 use crate::mem_spawner::MemSpawner;
 use crate::spawner::Spawner;

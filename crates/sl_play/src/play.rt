@@ -30,7 +30,6 @@ pub struct Play<D: Daemon, L: LockTable> {
 impl<D: Daemon, L: LockTable> Play<D, L> {
     ghost use Rattle.sl_world_state.specs.SaneWorlds.{ReadsCommands, WorldStands};
     ghost use Rattle.sl_world_state.specs.Refusals.{refusal_in};
-    ghost use Rattle.sl_machine.specs.KeptParts.{kept_state};
     ghost use Rattle.sl_machine.specs.EventTests.{is_tear};
     ghost use Rattle.sl_play.specs.Plays.{Answers, Begins, PassesCounts, StandsFor, StaysAs, state_of, test_told};
     ghost use Rattle.sl_play.specs.ToldSteps.{AreCounted, counts_with, one_more, tests_told, told_view};

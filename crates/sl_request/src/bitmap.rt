@@ -3,7 +3,7 @@
 //! What is kept is the bytes as the record has them: 250, each below 256. Else a record with them would break its rules, and two
 //! bitmaps with the same hosts' bits could be different bytes.
 
-ghost use Rattle.std.specs.Prelude.{false, length, true, ◌-◌, ◌/◌, ◌≡◌, ◌≤◌};
+ghost use Rattle.std.specs.Prelude.{false, length, true, ◌-◌, ◌/◌, ◌≡◌};
 ghost use Rattle.sl_request.specs.BitmapLaws.{ChangesBit, IsHost};
 ghost use Rattle.sl_sector.specs.Bitmaps as bitmaps;
 ghost use Rattle.sl_sector.specs.Records.{AreBytes};

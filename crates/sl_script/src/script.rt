@@ -2,7 +2,6 @@
 
 ghost use Rattle.sl_script.specs.MadeSteps.{AreMade, most_made};
 ghost use Rattle.sl_script.specs.ScriptStates.{after_step, child_next, is_heard, new_seen, seen_after};
-ghost use Rattle.sl_trace.specs.declared.effects.Effects.{Effects as Made};
 ghost use Rattle.std.specs.Prelude.{IfOk, OnErr, filter, length, map, not, [], ◌++◌, ◌+◌, ◌<◌, ◌^◌, ◌≡◌, ◌≤◌};
 
 use crate::answered_inputs::{Heard, SeenChild};

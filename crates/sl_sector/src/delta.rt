@@ -1,7 +1,7 @@
 //! The delta record's bytes: who has an id, and since when.
 
 ghost use Rattle.sha2.specs.Sha256.{sha256};
-ghost use Rattle.std.specs.Prelude.{IfSome, [], drop, length, not, take, unwrap_or, ◌++◌, ◌+◌, ◌∷◌, ◌||◌, ◌≡◌, ◌≤◌};
+ghost use Rattle.std.specs.Prelude.{IfSome, [], drop, length, not, take, unwrap_or, ◌++◌, ◌+◌, ◌||◌, ◌≡◌, ◌≤◌};
 ghost use Rattle.sl_words.specs.Words.{all_zero, choose};
 ghost use Rattle.sl_sector.specs.FieldBytes as spec;
 ghost use Rattle.sl_sector.specs.FieldBytes.{ReadsField};
@@ -10,8 +10,8 @@ ghost use Rattle.sl_sector.specs.SectorLayouts.{IsSectorSize, delta_of, delta_ru
 ghost use Rattle.sl_sector.specs.declared.sector.Rec.TheVariants.{DeltaIs};
 
 use crate::fields::{
-    NAME_SIZE, all_hold, are_zeros, both, implies, is_host, is_number, name_at, name_field, put,
-    put_name, put_u32, put_u64, put_zeros, rule, u32_at, u64_at,
+    all_hold, are_zeros, both, implies, is_host, is_number, name_at, name_field, put, put_name,
+    put_u32, put_u64, rule, u32_at, u64_at,
 };
 use crate::frame::{begin, finish};
 use crate::sector::{Bad, DeltaRec, DeltaState};

@@ -5,7 +5,7 @@
 
 ghost use Rattle.std.specs.Int.{is_in_range};
 ghost use Rattle.std.specs.List.{prefix_len};
-ghost use Rattle.std.specs.Prelude.{length, replicate, take, ◌&&◌, ◌||◌, ◌++◌, ◌+◌, ◌≡◌, ◌≤◌, ◌∷◌, ◌==◌, not, []};
+ghost use Rattle.std.specs.Prelude.{length, replicate, take, ◌&&◌, ◌||◌, ◌++◌, ◌+◌, ◌≡◌, ◌≤◌, ◌==◌, not};
 ghost use Rattle.sl_words.specs.Bounds as bounds;
 ghost use Rattle.sl_words.specs.Words.{all_zero, choose, same_truth};
 ghost use Rattle.sl_sector.specs.FieldBytes as spec;

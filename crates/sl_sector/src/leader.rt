@@ -2,7 +2,7 @@
 //! same fields: a program for the one kind of areas finds no leader in the other.
 
 ghost use Rattle.sha2.specs.Sha256.{sha256};
-ghost use Rattle.std.specs.Prelude.{length, take, ◌+◌, ◌≡◌, ◌≤◌};
+ghost use Rattle.std.specs.Prelude.{length, take, ◌≡◌, ◌≤◌};
 ghost use Rattle.sl_sector.specs.Records.{IsLeader};
 ghost use Rattle.sl_sector.specs.SectorLayouts.{IsSectorSize, leader_fields, leader_of, leader_rules, spelling, under_rules};
 ghost use Rattle.sl_sector.specs.declared.sector.Rec.TheVariants.{LeaderIs, PairLeaderIs};

@@ -3,7 +3,7 @@
 ghost use Rattle.sl_host_state.specs.HostStands.{is_there};
 ghost use Rattle.sl_tables.specs.Children.{IsLeft, child_of, children_left};
 ghost use Rattle.sl_trace.specs.declared.input.Input.TheVariants.{Exit as ExitOf, Spawned as SpawnedOf};
-ghost use Rattle.std.specs.Prelude.{OnErr, OnOk, find, true, length, max, option_map, [], ◌+◌, ◌++◌, ◌-◌, ◌<◌, ◌==◌, ◌^◌, ◌∷◌, ◌≡◌, ◌≤◌};
+ghost use Rattle.std.specs.Prelude.{OnErr, OnOk, find, true, length, max, option_map, [], ◌+◌, ◌++◌, ◌-◌, ◌<◌, ◌==◌, ◌∷◌, ◌≡◌, ◌≤◌};
 
 use crate::rising::Rising;
 use std::alloc::{AllocError, Global};

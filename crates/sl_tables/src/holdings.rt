@@ -4,7 +4,7 @@
 //! is noted it ends at once. From there on it goes through what was granted later: of an area with one holder, or of a process with one
 //! holding, it finds that first.
 
-ghost use Rattle.indexmap.specs.IndexMap.{get, index_map_len, spare};
+ghost use Rattle.indexmap.specs.IndexMap.{get, spare};
 ghost use Rattle.sl_tables.specs.Holdings.{AreLed, Leads, first_at, first_of, fits, holder_in, is_held_at, is_holder, is_in_mode, is_of_process, least_holder, noted_first, sooner, sought_at, sought_of, without_first};
 ghost use Rattle.sl_tables.specs.Rising.{AreRising, found_in, items_of};
 ghost use Rattle.sl_trace.specs.Traces.{same_spot, spot_of_grant};

@@ -6,7 +6,7 @@ ghost use Rattle.indexmap.specs.IndexMap.{set_value_at};
 ghost use Rattle.sl_tables.specs.Jobs.{changed, ungranted, waiting, weight};
 ghost use Rattle.sl_tables.specs.Rising.{altered};
 ghost use Rattle.std.specs.Option.{option_or};
-ghost use Rattle.std.specs.Prelude.{OnErr, OnOk, Option, Some, cond, filter, find, length, map, max, not, option_map, slice_get, vec_capacity, vec_len, [], ◌+◌, ◌++◌, ◌-◌, ◌<◌, ◌==◌, ◌^◌, ◌∷◌, ◌≡◌, ◌≤◌, ℕ};
+ghost use Rattle.std.specs.Prelude.{OnErr, OnOk, Option, Some, filter, find, length, max, not, option_map, slice_get, vec_capacity, vec_len, [], ◌+◌, ◌++◌, ◌-◌, ◌<◌, ◌==◌, ◌^◌, ◌∷◌, ◌≡◌, ◌≤◌, ℕ};
 
 use crate::rising::{Rising, place_of};
 use sl_host_state::{JobState, WaitingCall};

@@ -2,7 +2,7 @@
 
 ghost use Rattle.indexmap.specs.IndexMap.{spare};
 ghost use Rattle.sl_trace.specs.KillPrograms.{with_program, without_program};
-ghost use Rattle.std.specs.Prelude.{OnErr, OnOk, Some, filter, find, length, max, nat_eq, not, option_map, [], ◌+◌, ◌-◌, ◌<◌, ◌==◌, ◌≡◌, ◌≤◌};
+ghost use Rattle.std.specs.Prelude.{OnErr, OnOk, Some, filter, find, length, max, nat_eq, not, option_map, [], ◌-◌, ◌<◌, ◌==◌, ◌≡◌, ◌≤◌};
 
 use indexmap::IndexMap;
 use sl_text::FilePath;

@@ -20,7 +20,7 @@
 //! an exit would refuse its job, and its start was told (`Grants::Values::ReadsBack`). So the value that is told then is the last
 //! (`Grants::Values::ValuesAreTold`); nothing else tells one (`Grants::Values::NothingIsTold`).
 
-ghost use Rattle.sl_due_leases.specs.Grants.GrantLaws.{ActivesAreKept, ActivesBegin, EndsAreLawful, ExitsAreLawful, ExitsBegin, GrantingBegins, GrantingIsLawful, GrantsAreLawful, GrantsStand, OrphansAreLawful, OrphansBegin, WorkFactsAreKept, WorkFactsBegin};
+ghost use Rattle.sl_due_leases.specs.Grants.GrantLaws.{ActivesAreKept, ActivesBegin, ExitsAreLawful, ExitsBegin, GrantingBegins, GrantingIsLawful, GrantsAreLawful, GrantsStand, OrphansAreLawful, OrphansBegin, WorkFactsAreKept, WorkFactsBegin};
 ghost use Rattle.sl_due_leases.specs.Grants.ModeLaws.{ModesAreLawful, ModesBegin};
 ghost use Rattle.sl_due_leases.specs.Grants.ValueLaws.{ValueFactsAreKept, ValueFactsBegin, ValuesAreLawful, ValuesBegin};
 
