@@ -59,7 +59,7 @@ fn are_bytes(bytes: &[u8])
 }
 
 impl Bitmap {
-    /// No bit is set.
+    /// A bitmap in which no host's bit is set.
     pub fn none() -> Bitmap
         ensures { result ≡ bitmaps.no_bits }
     {
@@ -68,7 +68,7 @@ impl Bitmap {
         }
     }
 
-    /// The bits of these bytes.
+    /// The bitmap of a delta record, as it was read.
     pub fn from_bytes(bytes: [u8; 250]) -> Bitmap
         ensures { result ≡ bytes }
     {

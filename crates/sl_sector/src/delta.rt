@@ -17,10 +17,10 @@ use crate::frame::{begin, finish};
 use crate::sector::{Bad, DeltaRec, DeltaState};
 use sl_text::Name;
 
-/// The record's number.
+/// The number that stands for a delta record in a sector's bytes.
 pub(crate) const DELTA_KIND: u32 = 1;
 
-/// Where the fields end.
+/// The offset behind the last field: from here on to the check all is zero.
 pub(crate) const DELTA_END: usize = 386;
 
 /// What each stamp stays below.

@@ -16,13 +16,13 @@ use crate::sector::Bad;
 use byteorder::{BigEndian, ByteOrder};
 use sl_text::Name;
 
-/// The most hosts of any run.
+/// The most hosts of any run, so the greatest id that a record may name.
 pub(crate) const MOST_HOSTS: u32 = 2000;
 
 /// What each generation, seq, lver and mbal stays below.
 const RECORD_NUMBERS: u64 = 1 << 63;
 
-/// Bytes of a name's field.
+/// How many bytes the field of a name has; behind a shorter name stand zeros.
 pub(crate) const NAME_SIZE: usize = 48;
 
 /// The number in the four bytes at this offset.

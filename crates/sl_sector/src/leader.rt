@@ -14,13 +14,13 @@ use crate::fields::{
 use crate::frame::{begin, finish};
 use crate::sector::{Bad, Leader};
 
-/// The record's number.
+/// The number that stands for a leader in a sector's bytes.
 pub(crate) const LEADER_KIND: u32 = 2;
 
 /// The record's number where blocks have pairs.
 pub(crate) const PAIR_LEADER_KIND: u32 = 7;
 
-/// Where the fields end.
+/// The offset behind the last field: from here on to the check all is zero.
 pub(crate) const LEADER_END: usize = 132;
 
 impl Leader {
