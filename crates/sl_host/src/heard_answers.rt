@@ -121,7 +121,7 @@ impl Books {
 }
 
 impl Host {
-    /// The open call of this number.
+    /// The call of this number, if it has no answer yet.
     pub fn open_call(&self, number: u64) -> Option<&OpenCall>
         ensures { option_map (λ c. c.now) result ≡ find (λ c. c.number == number) self.now.kept.unanswered }
     {
@@ -184,7 +184,7 @@ impl Host {
         self.books.rest_until(quiet_until);
     }
 
-    /// A read of all ids failed.
+    /// A read of all ids was answered failed: nothing was seen.
     pub fn hear_no_survey(&mut self, call: &OpenCall)
         requires may { MayHear self.old.kept call.now }
         requires purpose { call.now.purpose ≡ Survey }

@@ -12,7 +12,7 @@ use sl_host::Host;
 use sl_host_work::grant_for;
 use sl_trace::{Command, End, Grant, Mode, Session};
 
-/// The end of a holding.
+/// The end that ends this holding, with the names of its grant.
 pub(crate) fn end_of(grant: &Grant) -> End
     ensures { result ≡ end_of grant.now }
 {

@@ -98,7 +98,7 @@ fn passes_on(member: &Member, held: Option<Grant>) -> Decision
     }
 }
 
-/// What a take-over comes to.
+/// What a take-over of the orphan by this process comes to; it makes no call, and meets no limit.
 pub(crate) fn decide_take_over(
     host: &Host,
     resource: &ResourceArg,

@@ -156,7 +156,7 @@ fn step_bytes(
     step_heard(alloc, host, scratch, now, number, Heard::Sectors(&sectors))
 }
 
-/// A step at an answer.
+/// A step at the answer of this call, at reading `now`. An `Err` is want of memory or of numbers, and changes nothing.
 pub(crate) fn step_answer(
     alloc: Global,
     host: &mut Host,

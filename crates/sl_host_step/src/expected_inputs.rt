@@ -39,7 +39,7 @@ fn is_starting(host: &Host, process: u32) -> bool
     }
 }
 
-/// Whether the input may come.
+/// Whether the input may come now: it answers an open call, and fits it, or a start; any other may come at any time.
 pub(crate) fn is_expected(host: &Host, input: &Input) -> bool
     ensures { result ≡ expected_in (state_in host.now.kept) input.now }
 {

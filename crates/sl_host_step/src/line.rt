@@ -178,7 +178,7 @@ fn step_command(
     step_prepared(alloc, host, scratch, now, &mut seat, lists, command)
 }
 
-/// A step at a line.
+/// A step at a line, at reading `now`. An `Err` is want of memory or of numbers, and changes nothing.
 #[tactic(auto, using(crate::proofs::LinePremises::read_command, crate::proofs::LinePremises::read_column))]
 pub(crate) fn step_line(
     alloc: Global,

@@ -185,7 +185,7 @@ pub(crate) fn start(
     Ok(is_loud)
 }
 
-/// A wake.
+/// A step on a wake, at reading `now`. An `Err` is want of memory or of numbers, and changes nothing.
 pub(crate) fn step_wake(
     alloc: Global,
     host: &mut Host,
@@ -206,7 +206,7 @@ pub(crate) fn step_wake(
     Ok(conclude(alloc, host, scratch, is_loud))
 }
 
-/// An exit.
+/// A step at the exit of a process. An `Err` is want of memory or of numbers, and changes nothing.
 pub(crate) fn step_exit(
     alloc: Global,
     host: &mut Host,
@@ -228,7 +228,7 @@ pub(crate) fn step_exit(
     Ok(conclude(alloc, host, scratch, is_loud))
 }
 
-/// The answer to a start.
+/// A step at the answer to a child's start. An `Err` is want of memory or of numbers, and changes nothing.
 pub(crate) fn step_start(
     alloc: Global,
     host: &mut Host,

@@ -201,7 +201,7 @@ pub(crate) fn left_for(host: &Host) -> usize
     Counts::of(host).effects()
 }
 
-/// So many calls.
+/// How many calls a step makes at most, by the leases and sessions there are.
 pub(crate) fn calls_for(host: &Host) -> usize
     ensures { result ≡ calls_for host.now }
 {

@@ -57,7 +57,7 @@ fn refuse_noted(host: &mut Host, numbers: &Notes<u64>, refusal: Refusal)
     }
 }
 
-/// Those jobs are refused.
+/// The running jobs that were chosen are refused, by number, each with this refusal's reply.
 pub fn refuse_chosen(host: &mut Host, numbers: &mut Notes<u64>, chosen: &Chosen, refusal: Refusal)
     requires room { length host.old.kept.jobs ≤ numbers.old.most }
     requires left { length (chosen_among chosen.now host.old.kept.jobs) ≤ host.old.left }

@@ -8,7 +8,7 @@ ghost use Rattle.std.specs.Prelude.{length, ◌-◌, ◌<◌, ◌≡◌, ◌≤�
 use sl_host::Host;
 use sl_trace::{Sent, Signal, Start};
 
-/// A process is told to stop.
+/// A process is told to stop: by its kill program, as a child, or else by a term.
 pub fn tell(host: &mut Host, process: u32)
     requires { 0 < host.old.left }
     ensures state { Becomes host.old host.new (telling process) }

@@ -177,7 +177,7 @@ impl Lease {
         }
     }
 
-    /// After the read of phase 1.
+    /// What is decided where the read of phase 1 is answered, by these blocks and what stops the ballot in them, if anything.
     pub(crate) fn after_phase1<E: Evidence>(
         &self,
         side: &Side,
@@ -286,7 +286,7 @@ impl Lease {
         }
     }
 
-    /// After the read of phase 2.
+    /// What is decided where the read of phase 2 is answered, by these blocks and what stops the ballot in them, if anything.
     pub(crate) fn after_phase2<E: Evidence>(
         &self,
         side: &Side,

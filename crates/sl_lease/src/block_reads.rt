@@ -33,7 +33,7 @@ use std::marker::Model;
 
 /// Sectors that a read gave, one after another.
 pub trait Sectors {
-    /// Their bytes.
+    /// The bytes of all these sectors, one behind the other.
     ghost bytes: { Self → List ℕ };
 
     /// Whether they are cut into sectors of this size.
@@ -48,7 +48,7 @@ pub trait Sectors {
         ensures rules { IfOk result IsRecord };
 }
 
-/// Sectors as bytes.
+/// Sectors that lie in memory as bytes, cut at a sector's size.
 #[derive(Clone, Copy)]
 pub struct SectorBytes<'a> {
     pub bytes: &'a [u8],
@@ -266,7 +266,7 @@ impl Blocks {
         Ok(())
     }
 
-    /// The blocks.
+    /// The blocks of hosts 1 to N, each if the read gave one.
     pub fn as_slice(&self) -> &[Option<Block>]
         ensures exact { result.now ≡ self.now.blocks }
         ensures rules { All (λ o. IfSome o IsBlock) result.now }

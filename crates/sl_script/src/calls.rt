@@ -60,7 +60,8 @@ fn call_of(number: u64, path: FilePath, offset: u64, op: Op, sector: u32) -> Opt
     }
 }
 
-/// The types within a call.
+/// The types within a call. A body that carries a call over another one names them all (`_within`, which is nothing): the borrow check
+/// refuses it where one is not named there, with a message that calls itself a fault.
 type WithinCall = (
     (Purpose, Work, LeaseStep, LeaseRead, JoinStep),
     (

@@ -72,7 +72,7 @@ impl Model for Children {
 }
 
 impl Children {
-    /// None.
+    /// An empty table, without room. It takes no memory.
     pub fn new(alloc: Global) -> Children
         ensures { result ≡ record { children = []; next = 0; room = 0; gaps = 0 } }
     {

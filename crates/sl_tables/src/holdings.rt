@@ -73,7 +73,7 @@ fn is_in(mode: Mode, grant: &Grant) -> bool
 }
 
 impl Sought {
-    /// Those on this area.
+    /// All holdings of the resource on this area.
     pub fn at(spot: Spot) -> Sought
         ensures { result ≡ sought_at spot }
     {
@@ -85,7 +85,7 @@ impl Sought {
         }
     }
 
-    /// Those of this process.
+    /// All holdings of this process.
     pub fn of(process: u32) -> Sought
         ensures { result ≡ sought_of process }
     {
@@ -306,7 +306,7 @@ impl Model for Holdings {
 }
 
 impl Holdings {
-    /// None.
+    /// An empty table, without room. It takes no memory.
     pub fn new(alloc: Global) -> Holdings
         ensures { result ≡ record { held = []; next = 0; room = 0 } }
     {
@@ -347,7 +347,7 @@ impl Holdings {
         self.held.put(number, grant);
     }
 
-    /// The first of those sought.
+    /// Of the holdings sought, the one that was granted first.
     pub fn find(&self, sought: &Sought) -> Option<&Grant>
         ensures { option_map (λ g. g.now) result ≡ find (fits sought.now) self.now.held }
     {
@@ -367,7 +367,7 @@ impl Holdings {
         }
     }
 
-    /// The least process of those sought.
+    /// The least number of a process that has one of the holdings sought; an orphan has none.
     pub fn least_holder(&self, sought: &Sought) -> Option<u32>
         ensures { result ≡ least_holder sought.now self.now.held }
     {
