@@ -238,7 +238,7 @@ fn told_of<R: Clock + Wait + Threads + Eprint + Copy + Drop + Send + Sync>(
     Ok(text)
 }
 
-/// What comes of a case.
+/// Plays a case's script with machines in memory, and gives what was told, as text.
 pub fn told<R: Files + Clock + Wait + Threads + Eprint + AllocGlobal + Copy + Drop + Send + Sync>(
     rt: R,
     case: &Case<'_>,

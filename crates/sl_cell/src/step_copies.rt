@@ -24,7 +24,7 @@ pub(crate) struct Spare {
 }
 
 impl Spare {
-    /// For nothing.
+    /// Room for the copies of no step. It takes no memory.
     pub(crate) fn new(alloc: Global) -> Spare {
         Spare {
             ends: Blank::new(alloc),

@@ -18,7 +18,7 @@ use std::alloc::{AllocError, Global};
 use std::marker::Model;
 use std::sync::Arc;
 
-/// The disks of a header's world.
+/// The disks of a header's world, each seen as its sectors; what nobody touched takes no memory.
 #[derive(Drop)]
 pub struct Disks {
     header: Header,
@@ -164,7 +164,7 @@ impl Disks {
         })
     }
 
-    /// The header of their world.
+    /// The header whose areas stand on these disks at moment 0.
     pub fn header(&self) -> &Header
         ensures exact { result.now ≡ self.now.header }
         ensures lawful { IsHeader self.now.header }

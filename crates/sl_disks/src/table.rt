@@ -11,7 +11,7 @@ use std::alloc::{AllocError, Global};
 use std::marker::Model;
 use std::sync::Arc;
 
-/// A disk's path and its sectors.
+/// A disk's path, with the sectors that somebody has touched, by their places.
 #[derive(Drop)]
 pub struct Table {
     path: FilePath,
@@ -95,7 +95,7 @@ impl Table {
     }
 }
 
-/// The tables of disks, in order.
+/// The tables of all disks, in the order of the header's lines.
 #[derive(Drop)]
 pub struct Tables {
     items: Vec<Table>,
@@ -111,7 +111,7 @@ impl Model for Tables {
 }
 
 impl Tables {
-    /// No tables.
+    /// No disk's table. It takes no memory.
     pub fn new(alloc: Global) -> Tables
         ensures { result ≡ [] }
     {

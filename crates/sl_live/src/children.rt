@@ -208,7 +208,7 @@ impl<P: Spawner> Children<P> {
         self.spawner.starter()
     }
 
-    /// The spawner.
+    /// The spawner back, when the machine's run is over.
     pub(crate) fn into_spawner(self) -> P
         ensures { result ≡ self.spawner }
     {

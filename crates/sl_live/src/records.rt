@@ -163,7 +163,7 @@ fn is_value(value: &ValueRec) -> bool
         && is_data(&value.bytes)
 }
 
-/// Whether a record keeps its rules.
+/// Whether a record keeps the rules of its kind, so that there are bytes that spell it.
 pub(crate) fn is_record(written: &Rec) -> bool
     ensures { IsTrue result ↔ IsRecord written.now }
 {

@@ -14,7 +14,7 @@ pub(crate) struct Open {
 }
 
 impl Open {
-    /// None.
+    /// No number is open. It takes no memory.
     pub(crate) fn new(alloc: Global) -> Open
         ensures { (n : ℕ) → opened_at result n ≡ None }
     {

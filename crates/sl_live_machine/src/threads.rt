@@ -37,7 +37,7 @@ use std::sync::Wait;
 use std::thread::{Threads, join};
 use std::time;
 
-/// The clocks of a machine's threads.
+/// The clocks of a machine's threads: each reads its own.
 #[derive(Drop)]
 pub struct Clocks<C: Clock> {
     pub ticks: C,

@@ -12,7 +12,7 @@ use sl_text::Seq;
 use sl_trace::{Mode, Reply};
 use std::alloc::AllocError;
 
-/// The reply to a line.
+/// What lvmlockd answers to a line.
 #[derive(Drop)]
 pub enum LineReply {
     /// As the host replied, or as it would.

@@ -267,7 +267,7 @@ impl Flights {
         }
     }
 
-    /// The number of the next call.
+    /// The number of the machine's next call, above all before, whichever daemon made them.
     pub fn next(&self) -> u64
         ensures { result ≡ self.now.next }
     {

@@ -15,7 +15,7 @@ pub struct Heard {
     pub numbered: bool,
 }
 
-/// What is taken of an input.
+/// What a machine takes of an input: a call that is answered, a child that has started or exited, or nothing.
 pub fn hear(input: &Input) -> Heard
     ensures { result ≡ heard_of input.now }
 {

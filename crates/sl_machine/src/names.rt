@@ -54,7 +54,7 @@ impl Hash for DaemonName {
     }
 }
 
-/// Whether a daemon had this name.
+/// Whether some daemon of the world, on whatever machine, had this name.
 pub fn has_name(names: &IndexSet<DaemonName>, name: Name) -> bool
     ensures { result ≡ list_any (bytes_eq name) (reverse names.now.keys) }
 {

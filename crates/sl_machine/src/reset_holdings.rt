@@ -14,7 +14,7 @@ use std::marker::Model;
 #[derive(Clone, Copy)]
 pub struct Lingering {
     pub held: Grant,
-    /// The moment of the reset.
+    /// The moment of the reset, in milliseconds.
     pub reset: u64,
 }
 

@@ -9,7 +9,7 @@ pub trait Gate {
     fn left(&self, machine: u32, call: u64);
 }
 
-/// A gate that holds nothing.
+/// The gate of a run of the program: it holds no call.
 #[derive(Clone, Copy)]
 pub struct OpenGate;
 

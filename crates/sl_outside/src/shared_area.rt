@@ -38,7 +38,7 @@ impl<R: Wait> SharedArea<R> {
         }
     }
 
-    /// The faults so far.
+    /// How many calls of this area have failed so far, as planned.
     pub fn faults(&self) -> u64
         ensures { result ≡ self.now.faults }
     {

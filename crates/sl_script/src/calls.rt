@@ -78,7 +78,7 @@ type WithinCall = (
 );
 
 impl NewCalls {
-    /// None yet.
+    /// No call yet; the first one will have the number `next`, at sectors of so many bytes.
     pub fn new(alloc: Global, next: u64, sector: u32) -> NewCalls
         ensures { result ≡ record { next = next; sector = sector; items = [] } }
     {
@@ -106,7 +106,7 @@ impl NewCalls {
         Ok(())
     }
 
-    /// The calls.
+    /// The calls, in the order of their numbers.
     pub fn into_seq(self) -> Seq<Call>
         ensures { AreCalls self.next self.sector result }
     {
