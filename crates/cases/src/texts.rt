@@ -39,7 +39,7 @@ fn both_written(told: &mut Told, number: u64, short: u32) {
     told.short(short);
 }
 
-/// The number, and the short number.
+/// What a word is as a number, and as a short one.
 pub fn number(told: &mut Told, text: &str) {
     match (
         read_number(text.as_bytes()),
@@ -65,7 +65,7 @@ pub fn multiple(told: &mut Told, text: &str) {
     told.truth(0 < step && is_multiple(word(text, 1).as_bytes(), step));
 }
 
-/// Bytes as digits.
+/// The hex digits of bytes.
 pub fn digits(told: &mut Told, bytes: &[u8]) {
     let mut text = Vec::new(told.alloc);
     told.need(push_hex(&mut text, bytes).is_ok());
@@ -104,7 +104,7 @@ fn name_text(told: &mut Told, name: &Name) {
     told.need(done);
 }
 
-/// A name.
+/// Whether a word is a name, and the name as it is kept in place.
 pub fn name(told: &mut Told, text: &str) {
     match Name::new(text.as_bytes()) {
         Some(name) => name_text(told, &name),
@@ -119,7 +119,7 @@ fn path_text(told: &mut Told, path: &FilePath) {
     told.need(done);
 }
 
-/// A path.
+/// Whether a word is a path, and the path as it is kept in place.
 pub fn path(told: &mut Told, text: &str) {
     match FilePath::new(text.as_bytes()) {
         Some(path) => path_text(told, &path),

@@ -120,7 +120,7 @@ impl Tables {
         }
     }
 
-    /// What takes memory for it.
+    /// The allocator by which the tables take memory, for another list of theirs.
     pub fn allocator(&self) -> Global {
         *self.items.allocator()
     }

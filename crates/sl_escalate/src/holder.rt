@@ -97,7 +97,7 @@ pub fn note(holders: &mut [Holder], sent: Sent)
     }
 }
 
-/// Whether it is another process.
+/// Whether the holder is of another process than this.
 pub fn is_other(holder: &Holder, process: u32) -> bool
     ensures { result ≡ not (holder.now.process == process) }
 {

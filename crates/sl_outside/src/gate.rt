@@ -5,7 +5,7 @@ pub trait Gate {
     /// A worker of this machine is about to make this call.
     fn enter(&self, machine: u32, call: u64);
 
-    /// It has made it.
+    /// The worker has made the call of this number, and leaves the gate.
     fn left(&self, machine: u32, call: u64);
 }
 

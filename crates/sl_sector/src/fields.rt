@@ -56,7 +56,7 @@ pub(crate) fn are_zeros(bytes: &[u8]) -> bool
     bytes.iter().all(|byte| *byte == 0)
 }
 
-/// The 48 bytes at this offset.
+/// The field of a name at this offset: 48 bytes.
 pub(crate) fn name_field(bytes: &[u8], at: usize) -> &[u8]
     requires { at + 48 ≤ length bytes.now }
     ensures { result.now ≡ spec.name_field bytes.now at }

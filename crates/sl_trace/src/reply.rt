@@ -65,7 +65,7 @@ pub struct DeltaOwner {
 /// The answer to a command. (Definitions call five variants `StillJoining`, `HeldBy`, `SharedBy`, `Misread`, `LimitReached`.)
 #[derive(Drop, PartialEq, Eq)]
 pub enum Reply {
-    /// It is done.
+    /// What was asked for is done; there is nothing else to tell.
     Done,
     /// The session is joined under this generation.
     Generation {
