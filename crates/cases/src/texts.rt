@@ -112,7 +112,7 @@ pub fn name(told: &mut Told, text: &str) {
     }
 }
 
-/// .. of a path.
+/// Tells a path as it is kept in place: its length and its characters.
 fn path_text(told: &mut Told, path: &FilePath) {
     told.number(path.as_str().len() as u64);
     let done = write!(told.text, " bytes {path} {path:?}").is_ok();
@@ -133,7 +133,7 @@ fn is_name_before(first: &[u8], second: &[u8]) -> Option<bool> {
     Some(first.is_before(&second))
 }
 
-/// .. paths.
+/// Whether a path comes before another, where these are paths.
 fn is_path_before(first: &[u8], second: &[u8]) -> Option<bool> {
     let (first, second) = (FilePath::new(first)?, FilePath::new(second)?);
     Some(first.is_before(&second))

@@ -109,7 +109,7 @@ impl Told {
     }
 }
 
-/// Bytes as text.
+/// The bytes as text, or `no text` where they are none.
 fn shown(bytes: &[u8]) -> &str {
     std::str::from_utf8(bytes).unwrap_or("no text")
 }

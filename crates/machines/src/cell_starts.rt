@@ -25,7 +25,7 @@ pub struct Begun {
     pub site: Site,
 }
 
-/// Reads a header.
+/// Reads the header of a script. An `Err` is that it has none, or want of memory.
 fn header_of(alloc: Global, script: &[u8]) -> io::Result<Header>
     ensures { IfOk result IsHeader }
 {

@@ -171,7 +171,7 @@ impl DeltaLease {
         late
     }
 
-    /// Whether it does.
+    /// Whether recovery begins at this reading by time: `fail` has passed since the last renewal's submission.
     fn is_late(&self, now: u64) -> bool
         ensures { result ≡ is_late now self.now }
     {
@@ -198,7 +198,7 @@ impl DeltaLease {
         }
     }
 
-    /// Time has passed.
+    /// A wake, at this reading; a renewal would have these bits.
     fn wake(&mut self, now: u64, bits: &Bitmap) -> DeltaOut
         requires { now < moments }
         ensures state { self.new ≡ step_from now (Wake bits.now) self.old }
@@ -403,7 +403,7 @@ impl DeltaLease {
     }
 }
 
-/// Nothing is given.
+/// What a step gives that makes nothing due.
 fn nothing_given() -> DeltaOut
     ensures { result ≡ nothing_given }
 {

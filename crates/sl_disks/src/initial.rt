@@ -210,7 +210,7 @@ fn leader_record(geometry: Geometry, leader: Leader) -> Rec
     }
 }
 
-/// The cleared request.
+/// The request of a fresh area: it asks for nothing.
 fn no_request() -> Request
     ensures { result ≡ no_request }
 {
@@ -233,7 +233,7 @@ fn no_value() -> ValueRec
     }
 }
 
-/// No byte.
+/// The bytes of a fresh value: none.
 fn no_bytes() -> Data
     ensures { result ≡ [] }
 {

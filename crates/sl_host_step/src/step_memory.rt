@@ -135,7 +135,7 @@ struct Counts {
 }
 
 impl Counts {
-    /// Of this host.
+    /// How many jobs, holdings, leases and sessions a host has.
     fn of(host: &Host) -> Counts
         ensures { result ≡ counts_of host.now }
     {
@@ -183,7 +183,7 @@ impl Counts {
         ROOM_END.min(of_tables + 4 * self.seats + 16)
     }
 
-    /// So many calls.
+    /// So many calls a step makes at most, by these counts.
     fn calls(self) -> usize
         ensures { result ≡ min room_end (calls_within self.leases self.seats) }
     {

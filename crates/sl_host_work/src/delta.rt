@@ -54,7 +54,7 @@ fn expiry(host: &Host, renewed: u64) -> u64
     renewed + host.config().timing.fail()
 }
 
-/// It is read.
+/// The own sector is read. It uses one call of the room.
 fn read_own(host: &mut Host, who: &Session, purpose: Purpose)
     requires calls { 1 ≤ host.old.calls }
     requires moment { host.old.kept.reading < moments }

@@ -66,7 +66,7 @@ fn mark(awaited: &mut [Awaited], signals: &[Sent])
     }
 }
 
-/// The start, marked.
+/// The start, marked: it is not made, or its child is killed as it comes.
 fn doomed(waiting: Awaited) -> Awaited
     ensures { result ≡ doomed waiting }
 {

@@ -89,7 +89,7 @@ fn least_ended(items: &VecDeque<Flight>) -> Option<u64>
     least
 }
 
-/// The oldest call.
+/// The call in flight that was submitted first.
 fn oldest(items: &VecDeque<Flight>) -> Option<&Flight>
     ensures { option_copied result ≡ oldest items.now.items }
 {

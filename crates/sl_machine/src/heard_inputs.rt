@@ -37,7 +37,7 @@ pub fn hear(input: &Input) -> Heard
     }
 }
 
-/// What answers nothing.
+/// What is taken of an input that answers neither a call nor a start; whether it takes a line's number.
 fn numbered(numbered: bool) -> Heard
     ensures { result ≡ record { answered = None; spawned = None; numbered = numbered } }
 {

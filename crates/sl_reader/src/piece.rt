@@ -52,7 +52,7 @@ impl Piece {
         }
     }
 
-    /// The bytes.
+    /// The bytes that were not taken away yet.
     fn left(&self) -> &[u8]
         ensures exact { result.now ≡ self.now }
         ensures few { length result.now ≤ 4096 }

@@ -118,7 +118,7 @@ fn host_at(sector: &[u8], at: u32, unused: bool) -> Result<Option<Name>, Bad>
     }
 }
 
-/// The bitmap.
+/// The 250 bytes of the bitmap, which are the record's last field.
 fn bitmap_at(sector: &[u8]) -> [u8; 250]
     requires { 512 ≤ length sector.now }
     ensures { result ≡ take 250 (drop 136 sector.now) }
