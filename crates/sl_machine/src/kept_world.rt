@@ -79,7 +79,7 @@ impl<L: LockTable> Kept<L> {
         }
     }
 
-    /// The daemon of a machine ends; its connections, holdings and calls in flight stay.
+    /// The daemon of a machine ends; its connections, holdings and writes in flight stay.
     pub fn crash(&mut self, machine: u32)
         ensures { kept_state L.locks self.new ≡ change_machine_in machine (crashed_machine) (kept_state L.locks self.old) }
     {
