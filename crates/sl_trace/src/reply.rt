@@ -12,9 +12,9 @@ pub enum HostState {
     Free,
     /// Its record has stood still for `dead`.
     Dead,
-    /// Its record has stood still for `fail`.
+    /// The first look that found the record as it is was answered `fail` ago.
     Failing,
-    /// An earlier look found another record.
+    /// None of these, and an earlier look found another record.
     Live,
 }
 
@@ -36,11 +36,17 @@ pub struct SessionOf {
 /// What has a limit: a count of what a machine or a daemon has, or a number that a record has to hold.
 #[derive(Clone, Copy, PartialEq, Eq)]
 pub enum Limited {
+    /// Lockspaces of a machine that are in use: at most 8.
     Lockspaces,
+    /// Leases of a daemon's joined sessions: at most 256.
     Resources,
+    /// Holdings of a machine, with the running jobs that may become such: at most 1024.
     Holders,
+    /// Child numbers that a daemon gave, with the running jobs that may need one: at most 1000000.
     Children,
+    /// Processes of a daemon with a kill program: at most 1024.
     Killpaths,
+    /// These numbers of records stay below 2^63, and so do the others here.
     Gen,
     Seq,
     Lver,
