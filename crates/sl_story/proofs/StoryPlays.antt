@@ -18,7 +18,7 @@ use Rattle.sl_sound.specs.MadeRuns.{MadeRun}
 use Rattle.sl_story.proofs.HeaderBefore.{header_behind, inside_then}
 use Rattle.sl_story.proofs.StoriesBegin.{IsStory, are_stories}
 use Rattle.sl_story.specs.StoryHeaders.{story_header, story_lines}
-use Rattle.sl_story.specs.StoryPlays.{IsTelling, Opens, TellsOn, fed}
+use Rattle.sl_story.specs.StoryPlays.{IsTelling, Opens, TellsOn, fed, line_at}
 use Rattle.sl_story.specs.ToldSchedules.{ToldBy, says}
 use Rattle.sl_story.specs.declared.header.Opening.{Opening}
 use Rattle.sl_story.specs.declared.place.Place.{Place}
@@ -44,10 +44,6 @@ cons_list (Some x) xs = refl
 -- The events of a first line, and of those behind it.
 events_first : (lang : Language) (h : Header) (l : NumberedLine) (ls : List NumberedLine) → event_lines_of lang h (l ∷ ls) ≡ option_to_list (event_line lang h l) ++ event_lines_of lang h ls
 events_first lang h l ls = cons_list (event_line lang h l) (event_lines_of lang h ls)
-
--- A line of a schedule at a place.
-abbrev pub line_at : ℕ → ℕ → List ℕ → NumberedLine
-line_at number start line = record { number = number; start = start; text = line; is_past = false }
 
 -- It is the first of those that are left.
 first_left : (total bytes number : ℕ) (line rest : List ℕ) → is_free_of 10 line ≡ true → bytes + length line + 1 ≤ greatest_source

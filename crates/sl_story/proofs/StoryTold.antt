@@ -11,9 +11,9 @@ use Rattle.sl_run.specs.Worlds.{World}
 use Rattle.sl_run.specs.declared.event.Refusal.{Refusal}
 use Rattle.sl_run.specs.declared.header.Header.{Header}
 use Rattle.sl_story.proofs.StoriesBegin.{are_stories}
-use Rattle.sl_story.proofs.StoryPlays.{line_at, same_play, telling_first, tells_on, told_so}
+use Rattle.sl_story.proofs.StoryPlays.{same_play, telling_first, tells_on, told_so}
 use Rattle.sl_story.specs.StoryHeaders.{story_header, story_lines}
-use Rattle.sl_story.specs.StoryPlays.{GoesOn, In_part, IsTelling, No_line, No_memory, One_line, Opens, Part, PutsLine, TakesFirst, TakesText, TellsOn, TellsOne, Unput, Whole, fed, left_behind}
+use Rattle.sl_story.specs.StoryPlays.{GoesOn, In_part, IsTelling, MovesOn, No_line, No_memory, No_room, One_line, Opens, Part, PutsLine, TakesFirst, TakesText, TellsOn, TellsOne, Unput, Whole, fed, left_behind, line_at}
 use Rattle.sl_story.specs.ToldSchedules.{All, Fewer, Lacks, Nothing, Part as In_front, Tells, ToldBy, says}
 use Rattle.sl_story.specs.declared.header.Opening.{Opening}
 use Rattle.sl_story.specs.declared.place.Place.{Place}
@@ -60,13 +60,20 @@ module _ {D : Type 0} (commands : Header → List (Form Command)) (stands : D �
       subst (TakesLines commands stands s.world p (option_to_list (event_line whole_language p.kept.header l)) l.number out n now) is (plays s.world s.plays) in
       same_play commands stands p n x.same
 
-  pub first_taken : (a b : Place) (line text : List ℕ) (p q n : PlayState D) (o : Option Place) → text ≡ line → q ≡ p → o ≡ Some b → TakesText commands stands a text q n o
+  pub line_taken : (a b : Place) (line text : List ℕ) (p n : PlayState D) (o : Option Place) → text ≡ line → o ≡ Some b → TakesText commands stands a text p n o
       → TellsOn commands stands a line p b n
-  first_taken a b line text p q n o same still is takes =
-      subst (λ l. TellsOn commands stands a l p b n) same (subst (λ (s : PlayState D). TellsOn commands stands a text s b n) still (subst (TakesText commands stands a text q n) is takes))
+  line_taken a b line text p n o same is takes = subst (λ l. TellsOn commands stands a l p b n) same (subst (TakesText commands stands a text p n) is takes)
 
-  pub none_taken : (a : Place) (text : List ℕ) (p q n : PlayState D) (o : Option Place) → q ≡ p → o ≡ None → TakesText commands stands a text q n o → n ≡ p
-  none_taken a text p q n o still is takes = subst (TakesText commands stands a text q n) is takes ∙ still
+  pub line_left : (a : Place) (text : List ℕ) (p n : PlayState D) (o : Option Place) → o ≡ None → TakesText commands stands a text p n o → n ≡ p
+  line_left a text p n o is takes = subst (TakesText commands stands a text p n) is takes
+
+  pub first_taken : (a : Place) (p q n : PlayState D) (o : Option Taken) (t : Taken) → q ≡ p → o ≡ Some t → TakesFirst commands stands a q n o
+      → TellsOn commands stands a (string_bytes t.line) p t.place n
+  first_taken a p q n o t still is takes =
+      subst (λ (s : PlayState D). TellsOn commands stands a (string_bytes t.line) s t.place n) still (subst (TakesFirst commands stands a q n) is takes)
+
+  pub none_taken : (a : Place) (p q n : PlayState D) (o : Option Taken) → q ≡ p → o ≡ None → TakesFirst commands stands a q n o → n ≡ p
+  none_taken a p q n o still is takes = subst (TakesFirst commands stands a q n) is takes ∙ still
 
   pub none_first : (a : Place) (p n : PlayState D) (o : Option Taken) → o ≡ None → TakesFirst commands stands a p n o → n ≡ p
   none_first a p n o is takes = subst (TakesFirst commands stands a p n) is takes
@@ -78,6 +85,7 @@ module _ {D : Type 0} (commands : Header → List (Form Command)) (stands : D �
   pub goes_on : (o : One) (P : Type 0) → P → GoesOn o P
   goes_on (one.Line b) P x = x
   goes_on one.Nothing P x = x
+  goes_on one.Full P x = tt
   goes_on one.WriteFault P x = tt
   goes_on one.NoMemory P x = tt
 
@@ -120,20 +128,27 @@ module _ {D : Type 0} (commands : Header → List (Form Command)) (stands : D �
   abbrev pub AfterOne : Place → PlayState D → Option (List ℕ) → ℕ → Place → Option (List ℕ) → ℕ → ℕ → PlayState D → One → Type 0
   AfterOne a first since told b now faults later n (one.Line c) = ToldSoFar a first since (told + 1) c n now
   AfterOne a first since told b now faults later n one.Nothing = ToldSoFar a first since told b n now
+  AfterOne a first since told b now faults later n one.Full = ToldSoFar a first since told b n now × (greatest_source < b.bytes + 10)
   AfterOne a first since told b now faults later n one.WriteFault = ToldInPart a first since (told + 1) now × Rose faults later
   AfterOne a first since told b now faults later n one.NoMemory = ToldWhole a first since told now
+
+  -- Nothing was put out, and the play stands as it stood.
+  none_more : (a b : Place) (first p n : PlayState D) (since taken now : Option (List ℕ)) (told : ℕ) → ToldSoFar a first since told b p taken → Appends taken now [] → n ≡ p
+      → ToldSoFar a first since told b n now
+  none_more a b first p n since taken now told so appends same hosts paired written before t since_it =
+      let x = so hosts paired written before t since_it in (
+        x.0,
+        subst (Appends before now) (append-nil x.0) (Appends-trans before taken now x.0 [] x.1 appends),
+        subst (IsTelling commands stands hosts paired told b.lines b.bytes x.0) (sym same) x.2,
+      )
 
   pub after_one : (a b : Place) (first p n : PlayState D) (since taken now : Option (List ℕ)) (told faults later : ℕ) (o : One) → ToldSoFar a first since told b p taken
       → TellsOne commands stands b taken now faults later p n o → AfterOne a first since told b now faults later n o
   after_one a b first p n since taken now told faults later o so (One_line line c appends on) = λ hosts paired written before t since_it.
       let x = so hosts paired written before t since_it in
       (x.0 ++ fed line, Appends-trans before taken now x.0 (fed line) x.1 appends, on hosts paired told x.0 x.2)
-  after_one a b first p n since taken now told faults later o so (No_line appends same) = λ hosts paired written before t since_it.
-      let x = so hosts paired written before t since_it in (
-        x.0,
-        subst (Appends before now) (append-nil x.0) (Appends-trans before taken now x.0 [] x.1 appends),
-        subst (IsTelling commands stands hosts paired told b.lines b.bytes x.0) (sym same) x.2,
-      )
+  after_one a b first p n since taken now told faults later o so (No_line appends same) = none_more a b first p n since taken now told so appends same
+  after_one a b first p n since taken now told faults later o so (No_room appends same full) = (none_more a b first p n since taken now told so appends same, full)
   after_one a b first p n since taken now told faults later o so (In_part line front c appends begins rose on) = (
     (λ hosts paired written before t since_it.
         let x = so hosts paired written before t since_it in (
@@ -154,7 +169,7 @@ module _ {D : Type 0} (commands : Header → List (Form Command)) (stands : D �
       → Ok next ≡ left_behind at o → AfterOne a first since (events - at.lines) at.place now faults later n o
       → (next.lines ≤ events) × ToldSoFar a first since (events - next.lines) next.place n now
   kept_on a first n since now events faults later at next (one.Line c) some few is after =
-      let same : next ≡ record { lines = at.lines - 1; place = c } = cc in
+      let same : next ≡ record { lines = at.lines - 1; acts = at.acts - 1; place = c } = cc in
       subst (λ (x : Left). (x.lines ≤ events) × ToldSoFar a first since (events - x.lines) x.place n now) (sym same)
       (fewer at.lines events few, subst (λ k. ToldSoFar a first since k c n now) (one_more at.lines events some few) after)
     where
@@ -164,14 +179,16 @@ module _ {D : Type 0} (commands : Header → List (Form Command)) (stands : D �
       one_more : (k n : ℕ) → 0 < k → k ≤ n → n - k + 1 ≡ n - (k - 1)
       one_more k n h i = omega (arith, h, i)
   kept_on a first n since now events faults later at next one.Nothing some few is after =
-      let same : next ≡ at = cc in
+      let same : next ≡ record { lines = at.lines; acts = at.acts - 1; place = at.place } = cc in
       subst (λ (x : Left). (x.lines ≤ events) × ToldSoFar a first since (events - x.lines) x.place n now) (sym same) (few, after)
+  kept_on a first n since now events faults later at next one.Full some few is after = absurd cc
   kept_on a first n since now events faults later at next one.WriteFault some few is after = absurd cc
   kept_on a first n since now events faults later at next one.NoMemory some few is after = absurd cc
 
   pub plays_on : (at next : Left) (o : One) (P : Type 0) → Ok next ≡ left_behind at o → GoesOn o P → P
   plays_on at next (one.Line c) P is x = x
   plays_on at next one.Nothing P is x = x
+  plays_on at next one.Full P is x = absurd cc
   plays_on at next one.WriteFault P is x = absurd cc
   plays_on at next one.NoMemory P is x = absurd cc
 
@@ -194,10 +211,11 @@ module _ {D : Type 0} (commands : Header → List (Form Command)) (stands : D �
       All x.0 x.1 (subst (λ k. ToldBy commands stands hosts paired k x.0) is x.2)
 
   pub told_few : (a b : Place) (first p : PlayState D) (since now : Option (List ℕ)) (told events hosts : ℕ) (paired : Bool) (written : List ℕ) (before : Option (List ℕ)) (faults later : ℕ)
-      → told < events → ToldSoFar a first since told b p now → IsTelling commands stands hosts paired 0 a.lines a.bytes written first → Appends before since written
-      → Tells commands stands hosts events paired before now faults later ended.Short
+      → told < events → ToldSoFar a first since told b p now × (greatest_source < b.bytes + 10) → IsTelling commands stands hosts paired 0 a.lines a.bytes written first
+      → Appends before since written → Tells commands stands hosts events paired before now faults later ended.Short
   told_few a b first p since now told events hosts paired written before faults later few so t appends =
-      let x = whole_so a b first p since now told so hosts paired written before t appends in Fewer told x.0 few x.1 x.2
+      let x = so.0 hosts paired written before t appends in
+      Fewer told x.0 few (subst (λ k. greatest_source < k + 10) x.2.long so.1) x.1 (told_so commands stands hosts paired told b.lines b.bytes x.0 p x.2)
 
   pub told_part : (a : Place) (first : PlayState D) (since now : Option (List ℕ)) (told events hosts : ℕ) (paired : Bool) (written : List ℕ) (before : Option (List ℕ)) (f faults later : ℕ)
       → told ≤ events → f ≤ faults → ToldInPart a first since told now × Rose faults later → IsTelling commands stands hosts paired 0 a.lines a.bytes written first → Appends before since written
@@ -221,6 +239,13 @@ module _ {D : Type 0} (commands : Header → List (Form Command)) (stands : D �
       → Tells commands stands hosts events paired before now f later end
   stopped a first n since now events at (one.Line c) end hosts paired written before f faults later some few earlier is after t appends = absurd cc
   stopped a first n since now events at one.Nothing end hosts paired written before f faults later some few earlier is after t appends = absurd cc
+  stopped a first n since now events at one.Full end hosts paired written before f faults later some few earlier is after t appends =
+      let same : end ≡ ended.Short = cc in
+      subst (Tells commands stands hosts events paired before now f later) (sym same)
+      (told_few a at.place first n since now (events - at.lines) events hosts paired written before f later (not_all at.lines events some few) after t appends)
+    where
+      not_all : (k n : ℕ) → 0 < k → k ≤ n → n - k < n
+      not_all k n h i = omega (arith, h, i)
   stopped a first n since now events at one.WriteFault end hosts paired written before f faults later some few earlier is after t appends =
       let same : end ≡ ended.WriteFault = cc in
       subst (Tells commands stands hosts events paired before now f later) (sym same)
@@ -236,22 +261,15 @@ module _ {D : Type 0} (commands : Header → List (Form Command)) (stands : D �
       no_more : (k n : ℕ) → n - k ≤ n
       no_more k n = omega arith
 
-  -- The acts are over.
-  pub told_end : (a : Place) (first p : PlayState D) (since now : Option (List ℕ)) (events : ℕ) (at : Left) (end : Told) (hosts : ℕ) (paired : Bool) (written : List ℕ) (before : Option (List ℕ))
-      (faults later : ℕ) → at.lines ≤ events → end ≡ (if at.lines == 0 then ended.Done else ended.Short) → ToldSoFar a first since (events - at.lines) at.place p now
-      → IsTelling commands stands hosts paired 0 a.lines a.bytes written first → Appends before since written → Tells commands stands hosts events paired before now faults later end
-  told_end a first p since now events at end hosts paired written before faults later few is so t appends =
-      subst (Tells commands stands hosts events paired before now faults later) (sym is) (by_test (at.lines == 0) refl)
+  -- All lines are told.
+  pub told_end : (a : Place) (first p : PlayState D) (since now : Option (List ℕ)) (events : ℕ) (at : Left) (hosts : ℕ) (paired : Bool) (written : List ℕ) (before : Option (List ℕ))
+      (faults later : ℕ) → at.lines ≡ 0 → ToldSoFar a first since (events - at.lines) at.place p now → IsTelling commands stands hosts paired 0 a.lines a.bytes written first
+      → Appends before since written → Tells commands stands hosts events paired before now faults later ended.Done
+  told_end a first p since now events at hosts paired written before faults later none so t appends =
+      told_all a at.place first p since now (events - at.lines) events hosts paired written before faults later (all_of at.lines events none) so t appends
     where
-      all_of : (k n : ℕ) → (k == 0) ≡ true → n - k ≡ n
-      all_of k n h = let none : k ≡ 0 = grind (arith, nat_tests) in omega (arith, none)
-
-      not_all : (k n : ℕ) → (k == 0) ≡ false → k ≤ n → n - k < n
-      not_all k n h i = grind (arith, nat_tests)
-
-      by_test : (b : Bool) → (at.lines == 0) ≡ b → Tells commands stands hosts events paired before now faults later (if b then ended.Done else ended.Short)
-      by_test true e = told_all a at.place first p since now (events - at.lines) events hosts paired written before faults later (all_of at.lines events e) so t appends
-      by_test false e = told_few a at.place first p since now (events - at.lines) events hosts paired written before faults later (not_all at.lines events e few) so t appends
+      all_of : (k n : ℕ) → k ≡ 0 → n - k ≡ n
+      all_of k n h = omega (arith, h)
 
   pub nothing_told : (hosts events : ℕ) (paired : Bool) (taken : Option (List ℕ)) (faults : ℕ) → Tells commands stands hosts events paired taken taken faults faults ended.NoMemory
   nothing_told hosts events paired taken faults = Nothing (Appends-nil taken)
@@ -270,6 +288,38 @@ module _ {D : Type 0} (commands : Header → List (Form Command)) (stands : D �
 
   pub begun_plays : (h : Header) (p : PlayState D) → Begins commands stands h p → IsPlaying commands stands p
   begun_plays h p begins = record { world = _; plays = begins.plays }
+
+-- ---- steps that end
+
+-- One fewer is left, of lines or of acts.
+pub fewer_left : (at next : Left) (o : One) → 0 < at.lines → Ok next ≡ left_behind at o → MovesOn at.acts o → next.lines + next.acts < at.lines + at.acts
+fewer_left at next (one.Line c) some is moves =
+    let same : next ≡ record { lines = at.lines - 1; acts = at.acts - 1; place = c } = cc in
+    subst (λ (x : Left). x.lines + x.acts < at.lines + at.acts) (sym same) (one_fewer at.lines at.acts some)
+  where
+    one_fewer : (k n : ℕ) → 0 < k → (k - 1) + (n - 1) < k + n
+    one_fewer k n h = omega (arith, h)
+fewer_left at next one.Nothing some is moves =
+    let same : next ≡ record { lines = at.lines; acts = at.acts - 1; place = at.place } = cc in
+    subst (λ (x : Left). x.lines + x.acts < at.lines + at.acts) (sym same) (act_fewer at.lines at.acts moves)
+  where
+    act_fewer : (k n : ℕ) → 0 < n → k + (n - 1) < k + n
+    act_fewer k n h = omega (arith, h)
+fewer_left at next one.Full some is moves = absurd cc
+fewer_left at next one.WriteFault some is moves = absurd cc
+fewer_left at next one.NoMemory some is moves = absurd cc
+
+pub moves_any : (acts : ℕ) (o : One) → 0 < acts → MovesOn acts o
+moves_any acts (one.Line b) some = tt
+moves_any acts one.Nothing some = some
+moves_any acts one.Full some = tt
+moves_any acts one.WriteFault some = tt
+moves_any acts one.NoMemory some = tt
+
+pub put_moves : (b : Place) (line : List ℕ) (taken now : Option (List ℕ)) (faults later : ℕ) (o : One) → PutsLine line b taken now faults later o → MovesOn 0 o
+put_moves b line taken now faults later o (Whole appends) = tt
+put_moves b line taken now faults later o (Part front appends begins rose) = tt
+put_moves b line taken now faults later o (Unput appends) = tt
 
 -- A story's header is a good one.
 pub good_header : (commands : Header → List (Form Command)) (hosts : ℕ) (paired : Bool) (o : Opening) → MayPlay commands → Opens hosts paired o

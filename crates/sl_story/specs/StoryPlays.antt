@@ -3,8 +3,11 @@ use Rattle.sl_io.specs.FaultCauses.{Rose}
 use Rattle.sl_play.specs.Plays.{PlayState, PlaysOn}
 use Rattle.sl_play.specs.Replays.{LeadsFrom}
 use Rattle.sl_report.specs.OwedReports.{IsFrontOf}
-use Rattle.sl_report.specs.Schedules.{numbered_from}
+use Rattle.sl_report.specs.Languages.{whole_language}
+use Rattle.sl_report.specs.Schedules.{NumberedLine, event_line, greatest_source, numbered_from}
+use Rattle.sl_run.specs.Refusals.{may_happen}
 use Rattle.sl_run.specs.Worlds.{World}
+use Rattle.sl_run.specs.declared.event.Event.{Event}
 use Rattle.sl_run.specs.declared.header.Header.{Header}
 use Rattle.sl_story.specs.StoryHeaders.{story_header, story_lines}
 use Rattle.sl_story.specs.ToldSchedules.{ToldBy, says}
@@ -21,7 +24,7 @@ use Rattle.sl_trace.specs.Traces.{Setting, Trace}
 use Rattle.sl_trace.specs.declared.command.Command.{Command}
 use Rattle.std.specs.Io.KnownBytes.{Appends}
 use Rattle.std.specs.List.{list_all}
-use Rattle.std.specs.Prelude.{Bool, Err, List, None, Ok, Option, Result, Some, length, string_bytes, true, [], ℕ, ◌*◌, ◌++◌, ◌+◌, ◌-◌, ◌∷◌, ◌≡◌, ◌≤◌}
+use Rattle.std.specs.Prelude.{Bool, Err, List, None, Ok, Option, Result, Some, false, length, string_bytes, true, [], ℕ, ◌*◌, ◌++◌, ◌+◌, ◌-◌, ◌<◌, ◌∷◌, ◌≡◌, ◌≤◌}
 
 -- The first lines, and what they are read as.
 pub record Opens (hosts : ℕ) (paired : Bool) (o : Opening) : Type 0 where
@@ -62,6 +65,18 @@ abbrev pub TakesText : {D : Type 0} → (Header → List (Form Command)) → (D 
 TakesText commands stands a line p n None = n ≡ p
 TakesText commands stands a line p n (Some b) = TellsOn commands stands a line p b n
 
+-- A line of a schedule at a place.
+abbrev pub line_at : ℕ → ℕ → List ℕ → NumberedLine
+line_at number start line = record { number = number; start = start; text = line; is_past = false }
+
+-- The line says something, there is room for it, and its event may happen.
+pub record MayStand (h : Header) (w : World) (a : Place) (line : List ℕ) : Type 0 where
+  pub saying : says line ≡ true
+  pub room : a.bytes + length line < greatest_source
+  pub event : Event
+  pub read : event_line whole_language h (line_at (a.lines + 1) a.bytes line) ≡ Some (a.lines + 1, Ok event)
+  pub may : may_happen w event ≡ true
+
 -- One of several.
 abbrev pub TakesFirst : {D : Type 0} → (Header → List (Form Command)) → (D → Setting → Trace → Type 0) → Place → PlayState D → PlayState D → Option Taken → Type 0
 TakesFirst commands stands a p n None = n ≡ p
@@ -80,6 +95,7 @@ pub data TellsOne {D : Type 0} (commands : Header → List (Form Command)) (stan
   No_line : Appends taken now [] → n ≡ p → TellsOne commands stands a taken now faults later p n one.Nothing
   In_part : (line front : List ℕ) (b : Place) → Appends taken now front → IsFrontOf front (fed line) → Rose faults later → TellsOn commands stands a line p b n
       → TellsOne commands stands a taken now faults later p n one.WriteFault
+  No_room : Appends taken now [] → n ≡ p → greatest_source < a.bytes + 10 → TellsOne commands stands a taken now faults later p n one.Full
   No_memory : Appends taken now [] → TellsOne commands stands a taken now faults later p n one.NoMemory
 
 -- This holds where the story goes on.
@@ -88,9 +104,15 @@ GoesOn (one.Line b) P = P
 GoesOn one.Nothing P = P
 GoesOn o P = Unit {0}
 
+-- Nothing is told only where acts are left.
+abbrev pub MovesOn : ℕ → One → Type 0
+MovesOn acts one.Nothing = 0 < acts
+MovesOn acts o = Unit {0}
+
 -- What is left behind an act.
 abbrev pub left_behind : Left → One → Result Left Told
-left_behind a (one.Line b) = Ok (record { lines = a.lines - 1; place = b })
-left_behind a one.Nothing = Ok a
+left_behind a (one.Line b) = Ok (record { lines = a.lines - 1; acts = a.acts - 1; place = b })
+left_behind a one.Nothing = Ok (record { lines = a.lines; acts = a.acts - 1; place = a.place })
+left_behind a one.Full = Err told.Short
 left_behind a one.WriteFault = Err told.WriteFault
 left_behind a one.NoMemory = Err told.NoMemory

@@ -1,8 +1,9 @@
--- What is owed of a story: it is a schedule that is accepted to its end.
+-- What is owed of a story: it is a schedule that is accepted to its end, with so many events, or as many as a schedule has room for.
 use Rattle.sl_io.specs.FaultCauses.{Rose}
 use Rattle.sl_play.specs.Replays.{played_language}
 use Rattle.sl_report.specs.Languages.{is_skipped}
 use Rattle.sl_report.specs.OwedReports.{IsFrontOf, Promise, ReplayOf}
+use Rattle.sl_report.specs.Schedules.{greatest_source}
 use Rattle.sl_run.specs.declared.header.Header.{Header}
 use Rattle.sl_sound.specs.MadeRuns.{MadeRun}
 use Rattle.sl_story.specs.StoryHeaders.{story_lines}
@@ -13,7 +14,7 @@ use Rattle.sl_trace.specs.Traces.{Setting, Trace}
 use Rattle.sl_trace.specs.declared.command.Command.{Command}
 use Rattle.std.specs.Io.KnownBytes.{Appends}
 use Rattle.std.specs.List.{list_all}
-use Rattle.std.specs.Prelude.{Bool, List, Option, length, not, true, [], ℕ, ◌&&◌, ◌++◌, ◌<◌, ◌≡◌, ◌≤◌}
+use Rattle.std.specs.Prelude.{Bool, List, Option, length, not, true, [], ℕ, ◌&&◌, ◌++◌, ◌+◌, ◌<◌, ◌≡◌, ◌≤◌}
 
 -- ---- lines
 
@@ -40,8 +41,8 @@ pub data Tells {D : Type 0} (commands : Header → List (Form Command)) (stands 
     (faults later : ℕ) : Told → Type 0 where
   -- so many events are told
   All : (text : List ℕ) → Appends taken now text → ToldBy commands stands hosts paired events text → Tells commands stands hosts events paired taken now faults later Done
-  -- fewer are: a schedule has no room for more bytes, or no act of many had a line that may stand there
-  Fewer : (told : ℕ) (text : List ℕ) → told < events → Appends taken now text → ToldBy commands stands hosts paired told text
+  -- fewer are: of the bytes that a schedule may have, fewer than ten are left behind them
+  Fewer : (told : ℕ) (text : List ℕ) → told < events → greatest_source < length text + 10 → Appends taken now text → ToldBy commands stands hosts paired told text
       → Tells commands stands hosts events paired taken now faults later Short
   -- a write failed, and a front of such a schedule is written
   Part : (told : ℕ) (text whole : List ℕ) → told ≤ events → Appends taken now text → IsFrontOf text whole → ToldBy commands stands hosts paired told whole → Rose faults later

@@ -3,7 +3,7 @@
 ghost use Rattle.sl_report.specs.Languages.{is_skipped};
 ghost use Rattle.sl_story.specs.ToldSchedules.{says};
 ghost use Rattle.sl_text.specs.Forms.{is_free_of};
-ghost use Rattle.std.specs.Prelude.{IfSome, length, true, ◌+◌, ◌≡◌, ◌≤◌};
+ghost use Rattle.std.specs.Prelude.{IfSome, is_some, length, nat_lt, true, ◌&&◌, ◌+◌, ◌≡◌, ◌≤◌};
 
 /// The most bytes of a schedule.
 const GREATEST_SOURCE: u64 = 1_000_000_000;
@@ -48,6 +48,7 @@ impl Place {
         ensures lines { IfSome result (λ p. p.lines ≡ self.lines + 1) }
         ensures bytes { IfSome result (λ p. p.bytes ≡ self.bytes + length line.now + 1) }
         ensures inside { IfSome result (λ p. p.bytes ≤ 1000000000) }
+        ensures room { is_some result ≡ (says line.now && nat_lt (self.bytes + length line.now) 1000000000) }
     {
         let len = line.len() as u64;
         if says(line) && self.bytes + len < GREATEST_SOURCE {

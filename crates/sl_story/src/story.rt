@@ -2,16 +2,18 @@
 //!
 //! At each act the teller gives the lines that may stand next. The first that the play takes is told: its event comes to pass, with the asks
 //! behind it, what it and its report tell is heard, and it is put out. A line that is refused changes nothing, so each is tried by playing it.
+//! Where many acts have come to nothing, the spare lines are tried instead, one of which always may stand: so all events are told that a
+//! schedule has room for.
 
-ghost use Rattle.sl_play.specs.Plays.{IsPlaying, state_of};
+ghost use Rattle.sl_play.specs.Plays.{IsPlaying, PlaysOn, state_of};
 ghost use Rattle.sl_play.specs.Replays.{MayPlay};
 ghost use Rattle.sl_run.specs.Headers.{IsHeader};
-ghost use Rattle.sl_story.specs.StoryPlays.{GoesOn, IsTelling, Opens, PutsLine, TakesFirst, TakesText, TellsOne, fed, left_behind};
+ghost use Rattle.sl_run.specs.Worlds.{World};
+ghost use Rattle.sl_story.specs.StoryPlays.{GoesOn, IsTelling, MayStand, MovesOn, Opens, PutsLine, TakesFirst, TakesText, TellsOne, fed, left_behind};
 ghost use Rattle.sl_story.specs.ToldSchedules.{Tells};
-ghost use Rattle.sl_story.specs.declared.story.Told.TheVariants as told;
 ghost use Rattle.sl_world_state.specs.SaneWorlds.{ReadsCommands};
 ghost use Rattle.std.specs.Io.KnownBytes.{Appends};
-ghost use Rattle.std.specs.Prelude.{Bool, IfOk, IfSome, List, OnOk, Option, if◌then◌else◌, string_bytes, ℕ, ◌<◌, ◌==◌, ◌≡◌, ◌≤◌};
+ghost use Rattle.std.specs.Prelude.{Bool, IfOk, IfSome, List, None, Ok, OnOk, Option, string_bytes, ℕ, ◌+◌, ◌<◌, ◌≡◌, ◌≤◌};
 
 use crate::acts::{Act, Lines, go_on, lines_of, plan};
 use crate::cast::Cast;
@@ -32,7 +34,7 @@ use std::collections::VecDeque;
 pub enum Told {
     /// So many events are told.
     Done,
-    /// Fewer are: a schedule has no room for more bytes, or at no act of many was there a line that may stand next. What is written is a schedule.
+    /// Fewer are: of the 1,000,000,000 bytes that a schedule may have, fewer than ten are left. What is written is a schedule.
     Short,
     /// A write failed. What is written begins a schedule.
     WriteFault,
@@ -45,11 +47,13 @@ enum One {
     /// A line was told, and this is the place behind it.
     Line(Place),
     Nothing,
+    /// There is no room for a spare line.
+    Full,
     WriteFault,
     NoMemory,
 }
 
-/// How many acts there are at most for each event.
+/// How many acts there are at most for each event before the spare lines are tried.
 const ACTS: u64 = 16;
 
 /// What tells a story: its machines, its draws, and the acts that are to come.
@@ -97,6 +101,7 @@ fn take_text<D: Daemon, L: LockTable>(
     requires { IsPlaying D.commands D.stands (state_of L.locks play.old) }
     ensures takes { IfOk result (TakesText D.commands D.stands place text.now (state_of L.locks play.old) (state_of L.locks play.new)) }
     ensures plays { OnOk result (IsPlaying D.commands D.stands (state_of L.locks play.new)) }
+    ensures stands { result ≡ Ok None → (w : World) → PlaysOn D.commands D.stands (state_of L.locks play.old) w → MayStand (state_of L.locks play.old).kept.header w place text.now → ⊥ }
 {
     let Some(behind) = place.behind(text) else {
         return Ok(None);
@@ -114,6 +119,24 @@ fn take_text<D: Daemon, L: LockTable>(
     }
 }
 
+/// The same of a line.
+fn take_line<D: Daemon, L: LockTable>(
+    play: &mut Play<D, L>,
+    report: &mut Vec<u8>,
+    place: Place,
+    line: String,
+) -> Result<Option<Taken>, PlayError>
+    requires { IsPlaying D.commands D.stands (state_of L.locks play.old) }
+    ensures takes { IfOk result (TakesFirst D.commands D.stands place (state_of L.locks play.old) (state_of L.locks play.new)) }
+    ensures plays { OnOk result (IsPlaying D.commands D.stands (state_of L.locks play.new)) }
+    ensures stands { result ≡ Ok None → (w : World) → PlaysOn D.commands D.stands (state_of L.locks play.old) w → MayStand (state_of L.locks play.old).kept.header w place (string_bytes line) → ⊥ }
+{
+    match take_text(play, report, place, line.as_bytes())? {
+        Some(place) => Ok(Some(Taken { line, place })),
+        None => Ok(None),
+    }
+}
+
 /// The first of these lines that the play takes; its report is in `report`.
 fn take_first<D: Daemon, L: LockTable>(
     play: &mut Play<D, L>,
@@ -127,12 +150,33 @@ fn take_first<D: Daemon, L: LockTable>(
 {
     let mut lines = lines;
     while let Some(line) = lines.pop_front() {
-        match take_text(play, report, place, line.as_bytes())? {
-            Some(place) => return Ok(Some(Taken { line, place })),
+        match take_line(play, report, place, line)? {
+            Some(taken) => return Ok(Some(taken)),
             None => {}
         }
     }
     Ok(None)
+}
+
+/// One of the spare lines, that the play takes wherever there is room for both: the first machine is down, so it comes up, or it is up, so its
+/// watchdog daemon tests.
+fn take_spare<D: Daemon, L: LockTable>(
+    play: &mut Play<D, L>,
+    report: &mut Vec<u8>,
+    place: Place,
+) -> Result<Option<Taken>, PlayError>
+    requires { IsPlaying D.commands D.stands (state_of L.locks play.old) }
+    ensures takes { IfOk result (TakesFirst D.commands D.stands place (state_of L.locks play.old) (state_of L.locks play.new)) }
+    ensures plays { OnOk result (IsPlaying D.commands D.stands (state_of L.locks play.new)) }
+    ensures room { result ≡ Ok None → 1000000000 < place.bytes + 10 }
+{
+    let alloc = *report.allocator();
+    let restart = format!(in alloc; "restart 1")?;
+    if let Some(taken) = take_line(play, report, place, restart)? {
+        return Ok(Some(taken));
+    }
+    let test = format!(in alloc; "test 1")?;
+    take_line(play, report, place, test)
 }
 
 /// A line with its line feed; None where there is no memory.
@@ -204,11 +248,58 @@ fn tell_one<K: Sink, D: Daemon, L: LockTable>(
     }
 }
 
-/// How many lines are left to be told, and where the next one stands.
+/// A spare line is told.
+fn tell_spare<K: Sink, D: Daemon, L: LockTable>(
+    play: &mut Play<D, L>,
+    teller: &mut Teller,
+    report: &mut Vec<u8>,
+    place: Place,
+    sink: &mut K,
+) -> One
+    requires { IsPlaying D.commands D.stands (state_of L.locks play.old) }
+    ensures tells { TellsOne D.commands D.stands place (K.taken sink.old) (K.taken sink.new) (K.faults sink.old) (K.faults sink.new)
+        (state_of L.locks play.old) (state_of L.locks play.new) result }
+    ensures later { K.faults sink.old ≤ K.faults sink.new }
+    ensures plays { GoesOn result (IsPlaying D.commands D.stands (state_of L.locks play.new)) }
+    ensures moves { MovesOn 0 result }
+{
+    let Ok(taken) = take_spare(play, report, place) else {
+        return One::NoMemory;
+    };
+    match taken {
+        None => One::Full,
+        Some(taken) => hear_and_put(teller, Act::Test(1), taken, report, sink),
+    }
+}
+
+/// How many lines are left to be told, how many acts before the spare lines are tried, and where the next line stands.
 #[derive(Clone, Copy)]
 struct Left {
     lines: u64,
+    acts: u64,
     place: Place,
+}
+
+/// What is told next: at an act, or where none is left, a spare line.
+fn tell_next<K: Sink, D: Daemon, L: LockTable>(
+    play: &mut Play<D, L>,
+    teller: &mut Teller,
+    report: &mut Vec<u8>,
+    at: Left,
+    sink: &mut K,
+) -> One
+    requires { IsPlaying D.commands D.stands (state_of L.locks play.old) }
+    ensures tells { TellsOne D.commands D.stands at.place (K.taken sink.old) (K.taken sink.new) (K.faults sink.old) (K.faults sink.new)
+        (state_of L.locks play.old) (state_of L.locks play.new) result }
+    ensures later { K.faults sink.old ≤ K.faults sink.new }
+    ensures plays { GoesOn result (IsPlaying D.commands D.stands (state_of L.locks play.new)) }
+    ensures moves { MovesOn at.acts result }
+{
+    if at.acts > 0 {
+        tell_one(play, teller, report, at.place, sink)
+    } else {
+        tell_spare(play, teller, report, at.place, sink)
+    }
 }
 
 /// What is left behind an act; or how the story ended at it.
@@ -216,25 +307,25 @@ fn left_behind(at: Left, one: One) -> Result<Left, Told>
     requires { 0 < at.lines }
     ensures { result ≡ left_behind at one }
 {
+    let acts = at.acts.saturating_sub(1);
     match one {
         One::Line(place) => Ok(Left {
             lines: at.lines - 1,
+            acts,
             place,
         }),
-        One::Nothing => Ok(at),
+        One::Nothing => Ok(Left {
+            lines: at.lines,
+            acts,
+            place: at.place,
+        }),
+        One::Full => Err(Told::Short),
         One::WriteFault => Err(Told::WriteFault),
         One::NoMemory => Err(Told::NoMemory),
     }
 }
 
-/// How a story ends of which so many lines were not told.
-fn ending(left: u64) -> Told
-    ensures { result ≡ (if left == 0 then told.Done else told.Short) }
-{
-    if left == 0 { Told::Done } else { Told::Short }
-}
-
-/// Tells so many lines, if so many may stand.
+/// Tells so many lines, if there is room for so many.
 fn tell_lines<K: Sink, D: Daemon, L: LockTable>(
     alloc: Global,
     play: &mut Play<D, L>,
@@ -251,19 +342,18 @@ fn tell_lines<K: Sink, D: Daemon, L: LockTable>(
 {
     let mut at = Left {
         lines: events,
+        acts: events.saturating_mul(ACTS),
         place,
     };
     let mut report = Vec::new(alloc);
-    let mut acts = events.saturating_mul(ACTS);
-    while at.lines > 0 && acts > 0 {
-        acts -= 1;
-        let one = tell_one(play, teller, &mut report, at.place, sink);
+    while at.lines > 0 {
+        let one = tell_next(play, teller, &mut report, at, sink);
         match left_behind(at, one) {
             Err(told) => return told,
             Ok(next) => at = next,
         }
     }
-    ending(at.lines)
+    Told::Done
 }
 
 /// The machines of a story, and what is drawn from a seed. An `Err` is want of memory.
@@ -303,7 +393,7 @@ fn tell_behind<K: Sink, D: Daemon, L: LockTable>(
 }
 
 /// Tells a schedule of so many events for 1 to 16 hosts, whose areas have pairs or not, drawn from a seed, and puts it out line by line, each
-/// once its event has come to pass: so what is written is accepted to its end.
+/// once its event has come to pass: so what is written is accepted to its end, and has so many events, or as many as there is room for.
 pub fn tell_schedule<K: Sink, D: Daemon, L: LockTable>(
     alloc: Global,
     seed: u64,

@@ -1,8 +1,9 @@
 -- A text is tried.
 use Rattle.sl_play.specs.Plays.{state_of}
-use Rattle.sl_story.proofs.StoryPlays.{line_at}
+use Rattle.sl_story.proofs.SpareLines.{never_refused, nowhere}
 use Rattle.sl_story.proofs.StoryTold.{text_plays, text_taken}
 use Rattle.sl_story.proofs.story.take_text.Goals as goal
+use Rattle.sl_story.specs.StoryPlays.{line_at}
 use Rattle.std.proofs.Common.{refl}
 
 pub returns-in-None-clause-takes : goal.returns-in-None-clause-takes

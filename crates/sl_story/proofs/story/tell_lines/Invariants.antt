@@ -2,7 +2,7 @@
 use Rattle.sl_play.specs.Plays.{IsPlaying, state_of}
 use Rattle.sl_story.proofs.StoryTold.{ToldSoFar}
 use Rattle.sl_story.proofs.story.tell_lines.Given as goal
-use Rattle.std.proofs.Common.{◌-◌, ◌≤◌}
+use Rattle.std.proofs.Common.{◌+◌, ◌-◌, ◌≤◌}
 
 abbrev pub invariant-loop-at : goal.invariant-loop-at
 invariant-loop-at g l = record {
@@ -13,4 +13,4 @@ invariant-loop-at g l = record {
 }
 
 abbrev pub decreases-loop-at : goal.decreases-loop-at
-decreases-loop-at g l = l.acts
+decreases-loop-at g l = l.at.lines + l.at.acts
