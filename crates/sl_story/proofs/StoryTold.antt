@@ -227,7 +227,7 @@ module _ {D : Type 0} (commands : Header → List (Form Command)) (stands : D �
       rose_then a b c h rose = omega (arith, h, rose)
 
   pub told_lacking : (a : Place) (first : PlayState D) (since now : Option (List ℕ)) (told events hosts : ℕ) (paired : Bool) (written : List ℕ) (before : Option (List ℕ)) (faults later : ℕ)
-      → told ≤ events → ToldWhole a first since told now → IsTelling commands stands hosts paired 0 a.lines a.bytes written first → Appends before since written
+      → told < events → ToldWhole a first since told now → IsTelling commands stands hosts paired 0 a.lines a.bytes written first → Appends before since written
       → Tells commands stands hosts events paired before now faults later ended.NoMemory
   told_lacking a first since now told events hosts paired written before faults later few so t appends =
       let x = so hosts paired written before t appends in Lacks told x.0 few x.1 x.2
@@ -256,10 +256,10 @@ module _ {D : Type 0} (commands : Header → List (Form Command)) (stands : D �
   stopped a first n since now events at one.NoMemory end hosts paired written before f faults later some few earlier is after t appends =
       let same : end ≡ ended.NoMemory = cc in
       subst (Tells commands stands hosts events paired before now f later) (sym same)
-      (told_lacking a first since now (events - at.lines) events hosts paired written before f later (no_more at.lines events) after t appends)
+      (told_lacking a first since now (events - at.lines) events hosts paired written before f later (not_all at.lines events some few) after t appends)
     where
-      no_more : (k n : ℕ) → n - k ≤ n
-      no_more k n = omega arith
+      not_all : (k n : ℕ) → 0 < k → k ≤ n → n - k < n
+      not_all k n h i = omega (arith, h, i)
 
   -- All lines are told.
   pub told_end : (a : Place) (first p : PlayState D) (since now : Option (List ℕ)) (events : ℕ) (at : Left) (hosts : ℕ) (paired : Bool) (written : List ℕ) (before : Option (List ℕ))
@@ -316,10 +316,10 @@ moves_any acts one.Full some = tt
 moves_any acts one.WriteFault some = tt
 moves_any acts one.NoMemory some = tt
 
-pub put_moves : (b : Place) (line : List ℕ) (taken now : Option (List ℕ)) (faults later : ℕ) (o : One) → PutsLine line b taken now faults later o → MovesOn 0 o
-put_moves b line taken now faults later o (Whole appends) = tt
-put_moves b line taken now faults later o (Part front appends begins rose) = tt
-put_moves b line taken now faults later o (Unput appends) = tt
+pub put_moves : (b : Place) (line : List ℕ) (taken now : Option (List ℕ)) (faults later : ℕ) (o : One) → PutsLine line b taken now faults later o → (acts : ℕ) → MovesOn acts o
+put_moves b line taken now faults later o (Whole appends) acts = tt
+put_moves b line taken now faults later o (Part front appends begins rose) acts = tt
+put_moves b line taken now faults later o (Unput appends) acts = tt
 
 -- A story's header is a good one.
 pub good_header : (commands : Header → List (Form Command)) (hosts : ℕ) (paired : Bool) (o : Opening) → MayPlay commands → Opens hosts paired o

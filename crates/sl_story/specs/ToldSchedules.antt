@@ -49,5 +49,5 @@ pub data Tells {D : Type 0} (commands : Header → List (Form Command)) (stands 
       → Tells commands stands hosts events paired taken now faults later WriteFault
   -- there was no memory: nothing is written, or fewer events are told
   Nothing : Appends taken now [] → Tells commands stands hosts events paired taken now faults later NoMemory
-  Lacks : (told : ℕ) (text : List ℕ) → told ≤ events → Appends taken now text → ToldBy commands stands hosts paired told text
+  Lacks : (told : ℕ) (text : List ℕ) → told < events → Appends taken now text → ToldBy commands stands hosts paired told text
       → Tells commands stands hosts events paired taken now faults later NoMemory

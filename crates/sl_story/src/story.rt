@@ -172,11 +172,13 @@ fn take_spare<D: Daemon, L: LockTable>(
 {
     let alloc = *report.allocator();
     let restart = format!(in alloc; "restart 1")?;
-    if let Some(taken) = take_line(play, report, place, restart)? {
-        return Ok(Some(taken));
+    match take_line(play, report, place, restart)? {
+        Some(taken) => Ok(Some(taken)),
+        None => {
+            let test = format!(in alloc; "test 1")?;
+            take_line(play, report, place, test)
+        }
     }
-    let test = format!(in alloc; "test 1")?;
-    take_line(play, report, place, test)
 }
 
 /// A line with its line feed; None where there is no memory.
@@ -261,7 +263,7 @@ fn tell_spare<K: Sink, D: Daemon, L: LockTable>(
         (state_of L.locks play.old) (state_of L.locks play.new) result }
     ensures later { K.faults sink.old ≤ K.faults sink.new }
     ensures plays { GoesOn result (IsPlaying D.commands D.stands (state_of L.locks play.new)) }
-    ensures moves { MovesOn 0 result }
+    ensures moves { (acts : ℕ) → MovesOn acts result }
 {
     let Ok(taken) = take_spare(play, report, place) else {
         return One::NoMemory;
