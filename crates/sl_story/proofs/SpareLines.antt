@@ -1,7 +1,6 @@
 -- A line whose event may happen is taken where there is room for it; and one of the spare lines always may stand.
-use Rattle.sl_play.specs.PlayIsOwed.{EachStood}
 use Rattle.sl_play.specs.Plays.{IsPlaying, PlayState, PlaysOn, StopsAt, TakesLines}
-use Rattle.sl_report.specs.EventLines.{event_forms}
+use Rattle.sl_report.specs.EventLines.{checked_event, event_forms}
 use Rattle.sl_report.specs.Languages.{whole_language}
 use Rattle.sl_report.specs.ReadLines.{event_in}
 use Rattle.sl_report.specs.Schedules.{At_line, EventLine, Follows, IsAskOf, NoAsk, event_line, event_or_syntax, greatest_source}
@@ -18,15 +17,16 @@ use Rattle.sl_story.proofs.StoryTold.{PlaysLine}
 use Rattle.sl_story.specs.StoryPlays.{MayStand, line_at}
 use Rattle.sl_story.specs.ToldSchedules.{says}
 use Rattle.sl_story.specs.declared.place.Place.{Place}
-use Rattle.sl_text.specs.Forms.{Form}
+use Rattle.sl_text.specs.Forms.{Form, exactly, fits_whole, words_of}
+use Rattle.sl_text.specs.Numbers.{is_number_text}
 use Rattle.sl_trace.specs.Traces.{Setting, Trace}
 use Rattle.sl_trace.specs.declared.command.Command.{Command}
 use Rattle.sl_words.proofs.CaseLaws.{false_is_true}
-use Rattle.std.proofs.Common.{Bool, List, None, Option, Some, [], ap, ap₂, arith, false, length, refl, subst, suc, sym, true, zero, ℕ, ◌+◌, ◌<◌, ◌∙◌, ◌∷◌, ◌≡◌, ◌≤◌}
+use Rattle.std.proofs.Common.{Bool, List, None, Option, Some, [], ap, ap₂, arith, cond, drop, false, length, refl, subst, sym, true, ℕ, ◌+◌, ◌<◌, ◌==◌, ◌∙◌, ◌∷◌, ◌≡◌, ◌≤◌}
 use Rattle.std.proofs.lemmas.Bool.Decides.{nat_tests}
 use Rattle.std.specs.Fmt.{digits}
 use Rattle.std.specs.Option.{option_to_list}
-use Rattle.std.specs.Prelude.{IsTrue, Ok, codes, is_none, is_some, nat_lt, not, slice_get, ◌&&◌}
+use Rattle.std.specs.Prelude.{IsTrue, Ok, codes, find, is_none, is_some, nat_lt, not, option_map, replicate, slice_get, ◌&&◌}
 
 -- ---- a line that is refused
 
@@ -39,7 +39,7 @@ never_behind w (x ∷ xs) n why f = never_behind (happens w x.0 x.1) xs n why f.
 came_to_pass : (w : World) (k : ℕ) (e : Event) (x : Happening) (xs : List Happening) (n : ℕ) (why : Refusal) → NoAsk w → Follows w ((k, Ok e) ∷ []) (x ∷ xs) (At_line n why)
     → (e ≡ x.0) × IsTrue (may_happen w e) × Follows (happens w x.0 x.1) [] xs (At_line n why)
 came_to_pass w k e x xs n why none f =
-    subst (λ (o : Option ℕ). elim o [
+    subst (λ o. elim o as (λ z. Type 0) [
       | Some m ↦ IsAskOf w x × Follows (happens w x.0 x.1) ((k, Ok e) ∷ []) xs (At_line n why)
       | None ↦ (e ≡ x.0) × IsTrue (may_happen w e) × Follows (happens w x.0 x.1) [] xs (At_line n why)
     ]) none f
@@ -86,28 +86,34 @@ module _ {D : Type 0} (commands : Header → List (Form Command)) (stands : D �
 
 -- ---- the spare lines
 
--- They are read.
-restart_in : (machines sector : ℕ) → 1 ≤ machines → event_in whole_language machines sector (codes "restart 1") ≡ Some (Restart 1)
+-- They are read: no time that passes, for whatever number of machines, begins so.
+and_none : (b : Bool) → (b && false) ≡ false
+and_none true = refl
+and_none false = refl
+
+-- Whether words spell time that passes, with the growth of each clock.
+abbrev is_pass : ℕ → List (List ℕ) → Bool
+is_pass machines ws = length (exactly (codes "pass") ∷ is_number_text ∷ replicate machines is_number_text) == length ws
+
+-- What the forms make of words, by whether they spell that.
+abbrev made_of : ℕ → ℕ → List (List ℕ) → Bool → Option Event
+made_of machines sector ws b =
+    checked_event sector (option_map (λ (f : Form Event). f.make ws)
+    (cond b (slice_get (event_forms machines sector) 1) (find (λ (f : Form Event). fits_whole f.words ws) (drop 2 (event_forms machines sector)))))
+
+restart_in : (machines sector : ℕ) → event_in whole_language machines sector (codes "restart 1") ≡ Some (Restart 1)
 unfolding digits event_forms
-restart_in zero sector some = absurd (none some)
-  where
-    none : 1 ≤ 0 → ⊥
-    none h = absurd (omega (arith, h))
-restart_in (suc machines) sector some = refl
+restart_in machines sector = let ws : List (List ℕ) = words_of (codes "restart 1") in ap (made_of machines sector ws) (and_none (is_pass machines ws))
 
-test_in : (machines sector : ℕ) → 1 ≤ machines → event_in whole_language machines sector (codes "test 1") ≡ Some (Test 1)
+test_in : (machines sector : ℕ) → event_in whole_language machines sector (codes "test 1") ≡ Some (Test 1)
 unfolding digits event_forms
-test_in zero sector some = absurd (none some)
-  where
-    none : 1 ≤ 0 → ⊥
-    none h = absurd (omega (arith, h))
-test_in (suc machines) sector some = refl
+test_in machines sector = let ws : List (List ℕ) = words_of (codes "test 1") in ap (made_of machines sector ws) (and_none (is_pass machines ws))
 
-restart_read : (h : Header) (n start : ℕ) → 1 ≤ h.machines → event_line whole_language h (line_at n start (codes "restart 1")) ≡ Some (n, Ok (Restart 1))
-restart_read h n start some = ap (λ o. Some (n, event_or_syntax o)) (restart_in h.machines h.geometry.sector some)
+restart_read : (h : Header) (n start : ℕ) → event_line whole_language h (line_at n start (codes "restart 1")) ≡ Some (n, Ok (Restart 1))
+restart_read h n start = ap (λ o. Some (n, event_or_syntax o)) (restart_in h.machines h.geometry.sector)
 
-test_read : (h : Header) (n start : ℕ) → 1 ≤ h.machines → event_line whole_language h (line_at n start (codes "test 1")) ≡ Some (n, Ok (Test 1))
-test_read h n start some = ap (λ o. Some (n, event_or_syntax o)) (test_in h.machines h.geometry.sector some)
+test_read : (h : Header) (n start : ℕ) → event_line whole_language h (line_at n start (codes "test 1")) ≡ Some (n, Ok (Test 1))
+test_read h n start = ap (λ o. Some (n, event_or_syntax o)) (test_in h.machines h.geometry.sector)
 
 -- One of their events may happen.
 may_restart : (w : World) (a : Machine) → machine_at w 1 ≡ Some a → a.up ≡ false → may_happen w (Restart 1) ≡ true
@@ -138,9 +144,8 @@ module _ {D : Type 0} (commands : Header → List (Form Command)) (stands : D �
   one_stands p a w on room restart test =
       let sane = on.stands_for.sane in
       let some : 1 ≤ w.header.machines = sane.header.machines.0 in
-      let some_kept : 1 ≤ p.kept.header.machines = subst (λ (h : Header). 1 ≤ h.machines) on.stands_for.tells.header some in
       let first = first_of w.machines (subst (λ k. 1 ≤ k) (sym sane.counted) some) in
-      by_test first.0 first.1 some_kept first.0.up refl
+      by_test first.0 first.1 first.0.up refl
     where
       nine : (n : ℕ) → n + 10 ≤ greatest_source → n + 9 < greatest_source
       nine n h = omega (arith, h)
@@ -148,19 +153,19 @@ module _ {D : Type 0} (commands : Header → List (Form Command)) (stands : D �
       six : (n : ℕ) → n + 10 ≤ greatest_source → n + 6 < greatest_source
       six n h = omega (arith, h)
 
-      by_test : (m : Machine) → slice_get w.machines 0 ≡ Some m → 1 ≤ p.kept.header.machines → (b : Bool) → m.up ≡ b → ⊥
-      by_test m there some false down = restart w on (record {
+      by_test : (m : Machine) → slice_get w.machines 0 ≡ Some m → (b : Bool) → m.up ≡ b → ⊥
+      by_test m there false down = restart w on (record {
         saying = refl;
         room = nine a.bytes room;
         event = Restart 1;
-        read = restart_read p.kept.header (a.lines + 1) a.bytes some;
+        read = restart_read p.kept.header (a.lines + 1) a.bytes;
         may = may_restart w m there down;
       })
-      by_test m there some true up = test w on (record {
+      by_test m there true up = test w on (record {
         saying = refl;
         room = six a.bytes room;
         event = Test 1;
-        read = test_read p.kept.header (a.lines + 1) a.bytes some;
+        read = test_read p.kept.header (a.lines + 1) a.bytes;
         may = may_test w m there up;
       })
 

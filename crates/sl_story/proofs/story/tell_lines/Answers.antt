@@ -1,6 +1,6 @@
 -- One act after another.
 use Rattle.sl_play.specs.Plays.{IsPlaying, state_of}
-use Rattle.sl_story.proofs.StoryTold.{after_one, kept_on, plays_on, stopped, told_end, told_first}
+use Rattle.sl_story.proofs.StoryTold.{after_one, fewer_left, kept_on, plays_on, stopped, told_end, told_first}
 use Rattle.sl_story.proofs.story.tell_lines.Goals as goal
 use Rattle.std.proofs.Common.{arith, rules, sym, ◌-◌, ◌<◌, ◌∙◌}
 
@@ -28,6 +28,12 @@ loop-at-preserved g c =
       plays = plays_on g.D.Daemon.commands g.D.Daemon.stands c.loop-at.at c.in-Ok.next c.tell_next-one.result (IsPlaying g.D.Daemon.commands g.D.Daemon.stands (state_of g.L.LockTable.locks c.tell_next-one.new.play)) is c.tell_next-one.ensures.plays;
       later = omega (arith, c.loop-at.invariant.later, c.tell_next-one.ensures.later);
     }
+
+pub loop-at-smaller : goal.loop-at-smaller
+loop-at-smaller g c =
+    let some : 0 < c.loop-at.at.lines = omega arith in
+    let less = fewer_left c.loop-at.at c.in-Ok.next c.tell_next-one.result some (sym c.in-Ok.is ∙ c.left_behind.ensures) c.tell_next-one.ensures.moves in
+    omega (arith, less)
 
 pub returns-in-Err : goal.returns-in-Err
 returns-in-Err g c hosts paired written before faults t appends earlier =
