@@ -11,9 +11,20 @@ use Rattle.sl_text.specs.Forms.{as_bytes}
 use Rattle.std.proofs.Common.{Bool, List, [], ap, arith, length, map, sym, true, ℕ, ◌*◌, ◌++◌, ◌+◌, ◌∙◌, ◌∷◌, ◌≡◌, ◌≤◌}
 use Rattle.std.proofs.lemmas.Bool.Decides.{nat_tests}
 use Rattle.std.proofs.lemmas.List.FromFn.{map-range_with_len_more}
-use Rattle.std.proofs.lemmas.List.{append_assoc}
+use Rattle.std.proofs.lemmas.List.{append-nil, append_assoc}
 use Rattle.std.specs.List.{range_with_len}
-use Rattle.std.specs.Prelude.{Err, Ok, Result, nat_le}
+use Rattle.std.specs.Prelude.{Err, Ok, Result, codes, nat_le}
+
+-- The first lines, told as one text.
+pub numbers_text : (text v w hosts ids : List ℕ)
+    → text ≡ v ++ (10 ∷ (codes "time 100 600 100 10 300" ++ (10 ∷ (codes "hosts " ++ (hosts ++ (10 ∷ (codes "ids " ++ (ids ++ (10 ∷ []))))))))) → v ≡ w
+    → text ≡ as_bytes (w ∷ codes "time 100 600 100 10 300" ∷ (codes "hosts " ++ hosts) ∷ (codes "ids " ++ ids) ∷ [])
+numbers_text text v w hosts ids is same =
+    is ∙ ap (λ x. x ++ (10 ∷ (codes "time 100 600 100 10 300" ++ (10 ∷ (codes "hosts " ++ (hosts ++ (10 ∷ (codes "ids " ++ (ids ++ (10 ∷ [])))))))))) same
+    ∙ ap (λ r. w ++ (10 ∷ (codes "time 100 600 100 10 300" ++ (10 ∷ (codes "hosts " ++ r)))))
+    (ap (λ r. hosts ++ (10 ∷ (codes "ids " ++ r))) (sym (append-nil (ids ++ (10 ∷ []))))
+    ∙ sym (append_assoc hosts (10 ∷ []) (codes "ids " ++ ((ids ++ (10 ∷ [])) ++ []))))
+    ∙ sym (append_assoc w (10 ∷ []) (codes "time 100 600 100 10 300" ++ (10 ∷ (codes "hosts " ++ ((hosts ++ (10 ∷ [])) ++ (codes "ids " ++ ((ids ++ (10 ∷ [])) ++ [])))))))
 
 next_of : (n : ℕ) → 1 + n ≡ n + 1
 next_of n = omega arith

@@ -10,15 +10,15 @@ pub loop-line-preserved : goal.loop-line-preserved
 loop-line-preserved g c =
     record {
       same = none_taken g.D.Daemon.commands g.D.Daemon.stands c.args.place (state_of g.L.LockTable.locks c.args.play.now) (state_of g.L.LockTable.locks c.loop-line.play) (state_of g.L.LockTable.locks c.take_line.new.play)
-          c.in_ok-take_line.field-0 c.loop-line.invariant.same c.in-None.is c.in_ok-take_line.ensures.takes;
+          c.in_ok-taken.field-0 c.loop-line.invariant.same c.in-None.is c.in_ok-taken.ensures.takes;
     }
 
 pub returns-in-Some-2 : goal.returns-in-Some-2
 returns-in-Some-2 g c =
     record {
       takes = first_taken g.D.Daemon.commands g.D.Daemon.stands c.args.place (state_of g.L.LockTable.locks c.args.play.now) (state_of g.L.LockTable.locks c.loop-line.play) (state_of g.L.LockTable.locks c.take_line.new.play)
-          c.in_ok-take_line.field-0 c.in-Some-2.taken c.loop-line.invariant.same c.in-Some-2.is c.in_ok-take_line.ensures.takes;
-      plays = c.in_ok-take_line.ensures.plays;
+          c.in_ok-taken.field-0 c.in-Some-2.taken c.loop-line.invariant.same c.in-Some-2.is c.in_ok-taken.ensures.takes;
+      plays = c.in_ok-taken.ensures.plays;
     }
 
 pub returns : goal.returns

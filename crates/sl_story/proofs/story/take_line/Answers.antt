@@ -9,14 +9,14 @@ use Rattle.std.specs.Prelude.{Ok}
 pub returns-in-Some-clause-takes : goal.returns-in-Some-clause-takes
 returns-in-Some-clause-takes g c =
     line_taken g.D.Daemon.commands g.D.Daemon.stands c.args.place c.in-Some.place (string_bytes c.args.line) c.as_bytes.result.now (state_of g.L.LockTable.locks c.args.play.now)
-    (state_of g.L.LockTable.locks c.take_text.new.play) c.in_ok-take_text.field-0 c.as_bytes.ensures.value c.in-Some.is c.in_ok-take_text.ensures.takes
+    (state_of g.L.LockTable.locks c.take_text.new.play) c.in_ok-place.field-0 c.as_bytes.ensures.value c.in-Some.is c.in_ok-place.ensures.takes
 
 pub returns-in-None-clause-takes : goal.returns-in-None-clause-takes
 returns-in-None-clause-takes g c =
     line_left g.D.Daemon.commands g.D.Daemon.stands c.args.place c.as_bytes.result.now (state_of g.L.LockTable.locks c.args.play.now) (state_of g.L.LockTable.locks c.take_text.new.play)
-    c.in_ok-take_text.field-0 c.in-None.is c.in_ok-take_text.ensures.takes
+    c.in_ok-place.field-0 c.in-None.is c.in_ok-place.ensures.takes
 
 pub returns-in-None-clause-stands : goal.returns-in-None-clause-stands
 returns-in-None-clause-stands g c is w on may =
-    c.take_text.ensures.stands (c.in_ok-take_text.was ∙ ap Ok c.in-None.is) w on
+    c.take_text.ensures.stands (c.in_ok-place.was ∙ ap Ok c.in-None.is) w on
     (subst (MayStand (state_of g.L.LockTable.locks c.args.play.now).kept.header w c.args.place) (sym c.as_bytes.ensures.value) may)
