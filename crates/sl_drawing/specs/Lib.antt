@@ -1,0 +1,3 @@
+pub mod Classes
+pub mod Elements
+pub mod Sums
