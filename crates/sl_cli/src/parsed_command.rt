@@ -356,10 +356,64 @@ impl<'a> Placing<'a> {
     }
 }
 
+/// The words of the lines that are drawn, where they were given.
+#[derive(Drop)]
+pub(crate) struct Span<'a> {
+    first: Option<&'a str>,
+    last: Option<&'a str>,
+}
+
+impl<'a> Model for Span<'a> {
+    ghost use Rattle.sl_cli.specs.CommandWords as words;
+    ghost use Rattle.std.specs.Prelude.{option_map};
+
+    ghost Value = { words.Span };
+
+    ghost view = { λ s. record { first = option_map (λ w. w.now) s.first; last = option_map (λ w. w.now) s.last } };
+}
+
+/// The number of a line that a word says, not below this one, if it says so.
+fn line_of(word: &str, least: u64) -> Option<u64>
+    ensures { result ≡ choose (is_line least word.now) (number_of word.now) }
+{
+    read_number_within(word.as_bytes(), least, u64::MAX)
+}
+
+impl<'a> Span<'a> {
+    /// What the parser found.
+    pub(crate) fn new(matches: &ArgMatches<'a>) -> Span<'a>
+        ensures { result ≡ span_of (rows_of (found_of matches.now)) }
+    {
+        Span {
+            first: value_of(matches, "first"),
+            last: value_of(matches, "last"),
+        }
+    }
+
+    /// What is asked for: all lines, or those from one to another that is not before it.
+    pub(crate) fn words(&self) -> Option<Words>
+        ensures { result ≡ span_in self.now }
+    {
+        match (self.first, self.last) {
+            (None, _) => Some(Words::Draw {
+                first: 1,
+                last: u64::MAX,
+            }),
+            (Some(_), None) => None,
+            (Some(first), Some(last)) => {
+                let first = line_of(first, 1)?;
+                let last = line_of(last, first)?;
+                Some(Words::Draw { first, last })
+            }
+        }
+    }
+}
+
 /// The command that the parser met, with what was given to it.
 #[derive(Drop)]
 pub(crate) enum Met<'a> {
     Replay,
+    Draw(Span<'a>),
     Generate(Seeding<'a>),
     Direct(Given<'a>),
     Live(Placing<'a>),
@@ -371,6 +425,8 @@ fn met_named<'a>(name: &str, matches: &ArgMatches<'a>) -> Option<Met<'a>>
 {
     if name == "replay" {
         Some(Met::Replay)
+    } else if name == "draw" {
+        Some(Met::Draw(Span::new(matches)))
     } else if name == "gen" {
         Some(Met::Generate(Seeding::new(matches)))
     } else if name == "direct" {

@@ -143,11 +143,34 @@ fn reading<'a>(alloc: Global) -> Result<Command<'a>, AllocError>
     bare(alloc).subcommand(Command::new(alloc, "replay"))
 }
 
+/// `draw`, with the first line that is drawn.
+fn bare_draw<'a>(alloc: Global) -> Result<Command<'a>, AllocError>
+    ensures app { IfOk result (λ c. app_of c ≡ with_rule (record { top = new_shape (codes "draw"); subs = [] }) (new_rule (codes "first"))) }
+    ensures local { IfOk result (λ c. (fields_of c).has_globals ≡ false) }
+{
+    Command::new(alloc, "draw").arg(Arg::new(alloc, "first"))
+}
+
+/// `draw`, with the first and the last line that are drawn.
+fn draw<'a>(alloc: Global) -> Result<Command<'a>, AllocError>
+    ensures app { IfOk result (λ c. app_of c ≡ draw_app) }
+    ensures local { IfOk result (λ c. (fields_of c).has_globals ≡ false) }
+{
+    with_word(alloc, bare_draw(alloc)?, "last")
+}
+
+/// The program with the commands that read a schedule.
+fn drawing<'a>(alloc: Global) -> Result<Command<'a>, AllocError>
+    ensures { IfOk result (λ c. app_of c ≡ drawing_app) }
+{
+    reading(alloc)?.subcommand(draw(alloc)?)
+}
+
 /// The program with the commands that run a schedule.
 fn playing<'a>(alloc: Global) -> Result<Command<'a>, AllocError>
     ensures { IfOk result (λ c. app_of c ≡ playing_app) }
 {
-    reading(alloc)?.subcommand(seeded(alloc, "gen")?)
+    drawing(alloc)?.subcommand(seeded(alloc, "gen")?)
 }
 
 /// The program with the commands that run no machines.

@@ -3,19 +3,8 @@
 use crate::fates::is_command;
 use crate::kept::{Picture, text_at};
 use crate::layout::{
-  COMMAND,
-  HELD,
-  LINK,
-  Layout,
-  Place,
-  TOP,
-  bottom_of,
-  calls_top,
-  commands_top,
-  held_top,
-  links_top,
-  place_of,
-  x_of,
+    COMMAND, HELD, LINK, Layout, Place, TOP, bottom_of, calls_top, commands_top, held_top,
+    links_top, place_of, x_of,
 };
 use crate::said::{behind_colon, word_at};
 use crate::shapes::{Bar, Shape};
@@ -50,7 +39,11 @@ fn time_of(bar: Bar) -> u64 {
 
 /// The class of a call that is in flight: it may take `io` milliseconds.
 fn call_class(bar: Bar, io: u64) -> Class {
-    if io < time_of(bar) { Class::Late } else { Class::Flying }
+    if io < time_of(bar) {
+        Class::Late
+    } else {
+        Class::Flying
+    }
 }
 
 /// The class of a bar.
@@ -70,8 +63,12 @@ fn class_of(bar: Bar, io: u64) -> Class {
         Shape::Joined => Class::Joined,
         Shape::Left => Class::Left,
         Shape::Expired => Class::Expired,
-        Shape::Exclusive => Class::Held { colour: bar.colour % 8 },
-        Shape::Shared => Class::Held { colour: bar.colour % 8 },
+        Shape::Exclusive => Class::Held {
+            colour: bar.colour % 8,
+        },
+        Shape::Shared => Class::Held {
+            colour: bar.colour % 8,
+        },
         Shape::Gap => Class::Gap,
         Shape::Wanted => Class::Wanted,
     }
@@ -181,7 +178,12 @@ impl Picture {
             Shape::Waiting => push_three(out, text, b": no answer", b""),
             Shape::Accepted | Shape::Refused => push_three(out, text, b": ", reply),
             Shape::Unclear => {
-                push_three(out, text, b": one of the commands that wait is answered ", reply)
+                push_three(
+                    out,
+                    text,
+                    b": one of the commands that wait is answered ",
+                    reply,
+                )
             }
             Shape::Read | Shape::Write => push_call(out, b"call ", bar, name),
             Shape::Orphan => push_call(out, b"its daemon has ended: call ", bar, name),
@@ -239,8 +241,20 @@ impl Picture {
         }
         let x = plus(area.x, 4);
         match bar.shape {
-            Shape::Idle => push_label(out, Class::Dim, x, plus(area.y, minus(area.height, 5)), &label),
-            Shape::Down => push_label(out, Class::Inside, x, plus(area.y, minus(area.height, 5)), &label),
+            Shape::Idle => push_label(
+                out,
+                Class::Dim,
+                x,
+                plus(area.y, minus(area.height, 5)),
+                &label,
+            ),
+            Shape::Down => push_label(
+                out,
+                Class::Inside,
+                x,
+                plus(area.y, minus(area.height, 5)),
+                &label,
+            ),
             Shape::Gap => push_label(out, Class::Dim, plus(x, 10), minus(area.y, 1), &label),
             Shape::Wanted => push_label(out, Class::Bad, plus(x, 10), minus(area.y, 1), &label),
             _ => push_label(out, Class::Inside, x, plus(area.y, 9), &label),
@@ -327,7 +341,11 @@ impl Picture {
         let area = area_of(layout, bar);
         let mut label = Vec::new(self.alloc());
         self.push_command(&mut label, bar)?;
-        let class = if matches!(bar.shape, Shape::Refused) { Class::Bad } else { Class::Plain };
+        let class = if matches!(bar.shape, Shape::Refused) {
+            Class::Bad
+        } else {
+            Class::Plain
+        };
         push_label(out, class, plus(area.x, 4), plus(area.y, 9), &label)?;
         Ok(plus(area.x, plus(letters(label.len()), 8)))
     }

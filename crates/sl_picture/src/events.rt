@@ -103,7 +103,11 @@ impl Picture {
         let locks = word_at(line, 2) == b"lvm";
         let behind = if locks { 3 } else { 2 };
         let text = text_behind(line, behind);
-        let about = if locks { word_at(line, 4) } else { two_parts(word_at(line, 4)) };
+        let about = if locks {
+            word_at(line, 4)
+        } else {
+            two_parts(word_at(line, 4))
+        };
         self.begin_command(number_at(line, 1), locks, about, text)
     }
 

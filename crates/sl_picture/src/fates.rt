@@ -153,9 +153,7 @@ fn concerns_there(act: Act, same: bool, bar: Bar) -> bool
     ensures { result ≡ fates.concerns_there act same bar }
 {
     match act.deed {
-        Deed::Answered => {
-            is_waiting(bar.shape) && (act.number == 0 || act.number == bar.number)
-        }
+        Deed::Answered => { is_waiting(bar.shape) && (act.number == 0 || act.number == bar.number) }
         Deed::CallOver => is_call(bar.shape) && act.number == bar.number,
         Deed::Landed => is_orphan(bar.shape) && act.number == bar.number,
         Deed::Renewed => is_link(bar.shape) && same,
@@ -220,15 +218,13 @@ fn turns(now: Instant, bar: Bar, shape: Shape, until: u64) -> Fate
     ensures { result ≡ fates.turns now bar shape until }
 {
     Fate {
-        stays: Some(
-            Bar {
-                shape,
-                until,
-                from: now,
-                to: now,
-                ..bar
-            }
-        ),
+        stays: Some(Bar {
+            shape,
+            until,
+            from: now,
+            to: now,
+            ..bar
+        }),
         ends: Some(ended(now, bar)),
     }
 }
@@ -259,12 +255,10 @@ fn orphaned(now: Instant, bar: Bar) -> Fate
 {
     match bar.shape {
         Shape::Write | Shape::Orphan => {
-            stays(
-                Bar {
-                    shape: Shape::Orphan,
-                    ..bar
-                },
-            )
+            stays(Bar {
+                shape: Shape::Orphan,
+                ..bar
+            })
         }
         Shape::Joining | Shape::Joined | Shape::Left => turns(now, bar, Shape::Left, bar.until),
         Shape::Expired => stays(bar),
@@ -314,12 +308,10 @@ fn changed(act: Act, now: Instant, bar: Bar) -> Fate
         Deed::Renewed => turns(now, bar, Shape::Joined, act.until),
         Deed::Granted => bridged(act, now, bar),
         Deed::Denied => {
-            stays(
-                Bar {
-                    shape: Shape::Wanted,
-                    ..bar
-                },
-            )
+            stays(Bar {
+                shape: Shape::Wanted,
+                ..bar
+            })
         }
         Deed::Crashed => orphaned(now, bar),
         Deed::WentDown => dropped(now, bar),

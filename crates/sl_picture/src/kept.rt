@@ -92,7 +92,11 @@ fn is_taken(open: &[Bar], machine: u64, holding: bool, row: u64) -> bool {
     for bar in open {
         if bar.machine == machine
             && bar.row == row
-            && (if holding { is_holding(bar.shape) } else { is_link(bar.shape) })
+            && (if holding {
+                is_holding(bar.shape)
+            } else {
+                is_link(bar.shape)
+            })
         {
             return true;
         }
@@ -148,27 +152,25 @@ fn asked(open: &[Bar], machine: u64, number: u64) -> Text {
 impl Picture {
     /// A picture of a header's world in which nothing stands yet.
     fn empty(alloc: Global, part: Part, header: &Header) -> Result<Picture, AllocError> {
-        Ok(
-            Picture {
-                part,
-                now: Instant {
-                    events: 0,
-                    moment: 0,
-                },
-                begun: 0,
-                resetting: false,
-                texts: Vec::new(alloc),
-                open: Vec::new(alloc),
-                done: Vec::new(alloc),
-                marks: Vec::new(alloc),
-                columns: Vec::new(alloc),
-                notes: Vec::new(alloc),
-                lanes: new_lanes(alloc, header.machines)?,
-                resources: Vec::new(alloc),
-                io: header.timing.io(),
-                dead: header.timing.dead(),
+        Ok(Picture {
+            part,
+            now: Instant {
+                events: 0,
+                moment: 0,
             },
-        )
+            begun: 0,
+            resetting: false,
+            texts: Vec::new(alloc),
+            open: Vec::new(alloc),
+            done: Vec::new(alloc),
+            marks: Vec::new(alloc),
+            columns: Vec::new(alloc),
+            notes: Vec::new(alloc),
+            lanes: new_lanes(alloc, header.machines)?,
+            resources: Vec::new(alloc),
+            io: header.timing.io(),
+            dead: header.timing.dead(),
+        })
     }
 
     /// The clocks of a header.
@@ -318,14 +320,12 @@ impl Picture {
         let name = self.keep(lockspace)?;
         let row = free_row(&self.open, machine, false);
         let bar = self.bar(machine, shape);
-        self.begin(
-            Bar {
-                name,
-                row,
-                until,
-                ..bar
-            },
-        )
+        self.begin(Bar {
+            name,
+            row,
+            until,
+            ..bar
+        })
     }
 
     /// A holding begins; a resource that was free up to now is free no more.
@@ -348,16 +348,14 @@ impl Picture {
         let colour = colour_of(&self.texts, &self.resources, resource);
         let name = self.keep(resource)?;
         let bar = self.bar(machine, shape);
-        self.begin(
-            Bar {
-                number: process,
-                until: instance,
-                colour,
-                row,
-                name,
-                ..bar
-            },
-        )
+        self.begin(Bar {
+            number: process,
+            until: instance,
+            colour,
+            row,
+            name,
+            ..bar
+        })
     }
 
     /// A holding ends; if it was the last of its resource, that is free from now on.
@@ -374,7 +372,11 @@ impl Picture {
         let name = self.keep(resource)?;
         let bar = self.bar(
             machine,
-            if self.resetting { Shape::Wanted } else { Shape::Gap },
+            if self.resetting {
+                Shape::Wanted
+            } else {
+                Shape::Gap
+            },
         );
         self.begin(Bar { name, ..bar })
     }
@@ -400,15 +402,13 @@ impl Picture {
         let name = self.keep(about)?;
         let text = self.keep(text)?;
         let bar = self.bar(machine, Shape::Waiting);
-        self.begin(
-            Bar {
-                number,
-                row: lane.commands % 3,
-                name,
-                text,
-                ..bar
-            },
-        )
+        self.begin(Bar {
+            number,
+            row: lane.commands % 3,
+            name,
+            text,
+            ..bar
+        })
     }
 
     /// Somebody was refused what a command is about.

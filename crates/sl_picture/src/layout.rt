@@ -41,7 +41,11 @@ pub(crate) struct Scale {
 pub(crate) fn scale_of(begun: u64, last: Instant) -> Scale {
     let event = (2400 / plus(last.events, 1)).max(3).min(16);
     let moments = minus(last.moment, begun);
-    let time = if moments == 0 { 0 } else { (times(last.events, event) / 2).max(900) };
+    let time = if moments == 0 {
+        0
+    } else {
+        (times(last.events, event) / 2).max(900)
+    };
     Scale {
         event,
         time,
@@ -207,14 +211,12 @@ impl Picture {
         let places = places_of(self.alloc(), bars, self.lanes.len())?;
         let bottom = bottom_of(place_of(&places, places.len() as u64));
         let least = plus(x_of(scale, self.now), RIGHT).max(LEAST_WIDTH);
-        Ok(
-            Layout {
-                scale,
-                bottom,
-                width: width_of(&self.notes, least),
-                height: plus(plus(bottom, 40), times(self.notes.len() as u64, 13)),
-                places,
-            },
-        )
+        Ok(Layout {
+            scale,
+            bottom,
+            width: width_of(&self.notes, least),
+            height: plus(plus(bottom, 40), times(self.notes.len() as u64, 13)),
+            places,
+        })
     }
 }

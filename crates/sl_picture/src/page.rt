@@ -3,30 +3,13 @@
 use crate::bars::{Layer, push_numbered};
 use crate::kept::{Picture, text_at};
 use crate::layout::{
-  LEFT,
-  Layout,
-  Place,
-  TOP,
-  bottom_of,
-  calls_top,
-  commands_top,
-  held_top,
-  links_top,
+    LEFT, Layout, Place, TOP, bottom_of, calls_top, commands_top, held_top, links_top,
 };
 use crate::said::behind_colon;
 use crate::signs::push_marks;
 use sl_drawing::{
-  Area,
-  Class,
-  letters,
-  minus,
-  plus,
-  push_front,
-  push_head,
-  push_label,
-  push_rect,
-  push_tail,
-  times,
+    Area, Class, letters, minus, plus, push_front, push_head, push_label, push_rect, push_tail,
+    times,
 };
 use sl_text::number::push_number;
 use std::alloc::AllocError;
@@ -36,10 +19,34 @@ const MOST_KEYS: usize = 12;
 
 /// Adds the names of a machine's rows.
 fn push_rows(out: &mut Vec<u8>, place: Place) -> Result<(), AllocError> {
-    push_label(out, Class::Dim, LEFT - 54, plus(commands_top(place), 9), b"commands")?;
-    push_label(out, Class::Dim, LEFT - 32, plus(calls_top(place), 9), b"disk")?;
-    push_label(out, Class::Dim, LEFT - 48, plus(links_top(place), 6), b"session")?;
-    push_label(out, Class::Dim, LEFT - 37, plus(held_top(place), 9), b"holds")
+    push_label(
+        out,
+        Class::Dim,
+        LEFT - 54,
+        plus(commands_top(place), 9),
+        b"commands",
+    )?;
+    push_label(
+        out,
+        Class::Dim,
+        LEFT - 32,
+        plus(calls_top(place), 9),
+        b"disk",
+    )?;
+    push_label(
+        out,
+        Class::Dim,
+        LEFT - 48,
+        plus(links_top(place), 6),
+        b"session",
+    )?;
+    push_label(
+        out,
+        Class::Dim,
+        LEFT - 37,
+        plus(held_top(place), 9),
+        b"holds",
+    )
 }
 
 /// Adds a key of the legend at a place of the axis; the answer is where the next one stands.
@@ -121,12 +128,7 @@ impl Picture {
     }
 
     /// Adds the last line of the report.
-    fn push_last(
-        &self,
-        out: &mut Vec<u8>,
-        layout: &Layout,
-        last: &[u8],
-    ) -> Result<(), AllocError> {
+    fn push_last(&self, out: &mut Vec<u8>, layout: &Layout, last: &[u8]) -> Result<(), AllocError> {
         let y = plus(plus(layout.bottom, 24), times(self.notes.len() as u64, 13));
         push_label(out, Class::Plain, LEFT, y, last)
     }

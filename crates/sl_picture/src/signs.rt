@@ -2,30 +2,12 @@
 
 use crate::kept::{Picture, text_at};
 use crate::layout::{
-  LEFT,
-  Layout,
-  Place,
-  TOP,
-  bottom_of,
-  calls_top,
-  held_top,
-  links_top,
-  place_of,
-  x_of,
+    LEFT, Layout, Place, TOP, bottom_of, calls_top, held_top, links_top, place_of, x_of,
 };
 use crate::shapes::{Column, Mark, Note, Sign};
 use sl_drawing::{
-  Area,
-  Class,
-  Symbol,
-  letters,
-  minus,
-  plus,
-  push_label,
-  push_rect,
-  push_symbol,
-  push_titled,
-  times,
+    Area, Class, Symbol, letters, minus, plus, push_label, push_rect, push_symbol, push_titled,
+    times,
 };
 use sl_text::number::push_number;
 use std::alloc::AllocError;

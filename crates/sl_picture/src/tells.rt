@@ -53,7 +53,11 @@ fn is_silent(line: &[u8]) -> bool {
 impl Picture {
     /// A process is signalled.
     fn signal(&mut self, line: &[u8]) -> Result<(), AllocError> {
-        let sign = if word_at(line, 3) == b"kill" { Sign::Kill } else { Sign::Term };
+        let sign = if word_at(line, 3) == b"kill" {
+            Sign::Kill
+        } else {
+            Sign::Term
+        };
         self.mark(number_at(line, 0), sign)
     }
 
@@ -79,7 +83,11 @@ impl Picture {
 
     /// A holding begins.
     fn grant(&mut self, line: &[u8]) -> Result<(), AllocError> {
-        let shape = if word_at(line, 4) == b"sh" { Shape::Shared } else { Shape::Exclusive };
+        let shape = if word_at(line, 4) == b"sh" {
+            Shape::Shared
+        } else {
+            Shape::Exclusive
+        };
         self.begin_holding(
             number_at(line, 0),
             shape,
@@ -91,21 +99,27 @@ impl Picture {
 
     /// A call is submitted.
     fn submit(&mut self, line: &[u8]) -> Result<(), AllocError> {
-        let shape = if word_at(line, 3) == b"write" { Shape::Write } else { Shape::Read };
+        let shape = if word_at(line, 3) == b"write" {
+            Shape::Write
+        } else {
+            Shape::Read
+        };
         let name = self.keep(text_behind(line, 3))?;
         let bar = self.bar(number_at(line, 0), shape);
-        self.begin(
-            Bar {
-                number: number_at(line, 2),
-                name,
-                ..bar
-            },
-        )
+        self.begin(Bar {
+            number: number_at(line, 2),
+            name,
+            ..bar
+        })
     }
 
     /// How a test of the watchdog daemon came out.
     fn test(&mut self, line: &[u8]) -> Result<(), AllocError> {
-        let sign = if word_at(line, 2) == b"ok" { Sign::TestHeld } else { Sign::TestFailed };
+        let sign = if word_at(line, 2) == b"ok" {
+            Sign::TestHeld
+        } else {
+            Sign::TestFailed
+        };
         self.mark(number_at(line, 0), sign)
     }
 

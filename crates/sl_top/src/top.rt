@@ -14,6 +14,7 @@ use crate::status::{Status, status_after, status_of, status_of_generated, status
 use sl_area::Area;
 use sl_cli::{Folder, HELP, VERSION, Words, WordsError, read_words};
 use sl_direct::{Action, run_direct};
+use sl_draw::draw_schedule;
 use sl_generate::generate;
 use sl_host_step::HostDaemon;
 use sl_io::{Sink, Source, write_all};
@@ -21,6 +22,7 @@ use sl_live_play::{LiveHost, Manner, play_live};
 use sl_locks::LvmLocks;
 use sl_outside::{Devices, LiveDevices};
 use sl_play::laws::headers::whole_language_may_play;
+use sl_picture::Part;
 use sl_play::play_schedule;
 use std::alloc::{AllocError, Global};
 use std::sync::Wait;
@@ -34,6 +36,15 @@ fn replay<S: Source, K: Sink>(alloc: Global, source: &mut S, sink: &mut K) -> St
 {
     whole_language_may_play();
     status_of(play_schedule::<S, K, HostDaemon, LvmLocks>(alloc, source, sink))
+}
+
+/// Reads a schedule from the source, plays it in a world of hosts, and puts out the picture of this part of its lines.
+fn draw<S: Source, K: Sink>(alloc: Global, part: Part, source: &mut S, sink: &mut K) -> Status
+    ensures { Draws part (S.left source.old) (S.left source.new) (S.faults source.old) (S.faults source.new)
+        (K.taken sink.old) (K.taken sink.new) (K.faults sink.old) (K.faults sink.new) result }
+{
+    whole_language_may_play();
+    status_of(draw_schedule::<S, K, HostDaemon, LvmLocks>(alloc, part, source, sink))
 }
 
 /// Makes a schedule of so many events from a seed, with pairs or without, plays it in a world of hosts, and puts out the last line of its
@@ -146,6 +157,7 @@ pub fn run_offline<S: Source, K: Sink, D: Devices>(
 {
     match read_words(alloc, words) {
         Ok(Words::Replay) => replay(alloc, source, sink),
+        Ok(Words::Draw { first, last }) => draw(alloc, Part { first, last }, source, sink),
         Ok(
             Words::Generate {
                 seed,
@@ -189,6 +201,7 @@ fn place_of(words: Words, at_terminal: bool) -> Option<Place>
             },
         }),
         Words::Replay => None,
+        Words::Draw { .. } => None,
         Words::Generate { .. } => None,
         Words::Direct(_) => None,
         Words::Help => None,
