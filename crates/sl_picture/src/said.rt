@@ -1,13 +1,14 @@
 //! The words of a line of a schedule or of a report.
 
 ghost use Rattle.sl_picture.specs.Said as said;
-ghost use Rattle.std.specs.Prelude.{◌≡◌};
+ghost use Rattle.std.specs.Prelude.{OnOk, ◌++◌, ◌≡◌};
 
 use sl_text::number::read_number;
-use sl_text::words::{Parts, Words, split_piece};
+use sl_text::words::{Parts, Words};
+use std::alloc::AllocError;
 
 /// The words of a line behind its first so many.
-fn words_behind(line: &[u8], count: u32) -> Words<'_>
+pub(crate) fn words_behind(line: &[u8], count: u32) -> Words<'_>
     ensures { result.words ≡ said.words_behind line.now count }
 {
     let mut words = Words::new(line);
@@ -34,14 +35,21 @@ pub(crate) fn text_behind(line: &[u8], count: u32) -> &[u8]
     words_behind(line, count).rest()
 }
 
+/// The number that a word is; 0 where it is none.
+pub(crate) fn number_in(word: &[u8]) -> u64
+    ensures { result ≡ said.number_in word.now }
+{
+    match read_number(word) {
+        Some(number) => number,
+        None => 0,
+    }
+}
+
 /// The number that a word of a line is; 0 where it is none.
 pub(crate) fn number_at(line: &[u8], place: u32) -> u64
     ensures { result ≡ said.number_at line.now place }
 {
-    match read_number(word_at(line, place)) {
-        Some(number) => number,
-        None => 0,
-    }
+    number_in(word_at(line, place))
 }
 
 /// What stands behind the first colon of a word; nothing where it has none.
@@ -53,19 +61,22 @@ pub(crate) fn behind_colon(word: &[u8]) -> &[u8]
     parts.rest()
 }
 
-/// The front of a word that has so many bytes behind it; all of it where that is more.
-fn without_last(word: &[u8], count: usize) -> &[u8]
-    ensures { result.now ≡ said.without_last word.now count }
+/// The first part of a word that colons cut, and empty where the word is.
+fn first_part(word: &[u8]) -> &[u8]
+    ensures { result.now ≡ said.first_part word.now }
 {
-    &word[..word.len().saturating_sub(count)]
+    let mut parts = Parts::new(word);
+    match parts.next_piece() {
+        Some(part) => part,
+        None => b"",
+    }
 }
 
-/// The first two parts of a word, with the colon between them: of a resource's spelling its lockspace and its name. All of a word that has fewer.
-pub(crate) fn two_parts(word: &[u8]) -> &[u8]
-    ensures { result.now ≡ said.two_parts word.now }
+/// Adds the first two parts of a word, with a colon between them: of a resource's spelling its lockspace and its name.
+pub(crate) fn push_two_parts(out: &mut Vec<u8>, word: &[u8]) -> Result<(), AllocError>
+    ensures { OnOk result (out.new.items ≡ out.old.items ++ said.two_parts word.now) }
 {
-    match split_piece(b':', behind_colon(word)).1 {
-        Some(rest) => without_last(word, rest.len().saturating_add(1)),
-        None => word,
-    }
+    out.extend_from_slice(first_part(word))?;
+    out.extend_from_slice(b":")?;
+    out.extend_from_slice(first_part(behind_colon(word)))
 }

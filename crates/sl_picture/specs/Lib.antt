@@ -1,0 +1,5 @@
+pub mod Said
+pub mod Fates
+pub mod Kept
+pub mod Events
+pub mod Tells
