@@ -1,11 +1,12 @@
 //! What a line of a schedule means for the picture.
 
 ghost use Rattle.sl_picture.specs.Events as events;
-ghost use Rattle.std.specs.Prelude.{OnOk, length, ◌≡◌};
+ghost use Rattle.std.specs.Option.{option_map_or};
+ghost use Rattle.std.specs.Prelude.{OnOk, [], length, ◌≡◌};
 
 use crate::fates::{Deed, act};
 use crate::kept::{Picture, lane_at};
-use crate::said::{number_at, number_in, push_two_parts, text_behind, word_at, words_behind};
+use crate::said::{is, number_at, number_in, push_two_parts, text_behind, word_at, words_behind};
 use crate::shapes::{Bar, Instant, Lane, Shape, Sign};
 use sl_drawing::{plus, times};
 use std::alloc::AllocError;
@@ -31,17 +32,17 @@ pub(crate) enum Verb {
 fn verb_of(word: &[u8]) -> Verb
     ensures { result ≡ events.verb_of word.now }
 {
-    if word == b"command" {
+    if is(word, b"command") {
         Verb::Command
-    } else if word == b"do" {
+    } else if is(word, b"do") {
         Verb::Do
-    } else if word == b"land" {
+    } else if is(word, b"land") {
         Verb::Land
-    } else if word == b"tear" {
+    } else if is(word, b"tear") {
         Verb::Tear
-    } else if word == b"answer" {
+    } else if is(word, b"answer") {
         Verb::Answer
-    } else if word == b"drop" {
+    } else if is(word, b"drop") {
         Verb::Drop
     } else {
         machine_verb(word)
@@ -52,18 +53,28 @@ fn verb_of(word: &[u8]) -> Verb
 fn machine_verb(word: &[u8]) -> Verb
     ensures { result ≡ events.machine_verb word.now }
 {
-    if word == b"start" {
+    if is(word, b"start") {
         Verb::Start
-    } else if word == b"crash" {
+    } else if is(word, b"crash") {
         Verb::Crash
-    } else if word == b"reset" {
+    } else if is(word, b"reset") {
         Verb::Reset
-    } else if word == b"restart" {
+    } else if is(word, b"restart") {
         Verb::Restart
-    } else if word == b"pass" {
+    } else if is(word, b"pass") {
         Verb::Pass
     } else {
         Verb::Other
+    }
+}
+
+/// The word, or an empty one.
+fn or_none(word: Option<&[u8]>) -> &[u8]
+    ensures { result.now ≡ option_map_or (λ w. w.now) word.entry [] }
+{
+    match word {
+        Some(word) => word,
+        None => b"",
     }
 }
 
@@ -103,7 +114,7 @@ impl Picture {
     {
         let mut words = words_behind(line, 2);
         for index in 0..self.lanes.len() {
-            let growth = growth_of(words.next_piece().unwrap_or(b""), time);
+            let growth = growth_of(or_none(words.next_piece()), time);
             self.grow_clock(index as u64 + 1, growth);
         }
     }
@@ -154,7 +165,7 @@ impl Picture {
     fn command(&mut self, line: &[u8]) -> Result<(), AllocError>
         ensures { OnOk result (self.new ≡ events.command line.now self.old) }
     {
-        if word_at(line, 2) == b"lvm" {
+        if is(word_at(line, 2), b"lvm") {
             self.locks_line(line)
         } else {
             self.daemon_line(line)
@@ -228,7 +239,7 @@ impl Picture {
             Verb::Do => self.answer_call(machine, call, true),
             Verb::Land => self.happen(act(Deed::Landed, machine, call), b""),
             Verb::Tear => self.tear(machine, call),
-            Verb::Answer => self.answer_call(machine, call, word_at(line, 3) == b"ok"),
+            Verb::Answer => self.answer_call(machine, call, is(word_at(line, 3), b"ok")),
             Verb::Drop => self.drop_call(machine, call),
             _ => Ok(()),
         }

@@ -1,10 +1,15 @@
 //! Where everything stands, in pixels: along the axis by events and moments, from top to bottom by machines and their rows.
 
+ghost use Rattle.sl_picture.specs.Fates as fates;
+ghost use Rattle.sl_picture.specs.Layout as layout;
+ghost use Rattle.std.specs.Prelude.{IfOk, OnOk, filter, map, min, not, ◌*◌, ◌++◌, ◌/◌, ◌<◌, ◌≡◌};
+
 use crate::fates::{ended, is_command, is_gap, is_holding, is_link};
 use crate::kept::Picture;
-use crate::shapes::{Bar, Instant, Note};
+use crate::shapes::{Bar, Instant, Note, Shape};
 use sl_drawing::{letters, minus, plus, times};
 use std::alloc::{AllocError, Global};
+use std::marker::Model;
 
 /// Where the axis begins, and what stands behind its end.
 pub(crate) const LEFT: u64 = 104;
@@ -37,18 +42,32 @@ pub(crate) struct Scale {
     pub(crate) begun: u64,
 }
 
-/// The scale of an axis from a moment to an instant: an event is 3 to 16 wide, and time has at least 900 in all.
-pub(crate) fn scale_of(begun: u64, last: Instant) -> Scale {
-    let event = (2400 / plus(last.events, 1)).max(3).min(16);
-    let moments = minus(last.moment, begun);
-    let time = if moments == 0 {
+/// The width of an event, where there are so many: 3 to 16.
+fn event_width(events: u64) -> u64
+    ensures { result ≡ layout.event_width events }
+{
+    (2400 / plus(events, 1)).max(3).min(16)
+}
+
+/// The width of all the time that passes: none where none does, else at least 900.
+fn time_width(events: u64, moments: u64) -> u64
+    ensures { result ≡ layout.time_width events moments }
+{
+    if moments == 0 {
         0
     } else {
-        (times(last.events, event) / 2).max(900)
-    };
+        (times(events, event_width(events)) / 2).max(900)
+    }
+}
+
+/// The scale of an axis from a moment to an instant.
+pub(crate) fn scale_of(begun: u64, last: Instant) -> Scale
+    ensures { result ≡ layout.scale_of begun last }
+{
+    let moments = minus(last.moment, begun);
     Scale {
-        event,
-        time,
+        event: event_width(last.events),
+        time: time_width(last.events, moments),
         moments: moments.max(1),
         begun,
     }
@@ -57,12 +76,15 @@ pub(crate) fn scale_of(begun: u64, last: Instant) -> Scale {
 /// The part of a width that so many of these moments take. Their product may pass 64 bits.
 fn share(width: u64, part: u64, whole: u64) -> u64
     requires { 0 < whole }
+    ensures { result ≡ layout.share width part whole }
 {
     (u128::from(width) * u128::from(part.min(whole)) / u128::from(whole)) as u64
 }
 
 /// Where an instant stands.
-pub(crate) fn x_of(scale: Scale, at: Instant) -> u64 {
+pub(crate) fn x_of(scale: Scale, at: Instant) -> u64
+    ensures { result ≡ layout.x_of scale at }
+{
     let time = share(
         scale.time,
         minus(at.moment, scale.begun),
@@ -81,27 +103,37 @@ pub(crate) struct Place {
 }
 
 /// Where a machine's rows of commands begin.
-pub(crate) fn commands_top(place: Place) -> u64 {
+pub(crate) fn commands_top(place: Place) -> u64
+    ensures { result ≡ layout.commands_top place }
+{
     plus(place.top, 4)
 }
 
 /// .. its row of calls.
-pub(crate) fn calls_top(place: Place) -> u64 {
+pub(crate) fn calls_top(place: Place) -> u64
+    ensures { result ≡ layout.calls_top place }
+{
     plus(plus(commands_top(place), times(place.commands, COMMAND)), 2)
 }
 
 /// .. its connections.
-pub(crate) fn links_top(place: Place) -> u64 {
+pub(crate) fn links_top(place: Place) -> u64
+    ensures { result ≡ layout.links_top place }
+{
     plus(calls_top(place), CALLS)
 }
 
 /// .. its holdings.
-pub(crate) fn held_top(place: Place) -> u64 {
+pub(crate) fn held_top(place: Place) -> u64
+    ensures { result ≡ layout.held_top place }
+{
     plus(plus(links_top(place), times(place.links, LINK)), 3)
 }
 
 /// Where the machine ends.
-pub(crate) fn bottom_of(place: Place) -> u64 {
+pub(crate) fn bottom_of(place: Place) -> u64
+    ensures { result ≡ layout.bottom_of place }
+{
     plus(plus(held_top(place), times(place.held, HELD)), 2)
 }
 
@@ -113,25 +145,33 @@ pub(crate) enum Rows {
     Holdings,
 }
 
-/// Whether a bar stands in rows of this kind on this machine.
-fn is_in_rows(rows: Rows, machine: u64, bar: Bar) -> bool {
-    bar.machine == machine
-        && match rows {
-            Rows::Commands => is_command(bar.shape),
-            Rows::Links => is_link(bar.shape),
-            Rows::Holdings => is_holding(bar.shape),
-        }
+/// Whether bars of a shape stand in rows of this kind.
+fn is_of_rows(rows: Rows, shape: Shape) -> bool
+    ensures { result ≡ layout.is_of_rows rows shape }
+{
+    match rows {
+        Rows::Commands => is_command(shape),
+        Rows::Links => is_link(shape),
+        Rows::Holdings => is_holding(shape),
+    }
 }
 
-/// How many rows of a kind a machine needs for these bars, and at least so many.
-fn rows_for(bars: &[Bar], rows: Rows, machine: u64, least: u64) -> u64 {
-    let mut most = least;
-    for bar in bars {
-        if is_in_rows(rows, machine, *bar) {
-            most = most.max(plus(bar.row, 1));
-        }
+/// So many rows, or more where a bar of a machine needs them.
+fn more_rows(rows: Rows, machine: u64, most: u64, bar: &Bar) -> u64
+    ensures { result ≡ layout.more_rows rows machine most bar.now }
+{
+    if bar.machine == machine && is_of_rows(rows, bar.shape) {
+        most.max(plus(bar.row, 1))
+    } else {
+        most
     }
-    most
+}
+
+/// How many rows of a kind a machine needs for these bars, and at least one.
+fn rows_for(bars: &[Bar], rows: Rows, machine: u64) -> u64
+    ensures { result ≡ layout.rows_for bars.now rows machine }
+{
+    bars.iter().fold(1, |most, bar| more_rows(rows, machine, most, bar))
 }
 
 /// Where everything stands.
@@ -145,6 +185,14 @@ pub(crate) struct Layout {
     pub(crate) height: u64,
 }
 
+impl Model for Layout {
+    ghost use Rattle.sl_picture.specs.Layout.{Plan};
+
+    ghost Value = { Plan };
+
+    ghost view = { λ l. record { scale = l.scale; places = l.places.items; bottom = l.bottom; width = l.width; height = l.height } };
+}
+
 /// The place of no machine.
 const NO_PLACE: Place = Place {
     top: TOP,
@@ -154,7 +202,9 @@ const NO_PLACE: Place = Place {
 };
 
 /// The place of a machine, or of none.
-pub(crate) fn place_of(places: &[Place], machine: u64) -> Place {
+pub(crate) fn place_of(places: &[Place], machine: u64) -> Place
+    ensures { result ≡ layout.place_of places.now machine }
+{
     if 0 < machine && machine <= places.len() as u64 {
         places[machine as usize - 1]
     } else {
@@ -163,17 +213,21 @@ pub(crate) fn place_of(places: &[Place], machine: u64) -> Place {
 }
 
 /// The place of a machine that begins there: one that does nothing is thin.
-fn place_at(bars: &[Bar], machine: u64, top: u64) -> Place {
+fn place_at(bars: &[Bar], machine: u64, top: u64) -> Place
+    ensures { result ≡ layout.place_at bars.now machine top }
+{
     Place {
         top,
-        commands: rows_for(bars, Rows::Commands, machine, 1),
-        links: rows_for(bars, Rows::Links, machine, 1),
-        held: rows_for(bars, Rows::Holdings, machine, 1),
+        commands: rows_for(bars, Rows::Commands, machine),
+        links: rows_for(bars, Rows::Links, machine),
+        held: rows_for(bars, Rows::Holdings, machine),
     }
 }
 
 /// The places of so many machines, one below the other.
-fn places_of(alloc: Global, bars: &[Bar], machines: usize) -> Result<Vec<Place>, AllocError> {
+fn places_of(alloc: Global, bars: &[Bar], machines: usize) -> Result<Vec<Place>, AllocError>
+    ensures { IfOk result (λ places. places.items ≡ layout.places_of bars.now machines) }
+{
     let mut places = Vec::new(alloc);
     let mut top = TOP;
     for index in 0..machines {
@@ -184,20 +238,27 @@ fn places_of(alloc: Global, bars: &[Bar], machines: usize) -> Result<Vec<Place>,
     Ok(places)
 }
 
+/// A width, or what a comment needs where that is more.
+fn wider(width: u64, note: &Note) -> u64
+    ensures { result ≡ layout.wider width note.now }
+{
+    width.max(plus(LEFT + 16, letters(note.text.len)))
+}
+
 /// A width that has room for each comment, and at least this one.
-fn width_of(notes: &[Note], least: u64) -> u64 {
-    let mut width = least;
-    for note in notes {
-        width = width.max(plus(LEFT + 16, letters(note.text.len)));
-    }
-    width
+fn width_of(notes: &[Note], least: u64) -> u64
+    ensures { result ≡ layout.width_of notes.now least }
+{
+    notes.iter().fold(least, |width, note| wider(width, note))
 }
 
 impl Picture {
     /// All bars: those that have ended, and those that are open, which stand to the end; a resource that nobody holds any more has none.
-    pub(crate) fn all_bars(&self) -> Result<Vec<Bar>, AllocError> {
+    pub(crate) fn all_bars(&self) -> Result<Vec<Bar>, AllocError>
+        ensures { IfOk result (λ bars. bars.items ≡ layout.all_bars self.now) }
+    {
         let mut bars = Vec::from_slice(self.alloc(), &self.done)?;
-        for bar in &self.open {
+        for bar in &self.opened {
             if !is_gap(bar.shape) {
                 bars.push(ended(self.now, *bar))?;
             }
@@ -206,7 +267,10 @@ impl Picture {
     }
 
     /// Where everything stands.
-    pub(crate) fn lay_out(&self, bars: &[Bar]) -> Result<Layout, AllocError> {
+    #[tactic(auto, unfolding(crate::specs::Layout::plan_of))]
+    pub(crate) fn lay_out(&self, bars: &[Bar]) -> Result<Layout, AllocError>
+        ensures { IfOk result (λ l. l ≡ layout.plan_of bars.now self.now) }
+    {
         let scale = scale_of(self.begun, self.now);
         let places = places_of(self.alloc(), bars, self.lanes.len())?;
         let bottom = bottom_of(place_of(&places, places.len() as u64));

@@ -1,7 +1,7 @@
 //! The words of a line of a schedule or of a report.
 
 ghost use Rattle.sl_picture.specs.Said as said;
-ghost use Rattle.std.specs.Prelude.{OnOk, ◌++◌, ◌≡◌};
+ghost use Rattle.std.specs.Prelude.{OnOk, bytes_eq, ◌++◌, ◌≡◌};
 
 use sl_text::number::read_number;
 use sl_text::words::{Parts, Words};
@@ -33,6 +33,13 @@ pub(crate) fn text_behind(line: &[u8], count: u32) -> &[u8]
     ensures { result.now ≡ said.text_behind line.now count }
 {
     words_behind(line, count).rest()
+}
+
+/// Whether a word is this text.
+pub(crate) fn is(word: &[u8], text: &[u8]) -> bool
+    ensures { result ≡ bytes_eq word.now text.now }
+{
+    word == text
 }
 
 /// The number that a word is; 0 where it is none.

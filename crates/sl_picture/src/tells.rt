@@ -5,7 +5,7 @@ ghost use Rattle.std.specs.Prelude.{OnOk, ◌≡◌};
 
 use crate::fates::{Act, Deed, act};
 use crate::kept::Picture;
-use crate::said::{number_at, text_behind, word_at};
+use crate::said::{is, number_at, text_behind, word_at};
 use crate::shapes::{Bar, Column, Instant, Note, Shape, Sign};
 use sl_drawing::plus;
 use sl_text::line::split_line;
@@ -29,19 +29,19 @@ pub(crate) enum Told {
 fn told_of(word: &[u8]) -> Told
     ensures { result ≡ tells.told_of word.now }
 {
-    if word == b"end" {
+    if is(word, b"end") {
         Told::End
-    } else if word == b"signal" {
+    } else if is(word, b"signal") {
         Told::Signal
-    } else if word == b"wdmd" {
+    } else if is(word, b"wdmd") {
         Told::Connection
-    } else if word == b"grant" {
+    } else if is(word, b"grant") {
         Told::Grant
-    } else if word == b"reply" {
+    } else if is(word, b"reply") {
         Told::Reply
-    } else if word == b"call" {
+    } else if is(word, b"call") {
         Told::Call
-    } else if word == b"test" {
+    } else if is(word, b"test") {
         Told::Test
     } else {
         Told::Other
@@ -62,28 +62,28 @@ fn is_silent(line: &[u8]) -> bool
 fn signal_of(word: &[u8]) -> Sign
     ensures { result ≡ tells.signal_of word.now }
 {
-    if word == b"kill" { Sign::Kill } else { Sign::Term }
+    if is(word, b"kill") { Sign::Kill } else { Sign::Term }
 }
 
 /// The shape of a holding, by the word of its mode.
 fn mode_of(word: &[u8]) -> Shape
     ensures { result ≡ tells.mode_of word.now }
 {
-    if word == b"sh" { Shape::Shared } else { Shape::Exclusive }
+    if is(word, b"sh") { Shape::Shared } else { Shape::Exclusive }
 }
 
 /// The shape of a call, by its word.
 fn call_of(word: &[u8]) -> Shape
     ensures { result ≡ tells.call_of word.now }
 {
-    if word == b"write" { Shape::Write } else { Shape::Read }
+    if is(word, b"write") { Shape::Write } else { Shape::Read }
 }
 
 /// The sign of a test, by the word of how it came out.
 fn test_of(word: &[u8]) -> Sign
     ensures { result ≡ tells.test_of word.now }
 {
-    if word == b"ok" { Sign::TestHeld } else { Sign::TestFailed }
+    if is(word, b"ok") { Sign::TestHeld } else { Sign::TestFailed }
 }
 
 impl Picture {
@@ -102,9 +102,9 @@ impl Picture {
         let machine = number_at(line, 0);
         let lockspace = word_at(line, 3);
         let until = number_at(line, 4);
-        if word_at(line, 2) == b"register" {
+        if is(word_at(line, 2), b"register") {
             self.begin_link(machine, Shape::Joining, lockspace, until)
-        } else if word_at(line, 2) == b"renew" {
+        } else if is(word_at(line, 2), b"renew") {
             self.renew(machine, lockspace, until)
         } else {
             self.happen(act(Deed::Removed, machine, 0), lockspace)
@@ -144,7 +144,7 @@ impl Picture {
         self.answer(
             number_at(line, 0),
             number_at(line, 2),
-            word_at(line, 3) == b"ok",
+            is(word_at(line, 3), b"ok"),
             text_behind(line, 3),
         )
     }
@@ -223,7 +223,7 @@ impl Picture {
     {
         self.see(line)?;
         self.tell_all(report)?;
-        if word_at(line, 0) == b"pass" {
+        if is(word_at(line, 0), b"pass") {
             return Ok(());
         }
         self.column(number, line, report)
