@@ -1,5 +1,8 @@
 //! The bars of a picture.
 
+ghost use Rattle.sl_picture.specs.Bars as bars;
+ghost use Rattle.std.specs.Prelude.{IfOk, OnOk, decimal, length, ◌++◌, ◌≡◌};
+
 use crate::fates::is_command;
 use crate::kept::{Picture, text_at};
 use crate::layout::{
@@ -23,22 +26,47 @@ pub(crate) enum Layer {
     Work,
 }
 
+/// Whether it is the lowest layer, the next one, the highest.
+fn is_time(layer: Layer) -> bool
+    ensures { result ≡ bars.is_time layer }
+{
+    matches!(layer, Layer::Time)
+}
+
+fn is_machine(layer: Layer) -> bool
+    ensures { result ≡ bars.is_machine layer }
+{
+    matches!(layer, Layer::Machine)
+}
+
+fn is_work(layer: Layer) -> bool
+    ensures { result ≡ bars.is_work layer }
+{
+    matches!(layer, Layer::Work)
+}
+
 /// Whether a bar lies in a layer.
-fn is_in_layer(layer: Layer, shape: Shape) -> bool {
+fn is_in_layer(layer: Layer, shape: Shape) -> bool
+    ensures { result ≡ bars.is_in_layer layer shape }
+{
     match shape {
-        Shape::Passing => matches!(layer, Layer::Time),
-        Shape::Down | Shape::Idle => matches!(layer, Layer::Machine),
-        _ => matches!(layer, Layer::Work),
+        Shape::Passing => is_time(layer),
+        Shape::Down | Shape::Idle => is_machine(layer),
+        _ => is_work(layer),
     }
 }
 
 /// How long a bar lasts, in milliseconds.
-fn time_of(bar: Bar) -> u64 {
+fn time_of(bar: Bar) -> u64
+    ensures { result ≡ bars.time_of bar }
+{
     minus(bar.to.moment, bar.from.moment)
 }
 
 /// The class of a call that is in flight: it may take `io` milliseconds.
-fn call_class(bar: Bar, io: u64) -> Class {
+fn call_class(bar: Bar, io: u64) -> Class
+    ensures { result ≡ bars.call_class bar io }
+{
     if io < time_of(bar) {
         Class::Late
     } else {
@@ -47,7 +75,10 @@ fn call_class(bar: Bar, io: u64) -> Class {
 }
 
 /// The class of a bar.
-fn class_of(bar: Bar, io: u64) -> Class {
+#[tactic(auto, unfolding(crate::specs::Bars::class_of))]
+fn class_of(bar: Bar, io: u64) -> Class
+    ensures { result ≡ bars.class_of bar io }
+{
     match bar.shape {
         Shape::Passing => Class::Passing,
         Shape::Down => Class::Down,
@@ -75,7 +106,10 @@ fn class_of(bar: Bar, io: u64) -> Class {
 }
 
 /// How high a bar of a machine stands.
-fn bar_top(place: Place, bar: Bar) -> u64 {
+#[tactic(auto, unfolding(crate::specs::Bars::bar_top))]
+fn bar_top(place: Place, bar: Bar) -> u64
+    ensures { result ≡ bars.bar_top place bar }
+{
     match bar.shape {
         Shape::Passing | Shape::Down | Shape::Idle => place.top,
         Shape::Waiting | Shape::Accepted | Shape::Refused | Shape::Unclear => {
@@ -91,7 +125,10 @@ fn bar_top(place: Place, bar: Bar) -> u64 {
 }
 
 /// How high it is.
-fn bar_height(place: Place, bar: Bar) -> u64 {
+#[tactic(auto, unfolding(crate::specs::Bars::bar_height))]
+fn bar_height(place: Place, bar: Bar) -> u64
+    ensures { result ≡ bars.bar_height place bar }
+{
     match bar.shape {
         Shape::Passing | Shape::Down | Shape::Idle => minus(bottom_of(place), place.top),
         Shape::Waiting | Shape::Accepted | Shape::Refused | Shape::Unclear => COMMAND - 2,
@@ -103,7 +140,10 @@ fn bar_height(place: Place, bar: Bar) -> u64 {
 }
 
 /// Where a bar stands.
-fn area_of(layout: &Layout, bar: Bar) -> Area {
+#[tactic(auto, unfolding(crate::specs::Bars::area_of))]
+fn area_of(layout: &Layout, bar: Bar) -> Area
+    ensures { result ≡ bars.area_of layout.now bar }
+{
     let x = x_of(layout.scale, bar.from);
     let width = minus(x_of(layout.scale, bar.to), x).max(LEAST);
     if bar.machine == 0 {
@@ -124,39 +164,51 @@ fn area_of(layout: &Layout, bar: Bar) -> Area {
 }
 
 /// Adds a text and a number.
-pub(crate) fn push_numbered(out: &mut Vec<u8>, text: &[u8], number: u64) -> Result<(), AllocError> {
+pub(crate) fn push_numbered(out: &mut Vec<u8>, text: &[u8], number: u64) -> Result<(), AllocError>
+    ensures { OnOk result (out.new.items ≡ out.old.items ++ text.now ++ decimal number) }
+{
     out.extend_from_slice(text)?;
     push_number(out, number)
 }
 
 /// Adds three texts.
-fn push_three(out: &mut Vec<u8>, a: &[u8], b: &[u8], c: &[u8]) -> Result<(), AllocError> {
+fn push_three(out: &mut Vec<u8>, a: &[u8], b: &[u8], c: &[u8]) -> Result<(), AllocError>
+    ensures { OnOk result (out.new.items ≡ out.old.items ++ a.now ++ b.now ++ c.now) }
+{
     out.extend_from_slice(a)?;
     out.extend_from_slice(b)?;
     out.extend_from_slice(c)
 }
 
 /// Adds a text, another one, and a number.
-fn push_until(out: &mut Vec<u8>, a: &[u8], b: &[u8], number: u64) -> Result<(), AllocError> {
+fn push_until(out: &mut Vec<u8>, a: &[u8], b: &[u8], number: u64) -> Result<(), AllocError>
+    ensures { OnOk result (out.new.items ≡ out.old.items ++ a.now ++ b.now ++ decimal number) }
+{
     out.extend_from_slice(a)?;
     push_numbered(out, b, number)
 }
 
 /// Adds a resource, how it is held, by whom, and in which instance.
-fn push_held(out: &mut Vec<u8>, name: &[u8], held: &[u8], bar: Bar) -> Result<(), AllocError> {
+fn push_held(out: &mut Vec<u8>, name: &[u8], held: &[u8], bar: Bar) -> Result<(), AllocError>
+    ensures { OnOk result (out.new.items ≡ out.old.items ++ bars.held_words name.now held.now bar) }
+{
     push_until(out, name, held, bar.number)?;
     push_numbered(out, b", instance ", bar.until)
 }
 
 /// Adds the number of a call and what it does.
-fn push_call(out: &mut Vec<u8>, what: &[u8], bar: Bar, name: &[u8]) -> Result<(), AllocError> {
+fn push_call(out: &mut Vec<u8>, what: &[u8], bar: Bar, name: &[u8]) -> Result<(), AllocError>
+    ensures { OnOk result (out.new.items ≡ out.old.items ++ bars.call_words what.now bar name.now) }
+{
     push_numbered(out, what, bar.number)?;
     out.extend_from_slice(b" ")?;
     out.extend_from_slice(name)
 }
 
 /// The word of a connection's shape, up to its expiry.
-fn link_words(shape: Shape) -> &'static [u8] {
+fn link_words(shape: Shape) -> &'static [u8]
+    ensures { result.now ≡ bars.link_words shape }
+{
     match shape {
         Shape::Joining => b": joining, expires at reading ",
         Shape::Left => b": its daemon has crashed, expires at reading ",
@@ -165,9 +217,115 @@ fn link_words(shape: Shape) -> &'static [u8] {
     }
 }
 
+/// Adds a tick at the front of an area, so much above it and so high.
+fn push_tick(out: &mut Vec<u8>, class: Class, area: Area, up: u64, high: u64) -> Result<(), AllocError>
+    ensures { OnOk result (out.new.items ≡ out.old.items ++ bars.tick class area up high) }
+{
+    push_rect(
+        out,
+        class,
+        Area {
+            x: area.x,
+            y: minus(area.y, up),
+            width: 2,
+            height: high,
+        },
+    )
+}
+
+/// Adds the tick with which a call or a renewal begins, and the pattern of what is shared.
+#[tactic(auto, unfolding(crate::specs::Bars::detail_text))]
+fn push_detail(out: &mut Vec<u8>, bar: Bar, area: Area) -> Result<(), AllocError>
+    ensures { OnOk result (out.new.items ≡ out.old.items ++ bars.detail_text bar area) }
+{
+    match bar.shape {
+        Shape::Read => push_tick(out, Class::Read, area, 2, 5),
+        Shape::Write => push_tick(out, Class::Write, area, 5, 8),
+        Shape::Orphan => push_tick(out, Class::Write, area, 5, 8),
+        Shape::Joined => push_tick(out, Class::Renewed, area, 0, 7),
+        Shape::Shared => push_rect(out, Class::Shared, area),
+        _ => Ok(()),
+    }
+}
+
+/// Adds the label of a bar to its area.
+#[tactic(auto, unfolding(crate::specs::Bars::label_there))]
+fn push_label_there(out: &mut Vec<u8>, bar: Bar, area: Area, label: &[u8]) -> Result<(), AllocError>
+    ensures { OnOk result (out.new.items ≡ out.old.items ++ bars.label_there bar area label.now) }
+{
+    let x = plus(area.x, 4);
+    let low = plus(area.y, minus(area.height, 5));
+    match bar.shape {
+        Shape::Idle => push_label(out, Class::Dim, x, low, label),
+        Shape::Down => push_label(out, Class::Inside, x, low, label),
+        Shape::Gap => push_label(out, Class::Dim, plus(x, 10), minus(area.y, 1), label),
+        Shape::Wanted => push_label(out, Class::Bad, plus(x, 10), minus(area.y, 1), label),
+        _ => push_label(out, Class::Inside, x, plus(area.y, 9), label),
+    }
+}
+
+/// Whether there is a label and the area has room for it.
+fn has_room(label: &[u8], area: Area) -> bool
+    ensures { result ≡ bars.has_room label.now area }
+{
+    0 < label.len() && plus(letters(label.len()), 8) <= area.width
+}
+
+/// Whether the shape is that of a command that was refused.
+fn is_refused(shape: Shape) -> bool
+    ensures { result ≡ bars.is_refused shape }
+{
+    matches!(shape, Shape::Refused)
+}
+
+/// The class of a command's label.
+fn command_class(shape: Shape) -> Class
+    ensures { result ≡ bars.command_class shape }
+{
+    if is_refused(shape) { Class::Bad } else { Class::Plain }
+}
+
+/// Whether a command's label has room in a row of a machine.
+fn is_shown(layout: &Layout, machine: u64, row: u64, free: u64, bar: Bar) -> bool
+    ensures { result ≡ bars.is_shown layout.now machine row free bar }
+{
+    bar.machine == machine
+        && bar.row == row
+        && is_command(bar.shape)
+        && free <= x_of(layout.scale, bar.from)
+}
+
+/// Whether time passes in the bar.
+fn is_passing(shape: Shape) -> bool
+    ensures { result ≡ bars.is_passing shape }
+{
+    matches!(shape, Shape::Passing)
+}
+
+/// Adds a moment with its line.
+fn push_moment(out: &mut Vec<u8>, layout: &Layout, x: u64, digits: &[u8]) -> Result<(), AllocError>
+    ensures { OnOk result (out.new.items ≡ out.old.items ++ bars.moment_text layout.now x digits.now) }
+{
+    let left = minus(x, letters(digits.len()) / 2);
+    push_label(out, Class::Dim, left, TOP - 24, digits)?;
+    push_rect(
+        out,
+        Class::Grid,
+        Area {
+            x,
+            y: TOP - 20,
+            width: 1,
+            height: minus(layout.bottom, TOP - 20),
+        },
+    )
+}
+
 impl Picture {
     /// Adds what a bar is.
-    fn push_what(&self, out: &mut Vec<u8>, bar: Bar) -> Result<(), AllocError> {
+    #[tactic(auto, unfolding(crate::specs::Bars::what))]
+    fn push_what(&self, out: &mut Vec<u8>, bar: Bar) -> Result<(), AllocError>
+        ensures { OnOk result (out.new.items ≡ out.old.items ++ bars.what self.now bar) }
+    {
         let name = text_at(&self.texts, bar.name);
         let text = text_at(&self.texts, bar.text);
         let reply = text_at(&self.texts, bar.reply);
@@ -178,12 +336,7 @@ impl Picture {
             Shape::Waiting => push_three(out, text, b": no answer", b""),
             Shape::Accepted | Shape::Refused => push_three(out, text, b": ", reply),
             Shape::Unclear => {
-                push_three(
-                    out,
-                    text,
-                    b": one of the commands that wait is answered ",
-                    reply,
-                )
+                push_three(out, text, b": one of the commands that wait is answered ", reply)
             }
             Shape::Read | Shape::Write => push_call(out, b"call ", bar, name),
             Shape::Orphan => push_call(out, b"its daemon has ended: call ", bar, name),
@@ -197,7 +350,9 @@ impl Picture {
     }
 
     /// Adds the title of a bar: what it is, from when to when, and how long.
-    fn push_title(&self, out: &mut Vec<u8>, bar: Bar) -> Result<(), AllocError> {
+    fn push_title(&self, out: &mut Vec<u8>, bar: Bar) -> Result<(), AllocError>
+        ensures { OnOk result (out.new.items ≡ out.old.items ++ bars.title self.now bar) }
+    {
         self.push_what(out, bar)?;
         push_numbered(out, b" (", bar.from.moment)?;
         push_numbered(out, b" to ", bar.to.moment)?;
@@ -206,7 +361,9 @@ impl Picture {
     }
 
     /// Adds the label of a command: its verb, the resource that it is about, and the answer.
-    fn push_command(&self, out: &mut Vec<u8>, bar: Bar) -> Result<(), AllocError> {
+    fn push_command_words(&self, out: &mut Vec<u8>, bar: Bar) -> Result<(), AllocError>
+        ensures { OnOk result (out.new.items ≡ out.old.items ++ bars.command_words self.now bar) }
+    {
         let text = text_at(&self.texts, bar.text);
         let about = behind_colon(text_at(&self.texts, bar.name));
         let reply = text_at(&self.texts, bar.reply);
@@ -218,7 +375,10 @@ impl Picture {
     }
 
     /// Adds the label of a bar.
-    fn push_words(&self, out: &mut Vec<u8>, bar: Bar) -> Result<(), AllocError> {
+    #[tactic(auto, unfolding(crate::specs::Bars::words))]
+    fn push_words(&self, out: &mut Vec<u8>, bar: Bar) -> Result<(), AllocError>
+        ensures { OnOk result (out.new.items ≡ out.old.items ++ bars.words self.now bar) }
+    {
         let name = behind_colon(text_at(&self.texts, bar.name));
         match bar.shape {
             Shape::Down => out.extend_from_slice(b"down"),
@@ -233,86 +393,45 @@ impl Picture {
     }
 
     /// Adds the label of a bar that has room for it; a command's label has a row of its own.
-    fn push_bar_label(&self, out: &mut Vec<u8>, bar: Bar, area: Area) -> Result<(), AllocError> {
+    fn push_bar_label(&self, out: &mut Vec<u8>, bar: Bar, area: Area) -> Result<(), AllocError>
+        ensures { OnOk result (out.new.items ≡ out.old.items ++ bars.label_text self.now bar area) }
+    {
         let mut label = Vec::new(self.alloc());
         self.push_words(&mut label, bar)?;
-        if label.is_empty() || area.width < plus(letters(label.len()), 8) {
-            return Ok(());
-        }
-        let x = plus(area.x, 4);
-        match bar.shape {
-            Shape::Idle => push_label(
-                out,
-                Class::Dim,
-                x,
-                plus(area.y, minus(area.height, 5)),
-                &label,
-            ),
-            Shape::Down => push_label(
-                out,
-                Class::Inside,
-                x,
-                plus(area.y, minus(area.height, 5)),
-                &label,
-            ),
-            Shape::Gap => push_label(out, Class::Dim, plus(x, 10), minus(area.y, 1), &label),
-            Shape::Wanted => push_label(out, Class::Bad, plus(x, 10), minus(area.y, 1), &label),
-            _ => push_label(out, Class::Inside, x, plus(area.y, 9), &label),
-        }
-    }
-
-    /// Adds the tick with which a call or a renewal begins, and the pattern of what is shared.
-    fn push_detail(&self, out: &mut Vec<u8>, bar: Bar, area: Area) -> Result<(), AllocError> {
-        match bar.shape {
-            Shape::Read => {
-                push_rect(
-                    out,
-                    Class::Read,
-                    Area {
-                        x: area.x,
-                        y: minus(area.y, 2),
-                        width: 2,
-                        height: 5,
-                    },
-                )
-            }
-            Shape::Write | Shape::Orphan => {
-                push_rect(
-                    out,
-                    Class::Write,
-                    Area {
-                        x: area.x,
-                        y: minus(area.y, 5),
-                        width: 2,
-                        height: 8,
-                    },
-                )
-            }
-            Shape::Joined => {
-                push_rect(
-                    out,
-                    Class::Renewed,
-                    Area {
-                        x: area.x,
-                        y: area.y,
-                        width: 2,
-                        height: 7,
-                    },
-                )
-            }
-            Shape::Shared => push_rect(out, Class::Shared, area),
-            _ => Ok(()),
+        if has_room(&label, area) {
+            push_label_there(out, bar, area, &label)
+        } else {
+            Ok(())
         }
     }
 
     /// Adds a bar.
-    fn push_bar(&self, out: &mut Vec<u8>, layout: &Layout, bar: Bar) -> Result<(), AllocError> {
+    fn push_bar(&self, out: &mut Vec<u8>, layout: &Layout, bar: Bar) -> Result<(), AllocError>
+        ensures { OnOk result (out.new.items ≡ out.old.items ++ bars.bar_text self.now layout.now bar) }
+    {
         let area = area_of(layout, bar);
         let mut title = Vec::new(self.alloc());
         self.push_title(&mut title, bar)?;
         push_titled(out, class_of(bar, self.io), area, &title)?;
-        self.push_detail(out, bar, area)?;
+        push_detail(out, bar, area)?;
         self.push_bar_label(out, bar, area)
+    }
+
+    /// Adds a bar, if it lies in a layer.
+    fn push_in_layer(
+        &self,
+        out: &mut Vec<u8>,
+        layout: &Layout,
+        layer: Layer,
+        bar: Bar,
+    ) -> Result<(), AllocError>
+        ensures { OnOk result (out.new.items ≡ out.old.items ++ bars.layer_text self.now layout.now layer bar) }
+    {
+        if is_in_layer(layer, bar.shape) {
+            self.push_bar(out, layout, bar)
+        } else {
+            Ok(())
+        }
     }
 
     /// Adds the bars of a layer.
@@ -322,31 +441,35 @@ impl Picture {
         layout: &Layout,
         bars: &[Bar],
         layer: Layer,
-    ) -> Result<(), AllocError> {
+    ) -> Result<(), AllocError>
+        ensures { OnOk result (out.new.items ≡ out.old.items ++ bars.bars_text self.now layout.now bars.now layer) }
+    {
         for bar in bars {
-            if is_in_layer(layer, bar.shape) {
-                self.push_bar(out, layout, *bar)?;
-            }
+            self.push_in_layer(out, layout, layer, *bar)?;
         }
         Ok(())
     }
 
     /// Adds the label of a command, and answers where it ends.
-    fn push_command_label(
+    fn push_command(
         &self,
         out: &mut Vec<u8>,
         layout: &Layout,
         bar: Bar,
-    ) -> Result<u64, AllocError> {
+    ) -> Result<u64, AllocError>
+        ensures text { OnOk result (out.new.items ≡ out.old.items ++ bars.command_text self.now layout.now bar) }
+        ensures end { IfOk result (λ end. end ≡ bars.command_end self.now layout.now bar) }
+    {
         let area = area_of(layout, bar);
         let mut label = Vec::new(self.alloc());
-        self.push_command(&mut label, bar)?;
-        let class = if matches!(bar.shape, Shape::Refused) {
-            Class::Bad
-        } else {
-            Class::Plain
-        };
-        push_label(out, class, plus(area.x, 4), plus(area.y, 9), &label)?;
+        self.push_command_words(&mut label, bar)?;
+        push_label(
+            out,
+            command_class(bar.shape),
+            plus(area.x, 4),
+            plus(area.y, 9),
+            &label,
+        )?;
         Ok(plus(area.x, plus(letters(label.len()), 8)))
     }
 
@@ -358,34 +481,63 @@ impl Picture {
         bars: &[Bar],
         machine: u64,
         row: u64,
-    ) -> Result<(), AllocError> {
+    ) -> Result<(), AllocError>
+        ensures { OnOk result (out.new.items ≡ out.old.items ++ bars.row_text self.now layout.now bars.now machine row) }
+    {
         let mut free = 0;
         for bar in bars {
-            if bar.machine == machine
-                && bar.row == row
-                && is_command(bar.shape)
-                && free <= x_of(layout.scale, bar.from)
-            {
-                free = self.push_command_label(out, layout, *bar)?;
+            if is_shown(layout, machine, row, free, *bar) {
+                free = self.push_command(out, layout, *bar)?;
             }
         }
         Ok(())
     }
 
-    /// Adds the labels of all commands: a machine has three rows of them.
+    /// Adds the labels of a machine's commands: it has three rows of them.
+    fn push_machine(
+        &self,
+        out: &mut Vec<u8>,
+        layout: &Layout,
+        bars: &[Bar],
+        machine: u64,
+    ) -> Result<(), AllocError>
+        ensures { OnOk result (out.new.items ≡ out.old.items ++ bars.machine_commands self.now layout.now bars.now machine) }
+    {
+        self.push_row(out, layout, bars, machine, 0)?;
+        self.push_row(out, layout, bars, machine, 1)?;
+        self.push_row(out, layout, bars, machine, 2)
+    }
+
+    /// Adds the labels of all commands.
     pub(crate) fn push_commands(
         &self,
         out: &mut Vec<u8>,
         layout: &Layout,
         bars: &[Bar],
-    ) -> Result<(), AllocError> {
+    ) -> Result<(), AllocError>
+        ensures { OnOk result (out.new.items ≡ out.old.items ++ bars.commands_to self.now layout.now bars.now (length layout.now.places)) }
+    {
         for index in 0..layout.places.len() {
-            let machine = index as u64 + 1;
-            self.push_row(out, layout, bars, machine, 0)?;
-            self.push_row(out, layout, bars, machine, 1)?;
-            self.push_row(out, layout, bars, machine, 2)?;
+            self.push_machine(out, layout, bars, index as u64 + 1)?;
         }
         Ok(())
+    }
+
+    /// Adds a moment, and answers where the next one has room.
+    fn push_moment_at(
+        &self,
+        out: &mut Vec<u8>,
+        layout: &Layout,
+        x: u64,
+        moment: u64,
+    ) -> Result<u64, AllocError>
+        ensures text { OnOk result (out.new.items ≡ out.old.items ++ bars.moment_text layout.now x (decimal moment)) }
+        ensures end { IfOk result (λ end. end ≡ bars.moment_end x (decimal moment)) }
+    {
+        let mut digits = Vec::new(self.alloc());
+        push_number(&mut digits, moment)?;
+        push_moment(out, layout, x, &digits)?;
+        Ok(plus(x, plus(letters(digits.len()), 8)))
     }
 
     /// Adds the moments behind the times that pass, as far as they have room.
@@ -394,39 +546,16 @@ impl Picture {
         out: &mut Vec<u8>,
         layout: &Layout,
         bars: &[Bar],
-    ) -> Result<(), AllocError> {
+    ) -> Result<(), AllocError>
+        ensures { OnOk result (out.new.items ≡ out.old.items ++ bars.moments_text layout.now bars.now) }
+    {
         let mut free = 0;
         for bar in bars {
             let x = x_of(layout.scale, bar.to);
-            if matches!(bar.shape, Shape::Passing) && free <= x {
-                free = self.push_moment(out, layout, x, bar.to.moment)?;
+            if is_passing(bar.shape) && free <= x {
+                free = self.push_moment_at(out, layout, x, bar.to.moment)?;
             }
         }
         Ok(())
-    }
-
-    /// Adds a moment with its line, and answers where the next one has room.
-    fn push_moment(
-        &self,
-        out: &mut Vec<u8>,
-        layout: &Layout,
-        x: u64,
-        moment: u64,
-    ) -> Result<u64, AllocError> {
-        let mut text = Vec::new(self.alloc());
-        push_number(&mut text, moment)?;
-        let width = letters(text.len());
-        push_label(out, Class::Dim, minus(x, width / 2), TOP - 24, &text)?;
-        push_rect(
-            out,
-            Class::Grid,
-            Area {
-                x,
-                y: TOP - 20,
-                width: 1,
-                height: minus(layout.bottom, TOP - 20),
-            },
-        )?;
-        Ok(plus(x, plus(width, 8)))
     }
 }
