@@ -6,7 +6,7 @@ use Rattle.sl_picture.specs.Page.{picture_of}
 use Rattle.sl_picture.specs.Tells.{taken}
 use Rattle.sl_picture.specs.declared.kept.Part.{Part}
 use Rattle.sl_play.proofs.EndsFinish.{ends_finish}
-use Rattle.sl_play.proofs.LinesPlayed.{been, read_same, started, taken_on}
+use Rattle.sl_play.proofs.LinesPlayed.{read_same, started, taken_on}
 use Rattle.sl_play.proofs.PlayIsOwed.{play_is_owed}
 use Rattle.sl_play.proofs.ReportsShift.{shift_finish}
 use Rattle.sl_play.specs.PlayIsOwed.{EachStood}
@@ -53,6 +53,14 @@ refused_line o why number other is = ap (λ p. unread p number other) is
 
 total_at : (consumed rest : List ℕ) (behind : ℕ) → behind ≡ length consumed → length (consumed ++ rest) ≡ behind + length rest
 total_at consumed rest behind is = length-append consumed rest ∙ ap (λ b. b + length rest) (sym is)
+
+-- A source that may have been goes on with what may follow.
+been : (ended : Bool) (read source : List ℕ) → MayHaveBeen ended read source → (rest : List ℕ) × (source ≡ read ++ rest) × MayFollow ended rest
+been true read source is = ([], is ∙ sym (append-nil read), λ e. refl)
+been false read source is = (is.0, is.1, λ e. absurd (never e))
+  where
+    never : false ≡ true → ⊥
+    never e = absurd cc
 
 -- What follows what is left of a piece.
 left_follows : (after : Option (List ℕ)) (n : ReaderState) (rest : List ℕ) → EndStands after n → MayFollow n.ended rest → MayFollow n.ended (n.left ++ rest)
