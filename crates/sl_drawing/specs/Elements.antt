@@ -31,7 +31,7 @@ attribute_text front value = front ++ decimal value ++ 39 ∷ []
 
 abbrev pub area_text : Area → List ℕ
 area_text a =
-    attribute_text (codes "' x='") a.x ++ attribute_text (codes "' y='") a.y ++ attribute_text (codes "' width='") a.width ++ attribute_text (codes "' height='") a.height
+    attribute_text (codes "' x='") a.x ++ attribute_text (codes " y='") a.y ++ attribute_text (codes " width='") a.width ++ attribute_text (codes " height='") a.height
 
 -- An element's text.
 abbrev pub element_text : Element → List ℕ
@@ -39,9 +39,9 @@ element_text (Rect class area) = (codes "<rect class='" ++ class_text class) ++ 
 element_text (Titled class area title) =
     (codes "<rect class='" ++ class_text class) ++ area_text area ++ codes "><title>" ++ escaped title ++ codes "</title></rect>\n"
 element_text (Label class x y text) =
-    (codes "<text class='" ++ class_text class) ++ attribute_text (codes "' x='") x ++ attribute_text (codes "' y='") y ++ codes ">" ++ escaped text ++ codes "</text>\n"
+    (codes "<text class='" ++ class_text class) ++ attribute_text (codes "' x='") x ++ attribute_text (codes " y='") y ++ codes ">" ++ escaped text ++ codes "</text>\n"
 element_text (Sign symbol x y) =
-    codes "<use href='#" ++ symbol_text symbol ++ attribute_text (codes "' x='") x ++ attribute_text (codes "' y='") y ++ codes "/>\n"
+    codes "<use href='#" ++ symbol_text symbol ++ attribute_text (codes "' x='") x ++ attribute_text (codes " y='") y ++ codes "/>\n"
 
 -- The front of a picture so wide and so high.
 abbrev pub front_text : ℕ → ℕ → List ℕ

@@ -71,6 +71,7 @@ fn held_text(colour: u64) -> &'static [u8]
 }
 
 /// The text of a class.
+#[tactic(auto, unfolding(crate::specs::Classes::class_text))]
 pub(crate) fn class_text(class: Class) -> &'static [u8]
     ensures { result.now ≡ classes.class_text class }
 {
@@ -128,6 +129,7 @@ pub enum Symbol {
 }
 
 /// The name of a sign.
+#[tactic(auto, unfolding(crate::specs::Classes::symbol_text))]
 pub(crate) fn symbol_text(symbol: Symbol) -> &'static [u8]
     ensures { result.now ≡ classes.symbol_text symbol }
 {

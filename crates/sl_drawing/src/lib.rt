@@ -9,6 +9,7 @@
 
 mod classes;
 mod elements;
+mod laws;
 mod style;
 mod sums;
 
@@ -16,4 +17,5 @@ pub use classes::{Class, Symbol};
 pub use elements::{
     Area, push_front, push_head, push_label, push_rect, push_symbol, push_tail, push_titled,
 };
+pub use laws::pictures_are_well_formed;
 pub use sums::{letters, minus, plus, times};
