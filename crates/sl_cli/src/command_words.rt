@@ -113,7 +113,7 @@ fn said(alloc: Global, met: Met<'_>) -> Result<Option<Words>, AllocError>
 {
     match met {
         Met::Replay => Ok(Some(Words::Replay)),
-        Met::Draw(given) => Ok(given.words()),
+        Met::Draw(given) => Ok(given.part()),
         Met::Generate(given) => Ok(generated(&given)),
         Met::Direct(given) => Ok(directed(&given)),
         Met::Live(given) => given.words(alloc),

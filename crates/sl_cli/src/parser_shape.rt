@@ -3,7 +3,7 @@
 ghost use Rattle.clap.specs.Walk.{rule_of};
 ghost use Rattle.clap.specs.Simple.{app_of, new_rule, new_shape, with_rule, with_subcommand};
 ghost use Rattle.clap.specs.declared.builder.command.Command.TheViews.{out-Command as fields_of};
-ghost use Rattle.sl_cli.specs.ParserShape.{bare_shape, command_line, direct_app, flag_rule, live_app, offline_app, option_rule, playing_app, reading_app, seed_app};
+ghost use Rattle.sl_cli.specs.ParserShape.{bare_shape, command_line, direct_app, drawing_app, flag_rule, live_app, offline_app, option_rule, playing_app, reading_app, seed_app};
 ghost use Rattle.std.specs.Prelude.{IfOk, [], codes, false, ◌≡◌};
 
 use clap::{Arg, ArgAction, Command};
@@ -143,27 +143,11 @@ fn reading<'a>(alloc: Global) -> Result<Command<'a>, AllocError>
     bare(alloc).subcommand(Command::new(alloc, "replay"))
 }
 
-/// `draw`, with the first line that is drawn.
-fn bare_draw<'a>(alloc: Global) -> Result<Command<'a>, AllocError>
-    ensures app { IfOk result (λ c. app_of c ≡ with_rule (record { top = new_shape (codes "draw"); subs = [] }) (new_rule (codes "first"))) }
-    ensures local { IfOk result (λ c. (fields_of c).has_globals ≡ false) }
-{
-    Command::new(alloc, "draw").arg(Arg::new(alloc, "first"))
-}
-
-/// `draw`, with the first and the last line that are drawn.
-fn draw<'a>(alloc: Global) -> Result<Command<'a>, AllocError>
-    ensures app { IfOk result (λ c. app_of c ≡ draw_app) }
-    ensures local { IfOk result (λ c. (fields_of c).has_globals ≡ false) }
-{
-    with_word(alloc, bare_draw(alloc)?, "last")
-}
-
 /// The program with the commands that read a schedule.
 fn drawing<'a>(alloc: Global) -> Result<Command<'a>, AllocError>
     ensures { IfOk result (λ c. app_of c ≡ drawing_app) }
 {
-    reading(alloc)?.subcommand(draw(alloc)?)
+    reading(alloc)?.subcommand(seeded(alloc, "draw")?)
 }
 
 /// The program with the commands that run a schedule.

@@ -7,9 +7,9 @@ use Rattle.sl_drawing.specs.declared.classes.Class.{Class}
 use Rattle.sl_drawing.specs.declared.classes.Symbol.TheVariants as symbol
 use Rattle.sl_drawing.specs.declared.classes.Symbol.{Symbol}
 use Rattle.sl_drawing.specs.declared.elements.Area.{Area}
-use Rattle.std.proofs.Common.{Bool, List, [], ap, false, refl, subst, sym, true, ℕ, ◌&&◌, ◌++◌, ◌==◌, ◌∙◌, ◌∷◌, ◌≡◌, ◌≤◌}
+use Rattle.std.proofs.Common.{Bool, List, [], ap, false, inl, inr, refl, subst, sym, true, ℕ, ◌&&◌, ◌++◌, ◌==◌, ◌∙◌, ◌∷◌, ◌≡◌, ◌≤◌}
 use Rattle.std.proofs.lemmas.List.{append-nil, append_assoc}
-use Rattle.std.specs.Prelude.{codes, decimal, flat_map, if◌then◌else◌, inl, inr, nat_le, not, ◌||◌}
+use Rattle.std.specs.Prelude.{codes, decimal, flat_map, if◌then◌else◌, nat_le, not, ◌||◌}
 
 -- ---- escaped texts
 
@@ -25,9 +25,8 @@ byte_so b rest false false false true a_is l_is e = Plain b rest (plain_so b a_i
 byte_so b rest false false false false a_is l_is e = Plain 63 rest refl e
 
 byte_escaped : (b : ℕ) (rest : List ℕ) → IsEscaped rest → IsEscaped (escaped_byte b ++ rest)
-byte_escaped b rest e = byte_so b rest (b == 38) (b == 60) (b == 62) (b == 10 || nat_le 32 b && nat_le b 126) refl refl e
-
 unfolding escaped_byte
+byte_escaped b rest e = byte_so b rest (b == 38) (b == 60) (b == 62) (b == 10 || nat_le 32 b && nat_le b 126) refl refl e
 
 all_escaped : (text : List ℕ) → IsEscaped (escaped text)
 all_escaped [] = Nothing
@@ -45,6 +44,7 @@ held_value colour =
     (either (colour == 5) _ _ refl (either (colour == 6) _ _ refl refl))))))
 
 class_value : (c : Class) → is_value (class_text c) ≡ true
+unfolding class_text
 class_value Ground = refl
 class_value Lane = refl
 class_value Hit = refl
@@ -79,9 +79,8 @@ class_value Reset = refl
 class_value Crash = refl
 class_value Up = refl
 
-unfolding class_text
-
 symbol_value : (s : Symbol) → is_value (codes "#" ++ symbol_text s) ≡ true
+unfolding symbol_text
 symbol_value symbol.Held = refl
 symbol_value symbol.Failed = refl
 symbol_value symbol.Torn = refl
@@ -89,8 +88,6 @@ symbol_value symbol.Dropped = refl
 symbol_value symbol.Term = refl
 symbol_value symbol.Kill = refl
 symbol_value symbol.Note = refl
-
-unfolding symbol_text
 
 -- ---- attributes
 
@@ -120,25 +117,48 @@ rect_are c a = More (codes "class") (class_text c) _ refl (class_value c) (place
 
 -- ---- elements
 
--- A rectangle's tag, spelled as it is written, with what closes it.
+-- A rectangle's tag with what closes it, as it is written, and as its grammar has it.
+rect_written : (f c a x b y d w e h q close : List ℕ) → (f ++ c) ++ ((a ++ x ++ q) ++ (b ++ y ++ q) ++ (d ++ w ++ q) ++ (e ++ h ++ q)) ++ close
+    ≡ f ++ c ++ a ++ x ++ q ++ b ++ y ++ q ++ d ++ w ++ q ++ e ++ h ++ q ++ close
+rect_written f c a x b y d w e h q close = simp append_assoc
+
+rect_spelled : (t s e q n c i x j y k w l h close : List ℕ)
+    → t ++ ((s ++ n ++ e) ++ (c ++ q) ++ ((s ++ i ++ e) ++ (x ++ q) ++ ((s ++ j ++ e) ++ (y ++ q) ++ ((s ++ k ++ e) ++ (w ++ q) ++ ((s ++ l ++ e) ++ (h ++ q) ++ []))))) ++ close
+    ≡ t ++ s ++ n ++ e ++ c ++ q ++ s ++ i ++ e ++ x ++ q ++ s ++ j ++ e ++ y ++ q ++ s ++ k ++ e ++ w ++ q ++ s ++ l ++ e ++ h ++ q ++ close
+rect_spelled t s e q n c i x j y k w l h close = simp append_assoc
+
 rect_text : (c x y width height close : List ℕ)
     → (codes "<rect class='" ++ c) ++ ((codes "' x='" ++ x ++ 39 ∷ []) ++ (codes " y='" ++ y ++ 39 ∷ []) ++ (codes " width='" ++ width ++ 39 ∷ []) ++ (codes " height='" ++ height ++ 39 ∷ [])) ++ close
     ≡ codes "<rect" ++ ((codes " " ++ codes "class" ++ codes "='") ++ (c ++ codes "'") ++ ((codes " " ++ codes "x" ++ codes "='") ++ (x ++ codes "'")
     ++ ((codes " " ++ codes "y" ++ codes "='") ++ (y ++ codes "'") ++ ((codes " " ++ codes "width" ++ codes "='") ++ (width ++ codes "'")
     ++ ((codes " " ++ codes "height" ++ codes "='") ++ (height ++ codes "'") ++ []))))) ++ close
-rect_text c x y width height close = simp append_assoc
+rect_text c x y width height close =
+    rect_written (codes "<rect class='") c (codes "' x='") x (codes " y='") y (codes " width='") width (codes " height='") height (codes "'") close
+    ∙ sym (rect_spelled (codes "<rect") (codes " ") (codes "='") (codes "'") (codes "class") c (codes "x") x (codes "y") y (codes "width") width (codes "height") height close)
+
+label_written : (f c a x b y q close : List ℕ) → (f ++ c) ++ (a ++ x ++ q) ++ (b ++ y ++ q) ++ close ≡ f ++ c ++ a ++ x ++ q ++ b ++ y ++ q ++ close
+label_written f c a x b y q close = simp append_assoc
+
+label_spelled : (t s e q n c i x j y close : List ℕ)
+    → t ++ ((s ++ n ++ e) ++ (c ++ q) ++ ((s ++ i ++ e) ++ (x ++ q) ++ ((s ++ j ++ e) ++ (y ++ q) ++ []))) ++ close
+    ≡ t ++ s ++ n ++ e ++ c ++ q ++ s ++ i ++ e ++ x ++ q ++ s ++ j ++ e ++ y ++ q ++ close
+label_spelled t s e q n c i x j y close = simp append_assoc
 
 label_text : (c x y close : List ℕ)
     → (codes "<text class='" ++ c) ++ (codes "' x='" ++ x ++ 39 ∷ []) ++ (codes " y='" ++ y ++ 39 ∷ []) ++ close
     ≡ codes "<text" ++ ((codes " " ++ codes "class" ++ codes "='") ++ (c ++ codes "'") ++ ((codes " " ++ codes "x" ++ codes "='") ++ (x ++ codes "'")
     ++ ((codes " " ++ codes "y" ++ codes "='") ++ (y ++ codes "'") ++ []))) ++ close
-label_text c x y close = simp append_assoc
+label_text c x y close =
+    label_written (codes "<text class='") c (codes "' x='") x (codes " y='") y (codes "'") close
+    ∙ sym (label_spelled (codes "<text") (codes " ") (codes "='") (codes "'") (codes "class") c (codes "x") x (codes "y") y close)
 
 sign_text : (s x y close : List ℕ)
     → codes "<use href='#" ++ s ++ (codes "' x='" ++ x ++ 39 ∷ []) ++ (codes " y='" ++ y ++ 39 ∷ []) ++ close
     ≡ codes "<use" ++ ((codes " " ++ codes "href" ++ codes "='") ++ ((codes "#" ++ s) ++ codes "'") ++ ((codes " " ++ codes "x" ++ codes "='") ++ (x ++ codes "'")
     ++ ((codes " " ++ codes "y" ++ codes "='") ++ (y ++ codes "'") ++ []))) ++ close
-sign_text s x y close = simp append_assoc
+sign_text s x y close =
+    ap (λ r. codes "<use href='#" ++ s ++ r) (label_written [] [] (codes "' x='") x (codes " y='") y (codes "'") close)
+    ∙ sym (label_spelled (codes "<use") (codes " ") (codes "='") (codes "'") (codes "href") (codes "#" ++ s) (codes "x") x (codes "y") y close)
 
 element_is : (e : Element) → IsElement (element_text e)
 element_is (Rect c a) =
@@ -169,13 +189,25 @@ front_are : (width height : ℕ) → AreAttributes (front_attributes width heigh
 front_are width height =
     More (codes "xmlns") (codes "http://www.w3.org/2000/svg") _ refl refl (Numbers (codes "viewBox") width height _ refl (sized_are width height))
 
+whole_written : (f w a h q b c close rest : List ℕ)
+    → ((f ++ w ++ (a ++ h ++ q)) ++ (b ++ w ++ q) ++ (c ++ h ++ q) ++ close) ++ rest ≡ f ++ w ++ a ++ h ++ q ++ b ++ w ++ q ++ c ++ h ++ q ++ close ++ rest
+whole_written f w a h q b c close rest = simp append_assoc
+
+whole_spelled : (t s e q o n v m w a h i j close rest : List ℕ)
+    → (t ++ ((s ++ n ++ e) ++ (v ++ q) ++ ((s ++ m ++ o) ++ (w ++ a ++ h ++ q) ++ ((s ++ i ++ e) ++ (w ++ q) ++ ((s ++ j ++ e) ++ (h ++ q) ++ [])))) ++ close) ++ rest
+    ≡ t ++ s ++ n ++ e ++ v ++ q ++ s ++ m ++ o ++ w ++ a ++ h ++ q ++ s ++ i ++ e ++ w ++ q ++ s ++ j ++ e ++ h ++ q ++ close ++ rest
+whole_spelled t s e q o n v m w a h i j close rest = simp append_assoc
+
 whole_text : (w h head elements : List ℕ)
-    → (codes "<svg xmlns='http://www.w3.org/2000/svg' viewBox='0 0 " ++ w ++ (codes " " ++ h ++ 39 ∷ []) ++ (codes " width='" ++ w ++ 39 ∷ []) ++ (codes " height='" ++ h ++ 39 ∷ []) ++ codes ">\n")
+    → ((codes "<svg xmlns='http://www.w3.org/2000/svg' viewBox='0 0 " ++ w ++ (codes " " ++ h ++ 39 ∷ [])) ++ (codes " width='" ++ w ++ 39 ∷ []) ++ (codes " height='" ++ h ++ 39 ∷ []) ++ codes ">\n")
     ++ head ++ elements ++ codes "</svg>\n"
     ≡ (codes "<svg" ++ ((codes " " ++ codes "xmlns" ++ codes "='") ++ (codes "http://www.w3.org/2000/svg" ++ codes "'")
     ++ ((codes " " ++ codes "viewBox" ++ codes "='0 0 ") ++ (w ++ codes " " ++ h ++ codes "'") ++ ((codes " " ++ codes "width" ++ codes "='") ++ (w ++ codes "'")
     ++ ((codes " " ++ codes "height" ++ codes "='") ++ (h ++ codes "'") ++ [])))) ++ codes ">\n") ++ head ++ elements ++ codes "</svg>\n"
-whole_text w h head elements = simp append_assoc
+whole_text w h head elements =
+    whole_written (codes "<svg xmlns='http://www.w3.org/2000/svg' viewBox='0 0 ") w (codes " ") h (codes "'") (codes " width='") (codes " height='") (codes ">\n") (head ++ elements ++ codes "</svg>\n")
+    ∙ sym (whole_spelled (codes "<svg") (codes " ") (codes "='") (codes "'") (codes "='0 0 ") (codes "xmlns") (codes "http://www.w3.org/2000/svg") (codes "viewBox") w (codes " ") h (codes "width")
+    (codes "height") (codes ">\n") (head ++ elements ++ codes "</svg>\n"))
 
 pub pictures_are_well_formed : PicturesAreWellFormed
 pictures_are_well_formed width height es =

@@ -44,10 +44,11 @@ element_text (Sign symbol x y) =
     codes "<use href='#" ++ symbol_text symbol ++ attribute_text (codes "' x='") x ++ attribute_text (codes " y='") y ++ codes "/>\n"
 
 -- The front of a picture so wide and so high.
+abbrev pub view_text : ℕ → ℕ → List ℕ
+view_text width height = codes "<svg xmlns='http://www.w3.org/2000/svg' viewBox='0 0 " ++ decimal width ++ attribute_text (codes " ") height
+
 abbrev pub front_text : ℕ → ℕ → List ℕ
-front_text width height =
-    codes "<svg xmlns='http://www.w3.org/2000/svg' viewBox='0 0 " ++ decimal width ++ attribute_text (codes " ") height ++ attribute_text (codes " width='") width
-    ++ attribute_text (codes " height='") height ++ codes ">\n"
+front_text width height = view_text width height ++ attribute_text (codes " width='") width ++ attribute_text (codes " height='") height ++ codes ">\n"
 
 -- Its head and its end.
 unfoldable pub head_text : List ℕ

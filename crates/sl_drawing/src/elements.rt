@@ -131,13 +131,20 @@ pub fn push_symbol(out: &mut Vec<u8>, symbol: Symbol, x: u64, y: u64) -> Result<
     out.extend_from_slice(b"/>\n")
 }
 
+/// Adds what a picture shows: its numbers from the left upper corner on.
+fn push_view(out: &mut Vec<u8>, width: u64, height: u64) -> Result<(), AllocError>
+    ensures { OnOk result (out.new.items ≡ out.old.items ++ elements.view_text width height) }
+{
+    out.extend_from_slice(b"<svg xmlns='http://www.w3.org/2000/svg' viewBox='0 0 ")?;
+    push_number(out, width)?;
+    push_attribute(out, b" ", height)
+}
+
 /// Adds the front of a picture so wide and so high.
 pub fn push_front(out: &mut Vec<u8>, width: u64, height: u64) -> Result<(), AllocError>
     ensures { OnOk result (out.new.items ≡ out.old.items ++ elements.front_text width height) }
 {
-    out.extend_from_slice(b"<svg xmlns='http://www.w3.org/2000/svg' viewBox='0 0 ")?;
-    push_number(out, width)?;
-    push_attribute(out, b" ", height)?;
+    push_view(out, width, height)?;
     push_attribute(out, b" width='", width)?;
     push_attribute(out, b" height='", height)?;
     out.extend_from_slice(b">\n")
