@@ -66,7 +66,7 @@ passed line k =
 -- ---- commands
 
 abbrev pub locks_line : List ℕ → Kept → Kept
-locks_line line k = with_command (number_at line 1) true (word_at line 4) (text_behind line 3) k
+locks_line line k = with_command (number_at line 1) true (codes ":" ++ word_at line 4) (text_behind line 3) k
 
 abbrev pub daemon_line : List ℕ → Kept → Kept
 daemon_line line k = with_command (number_at line 1) false (two_parts (word_at line 4)) (text_behind line 2) k

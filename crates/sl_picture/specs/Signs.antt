@@ -22,19 +22,19 @@ abbrev pub line_text : Place → Class → ℕ → List ℕ → List ℕ
 line_text p c x word =
     element_text (Rect c (record { x = x; y = p.top; width = 3; height = minus (bottom_of p) p.top })) ++ element_text (Label class.Bad (plus x 5) (plus (links_top p) 6) word)
 
-abbrev pub sign_text : Symbol → ℕ → ℕ → List ℕ → List ℕ
-sign_text s x y word = element_text (Shown s (plus x 5) y) ++ element_text (Label class.Bad (plus x 12) (plus y 8) word)
+abbrev pub sign_text : Symbol → ℕ → ℕ → Class → List ℕ → List ℕ
+sign_text s x y c word = element_text (Shown s (plus x 5) y) ++ element_text (Label c (plus x 12) (plus y 8) word)
 
 unfoldable pub mark_there : Place → ℕ → Sign → List ℕ
 mark_there p x s =
     elim s [
       | sign.TestHeld ↦ element_text (Shown symbol.Held (plus x 3) (minus (links_top p) 4))
       | sign.TestFailed ↦ element_text (Shown symbol.Failed (plus x 3) (links_top p))
-      | sign.Torn ↦ sign_text symbol.Torn x (calls_top p) (codes "torn")
+      | sign.Torn ↦ sign_text symbol.Torn x (calls_top p) class.Bad (codes "torn")
       | sign.CallFailed ↦ element_text (Shown symbol.Torn (plus x 4) (calls_top p))
       | sign.Dropped ↦ element_text (Shown symbol.Dropped (plus x 4) (calls_top p))
-      | sign.Term ↦ sign_text symbol.Term x (plus (held_top p) 1) (codes "term")
-      | sign.Kill ↦ sign_text symbol.Kill x (plus (held_top p) 1) (codes "kill")
+      | sign.Term ↦ sign_text symbol.Term x (plus (held_top p) 1) class.Inside (codes "term")
+      | sign.Kill ↦ sign_text symbol.Kill x (plus (held_top p) 1) class.Inside (codes "kill")
       | sign.Start ↦ line_text p class.Up x (codes "daemon")
       | sign.Crash ↦ line_text p class.Crash x (codes "crash")
       | sign.Reset ↦ line_text p class.Reset x (codes "reset")

@@ -149,7 +149,9 @@ impl Picture {
     fn locks_line(&mut self, line: &[u8]) -> Result<(), AllocError>
         ensures { OnOk result (self.new ≡ events.locks_line line.now self.old) }
     {
-        self.begin_command(number_at(line, 1), true, word_at(line, 4), text_behind(line, 3))
+        let mut about = Vec::from_slice(self.alloc(), b":")?;
+        about.extend_from_slice(word_at(line, 4))?;
+        self.begin_command(number_at(line, 1), true, &about, text_behind(line, 3))
     }
 
     /// A command is given to the daemon.

@@ -159,18 +159,18 @@ fn takes(bar: &Bar, machine: u64, holding: bool, row: u64) -> bool
 }
 
 /// Whether a row of a machine is taken by an open bar of a holding, or of a connection.
-fn is_taken(open: &[Bar], machine: u64, holding: bool, row: u64) -> bool
-    ensures { result ≡ kept.is_taken open.now machine holding row }
+fn is_taken(opened: &[Bar], machine: u64, holding: bool, row: u64) -> bool
+    ensures { result ≡ kept.is_taken opened.now machine holding row }
 {
-    open.iter().any(|bar| takes(bar, machine, holding, row))
+    opened.iter().any(|bar| takes(bar, machine, holding, row))
 }
 
 /// The first row of a machine that no open bar of a holding, or of a connection, takes.
-fn free_row(open: &[Bar], machine: u64, holding: bool) -> u64
-    ensures { result ≡ kept.free_row open.now machine holding }
+fn free_row(opened: &[Bar], machine: u64, holding: bool) -> u64
+    ensures { result ≡ kept.free_row opened.now machine holding }
 {
     let mut row: u64 = 0;
-    while row < open.len() as u64 && is_taken(open, machine, holding, row) {
+    while row < opened.len() as u64 && is_taken(opened, machine, holding, row) {
         row += 1;
     }
     row
@@ -184,10 +184,10 @@ fn holds(texts: &[u8], bar: &Bar, name: &[u8]) -> bool
 }
 
 /// Whether somebody holds the resource.
-fn is_held(texts: &[u8], open: &[Bar], name: &[u8]) -> bool
-    ensures { result ≡ kept.is_held texts.now open.now name.now }
+fn is_held(texts: &[u8], opened: &[Bar], name: &[u8]) -> bool
+    ensures { result ≡ kept.is_held texts.now opened.now name.now }
 {
-    open.iter().any(|bar| holds(texts, bar, name))
+    opened.iter().any(|bar| holds(texts, bar, name))
 }
 
 /// Whether a bar is that of a command of the machine that has no answer: of this number, or of any where it is 0.
@@ -198,17 +198,17 @@ fn waits(bar: &Bar, machine: u64, number: u64) -> bool
 }
 
 /// Whether just one command of a machine has no answer.
-fn is_alone(open: &[Bar], machine: u64) -> bool
-    ensures { result ≡ kept.is_alone open.now machine }
+fn is_alone(opened: &[Bar], machine: u64) -> bool
+    ensures { result ≡ kept.is_alone opened.now machine }
 {
-    open.iter().filter(|bar| waits(bar, machine, 0)).count() == 1
+    opened.iter().filter(|bar| waits(bar, machine, 0)).count() == 1
 }
 
 /// What the first such command is about; nothing where there is none.
-fn asked(open: &[Bar], machine: u64, number: u64) -> Text
-    ensures { result ≡ kept.asked open.now machine number }
+fn asked(opened: &[Bar], machine: u64, number: u64) -> Text
+    ensures { result ≡ kept.asked opened.now machine number }
 {
-    match open.iter().find(|bar| waits(bar, machine, number)) {
+    match opened.iter().find(|bar| waits(bar, machine, number)) {
         Some(bar) => bar.name,
         None => NO_TEXT,
     }

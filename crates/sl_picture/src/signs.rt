@@ -42,12 +42,13 @@ fn push_sign(
     symbol: Symbol,
     x: u64,
     y: u64,
+    class: Class,
     word: &[u8],
 ) -> Result<(), AllocError>
-    ensures { OnOk result (out.new.items ≡ out.old.items ++ signs.sign_text symbol x y word.now) }
+    ensures { OnOk result (out.new.items ≡ out.old.items ++ signs.sign_text symbol x y class word.now) }
 {
     push_symbol(out, symbol, plus(x, 5), y)?;
-    push_label(out, Class::Bad, plus(x, 12), plus(y, 8), word)
+    push_label(out, class, plus(x, 12), plus(y, 8), word)
 }
 
 /// Adds a sign of a machine at its place.
@@ -61,11 +62,11 @@ fn push_mark_there(out: &mut Vec<u8>, place: Place, x: u64, sign: Sign) -> Resul
     match sign {
         Sign::TestHeld => push_symbol(out, Symbol::Held, plus(x, 3), minus(links, 4)),
         Sign::TestFailed => push_symbol(out, Symbol::Failed, plus(x, 3), links),
-        Sign::Torn => push_sign(out, Symbol::Torn, x, calls, b"torn"),
+        Sign::Torn => push_sign(out, Symbol::Torn, x, calls, Class::Bad, b"torn"),
         Sign::CallFailed => push_symbol(out, Symbol::Torn, plus(x, 4), calls),
         Sign::Dropped => push_symbol(out, Symbol::Dropped, plus(x, 4), calls),
-        Sign::Term => push_sign(out, Symbol::Term, x, held, b"term"),
-        Sign::Kill => push_sign(out, Symbol::Kill, x, held, b"kill"),
+        Sign::Term => push_sign(out, Symbol::Term, x, held, Class::Inside, b"term"),
+        Sign::Kill => push_sign(out, Symbol::Kill, x, held, Class::Inside, b"kill"),
         Sign::Start => push_line(out, place, Class::Up, x, b"daemon"),
         Sign::Crash => push_line(out, place, Class::Crash, x, b"crash"),
         Sign::Reset => push_line(out, place, Class::Reset, x, b"reset"),
