@@ -11,7 +11,8 @@ use Rattle.sl_report.specs.Schedules.{Header_read, Header_refused, NumberedLine,
 use Rattle.sl_run.specs.declared.event.Refusal.{Refusal}
 use Rattle.sl_run.specs.declared.header.Header.{Header}
 use Rattle.sl_text.specs.Forms.{as_bytes}
-use Rattle.std.specs.Prelude.{Bool, List, MatchBool, [], ℕ, ◌++◌, ◌==◌, ◌∷◌, ◌≡◌}
+use Rattle.std.specs.Int.{is_in_range}
+use Rattle.std.specs.Prelude.{Bool, IsTrue, List, MatchBool, [], ℕ, ◌++◌, ◌==◌, ◌∷◌, ◌≡◌}
 
 -- A line behind a header, with what the report tells of it: the lines of its event and of the asks behind that.
 pub record Step : Type 0 where
@@ -72,4 +73,4 @@ pub record BeginsPicture (promised : Promise) (lang : Language) (part : Part) (e
 abbrev pub PictureOwed : Promise → Language → Part → Bool → List ℕ → List ℕ → ℕ → Type 0
 PictureOwed promised lang part ended read written status =
     MatchBool (is_whole_status status) ((source : List ℕ) → MayHaveBeen ended read source → PictureOf promised lang part source written status)
-    (MatchBool (status == 4) (BeginsPicture promised lang part ended read written) (written ≡ []))
+    (IsTrue (is_in_range 3 5 status) × MatchBool (status == 4) (BeginsPicture promised lang part ended read written) (written ≡ []))

@@ -6,5 +6,6 @@
 #![tactic(auto)]
 
 mod draw;
+pub mod laws;
 
 pub use draw::draw_schedule;

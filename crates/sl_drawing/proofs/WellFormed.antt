@@ -1,6 +1,6 @@
 -- Pictures are well formed.
 use Rattle.sl_drawing.specs.Classes.{class_text, held_text, symbol_text}
-use Rattle.sl_drawing.specs.Elements.{Element, Label as LabelOf, Rect, Sign as SignOf, Titled as TitledOf, area_text, attribute_text, element_text, escaped, escaped_byte, front_text, head_text, picture_text}
+use Rattle.sl_drawing.specs.Elements.{Element, Label as LabelOf, Rect, Sign as SignOf, Titled as TitledOf, area_text, attribute_text, element_text, escaped, escaped_byte, front_text, head_text, picture_text, svg_text}
 use Rattle.sl_drawing.specs.WellFormed.{AreAttributes, AreElements, Empty, Entity, IsElement, IsEscaped, IsPicture, Label, More, No_element, No_more, Nothing, Number, Numbers, One_more, PicturesAreWellFormed, Plain, Sign, Titled, is_plain, is_value}
 use Rattle.sl_drawing.specs.declared.classes.Class.TheVariants.{Accepted, Bad, Crash, Dim, Down, Expired, Flying, Gap, Grid, Ground, Held, Hit, Idle, Inside, Joined, Joining, Lane, Late, Left, Number as NumberClass, Orphan, Passing, Plain as PlainClass, Read, Refused, Renewed, Reset, Shared, Unclear, Up, Waiting, Wanted, Write}
 use Rattle.sl_drawing.specs.declared.classes.Class.{Class}
@@ -127,6 +127,12 @@ rect_spelled : (t s e q n c i x j y k w l h close : List ℕ)
     ≡ t ++ s ++ n ++ e ++ c ++ q ++ s ++ i ++ e ++ x ++ q ++ s ++ j ++ e ++ y ++ q ++ s ++ k ++ e ++ w ++ q ++ s ++ l ++ e ++ h ++ q ++ close
 rect_spelled t s e q n c i x j y k w l h close = simp append_assoc
 
+rect_same : (c x y width height close : List ℕ)
+    → codes "<rect class='" ++ c ++ codes "' x='" ++ x ++ codes "'" ++ codes " y='" ++ y ++ codes "'" ++ codes " width='" ++ width ++ codes "'" ++ codes " height='" ++ height ++ codes "'" ++ close
+    ≡ codes "<rect" ++ codes " " ++ codes "class" ++ codes "='" ++ c ++ codes "'" ++ codes " " ++ codes "x" ++ codes "='" ++ x ++ codes "'" ++ codes " " ++ codes "y" ++ codes "='" ++ y ++ codes "'"
+    ++ codes " " ++ codes "width" ++ codes "='" ++ width ++ codes "'" ++ codes " " ++ codes "height" ++ codes "='" ++ height ++ codes "'" ++ close
+rect_same c x y width height close = refl
+
 rect_text : (c x y width height close : List ℕ)
     → (codes "<rect class='" ++ c) ++ ((codes "' x='" ++ x ++ 39 ∷ []) ++ (codes " y='" ++ y ++ 39 ∷ []) ++ (codes " width='" ++ width ++ 39 ∷ []) ++ (codes " height='" ++ height ++ 39 ∷ [])) ++ close
     ≡ codes "<rect" ++ ((codes " " ++ codes "class" ++ codes "='") ++ (c ++ codes "'") ++ ((codes " " ++ codes "x" ++ codes "='") ++ (x ++ codes "'")
@@ -134,6 +140,7 @@ rect_text : (c x y width height close : List ℕ)
     ++ ((codes " " ++ codes "height" ++ codes "='") ++ (height ++ codes "'") ++ []))))) ++ close
 rect_text c x y width height close =
     rect_written (codes "<rect class='") c (codes "' x='") x (codes " y='") y (codes " width='") width (codes " height='") height (codes "'") close
+    ∙ rect_same c x y width height close
     ∙ sym (rect_spelled (codes "<rect") (codes " ") (codes "='") (codes "'") (codes "class") c (codes "x") x (codes "y") y (codes "width") width (codes "height") height close)
 
 label_written : (f c a x b y q close : List ℕ) → (f ++ c) ++ (a ++ x ++ q) ++ (b ++ y ++ q) ++ close ≡ f ++ c ++ a ++ x ++ q ++ b ++ y ++ q ++ close
@@ -144,20 +151,32 @@ label_spelled : (t s e q n c i x j y close : List ℕ)
     ≡ t ++ s ++ n ++ e ++ c ++ q ++ s ++ i ++ e ++ x ++ q ++ s ++ j ++ e ++ y ++ q ++ close
 label_spelled t s e q n c i x j y close = simp append_assoc
 
+label_same : (c x y close : List ℕ)
+    → codes "<text class='" ++ c ++ codes "' x='" ++ x ++ codes "'" ++ codes " y='" ++ y ++ codes "'" ++ close
+    ≡ codes "<text" ++ codes " " ++ codes "class" ++ codes "='" ++ c ++ codes "'" ++ codes " " ++ codes "x" ++ codes "='" ++ x ++ codes "'" ++ codes " " ++ codes "y" ++ codes "='" ++ y ++ codes "'" ++ close
+label_same c x y close = refl
+
 label_text : (c x y close : List ℕ)
     → (codes "<text class='" ++ c) ++ (codes "' x='" ++ x ++ 39 ∷ []) ++ (codes " y='" ++ y ++ 39 ∷ []) ++ close
     ≡ codes "<text" ++ ((codes " " ++ codes "class" ++ codes "='") ++ (c ++ codes "'") ++ ((codes " " ++ codes "x" ++ codes "='") ++ (x ++ codes "'")
     ++ ((codes " " ++ codes "y" ++ codes "='") ++ (y ++ codes "'") ++ []))) ++ close
 label_text c x y close =
     label_written (codes "<text class='") c (codes "' x='") x (codes " y='") y (codes "'") close
+    ∙ label_same c x y close
     ∙ sym (label_spelled (codes "<text") (codes " ") (codes "='") (codes "'") (codes "class") c (codes "x") x (codes "y") y close)
 
+sign_same : (s x y close : List ℕ)
+    → codes "<use href='#" ++ s ++ codes "' x='" ++ x ++ codes "'" ++ codes " y='" ++ y ++ codes "'" ++ close
+    ≡ codes "<use" ++ codes " " ++ codes "href" ++ codes "='" ++ (codes "#" ++ s) ++ codes "'" ++ codes " " ++ codes "x" ++ codes "='" ++ x ++ codes "'" ++ codes " " ++ codes "y" ++ codes "='" ++ y ++ codes "'" ++ close
+sign_same s x y close = refl
+
 sign_text : (s x y close : List ℕ)
-    → codes "<use href='#" ++ s ++ (codes "' x='" ++ x ++ 39 ∷ []) ++ (codes " y='" ++ y ++ 39 ∷ []) ++ close
+    → (codes "<use href='#" ++ s) ++ (codes "' x='" ++ x ++ 39 ∷ []) ++ (codes " y='" ++ y ++ 39 ∷ []) ++ close
     ≡ codes "<use" ++ ((codes " " ++ codes "href" ++ codes "='") ++ ((codes "#" ++ s) ++ codes "'") ++ ((codes " " ++ codes "x" ++ codes "='") ++ (x ++ codes "'")
     ++ ((codes " " ++ codes "y" ++ codes "='") ++ (y ++ codes "'") ++ []))) ++ close
 sign_text s x y close =
-    ap (λ r. codes "<use href='#" ++ s ++ r) (label_written [] [] (codes "' x='") x (codes " y='") y (codes "'") close)
+    label_written (codes "<use href='#") s (codes "' x='") x (codes " y='") y (codes "'") close
+    ∙ sign_same s x y close
     ∙ sym (label_spelled (codes "<use") (codes " ") (codes "='") (codes "'") (codes "href") (codes "#" ++ s) (codes "x") x (codes "y") y close)
 
 element_is : (e : Element) → IsElement (element_text e)
@@ -198,6 +217,12 @@ whole_spelled : (t s e q o n v m w a h i j close rest : List ℕ)
     ≡ t ++ s ++ n ++ e ++ v ++ q ++ s ++ m ++ o ++ w ++ a ++ h ++ q ++ s ++ i ++ e ++ w ++ q ++ s ++ j ++ e ++ h ++ q ++ close ++ rest
 whole_spelled t s e q o n v m w a h i j close rest = simp append_assoc
 
+whole_same : (w h rest : List ℕ)
+    → codes "<svg xmlns='http://www.w3.org/2000/svg' viewBox='0 0 " ++ w ++ codes " " ++ h ++ codes "'" ++ codes " width='" ++ w ++ codes "'" ++ codes " height='" ++ h ++ codes "'" ++ codes ">\n" ++ rest
+    ≡ codes "<svg" ++ codes " " ++ codes "xmlns" ++ codes "='" ++ codes "http://www.w3.org/2000/svg" ++ codes "'" ++ codes " " ++ codes "viewBox" ++ codes "='0 0 " ++ w ++ codes " " ++ h ++ codes "'"
+    ++ codes " " ++ codes "width" ++ codes "='" ++ w ++ codes "'" ++ codes " " ++ codes "height" ++ codes "='" ++ h ++ codes "'" ++ codes ">\n" ++ rest
+whole_same w h rest = refl
+
 whole_text : (w h head elements : List ℕ)
     → ((codes "<svg xmlns='http://www.w3.org/2000/svg' viewBox='0 0 " ++ w ++ (codes " " ++ h ++ 39 ∷ [])) ++ (codes " width='" ++ w ++ 39 ∷ []) ++ (codes " height='" ++ h ++ 39 ∷ []) ++ codes ">\n")
     ++ head ++ elements ++ codes "</svg>\n"
@@ -206,10 +231,12 @@ whole_text : (w h head elements : List ℕ)
     ++ ((codes " " ++ codes "height" ++ codes "='") ++ (h ++ codes "'") ++ [])))) ++ codes ">\n") ++ head ++ elements ++ codes "</svg>\n"
 whole_text w h head elements =
     whole_written (codes "<svg xmlns='http://www.w3.org/2000/svg' viewBox='0 0 ") w (codes " ") h (codes "'") (codes " width='") (codes " height='") (codes ">\n") (head ++ elements ++ codes "</svg>\n")
+    ∙ whole_same w h (head ++ elements ++ codes "</svg>\n")
     ∙ sym (whole_spelled (codes "<svg") (codes " ") (codes "='") (codes "'") (codes "='0 0 ") (codes "xmlns") (codes "http://www.w3.org/2000/svg") (codes "viewBox") w (codes " ") h (codes "width")
     (codes "height") (codes ">\n") (head ++ elements ++ codes "</svg>\n"))
 
 pub pictures_are_well_formed : PicturesAreWellFormed
+unfolding svg_text
 pictures_are_well_formed width height es =
     record {
       attributes = front_attributes width height;

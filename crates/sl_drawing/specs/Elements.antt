@@ -41,11 +41,14 @@ element_text (Titled class area title) =
 element_text (Label class x y text) =
     (codes "<text class='" ++ class_text class) ++ attribute_text (codes "' x='") x ++ attribute_text (codes " y='") y ++ codes ">" ++ escaped text ++ codes "</text>\n"
 element_text (Sign symbol x y) =
-    codes "<use href='#" ++ symbol_text symbol ++ attribute_text (codes "' x='") x ++ attribute_text (codes " y='") y ++ codes "/>\n"
+    (codes "<use href='#" ++ symbol_text symbol) ++ attribute_text (codes "' x='") x ++ attribute_text (codes " y='") y ++ codes "/>\n"
 
 -- The front of a picture so wide and so high.
+unfoldable pub svg_text : List ℕ
+svg_text = codes "<svg xmlns='http://www.w3.org/2000/svg' viewBox='0 0 "
+
 abbrev pub view_text : ℕ → ℕ → List ℕ
-view_text width height = codes "<svg xmlns='http://www.w3.org/2000/svg' viewBox='0 0 " ++ decimal width ++ attribute_text (codes " ") height
+view_text width height = svg_text ++ decimal width ++ attribute_text (codes " ") height
 
 abbrev pub front_text : ℕ → ℕ → List ℕ
 front_text width height = view_text width height ++ attribute_text (codes " width='") width ++ attribute_text (codes " height='") height ++ codes ">\n"

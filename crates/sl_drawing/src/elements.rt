@@ -120,22 +120,37 @@ pub fn push_label(
     out.extend_from_slice(b"</text>\n")
 }
 
+/// Adds the front of a sign's tag, with its name.
+fn push_use(out: &mut Vec<u8>, symbol: Symbol) -> Result<(), AllocError>
+    ensures { OnOk result (out.new.items ≡ out.old.items ++ codes "<use href='#" ++ symbol_text symbol) }
+{
+    out.extend_from_slice(b"<use href='#")?;
+    out.extend_from_slice(symbol_text(symbol))
+}
+
 /// Adds a sign that stands there.
 pub fn push_symbol(out: &mut Vec<u8>, symbol: Symbol, x: u64, y: u64) -> Result<(), AllocError>
     ensures { OnOk result (out.new.items ≡ out.old.items ++ elements.element_text (elements.Sign symbol x y)) }
 {
-    out.extend_from_slice(b"<use href='#")?;
-    out.extend_from_slice(symbol_text(symbol))?;
+    push_use(out, symbol)?;
     push_attribute(out, b"' x='", x)?;
     push_attribute(out, b" y='", y)?;
     out.extend_from_slice(b"/>\n")
+}
+
+/// Adds the front of a picture's tag.
+#[tactic(auto, unfolding(crate::specs::Elements::svg_text))]
+fn push_svg(out: &mut Vec<u8>) -> Result<(), AllocError>
+    ensures { OnOk result (out.new.items ≡ out.old.items ++ elements.svg_text) }
+{
+    out.extend_from_slice(b"<svg xmlns='http://www.w3.org/2000/svg' viewBox='0 0 ")
 }
 
 /// Adds what a picture shows: its numbers from the left upper corner on.
 fn push_view(out: &mut Vec<u8>, width: u64, height: u64) -> Result<(), AllocError>
     ensures { OnOk result (out.new.items ≡ out.old.items ++ elements.view_text width height) }
 {
-    out.extend_from_slice(b"<svg xmlns='http://www.w3.org/2000/svg' viewBox='0 0 ")?;
+    push_svg(out)?;
     push_number(out, width)?;
     push_attribute(out, b" ", height)
 }
@@ -151,6 +166,7 @@ pub fn push_front(out: &mut Vec<u8>, width: u64, height: u64) -> Result<(), Allo
 }
 
 /// Adds the head.
+#[tactic(auto, unfolding(crate::specs::Elements::head_text))]
 pub fn push_head(out: &mut Vec<u8>) -> Result<(), AllocError>
     ensures { OnOk result (out.new.items ≡ out.old.items ++ elements.head_text) }
 {
