@@ -1,6 +1,6 @@
 -- Pictures are well formed.
 use Rattle.sl_drawing.specs.Classes.{class_text, held_text, symbol_text}
-use Rattle.sl_drawing.specs.Elements.{Element, Label as LabelOf, Rect, Sign as SignOf, Titled as TitledOf, area_text, attribute_text, element_text, escaped, escaped_byte, front_text, head_text, picture_text, svg_text}
+use Rattle.sl_drawing.specs.Elements.{Element, Label as LabelOf, Rect, Sign as SignOf, Titled as TitledOf, area_text, attribute_text, element_text, escaped, escaped_byte, head_text, svg_text, tag_text, use_text}
 use Rattle.sl_drawing.specs.WellFormed.{AreAttributes, AreElements, Empty, Entity, IsElement, IsEscaped, IsPicture, Label, More, No_element, No_more, Nothing, Number, Numbers, One_more, PicturesAreWellFormed, Plain, Sign, Titled, is_plain, is_value}
 use Rattle.sl_drawing.specs.declared.classes.Class.TheVariants.{Accepted, Bad, Crash, Dim, Down, Expired, Flying, Gap, Grid, Ground, Held, Hit, Idle, Inside, Joined, Joining, Lane, Late, Left, Number as NumberClass, Orphan, Passing, Plain as PlainClass, Read, Refused, Renewed, Reset, Shared, Unclear, Up, Waiting, Wanted, Write}
 use Rattle.sl_drawing.specs.declared.classes.Class.{Class}
@@ -92,106 +92,77 @@ symbol_value symbol.Note = refl
 -- ---- attributes
 
 abbrev numbered : List ℕ → ℕ → List ℕ → List ℕ
-numbered name n rest = (codes " " ++ name ++ codes "='") ++ (decimal n ++ codes "'") ++ rest
-
-abbrev classed : Class → List ℕ → List ℕ
-classed c rest = (codes " " ++ codes "class" ++ codes "='") ++ (class_text c ++ codes "'") ++ rest
+numbered front n rest = front ++ decimal n ++ codes "'" ++ rest
 
 abbrev placed : ℕ → ℕ → List ℕ → List ℕ
-placed x y rest = numbered (codes "x") x (numbered (codes "y") y rest)
+placed x y rest = numbered (codes " x='") x (numbered (codes " y='") y rest)
 
 abbrev sized : ℕ → ℕ → List ℕ
-sized width height = numbered (codes "width") width (numbered (codes "height") height [])
+sized width height = numbered (codes " width='") width (numbered (codes " height='") height [])
 
 sized_are : (width height : ℕ) → AreAttributes (sized width height)
-sized_are width height = Number (codes "width") width _ refl (Number (codes "height") height [] refl No_more)
+sized_are width height =
+    Number (codes "width") (codes " width='") width (numbered (codes " height='") height []) refl refl (Number (codes "height") (codes " height='") height [] refl refl No_more)
 
 placed_are : (x y : ℕ) (rest : List ℕ) → AreAttributes rest → AreAttributes (placed x y rest)
-placed_are x y rest a = Number (codes "x") x _ refl (Number (codes "y") y rest refl a)
+placed_are x y rest a = Number (codes "x") (codes " x='") x (numbered (codes " y='") y rest) refl refl (Number (codes "y") (codes " y='") y rest refl refl a)
+
+abbrev classed : Class → List ℕ → List ℕ
+classed c rest = codes " class='" ++ class_text c ++ codes "'" ++ rest
+
+classed_are : (c : Class) (rest : List ℕ) → AreAttributes rest → AreAttributes (classed c rest)
+classed_are c rest a = More (codes "class") (codes " class='") (class_text c) rest refl refl (class_value c) a
 
 abbrev rect_attributes : Class → Area → List ℕ
 rect_attributes c a = classed c (placed a.x a.y (sized a.width a.height))
 
 rect_are : (c : Class) (a : Area) → AreAttributes (rect_attributes c a)
-rect_are c a = More (codes "class") (class_text c) _ refl (class_value c) (placed_are a.x a.y _ (sized_are a.width a.height))
+rect_are c a = classed_are c (placed a.x a.y (sized a.width a.height)) (placed_are a.x a.y (sized a.width a.height) (sized_are a.width a.height))
 
 -- ---- elements
 
--- A rectangle's tag with what closes it, as it is written, and as its grammar has it.
-rect_written : (f c a x b y d w e h q close : List ℕ) → (f ++ c) ++ ((a ++ x ++ q) ++ (b ++ y ++ q) ++ (d ++ w ++ q) ++ (e ++ h ++ q)) ++ close
-    ≡ f ++ c ++ a ++ x ++ q ++ b ++ y ++ q ++ d ++ w ++ q ++ e ++ h ++ q ++ close
-rect_written f c a x b y d w e h q close = simp append_assoc
+-- Tags as they are written, and as the grammar has them: the same texts, one behind the other.
+rect_joined : (f g c q a x b y d w e h close : List ℕ)
+    → ((f ++ g) ++ c ++ q) ++ ((a ++ x ++ q) ++ (b ++ y ++ q) ++ (d ++ w ++ q) ++ (e ++ h ++ q)) ++ close
+    ≡ f ++ (g ++ c ++ q ++ (a ++ x ++ q ++ (b ++ y ++ q ++ (d ++ w ++ q ++ (e ++ h ++ q ++ []))))) ++ close
+rect_joined f g c q a x b y d w e h close = simp append_assoc
 
-rect_spelled : (t s e q n c i x j y k w l h close : List ℕ)
-    → t ++ ((s ++ n ++ e) ++ (c ++ q) ++ ((s ++ i ++ e) ++ (x ++ q) ++ ((s ++ j ++ e) ++ (y ++ q) ++ ((s ++ k ++ e) ++ (w ++ q) ++ ((s ++ l ++ e) ++ (h ++ q) ++ []))))) ++ close
-    ≡ t ++ s ++ n ++ e ++ c ++ q ++ s ++ i ++ e ++ x ++ q ++ s ++ j ++ e ++ y ++ q ++ s ++ k ++ e ++ w ++ q ++ s ++ l ++ e ++ h ++ q ++ close
-rect_spelled t s e q n c i x j y k w l h close = simp append_assoc
+label_joined : (f g c q a x b y close : List ℕ)
+    → ((f ++ g) ++ c ++ q) ++ (a ++ x ++ q) ++ (b ++ y ++ q) ++ close ≡ f ++ (g ++ c ++ q ++ (a ++ x ++ q ++ (b ++ y ++ q ++ []))) ++ close
+label_joined f g c q a x b y close = simp append_assoc
 
-rect_same : (c x y width height close : List ℕ)
-    → codes "<rect class='" ++ c ++ codes "' x='" ++ x ++ codes "'" ++ codes " y='" ++ y ++ codes "'" ++ codes " width='" ++ width ++ codes "'" ++ codes " height='" ++ height ++ codes "'" ++ close
-    ≡ codes "<rect" ++ codes " " ++ codes "class" ++ codes "='" ++ c ++ codes "'" ++ codes " " ++ codes "x" ++ codes "='" ++ x ++ codes "'" ++ codes " " ++ codes "y" ++ codes "='" ++ y ++ codes "'"
-    ++ codes " " ++ codes "width" ++ codes "='" ++ width ++ codes "'" ++ codes " " ++ codes "height" ++ codes "='" ++ height ++ codes "'" ++ close
-rect_same c x y width height close = refl
+sign_joined : (f g m s q a x b y close : List ℕ)
+    → ((f ++ g ++ m) ++ s ++ q) ++ (a ++ x ++ q) ++ (b ++ y ++ q) ++ close ≡ f ++ (g ++ (m ++ s) ++ q ++ (a ++ x ++ q ++ (b ++ y ++ q ++ []))) ++ close
+sign_joined f g m s q a x b y close = simp append_assoc
 
-rect_text : (c x y width height close : List ℕ)
-    → (codes "<rect class='" ++ c) ++ ((codes "' x='" ++ x ++ 39 ∷ []) ++ (codes " y='" ++ y ++ 39 ∷ []) ++ (codes " width='" ++ width ++ 39 ∷ []) ++ (codes " height='" ++ height ++ 39 ∷ [])) ++ close
-    ≡ codes "<rect" ++ ((codes " " ++ codes "class" ++ codes "='") ++ (c ++ codes "'") ++ ((codes " " ++ codes "x" ++ codes "='") ++ (x ++ codes "'")
-    ++ ((codes " " ++ codes "y" ++ codes "='") ++ (y ++ codes "'") ++ ((codes " " ++ codes "width" ++ codes "='") ++ (width ++ codes "'")
-    ++ ((codes " " ++ codes "height" ++ codes "='") ++ (height ++ codes "'") ++ []))))) ++ close
-rect_text c x y width height close =
-    rect_written (codes "<rect class='") c (codes "' x='") x (codes " y='") y (codes " width='") width (codes " height='") height (codes "'") close
-    ∙ rect_same c x y width height close
-    ∙ sym (rect_spelled (codes "<rect") (codes " ") (codes "='") (codes "'") (codes "class") c (codes "x") x (codes "y") y (codes "width") width (codes "height") height close)
+rect_text : (c : Class) (a : Area) (close : List ℕ) → tag_text (codes "<rect class='") c ++ area_text a ++ close ≡ codes "<rect" ++ rect_attributes c a ++ close
+rect_text c a close =
+    rect_joined (codes "<rect") (codes " class='") (class_text c) (codes "'") (codes " x='") (decimal a.x) (codes " y='") (decimal a.y) (codes " width='") (decimal a.width)
+    (codes " height='") (decimal a.height) close
 
-label_written : (f c a x b y q close : List ℕ) → (f ++ c) ++ (a ++ x ++ q) ++ (b ++ y ++ q) ++ close ≡ f ++ c ++ a ++ x ++ q ++ b ++ y ++ q ++ close
-label_written f c a x b y q close = simp append_assoc
-
-label_spelled : (t s e q n c i x j y close : List ℕ)
-    → t ++ ((s ++ n ++ e) ++ (c ++ q) ++ ((s ++ i ++ e) ++ (x ++ q) ++ ((s ++ j ++ e) ++ (y ++ q) ++ []))) ++ close
-    ≡ t ++ s ++ n ++ e ++ c ++ q ++ s ++ i ++ e ++ x ++ q ++ s ++ j ++ e ++ y ++ q ++ close
-label_spelled t s e q n c i x j y close = simp append_assoc
-
-label_same : (c x y close : List ℕ)
-    → codes "<text class='" ++ c ++ codes "' x='" ++ x ++ codes "'" ++ codes " y='" ++ y ++ codes "'" ++ close
-    ≡ codes "<text" ++ codes " " ++ codes "class" ++ codes "='" ++ c ++ codes "'" ++ codes " " ++ codes "x" ++ codes "='" ++ x ++ codes "'" ++ codes " " ++ codes "y" ++ codes "='" ++ y ++ codes "'" ++ close
-label_same c x y close = refl
-
-label_text : (c x y close : List ℕ)
-    → (codes "<text class='" ++ c) ++ (codes "' x='" ++ x ++ 39 ∷ []) ++ (codes " y='" ++ y ++ 39 ∷ []) ++ close
-    ≡ codes "<text" ++ ((codes " " ++ codes "class" ++ codes "='") ++ (c ++ codes "'") ++ ((codes " " ++ codes "x" ++ codes "='") ++ (x ++ codes "'")
-    ++ ((codes " " ++ codes "y" ++ codes "='") ++ (y ++ codes "'") ++ []))) ++ close
+label_text : (c : Class) (x y : ℕ) (close : List ℕ)
+    → tag_text (codes "<text class='") c ++ attribute_text (codes " x='") x ++ attribute_text (codes " y='") y ++ close ≡ codes "<text" ++ classed c (placed x y []) ++ close
 label_text c x y close =
-    label_written (codes "<text class='") c (codes "' x='") x (codes " y='") y (codes "'") close
-    ∙ label_same c x y close
-    ∙ sym (label_spelled (codes "<text") (codes " ") (codes "='") (codes "'") (codes "class") c (codes "x") x (codes "y") y close)
+    label_joined (codes "<text") (codes " class='") (class_text c) (codes "'") (codes " x='") (decimal x) (codes " y='") (decimal y) close
 
-sign_same : (s x y close : List ℕ)
-    → codes "<use href='#" ++ s ++ codes "' x='" ++ x ++ codes "'" ++ codes " y='" ++ y ++ codes "'" ++ close
-    ≡ codes "<use" ++ codes " " ++ codes "href" ++ codes "='" ++ (codes "#" ++ s) ++ codes "'" ++ codes " " ++ codes "x" ++ codes "='" ++ x ++ codes "'" ++ codes " " ++ codes "y" ++ codes "='" ++ y ++ codes "'" ++ close
-sign_same s x y close = refl
+abbrev sign_attributes : Symbol → ℕ → ℕ → List ℕ
+sign_attributes s x y = codes " href='" ++ (codes "#" ++ symbol_text s) ++ codes "'" ++ placed x y []
 
-sign_text : (s x y close : List ℕ)
-    → (codes "<use href='#" ++ s) ++ (codes "' x='" ++ x ++ 39 ∷ []) ++ (codes " y='" ++ y ++ 39 ∷ []) ++ close
-    ≡ codes "<use" ++ ((codes " " ++ codes "href" ++ codes "='") ++ ((codes "#" ++ s) ++ codes "'") ++ ((codes " " ++ codes "x" ++ codes "='") ++ (x ++ codes "'")
-    ++ ((codes " " ++ codes "y" ++ codes "='") ++ (y ++ codes "'") ++ []))) ++ close
+sign_text : (s : Symbol) (x y : ℕ) (close : List ℕ)
+    → use_text s ++ attribute_text (codes " x='") x ++ attribute_text (codes " y='") y ++ close ≡ codes "<use" ++ sign_attributes s x y ++ close
 sign_text s x y close =
-    label_written (codes "<use href='#") s (codes "' x='") x (codes " y='") y (codes "'") close
-    ∙ sign_same s x y close
-    ∙ sym (label_spelled (codes "<use") (codes " ") (codes "='") (codes "'") (codes "href") (codes "#" ++ s) (codes "x") x (codes "y") y close)
+    sign_joined (codes "<use") (codes " href='") (codes "#") (symbol_text s) (codes "'") (codes " x='") (decimal x) (codes " y='") (decimal y) close
 
 element_is : (e : Element) → IsElement (element_text e)
-element_is (Rect c a) =
-    subst IsElement (sym (rect_text (class_text c) (decimal a.x) (decimal a.y) (decimal a.width) (decimal a.height) (codes "/>\n"))) (Empty (rect_attributes c a) (rect_are c a))
+element_is (Rect c a) = subst IsElement (sym (rect_text c a (codes "/>\n"))) (Empty (rect_attributes c a) (rect_are c a))
 element_is (TitledOf c a title) =
-    subst IsElement (sym (rect_text (class_text c) (decimal a.x) (decimal a.y) (decimal a.width) (decimal a.height) (codes "><title>" ++ escaped title ++ codes "</title></rect>\n")))
-    (Titled (rect_attributes c a) (escaped title) (rect_are c a) (all_escaped title))
+    subst IsElement (sym (rect_text c a (codes "><title>" ++ escaped title ++ codes "</title></rect>\n"))) (Titled (rect_attributes c a) (escaped title) (rect_are c a) (all_escaped title))
 element_is (LabelOf c x y text) =
-    subst IsElement (sym (label_text (class_text c) (decimal x) (decimal y) (codes ">" ++ escaped text ++ codes "</text>\n")))
-    (Label (classed c (placed x y [])) (escaped text) (More (codes "class") (class_text c) _ refl (class_value c) (placed_are x y [] No_more)) (all_escaped text))
+    subst IsElement (sym (label_text c x y (codes ">" ++ escaped text ++ codes "</text>\n")))
+    (Label (classed c (placed x y [])) (escaped text) (classed_are c (placed x y []) (placed_are x y [] No_more)) (all_escaped text))
 element_is (SignOf s x y) =
-    subst IsElement (sym (sign_text (symbol_text s) (decimal x) (decimal y) (codes "/>\n")))
-    (Sign ((codes " " ++ codes "href" ++ codes "='") ++ ((codes "#" ++ symbol_text s) ++ codes "'") ++ placed x y [])
-    (More (codes "href") (codes "#" ++ symbol_text s) (placed x y []) refl (symbol_value s) (placed_are x y [] No_more)))
+    subst IsElement (sym (sign_text s x y (codes "/>\n")))
+    (Sign (sign_attributes s x y) (More (codes "href") (codes " href='") (codes "#" ++ symbol_text s) (placed x y []) refl refl (symbol_value s) (placed_are x y [] No_more)))
 
 pub elements_are : (es : List Element) → AreElements (flat_map element_text es)
 elements_are [] = No_element
@@ -199,41 +170,24 @@ elements_are (e ∷ es) = One_more (element_text e) (flat_map element_text es) (
 
 -- ---- the whole
 
+abbrev address : List ℕ
+address = codes "http://www.w3.org/2000/svg"
+
+abbrev view : ℕ → ℕ → List ℕ → List ℕ
+view width height rest = codes " viewBox='0 0 " ++ decimal width ++ codes " " ++ decimal height ++ codes "'" ++ rest
+
 abbrev front_attributes : ℕ → ℕ → List ℕ
-front_attributes width height =
-    (codes " " ++ codes "xmlns" ++ codes "='") ++ (codes "http://www.w3.org/2000/svg" ++ codes "'")
-    ++ ((codes " " ++ codes "viewBox" ++ codes "='0 0 ") ++ (decimal width ++ codes " " ++ decimal height ++ codes "'") ++ sized width height)
+front_attributes width height = codes " xmlns='" ++ address ++ codes "'" ++ view width height (sized width height)
 
 front_are : (width height : ℕ) → AreAttributes (front_attributes width height)
 front_are width height =
-    More (codes "xmlns") (codes "http://www.w3.org/2000/svg") _ refl refl (Numbers (codes "viewBox") width height _ refl (sized_are width height))
+    More (codes "xmlns") (codes " xmlns='") address (view width height (sized width height)) refl refl refl
+    (Numbers (codes "viewBox") (codes " viewBox='0 0 ") width height (sized width height) refl refl (sized_are width height))
 
-whole_written : (f w a h q b c close rest : List ℕ)
-    → ((f ++ w ++ (a ++ h ++ q)) ++ (b ++ w ++ q) ++ (c ++ h ++ q) ++ close) ++ rest ≡ f ++ w ++ a ++ h ++ q ++ b ++ w ++ q ++ c ++ h ++ q ++ close ++ rest
-whole_written f w a h q b c close rest = simp append_assoc
-
-whole_spelled : (t s e q o n v m w a h i j close rest : List ℕ)
-    → (t ++ ((s ++ n ++ e) ++ (v ++ q) ++ ((s ++ m ++ o) ++ (w ++ a ++ h ++ q) ++ ((s ++ i ++ e) ++ (w ++ q) ++ ((s ++ j ++ e) ++ (h ++ q) ++ [])))) ++ close) ++ rest
-    ≡ t ++ s ++ n ++ e ++ v ++ q ++ s ++ m ++ o ++ w ++ a ++ h ++ q ++ s ++ i ++ e ++ w ++ q ++ s ++ j ++ e ++ h ++ q ++ close ++ rest
-whole_spelled t s e q o n v m w a h i j close rest = simp append_assoc
-
-whole_same : (w h rest : List ℕ)
-    → codes "<svg xmlns='http://www.w3.org/2000/svg' viewBox='0 0 " ++ w ++ codes " " ++ h ++ codes "'" ++ codes " width='" ++ w ++ codes "'" ++ codes " height='" ++ h ++ codes "'" ++ codes ">\n" ++ rest
-    ≡ codes "<svg" ++ codes " " ++ codes "xmlns" ++ codes "='" ++ codes "http://www.w3.org/2000/svg" ++ codes "'" ++ codes " " ++ codes "viewBox" ++ codes "='0 0 " ++ w ++ codes " " ++ h ++ codes "'"
-    ++ codes " " ++ codes "width" ++ codes "='" ++ w ++ codes "'" ++ codes " " ++ codes "height" ++ codes "='" ++ h ++ codes "'" ++ codes ">\n" ++ rest
-whole_same w h rest = refl
-
-whole_text : (w h head elements : List ℕ)
-    → ((codes "<svg xmlns='http://www.w3.org/2000/svg' viewBox='0 0 " ++ w ++ (codes " " ++ h ++ 39 ∷ [])) ++ (codes " width='" ++ w ++ 39 ∷ []) ++ (codes " height='" ++ h ++ 39 ∷ []) ++ codes ">\n")
-    ++ head ++ elements ++ codes "</svg>\n"
-    ≡ (codes "<svg" ++ ((codes " " ++ codes "xmlns" ++ codes "='") ++ (codes "http://www.w3.org/2000/svg" ++ codes "'")
-    ++ ((codes " " ++ codes "viewBox" ++ codes "='0 0 ") ++ (w ++ codes " " ++ h ++ codes "'") ++ ((codes " " ++ codes "width" ++ codes "='") ++ (w ++ codes "'")
-    ++ ((codes " " ++ codes "height" ++ codes "='") ++ (h ++ codes "'") ++ [])))) ++ codes ">\n") ++ head ++ elements ++ codes "</svg>\n"
-whole_text w h head elements =
-    whole_written (codes "<svg xmlns='http://www.w3.org/2000/svg' viewBox='0 0 ") w (codes " ") h (codes "'") (codes " width='") (codes " height='") (codes ">\n") (head ++ elements ++ codes "</svg>\n")
-    ∙ whole_same w h (head ++ elements ++ codes "</svg>\n")
-    ∙ sym (whole_spelled (codes "<svg") (codes " ") (codes "='") (codes "'") (codes "='0 0 ") (codes "xmlns") (codes "http://www.w3.org/2000/svg") (codes "viewBox") w (codes " ") h (codes "width")
-    (codes "height") (codes ">\n") (head ++ elements ++ codes "</svg>\n"))
+whole_joined : (f g v q o w a h b c close rest : List ℕ)
+    → (((f ++ g ++ v ++ q ++ o) ++ w ++ (a ++ h ++ q)) ++ (b ++ w ++ q) ++ (c ++ h ++ q) ++ close) ++ rest
+    ≡ (f ++ (g ++ v ++ q ++ (o ++ w ++ a ++ h ++ q ++ (b ++ w ++ q ++ (c ++ h ++ q ++ [])))) ++ close) ++ rest
+whole_joined f g v q o w a h b c close rest = simp append_assoc
 
 pub pictures_are_well_formed : PicturesAreWellFormed
 unfolding svg_text
@@ -243,5 +197,6 @@ pictures_are_well_formed width height es =
       elements = flat_map element_text es;
       are = front_are width height;
       each = elements_are es;
-      text_is = whole_text (decimal width) (decimal height) head_text (flat_map element_text es);
+      text_is = whole_joined (codes "<svg") (codes " xmlns='") address (codes "'") (codes " viewBox='0 0 ") (decimal width) (codes " ") (decimal height) (codes " width='") (codes " height='")
+          (codes ">\n") (head_text ++ flat_map element_text es ++ codes "</svg>\n");
     }

@@ -31,17 +31,24 @@ attribute_text front value = front ++ decimal value ++ 39 ∷ []
 
 abbrev pub area_text : Area → List ℕ
 area_text a =
-    attribute_text (codes "' x='") a.x ++ attribute_text (codes " y='") a.y ++ attribute_text (codes " width='") a.width ++ attribute_text (codes " height='") a.height
+    attribute_text (codes " x='") a.x ++ attribute_text (codes " y='") a.y ++ attribute_text (codes " width='") a.width ++ attribute_text (codes " height='") a.height
+
+-- The front of a tag with its class, and of a sign's with its name.
+abbrev pub tag_text : List ℕ → Class → List ℕ
+tag_text front c = front ++ class_text c ++ codes "'"
+
+abbrev pub use_text : Symbol → List ℕ
+use_text s = codes "<use href='#" ++ symbol_text s ++ codes "'"
 
 -- An element's text.
 abbrev pub element_text : Element → List ℕ
-element_text (Rect class area) = (codes "<rect class='" ++ class_text class) ++ area_text area ++ codes "/>\n"
+element_text (Rect class area) = tag_text (codes "<rect class='") class ++ area_text area ++ codes "/>\n"
 element_text (Titled class area title) =
-    (codes "<rect class='" ++ class_text class) ++ area_text area ++ codes "><title>" ++ escaped title ++ codes "</title></rect>\n"
+    tag_text (codes "<rect class='") class ++ area_text area ++ codes "><title>" ++ escaped title ++ codes "</title></rect>\n"
 element_text (Label class x y text) =
-    (codes "<text class='" ++ class_text class) ++ attribute_text (codes "' x='") x ++ attribute_text (codes " y='") y ++ codes ">" ++ escaped text ++ codes "</text>\n"
+    tag_text (codes "<text class='") class ++ attribute_text (codes " x='") x ++ attribute_text (codes " y='") y ++ codes ">" ++ escaped text ++ codes "</text>\n"
 element_text (Sign symbol x y) =
-    (codes "<use href='#" ++ symbol_text symbol) ++ attribute_text (codes "' x='") x ++ attribute_text (codes " y='") y ++ codes "/>\n"
+    use_text symbol ++ attribute_text (codes " x='") x ++ attribute_text (codes " y='") y ++ codes "/>\n"
 
 -- The front of a picture so wide and so high.
 unfoldable pub svg_text : List ℕ

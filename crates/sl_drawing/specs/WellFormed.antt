@@ -20,11 +20,12 @@ pub data IsEscaped : List ℕ → Type 0 where
 -- Attributes: a space, a name, and a value between quotes each, which is a text or a number.
 pub data AreAttributes : List ℕ → Type 0 where
   No_more : AreAttributes []
-  More : (name value rest : List ℕ) → is_value name ≡ true → is_value value ≡ true → AreAttributes rest
-      → AreAttributes ((codes " " ++ name ++ codes "='") ++ (value ++ codes "'") ++ rest)
-  Number : (name : List ℕ) (n : ℕ) (rest : List ℕ) → is_value name ≡ true → AreAttributes rest → AreAttributes ((codes " " ++ name ++ codes "='") ++ (decimal n ++ codes "'") ++ rest)
-  Numbers : (name : List ℕ) (n m : ℕ) (rest : List ℕ) → is_value name ≡ true → AreAttributes rest
-      → AreAttributes ((codes " " ++ name ++ codes "='0 0 ") ++ (decimal n ++ codes " " ++ decimal m ++ codes "'") ++ rest)
+  More : (name front value rest : List ℕ) → front ≡ codes " " ++ name ++ codes "='" → is_value name ≡ true → is_value value ≡ true → AreAttributes rest
+      → AreAttributes (front ++ value ++ codes "'" ++ rest)
+  Number : (name front : List ℕ) (n : ℕ) (rest : List ℕ) → front ≡ codes " " ++ name ++ codes "='" → is_value name ≡ true → AreAttributes rest
+      → AreAttributes (front ++ decimal n ++ codes "'" ++ rest)
+  Numbers : (name front : List ℕ) (n m : ℕ) (rest : List ℕ) → front ≡ codes " " ++ name ++ codes "='0 0 " → is_value name ≡ true → AreAttributes rest
+      → AreAttributes (front ++ decimal n ++ codes " " ++ decimal m ++ codes "'" ++ rest)
 
 -- A rectangle, one with a title, a label, a sign.
 pub data IsElement : List ℕ → Type 0 where

@@ -3,9 +3,8 @@
 //! What is written of a schedule is escaped: no byte of it is taken for a tag or an entity, and each byte that isn't printable ASCII stands as
 //! a question mark, but for the line feed.
 
-ghost use Rattle.sl_drawing.specs.Classes.{class_text, symbol_text};
 ghost use Rattle.sl_drawing.specs.Elements as elements;
-ghost use Rattle.std.specs.Prelude.{codes, decimal, OnOk, ◌++◌, ◌∷◌, ◌≡◌};
+ghost use Rattle.std.specs.Prelude.{OnOk, ◌++◌, ◌≡◌};
 
 use crate::classes::{Class, Symbol, class_text, symbol_text};
 use crate::style::{HEAD, TAIL};
@@ -63,7 +62,7 @@ pub struct Area {
 fn push_area(out: &mut Vec<u8>, area: Area) -> Result<(), AllocError>
     ensures { OnOk result (out.new.items ≡ out.old.items ++ elements.area_text area) }
 {
-    push_attribute(out, b"' x='", area.x)?;
+    push_attribute(out, b" x='", area.x)?;
     push_attribute(out, b" y='", area.y)?;
     push_attribute(out, b" width='", area.width)?;
     push_attribute(out, b" height='", area.height)
@@ -71,10 +70,11 @@ fn push_area(out: &mut Vec<u8>, area: Area) -> Result<(), AllocError>
 
 /// Adds the front of a tag with its class.
 fn push_tag(out: &mut Vec<u8>, front: &[u8], class: Class) -> Result<(), AllocError>
-    ensures { OnOk result (out.new.items ≡ out.old.items ++ front.now ++ class_text class) }
+    ensures { OnOk result (out.new.items ≡ out.old.items ++ elements.tag_text front.now class) }
 {
     out.extend_from_slice(front)?;
-    out.extend_from_slice(class_text(class))
+    out.extend_from_slice(class_text(class))?;
+    out.extend_from_slice(b"'")
 }
 
 /// Adds a rectangle.
@@ -113,7 +113,7 @@ pub fn push_label(
     ensures { OnOk result (out.new.items ≡ out.old.items ++ elements.element_text (elements.Label class x y text.now)) }
 {
     push_tag(out, b"<text class='", class)?;
-    push_attribute(out, b"' x='", x)?;
+    push_attribute(out, b" x='", x)?;
     push_attribute(out, b" y='", y)?;
     out.extend_from_slice(b">")?;
     push_escaped(out, text)?;
@@ -122,10 +122,11 @@ pub fn push_label(
 
 /// Adds the front of a sign's tag, with its name.
 fn push_use(out: &mut Vec<u8>, symbol: Symbol) -> Result<(), AllocError>
-    ensures { OnOk result (out.new.items ≡ out.old.items ++ codes "<use href='#" ++ symbol_text symbol) }
+    ensures { OnOk result (out.new.items ≡ out.old.items ++ elements.use_text symbol) }
 {
     out.extend_from_slice(b"<use href='#")?;
-    out.extend_from_slice(symbol_text(symbol))
+    out.extend_from_slice(symbol_text(symbol))?;
+    out.extend_from_slice(b"'")
 }
 
 /// Adds a sign that stands there.
@@ -133,7 +134,7 @@ pub fn push_symbol(out: &mut Vec<u8>, symbol: Symbol, x: u64, y: u64) -> Result<
     ensures { OnOk result (out.new.items ≡ out.old.items ++ elements.element_text (elements.Sign symbol x y)) }
 {
     push_use(out, symbol)?;
-    push_attribute(out, b"' x='", x)?;
+    push_attribute(out, b" x='", x)?;
     push_attribute(out, b" y='", y)?;
     out.extend_from_slice(b"/>\n")
 }
