@@ -23,7 +23,10 @@ pub enum Words {
     /// Run a schedule, and report it.
     Replay,
     /// Run a schedule, and draw it: the lines from `first` to `last`.
-    Draw { first: u64, last: u64 },
+    Draw {
+        first: u64,
+        last: u64,
+    },
     /// Make a schedule of so many events (0 to 1000000) for so many hosts (1 to 16) from a seed, with pairs or without, and run it.
     Generate {
         seed: u64,

@@ -147,7 +147,7 @@ module _ {D : Type 0} (commands : Header → List (Form Command)) (stands : D �
       let x = taken_on commands stands h first before after (Some []) (Some (told_of_steps d.steps)) (Some (told_of_steps d.steps ++ text)) r n p q text d.runs l goes refl in
       let lines : (rest : List ℕ) → MayFollow n.ended rest → read_header lang [] 1 (numbered_lines (x.consumed ++ rest)) ≡ Header_read h (lines_of_steps steps ++ lines_left x.consumed rest n) =
       λ rest follows. ap (λ b. read_header lang [] 1 (numbered_lines b)) (append_assoc d.runs.consumed l.taken rest) ∙ lines_with part h first before after r n p k d l rest follows
-          ∙ ap (λ ls. Header_read h ls) (sym (append_assoc (lines_of_steps d.steps) (line_of n ∷ []) (lines_left x.consumed rest n))) in
+      ∙ ap (λ ls. Header_read h ls) (sym (append_assoc (lines_of_steps d.steps) (line_of n ∷ []) (lines_left x.consumed rest n))) in
       record {
         steps = steps;
         runs = x;

@@ -73,12 +73,7 @@ fn put_last<K: Sink>(
 }
 
 /// Puts out the picture of a whole run.
-fn finish<K: Sink>(
-    sink: &mut K,
-    picture: &Picture,
-    last: &mut Vec<u8>,
-    counts: &Counts,
-) -> Played
+fn finish<K: Sink>(sink: &mut K, picture: &Picture, last: &mut Vec<u8>, counts: &Counts) -> Played
     ensures { Puts (K.taken sink.old) (K.taken sink.new) (K.faults sink.old) (K.faults sink.new) (picture_of picture.now (as_bytes (end_line counts.now ∷ []))) played.Done result }
 {
     last.clear();

@@ -218,7 +218,13 @@ fn link_words(shape: Shape) -> &'static [u8]
 }
 
 /// Adds a tick at the front of an area, so much above it and so high.
-fn push_tick(out: &mut Vec<u8>, class: Class, area: Area, up: u64, high: u64) -> Result<(), AllocError>
+fn push_tick(
+    out: &mut Vec<u8>,
+    class: Class,
+    area: Area,
+    up: u64,
+    high: u64,
+) -> Result<(), AllocError>
     ensures { OnOk result (out.new.items ≡ out.old.items ++ bars.tick class area up high) }
 {
     push_rect(
@@ -282,7 +288,11 @@ fn is_refused(shape: Shape) -> bool
 fn command_class(shape: Shape) -> Class
     ensures { result ≡ bars.command_class shape }
 {
-    if is_refused(shape) { Class::Bad } else { Class::Plain }
+    if is_refused(shape) {
+        Class::Bad
+    } else {
+        Class::Plain
+    }
 }
 
 /// Whether a command's label has room in a row of a machine.
@@ -336,7 +346,12 @@ impl Picture {
             Shape::Waiting => push_three(out, text, b": no answer", b""),
             Shape::Accepted | Shape::Refused => push_three(out, text, b": ", reply),
             Shape::Unclear => {
-                push_three(out, text, b": one of the commands that wait is answered ", reply)
+                push_three(
+                    out,
+                    text,
+                    b": one of the commands that wait is answered ",
+                    reply,
+                )
             }
             Shape::Read | Shape::Write => push_call(out, b"call ", bar, name),
             Shape::Orphan => push_call(out, b"its daemon has ended: call ", bar, name),
@@ -451,12 +466,7 @@ impl Picture {
     }
 
     /// Adds the label of a command, and answers where it ends.
-    fn push_command(
-        &self,
-        out: &mut Vec<u8>,
-        layout: &Layout,
-        bar: Bar,
-    ) -> Result<u64, AllocError>
+    fn push_command(&self, out: &mut Vec<u8>, layout: &Layout, bar: Bar) -> Result<u64, AllocError>
         ensures text { OnOk result (out.new.items ≡ out.old.items ++ bars.command_text self.now layout.now bar) }
         ensures end { IfOk result (λ end. end ≡ bars.command_end self.now layout.now bar) }
     {

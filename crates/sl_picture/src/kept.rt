@@ -143,7 +143,10 @@ fn is_text(texts: &[u8], text: Text, name: &[u8]) -> bool
 fn colour_of(texts: &[u8], resources: &[Text], name: &[u8]) -> u64
     ensures { result ≡ kept.colour_of texts.now resources.now name.now }
 {
-    match resources.iter().position(|resource| is_text(texts, *resource, name)) {
+    match resources
+        .iter()
+        .position(|resource| is_text(texts, *resource, name))
+    {
         Some(place) => place as u64,
         None => 0,
     }
@@ -155,7 +158,11 @@ fn takes(bar: &Bar, machine: u64, holding: bool, row: u64) -> bool
 {
     bar.machine == machine
         && bar.row == row
-        && (if holding { is_holding(bar.shape) } else { is_link(bar.shape) })
+        && (if holding {
+            is_holding(bar.shape)
+        } else {
+            is_link(bar.shape)
+        })
 }
 
 /// Whether a row of a machine is taken by an open bar of a holding, or of a connection.
@@ -489,7 +496,11 @@ impl Picture {
     fn gap(&self) -> Shape
         ensures { result ≡ kept.gap self.now }
     {
-        if self.resetting { Shape::Wanted } else { Shape::Gap }
+        if self.resetting {
+            Shape::Wanted
+        } else {
+            Shape::Gap
+        }
     }
 
     /// A holding has ended; if it was the last of its resource, that is free from now on.

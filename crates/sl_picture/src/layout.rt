@@ -171,7 +171,8 @@ fn more_rows(rows: Rows, machine: u64, most: u64, bar: &Bar) -> u64
 fn rows_for(bars: &[Bar], rows: Rows, machine: u64) -> u64
     ensures { result ≡ layout.rows_for bars.now rows machine }
 {
-    bars.iter().fold(1, |most, bar| more_rows(rows, machine, most, bar))
+    bars.iter()
+        .fold(1, |most, bar| more_rows(rows, machine, most, bar))
 }
 
 /// Where everything stands.

@@ -7,31 +7,14 @@ ghost use Rattle.std.specs.Prelude.{IfOk, OnOk, length, ◌++◌, ◌<◌, ◌�
 use crate::bars::{Layer, push_numbered};
 use crate::kept::{Picture, text_at};
 use crate::layout::{
-  LEFT,
-  Layout,
-  Place,
-  TOP,
-  bottom_of,
-  calls_top,
-  commands_top,
-  held_top,
-  links_top,
+    LEFT, Layout, Place, TOP, bottom_of, calls_top, commands_top, held_top, links_top,
 };
 use crate::said::behind_colon;
 use crate::shapes::Bar;
 use crate::signs::push_marks;
 use sl_drawing::{
-  Area,
-  Class,
-  letters,
-  minus,
-  plus,
-  push_front,
-  push_head,
-  push_label,
-  push_rect,
-  push_tail,
-  times,
+    Area, Class, letters, minus, plus, push_front, push_head, push_label, push_rect, push_tail,
+    times,
 };
 use sl_text::number::push_number;
 use std::alloc::AllocError;
@@ -43,10 +26,34 @@ const MOST_KEYS: usize = 12;
 fn push_rows(out: &mut Vec<u8>, place: Place) -> Result<(), AllocError>
     ensures { OnOk result (out.new.items ≡ out.old.items ++ page.rows_text place) }
 {
-    push_label(out, Class::Dim, LEFT - 54, plus(commands_top(place), 9), b"commands")?;
-    push_label(out, Class::Dim, LEFT - 32, plus(calls_top(place), 9), b"disk")?;
-    push_label(out, Class::Dim, LEFT - 48, plus(links_top(place), 6), b"session")?;
-    push_label(out, Class::Dim, LEFT - 37, plus(held_top(place), 9), b"holds")
+    push_label(
+        out,
+        Class::Dim,
+        LEFT - 54,
+        plus(commands_top(place), 9),
+        b"commands",
+    )?;
+    push_label(
+        out,
+        Class::Dim,
+        LEFT - 32,
+        plus(calls_top(place), 9),
+        b"disk",
+    )?;
+    push_label(
+        out,
+        Class::Dim,
+        LEFT - 48,
+        plus(links_top(place), 6),
+        b"session",
+    )?;
+    push_label(
+        out,
+        Class::Dim,
+        LEFT - 37,
+        plus(held_top(place), 9),
+        b"holds",
+    )
 }
 
 /// Adds a key of the legend at a place of the axis; the answer is where the next one stands.
@@ -156,7 +163,12 @@ impl Picture {
     }
 
     /// Adds the ground of a machine that has this index.
-    fn push_lane_at(&self, out: &mut Vec<u8>, layout: &Layout, index: usize) -> Result<(), AllocError>
+    fn push_lane_at(
+        &self,
+        out: &mut Vec<u8>,
+        layout: &Layout,
+        index: usize,
+    ) -> Result<(), AllocError>
         requires { index < length layout.now.places }
         ensures { OnOk result (out.new.items ≡ out.old.items ++ page.lane_at layout.now index) }
     {
@@ -194,7 +206,12 @@ impl Picture {
     }
 
     /// Adds the layers below the words.
-    fn push_layers(&self, out: &mut Vec<u8>, layout: &Layout, bars: &[Bar]) -> Result<(), AllocError>
+    fn push_layers(
+        &self,
+        out: &mut Vec<u8>,
+        layout: &Layout,
+        bars: &[Bar],
+    ) -> Result<(), AllocError>
         ensures { OnOk result (out.new.items ≡ out.old.items ++ page.layers_text self.now layout.now bars.now) }
     {
         self.push_bars(out, layout, bars, Layer::Time)?;

@@ -158,11 +158,7 @@ impl Picture {
     }
 
     /// Adds the events.
-    pub(crate) fn push_columns(
-        &self,
-        out: &mut Vec<u8>,
-        layout: &Layout,
-    ) -> Result<(), AllocError>
+    pub(crate) fn push_columns(&self, out: &mut Vec<u8>, layout: &Layout) -> Result<(), AllocError>
         ensures { OnOk result (out.new.items ≡ out.old.items ++ signs.columns_text self.now layout.now) }
     {
         for column in &self.columns {

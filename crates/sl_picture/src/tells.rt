@@ -62,28 +62,44 @@ fn is_silent(line: &[u8]) -> bool
 fn signal_of(word: &[u8]) -> Sign
     ensures { result ≡ tells.signal_of word.now }
 {
-    if is(word, b"kill") { Sign::Kill } else { Sign::Term }
+    if is(word, b"kill") {
+        Sign::Kill
+    } else {
+        Sign::Term
+    }
 }
 
 /// The shape of a holding, by the word of its mode.
 fn mode_of(word: &[u8]) -> Shape
     ensures { result ≡ tells.mode_of word.now }
 {
-    if is(word, b"sh") { Shape::Shared } else { Shape::Exclusive }
+    if is(word, b"sh") {
+        Shape::Shared
+    } else {
+        Shape::Exclusive
+    }
 }
 
 /// The shape of a call, by its word.
 fn call_of(word: &[u8]) -> Shape
     ensures { result ≡ tells.call_of word.now }
 {
-    if is(word, b"write") { Shape::Write } else { Shape::Read }
+    if is(word, b"write") {
+        Shape::Write
+    } else {
+        Shape::Read
+    }
 }
 
 /// The sign of a test, by the word of how it came out.
 fn test_of(word: &[u8]) -> Sign
     ensures { result ≡ tells.test_of word.now }
 {
-    if is(word, b"ok") { Sign::TestHeld } else { Sign::TestFailed }
+    if is(word, b"ok") {
+        Sign::TestHeld
+    } else {
+        Sign::TestFailed
+    }
 }
 
 impl Picture {
