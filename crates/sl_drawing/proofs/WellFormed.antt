@@ -149,7 +149,7 @@ abbrev sign_attributes : Symbol → ℕ → ℕ → List ℕ
 sign_attributes s x y = codes " href='" ++ (codes "#" ++ symbol_text s) ++ codes "'" ++ placed x y []
 
 sign_text : (s : Symbol) (x y : ℕ) (close : List ℕ)
-    → use_text s ++ attribute_text (codes " x='") x ++ attribute_text (codes " y='") y ++ close ≡ codes "<use" ++ sign_attributes s x y ++ close
+    → use_text (codes "<use href='#") s ++ attribute_text (codes " x='") x ++ attribute_text (codes " y='") y ++ close ≡ codes "<use" ++ sign_attributes s x y ++ close
 sign_text s x y close =
     sign_joined (codes "<use") (codes " href='") (codes "#") (symbol_text s) (codes "'") (codes " x='") (decimal x) (codes " y='") (decimal y) close
 

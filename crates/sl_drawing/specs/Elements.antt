@@ -37,18 +37,18 @@ area_text a =
 abbrev pub tag_text : List ℕ → Class → List ℕ
 tag_text front c = front ++ class_text c ++ codes "'"
 
-abbrev pub use_text : Symbol → List ℕ
-use_text s = codes "<use href='#" ++ symbol_text s ++ codes "'"
+abbrev pub use_text : List ℕ → Symbol → List ℕ
+use_text front s = front ++ symbol_text s ++ codes "'"
 
 -- An element's text.
 abbrev pub element_text : Element → List ℕ
 element_text (Rect class area) = tag_text (codes "<rect class='") class ++ area_text area ++ codes "/>\n"
 element_text (Titled class area title) =
-    tag_text (codes "<rect class='") class ++ area_text area ++ codes "><title>" ++ escaped title ++ codes "</title></rect>\n"
+    tag_text (codes "<rect class='") class ++ area_text area ++ (codes "><title>" ++ escaped title ++ codes "</title></rect>\n")
 element_text (Label class x y text) =
-    tag_text (codes "<text class='") class ++ attribute_text (codes " x='") x ++ attribute_text (codes " y='") y ++ codes ">" ++ escaped text ++ codes "</text>\n"
+    tag_text (codes "<text class='") class ++ attribute_text (codes " x='") x ++ attribute_text (codes " y='") y ++ (codes ">" ++ escaped text ++ codes "</text>\n")
 element_text (Sign symbol x y) =
-    use_text symbol ++ attribute_text (codes " x='") x ++ attribute_text (codes " y='") y ++ codes "/>\n"
+    use_text (codes "<use href='#") symbol ++ attribute_text (codes " x='") x ++ attribute_text (codes " y='") y ++ codes "/>\n"
 
 -- The front of a picture so wide and so high.
 unfoldable pub svg_text : List ℕ
@@ -69,4 +69,4 @@ tail_text = codes "</svg>\n"
 
 -- A whole picture.
 abbrev pub picture_text : ℕ → ℕ → List Element → List ℕ
-picture_text width height es = front_text width height ++ head_text ++ flat_map element_text es ++ tail_text
+picture_text width height es = front_text width height ++ (head_text ++ flat_map element_text es ++ tail_text)

@@ -30,8 +30,8 @@ pub data AreAttributes : List ℕ → Type 0 where
 -- A rectangle, one with a title, a label, a sign.
 pub data IsElement : List ℕ → Type 0 where
   Empty : (attributes : List ℕ) → AreAttributes attributes → IsElement (codes "<rect" ++ attributes ++ codes "/>\n")
-  Titled : (attributes title : List ℕ) → AreAttributes attributes → IsEscaped title → IsElement (codes "<rect" ++ attributes ++ codes "><title>" ++ title ++ codes "</title></rect>\n")
-  Label : (attributes text : List ℕ) → AreAttributes attributes → IsEscaped text → IsElement (codes "<text" ++ attributes ++ codes ">" ++ text ++ codes "</text>\n")
+  Titled : (attributes title : List ℕ) → AreAttributes attributes → IsEscaped title → IsElement (codes "<rect" ++ attributes ++ (codes "><title>" ++ title ++ codes "</title></rect>\n"))
+  Label : (attributes text : List ℕ) → AreAttributes attributes → IsEscaped text → IsElement (codes "<text" ++ attributes ++ (codes ">" ++ text ++ codes "</text>\n"))
   Sign : (attributes : List ℕ) → AreAttributes attributes → IsElement (codes "<use" ++ attributes ++ codes "/>\n")
 
 pub data AreElements : List ℕ → Type 0 where
@@ -44,7 +44,7 @@ pub record IsPicture (text : List ℕ) : Type 0 where
   pub elements : List ℕ
   pub are : AreAttributes attributes
   pub each : AreElements elements
-  pub text_is : text ≡ (codes "<svg" ++ attributes ++ codes ">\n") ++ head_text ++ elements ++ codes "</svg>\n"
+  pub text_is : text ≡ (codes "<svg" ++ attributes ++ codes ">\n") ++ (head_text ++ elements ++ codes "</svg>\n")
 
 -- So is each, whatever its elements and whatever bytes their texts have.
 abbrev pub PicturesAreWellFormed : Type 0

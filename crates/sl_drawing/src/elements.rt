@@ -121,10 +121,10 @@ pub fn push_label(
 }
 
 /// Adds the front of a sign's tag, with its name.
-fn push_use(out: &mut Vec<u8>, symbol: Symbol) -> Result<(), AllocError>
-    ensures { OnOk result (out.new.items ≡ out.old.items ++ elements.use_text symbol) }
+fn push_use(out: &mut Vec<u8>, front: &[u8], symbol: Symbol) -> Result<(), AllocError>
+    ensures { OnOk result (out.new.items ≡ out.old.items ++ elements.use_text front.now symbol) }
 {
-    out.extend_from_slice(b"<use href='#")?;
+    out.extend_from_slice(front)?;
     out.extend_from_slice(symbol_text(symbol))?;
     out.extend_from_slice(b"'")
 }
@@ -133,7 +133,7 @@ fn push_use(out: &mut Vec<u8>, symbol: Symbol) -> Result<(), AllocError>
 pub fn push_symbol(out: &mut Vec<u8>, symbol: Symbol, x: u64, y: u64) -> Result<(), AllocError>
     ensures { OnOk result (out.new.items ≡ out.old.items ++ elements.element_text (elements.Sign symbol x y)) }
 {
-    push_use(out, symbol)?;
+    push_use(out, b"<use href='#", symbol)?;
     push_attribute(out, b" x='", x)?;
     push_attribute(out, b" y='", y)?;
     out.extend_from_slice(b"/>\n")

@@ -1,6 +1,6 @@
 //! The bars of a picture.
 
-ghost use Rattle.sl_picture.specs.Bars as bars;
+ghost use Rattle.sl_picture.specs.Bars as shown;
 ghost use Rattle.std.specs.Prelude.{IfOk, OnOk, decimal, length, ◌++◌, ◌≡◌};
 
 use crate::fates::is_command;
@@ -28,26 +28,26 @@ pub(crate) enum Layer {
 
 /// Whether it is the lowest layer, the next one, the highest.
 fn is_time(layer: Layer) -> bool
-    ensures { result ≡ bars.is_time layer }
+    ensures { result ≡ shown.is_time layer }
 {
     matches!(layer, Layer::Time)
 }
 
 fn is_machine(layer: Layer) -> bool
-    ensures { result ≡ bars.is_machine layer }
+    ensures { result ≡ shown.is_machine layer }
 {
     matches!(layer, Layer::Machine)
 }
 
 fn is_work(layer: Layer) -> bool
-    ensures { result ≡ bars.is_work layer }
+    ensures { result ≡ shown.is_work layer }
 {
     matches!(layer, Layer::Work)
 }
 
 /// Whether a bar lies in a layer.
 fn is_in_layer(layer: Layer, shape: Shape) -> bool
-    ensures { result ≡ bars.is_in_layer layer shape }
+    ensures { result ≡ shown.is_in_layer layer shape }
 {
     match shape {
         Shape::Passing => is_time(layer),
@@ -58,14 +58,14 @@ fn is_in_layer(layer: Layer, shape: Shape) -> bool
 
 /// How long a bar lasts, in milliseconds.
 fn time_of(bar: Bar) -> u64
-    ensures { result ≡ bars.time_of bar }
+    ensures { result ≡ shown.time_of bar }
 {
     minus(bar.to.moment, bar.from.moment)
 }
 
 /// The class of a call that is in flight: it may take `io` milliseconds.
 fn call_class(bar: Bar, io: u64) -> Class
-    ensures { result ≡ bars.call_class bar io }
+    ensures { result ≡ shown.call_class bar io }
 {
     if io < time_of(bar) {
         Class::Late
@@ -77,7 +77,7 @@ fn call_class(bar: Bar, io: u64) -> Class
 /// The class of a bar.
 #[tactic(auto, unfolding(crate::specs::Bars::class_of))]
 fn class_of(bar: Bar, io: u64) -> Class
-    ensures { result ≡ bars.class_of bar io }
+    ensures { result ≡ shown.class_of bar io }
 {
     match bar.shape {
         Shape::Passing => Class::Passing,
@@ -108,7 +108,7 @@ fn class_of(bar: Bar, io: u64) -> Class
 /// How high a bar of a machine stands.
 #[tactic(auto, unfolding(crate::specs::Bars::bar_top))]
 fn bar_top(place: Place, bar: Bar) -> u64
-    ensures { result ≡ bars.bar_top place bar }
+    ensures { result ≡ shown.bar_top place bar }
 {
     match bar.shape {
         Shape::Passing | Shape::Down | Shape::Idle => place.top,
@@ -127,7 +127,7 @@ fn bar_top(place: Place, bar: Bar) -> u64
 /// How high it is.
 #[tactic(auto, unfolding(crate::specs::Bars::bar_height))]
 fn bar_height(place: Place, bar: Bar) -> u64
-    ensures { result ≡ bars.bar_height place bar }
+    ensures { result ≡ shown.bar_height place bar }
 {
     match bar.shape {
         Shape::Passing | Shape::Down | Shape::Idle => minus(bottom_of(place), place.top),
@@ -142,7 +142,7 @@ fn bar_height(place: Place, bar: Bar) -> u64
 /// Where a bar stands.
 #[tactic(auto, unfolding(crate::specs::Bars::area_of))]
 fn area_of(layout: &Layout, bar: Bar) -> Area
-    ensures { result ≡ bars.area_of layout.now bar }
+    ensures { result ≡ shown.area_of layout.now bar }
 {
     let x = x_of(layout.scale, bar.from);
     let width = minus(x_of(layout.scale, bar.to), x).max(LEAST);
@@ -190,7 +190,7 @@ fn push_until(out: &mut Vec<u8>, a: &[u8], b: &[u8], number: u64) -> Result<(), 
 
 /// Adds a resource, how it is held, by whom, and in which instance.
 fn push_held(out: &mut Vec<u8>, name: &[u8], held: &[u8], bar: Bar) -> Result<(), AllocError>
-    ensures { OnOk result (out.new.items ≡ out.old.items ++ bars.held_words name.now held.now bar) }
+    ensures { OnOk result (out.new.items ≡ out.old.items ++ shown.held_words name.now held.now bar) }
 {
     push_until(out, name, held, bar.number)?;
     push_numbered(out, b", instance ", bar.until)
@@ -198,7 +198,7 @@ fn push_held(out: &mut Vec<u8>, name: &[u8], held: &[u8], bar: Bar) -> Result<()
 
 /// Adds the number of a call and what it does.
 fn push_call(out: &mut Vec<u8>, what: &[u8], bar: Bar, name: &[u8]) -> Result<(), AllocError>
-    ensures { OnOk result (out.new.items ≡ out.old.items ++ bars.call_words what.now bar name.now) }
+    ensures { OnOk result (out.new.items ≡ out.old.items ++ shown.call_words what.now bar name.now) }
 {
     push_numbered(out, what, bar.number)?;
     out.extend_from_slice(b" ")?;
@@ -207,7 +207,7 @@ fn push_call(out: &mut Vec<u8>, what: &[u8], bar: Bar, name: &[u8]) -> Result<()
 
 /// The word of a connection's shape, up to its expiry.
 fn link_words(shape: Shape) -> &'static [u8]
-    ensures { result.now ≡ bars.link_words shape }
+    ensures { result.now ≡ shown.link_words shape }
 {
     match shape {
         Shape::Joining => b": joining, expires at reading ",
@@ -225,7 +225,7 @@ fn push_tick(
     up: u64,
     high: u64,
 ) -> Result<(), AllocError>
-    ensures { OnOk result (out.new.items ≡ out.old.items ++ bars.tick class area up high) }
+    ensures { OnOk result (out.new.items ≡ out.old.items ++ shown.tick class area up high) }
 {
     push_rect(
         out,
@@ -242,7 +242,7 @@ fn push_tick(
 /// Adds the tick with which a call or a renewal begins, and the pattern of what is shared.
 #[tactic(auto, unfolding(crate::specs::Bars::detail_text))]
 fn push_detail(out: &mut Vec<u8>, bar: Bar, area: Area) -> Result<(), AllocError>
-    ensures { OnOk result (out.new.items ≡ out.old.items ++ bars.detail_text bar area) }
+    ensures { OnOk result (out.new.items ≡ out.old.items ++ shown.detail_text bar area) }
 {
     match bar.shape {
         Shape::Read => push_tick(out, Class::Read, area, 2, 5),
@@ -257,7 +257,7 @@ fn push_detail(out: &mut Vec<u8>, bar: Bar, area: Area) -> Result<(), AllocError
 /// Adds the label of a bar to its area.
 #[tactic(auto, unfolding(crate::specs::Bars::label_there))]
 fn push_label_there(out: &mut Vec<u8>, bar: Bar, area: Area, label: &[u8]) -> Result<(), AllocError>
-    ensures { OnOk result (out.new.items ≡ out.old.items ++ bars.label_there bar area label.now) }
+    ensures { OnOk result (out.new.items ≡ out.old.items ++ shown.label_there bar area label.now) }
 {
     let x = plus(area.x, 4);
     let low = plus(area.y, minus(area.height, 5));
@@ -272,21 +272,21 @@ fn push_label_there(out: &mut Vec<u8>, bar: Bar, area: Area, label: &[u8]) -> Re
 
 /// Whether there is a label and the area has room for it.
 fn has_room(label: &[u8], area: Area) -> bool
-    ensures { result ≡ bars.has_room label.now area }
+    ensures { result ≡ shown.has_room label.now area }
 {
     0 < label.len() && plus(letters(label.len()), 8) <= area.width
 }
 
 /// Whether the shape is that of a command that was refused.
 fn is_refused(shape: Shape) -> bool
-    ensures { result ≡ bars.is_refused shape }
+    ensures { result ≡ shown.is_refused shape }
 {
     matches!(shape, Shape::Refused)
 }
 
 /// The class of a command's label.
 fn command_class(shape: Shape) -> Class
-    ensures { result ≡ bars.command_class shape }
+    ensures { result ≡ shown.command_class shape }
 {
     if is_refused(shape) {
         Class::Bad
@@ -297,7 +297,7 @@ fn command_class(shape: Shape) -> Class
 
 /// Whether a command's label has room in a row of a machine.
 fn is_shown(layout: &Layout, machine: u64, row: u64, free: u64, bar: Bar) -> bool
-    ensures { result ≡ bars.is_shown layout.now machine row free bar }
+    ensures { result ≡ shown.is_shown layout.now machine row free bar }
 {
     bar.machine == machine
         && bar.row == row
@@ -307,14 +307,14 @@ fn is_shown(layout: &Layout, machine: u64, row: u64, free: u64, bar: Bar) -> boo
 
 /// Whether time passes in the bar.
 fn is_passing(shape: Shape) -> bool
-    ensures { result ≡ bars.is_passing shape }
+    ensures { result ≡ shown.is_passing shape }
 {
     matches!(shape, Shape::Passing)
 }
 
 /// Adds a moment with its line.
 fn push_moment(out: &mut Vec<u8>, layout: &Layout, x: u64, digits: &[u8]) -> Result<(), AllocError>
-    ensures { OnOk result (out.new.items ≡ out.old.items ++ bars.moment_text layout.now x digits.now) }
+    ensures { OnOk result (out.new.items ≡ out.old.items ++ shown.moment_text layout.now x digits.now) }
 {
     let left = minus(x, letters(digits.len()) / 2);
     push_label(out, Class::Dim, left, TOP - 24, digits)?;
@@ -334,7 +334,7 @@ impl Picture {
     /// Adds what a bar is.
     #[tactic(auto, unfolding(crate::specs::Bars::what))]
     fn push_what(&self, out: &mut Vec<u8>, bar: Bar) -> Result<(), AllocError>
-        ensures { OnOk result (out.new.items ≡ out.old.items ++ bars.what self.now bar) }
+        ensures { OnOk result (out.new.items ≡ out.old.items ++ shown.what self.now bar) }
     {
         let name = text_at(&self.texts, bar.name);
         let text = text_at(&self.texts, bar.text);
@@ -366,7 +366,7 @@ impl Picture {
 
     /// Adds the title of a bar: what it is, from when to when, and how long.
     fn push_title(&self, out: &mut Vec<u8>, bar: Bar) -> Result<(), AllocError>
-        ensures { OnOk result (out.new.items ≡ out.old.items ++ bars.title self.now bar) }
+        ensures { OnOk result (out.new.items ≡ out.old.items ++ shown.title self.now bar) }
     {
         self.push_what(out, bar)?;
         push_numbered(out, b" (", bar.from.moment)?;
@@ -377,7 +377,7 @@ impl Picture {
 
     /// Adds the label of a command: its verb, the resource that it is about, and the answer.
     fn push_command_words(&self, out: &mut Vec<u8>, bar: Bar) -> Result<(), AllocError>
-        ensures { OnOk result (out.new.items ≡ out.old.items ++ bars.command_words self.now bar) }
+        ensures { OnOk result (out.new.items ≡ out.old.items ++ shown.command_words self.now bar) }
     {
         let text = text_at(&self.texts, bar.text);
         let about = behind_colon(text_at(&self.texts, bar.name));
@@ -392,7 +392,7 @@ impl Picture {
     /// Adds the label of a bar.
     #[tactic(auto, unfolding(crate::specs::Bars::words))]
     fn push_words(&self, out: &mut Vec<u8>, bar: Bar) -> Result<(), AllocError>
-        ensures { OnOk result (out.new.items ≡ out.old.items ++ bars.words self.now bar) }
+        ensures { OnOk result (out.new.items ≡ out.old.items ++ shown.words self.now bar) }
     {
         let name = behind_colon(text_at(&self.texts, bar.name));
         match bar.shape {
@@ -409,7 +409,7 @@ impl Picture {
 
     /// Adds the label of a bar that has room for it; a command's label has a row of its own.
     fn push_bar_label(&self, out: &mut Vec<u8>, bar: Bar, area: Area) -> Result<(), AllocError>
-        ensures { OnOk result (out.new.items ≡ out.old.items ++ bars.label_text self.now bar area) }
+        ensures { OnOk result (out.new.items ≡ out.old.items ++ shown.label_text self.now bar area) }
     {
         let mut label = Vec::new(self.alloc());
         self.push_words(&mut label, bar)?;
@@ -422,7 +422,7 @@ impl Picture {
 
     /// Adds a bar.
     fn push_bar(&self, out: &mut Vec<u8>, layout: &Layout, bar: Bar) -> Result<(), AllocError>
-        ensures { OnOk result (out.new.items ≡ out.old.items ++ bars.bar_text self.now layout.now bar) }
+        ensures { OnOk result (out.new.items ≡ out.old.items ++ shown.bar_text self.now layout.now bar) }
     {
         let area = area_of(layout, bar);
         let mut title = Vec::new(self.alloc());
@@ -440,7 +440,7 @@ impl Picture {
         layer: Layer,
         bar: Bar,
     ) -> Result<(), AllocError>
-        ensures { OnOk result (out.new.items ≡ out.old.items ++ bars.layer_text self.now layout.now layer bar) }
+        ensures { OnOk result (out.new.items ≡ out.old.items ++ shown.layer_text self.now layout.now layer bar) }
     {
         if is_in_layer(layer, bar.shape) {
             self.push_bar(out, layout, bar)
@@ -457,7 +457,7 @@ impl Picture {
         bars: &[Bar],
         layer: Layer,
     ) -> Result<(), AllocError>
-        ensures { OnOk result (out.new.items ≡ out.old.items ++ bars.bars_text self.now layout.now bars.now layer) }
+        ensures { OnOk result (out.new.items ≡ out.old.items ++ shown.bars_text self.now layout.now bars.now layer) }
     {
         for bar in bars {
             self.push_in_layer(out, layout, layer, *bar)?;
@@ -467,8 +467,8 @@ impl Picture {
 
     /// Adds the label of a command, and answers where it ends.
     fn push_command(&self, out: &mut Vec<u8>, layout: &Layout, bar: Bar) -> Result<u64, AllocError>
-        ensures text { OnOk result (out.new.items ≡ out.old.items ++ bars.command_text self.now layout.now bar) }
-        ensures end { IfOk result (λ end. end ≡ bars.command_end self.now layout.now bar) }
+        ensures text { OnOk result (out.new.items ≡ out.old.items ++ shown.command_text self.now layout.now bar) }
+        ensures end { IfOk result (λ end. end ≡ shown.command_end self.now layout.now bar) }
     {
         let area = area_of(layout, bar);
         let mut label = Vec::new(self.alloc());
@@ -492,7 +492,7 @@ impl Picture {
         machine: u64,
         row: u64,
     ) -> Result<(), AllocError>
-        ensures { OnOk result (out.new.items ≡ out.old.items ++ bars.row_text self.now layout.now bars.now machine row) }
+        ensures { OnOk result (out.new.items ≡ out.old.items ++ shown.row_text self.now layout.now bars.now machine row) }
     {
         let mut free = 0;
         for bar in bars {
@@ -511,7 +511,7 @@ impl Picture {
         bars: &[Bar],
         machine: u64,
     ) -> Result<(), AllocError>
-        ensures { OnOk result (out.new.items ≡ out.old.items ++ bars.machine_commands self.now layout.now bars.now machine) }
+        ensures { OnOk result (out.new.items ≡ out.old.items ++ shown.machine_commands self.now layout.now bars.now machine) }
     {
         self.push_row(out, layout, bars, machine, 0)?;
         self.push_row(out, layout, bars, machine, 1)?;
@@ -525,7 +525,7 @@ impl Picture {
         layout: &Layout,
         bars: &[Bar],
     ) -> Result<(), AllocError>
-        ensures { OnOk result (out.new.items ≡ out.old.items ++ bars.commands_to self.now layout.now bars.now (length layout.now.places)) }
+        ensures { OnOk result (out.new.items ≡ out.old.items ++ shown.commands_to self.now layout.now bars.now (length layout.now.places)) }
     {
         for index in 0..layout.places.len() {
             self.push_machine(out, layout, bars, index as u64 + 1)?;
@@ -541,8 +541,8 @@ impl Picture {
         x: u64,
         moment: u64,
     ) -> Result<u64, AllocError>
-        ensures text { OnOk result (out.new.items ≡ out.old.items ++ bars.moment_text layout.now x (decimal moment)) }
-        ensures end { IfOk result (λ end. end ≡ bars.moment_end x (decimal moment)) }
+        ensures text { OnOk result (out.new.items ≡ out.old.items ++ shown.moment_text layout.now x (decimal moment)) }
+        ensures end { IfOk result (λ end. end ≡ shown.moment_end x (decimal moment)) }
     {
         let mut digits = Vec::new(self.alloc());
         push_number(&mut digits, moment)?;
@@ -557,7 +557,7 @@ impl Picture {
         layout: &Layout,
         bars: &[Bar],
     ) -> Result<(), AllocError>
-        ensures { OnOk result (out.new.items ≡ out.old.items ++ bars.moments_text layout.now bars.now) }
+        ensures { OnOk result (out.new.items ≡ out.old.items ++ shown.moments_text layout.now bars.now) }
     {
         let mut free = 0;
         for bar in bars {

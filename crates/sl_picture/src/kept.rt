@@ -353,7 +353,7 @@ impl Picture {
     /// Keeps a text.
     pub(crate) fn keep(&mut self, text: &[u8]) -> Result<Text, AllocError>
         ensures place { IfOk result (λ t. t ≡ kept.place_of text.now self.old) }
-        ensures kept { OnOk result (self.new ≡ kept.keeping text.now self.old) }
+        ensures texts { OnOk result (self.new ≡ kept.keeping text.now self.old) }
     {
         let start = self.texts.len();
         self.texts.extend_from_slice(text)?;
