@@ -1,11 +1,12 @@
 -- Words in any order are read, and no others are.
 use Rattle.sl_cli.proofs.ActionTexts.{actions_have_one_text}
 use Rattle.sl_cli.specs.Actions.{action_in}
-use Rattle.sl_cli.specs.CommandWords.{Placing, Seed, Taken, Use, command_in, direct_in, ends_here, generated, given_by, is_given, is_only, is_plain, live_in, nothing_placed, nothing_taken, option_named, placed_from, placed_in, gen_in, seeded_in, use_of, uses_from, with_use, without_dashes}
+use Rattle.sl_cli.specs.CommandWords.{Placing, Seed, Taken, Use, command_in, direct_in, draw_in, ends_here, generated, given_by, is_given, is_line, is_only, is_plain, live_in, nothing_placed, nothing_taken, option_named, placed_from, placed_in, gen_in, seeded_in, spanned_in, use_of, uses_from, with_use, without_dashes}
 use Rattle.sl_cli.specs.Spellings.{AsksFor, IsAsked, OnlyItsWordsAskForAnAction, OptionsComeInAnyOrder, are_apart, is_use, letter_named, option_words, spelled, use_words}
-use Rattle.sl_cli.specs.declared.command_words.Words.TheVariants.{Direct, Help, Live, Replay, Version}
+use Rattle.sl_cli.specs.declared.command_words.Words.TheVariants.{Direct, Draw, Help, Live, Replay, Version}
 use Rattle.sl_cli.specs.declared.command_words.Words.{Words}
 use Rattle.sl_direct.specs.declared.action.Action.{Action}
+use Rattle.sl_text.specs.Numbers.{number_of}
 use Rattle.sl_words.proofs.CaseLaws.{none_some}
 use Rattle.sl_words.proofs.WordLaws.{and_true}
 use Rattle.sl_words.specs.Words.{choose}
@@ -142,6 +143,18 @@ no_gen : (o : Option Seed) (a : Action) → AsksDirect (option_map generated o) 
 no_gen None a h = absurd cc
 no_gen (Some s) a h = absurd cc
 
+no_lines : (b : Bool) (first last : ℕ) (a : Action) → AsksDirect (choose b (Draw first last)) a → ⊥
+no_lines true first last a h = absurd cc
+no_lines false first last a h = absurd cc
+
+no_draw : (ws : List (List ℕ)) (a : Action) → AsksDirect (spanned_in ws) a → ⊥
+no_draw [] a h = absurd cc
+no_draw (v ∷ []) a h = absurd cc
+no_draw (v ∷ w ∷ []) a h = no_lines (is_line 1 v && is_line (number_of v) w) (number_of v) (number_of w) a h
+no_draw (v ∷ w ∷ x ∷ []) a h = absurd cc
+no_draw (v ∷ w ∷ x ∷ y ∷ []) a h = absurd cc
+no_draw (v ∷ w ∷ x ∷ y ∷ z ∷ ws) a h = absurd cc
+
 no_folder : (o : Option (List ℕ)) (anew keeps events : Bool) (a : Action) → AsksDirect (option_map (λ w. Live w anew keeps events) o) a → ⊥
 no_folder None anew keeps events a h = absurd cc
 no_folder (Some w) anew keeps events a h = absurd cc
@@ -154,7 +167,7 @@ command_asks : (ws : List (List ℕ)) (a : Action) → command_in ws ≡ Some (D
 command_asks [] a h = absurd cc
 command_asks (w ∷ ws) a h = elim (cases_Bool (bytes_eq (codes "replay") w)) [
   | inl replay ↦ absurd (no_bare (ends_here ws) Replay a (no_replay a) (rw replay at h))
-  | inr other ↦ seed_asks w ws a (rw other at h)
+  | inr other ↦ span_asks w ws a (rw other at h)
 ]
   where
     direct_asks : (w : List ℕ) (ws : List (List ℕ)) (a : Action)
@@ -178,6 +191,18 @@ command_asks (w ∷ ws) a h = elim (cases_Bool (bytes_eq (codes "replay") w)) [
     seed_asks w ws a h = elim (cases_Bool (bytes_eq (codes "gen") w)) [
       | inl gen ↦ absurd (no_gen (seeded_in (without_dashes ws)) a (rw gen at h))
       | inr other ↦ direct_asks w ws a (rw other at h)
+    ]
+
+    span_asks : (w : List ℕ) (ws : List (List ℕ)) (a : Action)
+        → (if bytes_eq (codes "draw") w then draw_in ws
+        else if bytes_eq (codes "gen") w then gen_in ws
+        else if bytes_eq (codes "direct") w then direct_in ws
+        else if bytes_eq (codes "live") w then live_in ws
+        else None)
+        ≡ Some (Direct a) → Asks a (w ∷ ws)
+    span_asks w ws a h = elim (cases_Bool (bytes_eq (codes "draw") w)) [
+      | inl draw ↦ absurd (no_draw (without_dashes ws) a (rw draw at h))
+      | inr other ↦ seed_asks w ws a (rw other at h)
     ]
 
 no_help : (a : Action) → Some Help ≡ Some (Direct a) → ⊥

@@ -1,6 +1,6 @@
 -- How the words of the command line are read, from the left.
 use Rattle.sl_cli.specs.Actions.{Given, action_in}
-use Rattle.sl_cli.specs.declared.command_words.Words.TheVariants.{Direct, Generate, Help, Live, Replay, Version}
+use Rattle.sl_cli.specs.declared.command_words.Words.TheVariants.{Direct, Draw, Generate, Help, Live, Replay, Version}
 use Rattle.sl_cli.specs.declared.command_words.Words.{Words}
 use Rattle.sl_text.specs.Numbers.{is_number_that, number_of}
 use Rattle.sl_words.specs.Words.{choose, is_empty}
@@ -161,6 +161,34 @@ generated s = Generate s.number s.hosts s.events s.paired
 abbrev pub gen_in : List (List ℕ) → Option Words
 gen_in ws = option_map generated (seeded_in (without_dashes ws))
 
+-- ---- what is given to `draw`
+
+-- The word of a line's number, not below this one.
+abbrev pub is_line : ℕ → List ℕ → Bool
+is_line least w = is_number_that (is_in_range least (2 ^ 64 - 1)) w
+
+-- From one line to another that is not before it.
+abbrev pub part_in : List ℕ → List ℕ → Option Words
+part_in first last = choose (is_line 1 first && is_line (number_of first) last) (Draw (number_of first) (number_of last))
+
+-- No words, for all lines, or two; the parser finds up to four.
+abbrev pub span_in : Option (List ℕ) → Option (List ℕ) → Option (List ℕ) → Option (List ℕ) → Option Words
+span_in None None None None = Some (Draw 1 (2 ^ 64 - 1))
+span_in (Some first) (Some last) None None = part_in first last
+span_in a b c d = None
+
+abbrev pub spanned_in : List (List ℕ) → Option Words
+spanned_in [] = span_in None None None None
+spanned_in (a ∷ []) = span_in (Some a) None None None
+spanned_in (a ∷ b ∷ []) = span_in (Some a) (Some b) None None
+spanned_in (a ∷ b ∷ c ∷ []) = span_in (Some a) (Some b) (Some c) None
+spanned_in (a ∷ b ∷ c ∷ d ∷ []) = span_in (Some a) (Some b) (Some c) (Some d)
+spanned_in ws = None
+
+-- What the words behind `draw` say.
+abbrev pub draw_in : List (List ℕ) → Option Words
+draw_in ws = spanned_in (without_dashes ws)
+
 -- ---- what is given to `live`
 
 -- The word of a folder, and the flags: whether its disks are made anew, whether the script goes on behind a refused line, and whether events are told.
@@ -229,6 +257,7 @@ abbrev pub command_in : List (List ℕ) → Option Words
 command_in [] = None
 command_in (w ∷ ws) =
     if bytes_eq (codes "replay") w then choose (ends_here ws) Replay
+    else if bytes_eq (codes "draw") w then draw_in ws
     else if bytes_eq (codes "gen") w then gen_in ws
     else if bytes_eq (codes "direct") w then direct_in ws
     else if bytes_eq (codes "live") w then live_in ws

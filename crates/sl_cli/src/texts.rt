@@ -5,6 +5,9 @@ pub const HELP: &str = "\
 usage: sanlock COMMAND
 
   replay                   run the schedule on standard input, print its report
+  draw [FROM TO]           run the schedule on standard input, print its picture
+                           as SVG; with FROM and TO what lies between these two
+                           lines is drawn
   gen SEED HOSTS EVENTS [2]
                            run the schedule of a seed, print its words and the
                            last line of its report; with 2 each host's block has

@@ -16,7 +16,7 @@ use Rattle.sl_run.specs.declared.header.Header.{Header}
 use Rattle.sl_top.proofs.RunLaws.{nothing_put}
 use Rattle.sl_top.specs.LiveHistories.{LiveHistoriesAreGood}
 use Rattle.sl_top.specs.StatusLaws.{SomeDiffer}
-use Rattle.sl_cli.specs.declared.command_words.Words.TheVariants.{Direct, Generate, Help, Live, Replay, Version}
+use Rattle.sl_cli.specs.declared.command_words.Words.TheVariants.{Direct, Draw, Generate, Help, Live, Replay, Version}
 use Rattle.sl_cli.specs.declared.command_words.Words.{Words}
 use Rattle.sl_top.specs.Runs.{IsLive, Outside, Owes, RunsLive, place_in, place_of, told_from}
 use Rattle.sl_top.specs.Statuses.{status_of_live}
@@ -222,6 +222,7 @@ live_words p = Live p.0 p.1.anew p.1.keeps p.1.events
 place_is_live : (w : Words) (p : List ℕ × Manner) → place_of w ≡ Some p → w ≡ live_words p
 place_is_live (Live folder anew keeps events) p is = ap live_words (some_value (folder, record { anew = anew; keeps = keeps; events = events }) p is)
 place_is_live Replay p is = absurd cc
+place_is_live (Draw first last) p is = absurd cc
 place_is_live (Generate seed hosts events paired) p is = absurd cc
 place_is_live (Direct a) p is = absurd cc
 place_is_live Help p is = absurd cc
@@ -240,6 +241,7 @@ said_live s folder anew keeps events is = (folder, record { anew = anew; keeps =
 is_live_from : (at_terminal : Bool) (w : Words) (p : List ℕ × Manner) → place_of (told_from at_terminal w) ≡ Some p → IsLive (Some w)
 is_live_from at_terminal (Live folder anew keeps events) p is = (folder, record { anew = anew; keeps = keeps; events = events }, refl)
 is_live_from at_terminal Replay p is = absurd cc
+is_live_from at_terminal (Draw first last) p is = absurd cc
 is_live_from at_terminal (Generate seed hosts events paired) p is = absurd cc
 is_live_from at_terminal (Direct a) p is = absurd cc
 is_live_from at_terminal Help p is = absurd cc
@@ -257,6 +259,7 @@ not_live at_terminal s none live =
 same_from : (at_terminal : Bool) (w : Words) → place_of (told_from at_terminal w) ≡ None → told_from at_terminal w ≡ w
 same_from at_terminal (Live folder anew keeps events) none = absurd cc
 same_from at_terminal Replay none = refl
+same_from at_terminal (Draw first last) none = refl
 same_from at_terminal (Generate seed hosts events paired) none = refl
 same_from at_terminal (Direct a) none = refl
 same_from at_terminal Help none = refl

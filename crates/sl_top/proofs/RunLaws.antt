@@ -173,7 +173,7 @@ pub nothing_put : (taken : Option (List ℕ)) → Appends taken taken []
 nothing_put None = tt
 nothing_put (Some xs) = sym (append-nil xs)
 
-nothing_read : (left : Option (List ℕ)) → Consumes left left []
+pub nothing_read : (left : Option (List ℕ)) → Consumes left left []
 nothing_read None = tt
 nothing_read (Some xs) = refl
 

@@ -1,6 +1,6 @@
 -- Which statuses a run may end with, by what its words say, and why.
 use Rattle.sl_area.specs.AreaSizes.{Sizes}
-use Rattle.sl_cli.specs.declared.command_words.Words.TheVariants.{Direct, Generate, Help, Live, Replay, Version}
+use Rattle.sl_cli.specs.declared.command_words.Words.TheVariants.{Direct, Draw, Generate, Help, Live, Replay, Version}
 use Rattle.sl_cli.specs.declared.command_words.Words.{Words}
 use Rattle.sl_cli.specs.declared.texts.TheConstants.{HELP, VERSION}
 use Rattle.sl_direct.proofs.AreaLaws.{leader_is_told}
@@ -11,7 +11,10 @@ use Rattle.sl_direct.specs.declared.action.Action.TheVariants.{ReadLeader, Upgra
 use Rattle.sl_direct.specs.declared.action.Action.{Action}
 use Rattle.sl_direct.specs.declared.action.Directed.TheVariants as directed
 use Rattle.sl_direct.specs.declared.action.Directed.{Directed}
+use Rattle.sl_draw.specs.Drawings.{PictureOwed}
 use Rattle.sl_headline.specs.PromisedRuns.{PromisedRun}
+use Rattle.sl_picture.specs.declared.kept.Part.{Part}
+use Rattle.sl_top.specs.Pictures.{Draws}
 use Rattle.sl_report.specs.OwedReports.{MayHaveBeen, ReplayHeadline, is_whole_status}
 use Rattle.sl_report.specs.Languages.{whole_language}
 use Rattle.sl_sound.proofs.Reports.OneReport.{accepted_schedules_end_well as accepted_runs}
@@ -77,13 +80,33 @@ outside ended read written s t headline is never = never (subst (λ u. ReplayHea
 replay_caused : (x y : Outside) (s : Status) → Replays x.left y.left x.source_faults y.source_faults x.taken y.taken x.sink_faults y.sink_faults s → HasItsCause (Some Replay) x y s
 replay_caused x y s run =
     record {
-      refused = λ e. inl refl;
+      refused = λ e. inl (inl refl);
       bad_words = λ e. absurd (outside run.ended run.read run.written s BadWords run.headline e (λ h. let no : false ≡ true = h.0 in absurd cc));
-      read_fault = λ e. (inl refl, run.read_fault e);
+      read_fault = λ e. (inl (inl refl), run.read_fault e);
       write_fault = run.write_fault;
       area_fault = λ e. absurd (outside run.ended run.read run.written s AreaFault run.headline e (λ h. let no : false ≡ true = h.0 in absurd cc));
       not_the_leader = λ e. absurd (outside run.ended run.read run.written s NotTheLeader run.headline e (λ h. let no : false ≡ true = h.0 in absurd cc));
       differs = λ e. absurd (outside run.ended run.read run.written s Differs run.headline e (λ h. let no : false ≡ true = h.0 in absurd cc));
+    }
+
+-- ---- a drawing
+
+-- No other status tells of a picture.
+not_drawn : (part : Part) (ended : Bool) (read written : List ℕ) (s t : Status) → PictureOwed PromisedRun whole_language part ended read written (code s) → s ≡ t
+    → (PictureOwed PromisedRun whole_language part ended read written (code t) → ⊥) → ⊥
+not_drawn part ended read written s t owed is never = never (subst (λ u. PictureOwed PromisedRun whole_language part ended read written (code u)) is owed)
+
+draw_caused : (first last : ℕ) (x y : Outside) (s : Status)
+    → Draws (record { first = first; last = last }) x.left y.left x.source_faults y.source_faults x.taken y.taken x.sink_faults y.sink_faults s → HasItsCause (Some (Draw first last)) x y s
+draw_caused first last x y s run =
+    record {
+      refused = λ e. inl (inr (first, last, refl));
+      bad_words = λ e. absurd (not_drawn _ run.ended run.read run.written s BadWords run.owed e (λ h. let no : false ≡ true = h.0 in absurd cc));
+      read_fault = λ e. (inl (inr (first, last, refl)), run.read_fault e);
+      write_fault = run.write_fault;
+      area_fault = λ e. absurd (not_drawn _ run.ended run.read run.written s AreaFault run.owed e (λ h. let no : false ≡ true = h.0 in absurd cc));
+      not_the_leader = λ e. absurd (not_drawn _ run.ended run.read run.written s NotTheLeader run.owed e (λ h. let no : false ≡ true = h.0 in absurd cc));
+      differs = λ e. absurd (not_drawn _ run.ended run.read run.written s Differs run.owed e (λ h. let no : false ≡ true = h.0 in absurd cc));
     }
 
 -- ---- an action
@@ -250,6 +273,7 @@ live_has_cause folder m x y s run =
 pub statuses_have_causes : StatusesHaveCauses
 statuses_have_causes None x y s h = bad_caused x y s h
 statuses_have_causes (Some Replay) x y s h = replay_caused x y s h
+statuses_have_causes (Some (Draw first last)) x y s h = draw_caused first last x y s h
 statuses_have_causes (Some (Generate seed hosts events paired)) x y s h = done_caused (Some (Generate seed hosts events paired)) x y _ s h.puts
 statuses_have_causes (Some (Direct a)) x y s h = direct_caused a x y s h
 statuses_have_causes (Some (Live folder anew keeps events)) x y s h = live_has_cause folder (record { anew = anew; keeps = keeps; events = events }) x y s h

@@ -6,7 +6,8 @@
 //! runs out, a front of the report. `gen` reads nothing: it draws its events as it plays them. `direct` takes one disk of the devices, does its action there, and gives the disk back.
 
 ghost use Rattle.sl_direct.specs.Actions.{IsAction};
-ghost use Rattle.sl_top.specs.Runs.{ActsOn, Generates, IsDirect, IsLive, IsReplay, Owes, PutsOut, Replays, RunsLive, place_in, place_of, said, said_from, told_from};
+ghost use Rattle.sl_top.specs.Pictures.{Draws};
+ghost use Rattle.sl_top.specs.Runs.{ActsOn, Generates, IsDirect, IsLive, Owes, PutsOut, ReadsSource, Replays, RunsLive, place_in, place_of, said, said_from, told_from};
 ghost use Rattle.sl_top.specs.declared.status.Status.TheVariants.{WriteFault};
 ghost use Rattle.std.specs.Prelude.{IfOk, option_map, ◌≡◌, ◌≢◌, ◌≤◌};
 
@@ -14,12 +15,14 @@ use crate::status::{Status, status_after, status_of, status_of_generated, status
 use sl_area::Area;
 use sl_cli::{Folder, HELP, VERSION, Words, WordsError, read_words};
 use sl_direct::{Action, run_direct};
+use sl_draw::draw_schedule;
 use sl_generate::generate;
 use sl_host_step::HostDaemon;
 use sl_io::{Sink, Source, write_all};
 use sl_live_play::{LiveHost, Manner, play_live};
 use sl_locks::LvmLocks;
 use sl_outside::{Devices, LiveDevices};
+use sl_picture::Part;
 use sl_play::laws::headers::whole_language_may_play;
 use sl_play::play_schedule;
 use std::alloc::{AllocError, Global};
@@ -34,6 +37,15 @@ fn replay<S: Source, K: Sink>(alloc: Global, source: &mut S, sink: &mut K) -> St
 {
     whole_language_may_play();
     status_of(play_schedule::<S, K, HostDaemon, LvmLocks>(alloc, source, sink))
+}
+
+/// Reads a schedule from the source, plays it in a world of hosts, and puts out the picture of this part of its lines.
+fn draw<S: Source, K: Sink>(alloc: Global, part: Part, source: &mut S, sink: &mut K) -> Status
+    ensures { Draws part (S.left source.old) (S.left source.new) (S.faults source.old) (S.faults source.new)
+        (K.taken sink.old) (K.taken sink.new) (K.faults sink.old) (K.faults sink.new) result }
+{
+    whole_language_may_play();
+    status_of(draw_schedule::<S, K, HostDaemon, LvmLocks>(alloc, part, source, sink))
 }
 
 /// Makes a schedule of so many events from a seed, with pairs or without, plays it in a world of hosts, and puts out the last line of its
@@ -119,7 +131,7 @@ where
 
 /// Does what the words say (those behind the program's name), with no handle that waits: so it returns.
 ///
-/// `replay` reads a schedule from the source to its end, or to one byte past 1000000000, and puts out its report. `gen` makes a schedule from a
+/// `replay` reads a schedule from the source to its end, or to one byte past 1000000000, and puts out its report, `draw` the picture of its lines. `gen` makes a schedule from a
 /// seed, plays it, and puts out what was generated and the last line of its report. `direct` does its action
 /// to the disk at the action's path, and puts out what that tells. The help and the version are put out as they are. Words that say none of
 /// these put out one line.
@@ -141,11 +153,12 @@ pub fn run_offline<S: Source, K: Sink, D: Devices>(
         (record { left = S.left source.old; source_faults = S.faults source.old; taken = K.taken sink.old; sink_faults = K.faults sink.old; disks = D.disks devices.old; device_faults = D.faults devices.old })
         (record { left = S.left source.new; source_faults = S.faults source.new; taken = K.taken sink.new; sink_faults = K.faults sink.new; disks = D.disks devices.new; device_faults = D.faults devices.new })
         result }
-    ensures source { (IsReplay (said words.now) → ⊥) → source.new ≡ source.old }
+    ensures source { (ReadsSource (said words.now) → ⊥) → source.new ≡ source.old }
     ensures devices { (IsDirect (said words.now) → ⊥) → devices.new ≡ devices.old }
 {
     match read_words(alloc, words) {
         Ok(Words::Replay) => replay(alloc, source, sink),
+        Ok(Words::Draw { first, last }) => draw(alloc, Part { first, last }, source, sink),
         Ok(
             Words::Generate {
                 seed,
@@ -189,6 +202,7 @@ fn place_of(words: Words, at_terminal: bool) -> Option<Place>
             },
         }),
         Words::Replay => None,
+        Words::Draw { .. } => None,
         Words::Generate { .. } => None,
         Words::Direct(_) => None,
         Words::Help => None,
@@ -239,7 +253,7 @@ where
         (record { left = S.left source; source_faults = S.faults source; taken = K.taken sink; sink_faults = K.faults sink; disks = D.Devices.disks devices; device_faults = D.Devices.faults devices })
         (record { left = S.left result.1; source_faults = S.faults result.1; taken = K.taken result.2; sink_faults = K.faults result.2; disks = D.Devices.disks result.3; device_faults = D.Devices.faults result.3 })
         result.0 }
-    ensures source { (IsReplay (said words.now) → ⊥) → (IsLive (said words.now) → ⊥) → result.1 ≡ source }
+    ensures source { (ReadsSource (said words.now) → ⊥) → (IsLive (said words.now) → ⊥) → result.1 ≡ source }
     ensures devices { (IsDirect (said words.now) → ⊥) → (IsLive (said words.now) → ⊥) → result.3 ≡ devices }
 {
     let (mut source, mut sink, mut devices) = (source, sink, devices);
