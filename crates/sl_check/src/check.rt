@@ -1,0 +1,289 @@
+//! A journal is checked.
+
+use crate::told::{push_difference, push_front, push_right};
+use sl_io::{Failed, Sink, Source, write_all};
+use sl_journal::{FIRST, Journal};
+use sl_machine::LockTable;
+use sl_play::PlayError;
+use sl_reader::{LineReader, Next, ReadError, read_header};
+use sl_run::{Header, Refusal};
+use sl_schedule::{Line, push_refusal_line};
+use sl_text::line::split_line;
+use sl_world_state::Daemon;
+use std::alloc::{AllocError, Global};
+
+/// What a check comes to.
+#[derive(Clone, Copy, Debug, PartialEq, Eq)]
+pub enum Checked {
+    /// The journal is that of a run.
+    Same,
+    /// A line differs from the one that is due there, or tells an event that may not happen.
+    Differs,
+    /// A line is none of a journal.
+    Refused,
+    /// It breaks off: it is the journal of a run as far as it goes.
+    BreaksOff,
+    /// A read failed.
+    ReadFault,
+    /// A write failed.
+    WriteFault,
+    /// There was no memory, or no number for a call, a job or a count.
+    NoMemory,
+}
+
+/// What a line is found to be.
+enum Found {
+    /// The line that is due.
+    Due,
+    /// Another one than this.
+    Other,
+    /// The last line.
+    Last,
+    /// An event's line, which may not happen.
+    Barred(Refusal),
+    /// No line of a journal.
+    Misread(Refusal),
+}
+
+/// A check: the journal as it is made again, and what of its last event's lines was not seen yet.
+#[derive(Drop)]
+struct Check<D: Daemon, L: LockTable> {
+    journal: Journal<D, L>,
+    due: Vec<u8>,
+    at: usize,
+    /// How many entries were seen whole.
+    seen: u64,
+    last: Vec<u8>,
+}
+
+/// Whether these are the same bytes.
+fn is_same(a: &[u8], b: &[u8]) -> bool
+{
+    a == b
+}
+
+impl<D: Daemon, L: LockTable> Check<D, L> {
+    /// A line that is due must be this one.
+    fn compare(&mut self, text: &[u8]) -> Found
+    {
+        let (_, rest) = self.due.split_at(self.at);
+        match split_line(rest) {
+            None => Found::Other,
+            Some((line, behind)) => {
+                if !is_same(line, text) {
+                    return Found::Other;
+                }
+                self.at = self.due.len() - behind.len();
+                if behind.is_empty() {
+                    self.seen = self.journal.entries();
+                }
+                Found::Due
+            }
+        }
+    }
+
+    /// Whether the line is the last one.
+    fn is_last(&mut self, text: &[u8]) -> Result<bool, AllocError>
+    {
+        let line = format!(in *self.due.allocator(); "end {}", self.journal.entries())?;
+        Ok(is_same(line.as_bytes(), text))
+    }
+
+    /// Takes a line where none is due: the last one, or an event's.
+    fn begin(&mut self, line: &Line) -> Result<Found, PlayError>
+    {
+        if self.is_last(line.text)? {
+            return Ok(Found::Last);
+        }
+        self.due.clear();
+        self.at = 0;
+        match self.journal.take_line(&mut self.due, line)? {
+            Some(Refusal::Syntax) => Ok(Found::Misread(Refusal::Syntax)),
+            Some(why) => Ok(Found::Barred(why)),
+            None => {
+                if self.due.is_empty() {
+                    return Ok(Found::Misread(Refusal::Syntax));
+                }
+                Ok(self.compare(line.text))
+            }
+        }
+    }
+
+    /// Takes a line.
+    fn take(&mut self, line: &Line) -> Result<Found, PlayError>
+    {
+        if self.at < self.due.len() {
+            return Ok(self.compare(line.text));
+        }
+        self.begin(line)
+    }
+
+    /// The line that is due, if one is.
+    fn due_line(&self) -> &[u8]
+    {
+        let (_, rest) = self.due.split_at(self.at);
+        match split_line(rest) {
+            None => b"-",
+            Some((line, _)) => line,
+        }
+    }
+}
+
+/// Puts out a text that stands, or found no memory.
+fn put<K: Sink>(sink: &mut K, pushed: Result<(), AllocError>, text: &[u8], whole: Checked) -> Checked
+{
+    match pushed {
+        Err(_) => Checked::NoMemory,
+        Ok(()) => match write_all(sink, text) {
+            Ok(()) => whole,
+            Err(_) => Checked::WriteFault,
+        },
+    }
+}
+
+/// Puts out the line of a refusal: the journal's first line stands before those that were counted.
+fn refuse<K: Sink>(alloc: Global, sink: &mut K, number: u64, why: Refusal, whole: Checked) -> Checked
+{
+    let mut out = Vec::new(alloc);
+    let pushed = push_refusal_line(&mut out, number.saturating_add(1), why);
+    put(sink, pushed, &out, whole)
+}
+
+/// Puts out that the journal is right.
+fn tell_right<K: Sink, D: Daemon, L: LockTable>(alloc: Global, sink: &mut K, check: &Check<D, L>) -> Checked
+{
+    let mut out = Vec::new(alloc);
+    let pushed = push_right(&mut out, check.journal.entries(), check.journal.counts());
+    put(sink, pushed, &out, Checked::Same)
+}
+
+/// Puts out that the journal is right as far as it goes.
+fn tell_front<K: Sink, D: Daemon, L: LockTable>(alloc: Global, sink: &mut K, check: &Check<D, L>) -> Checked
+{
+    let mut out = Vec::new(alloc);
+    let pushed = push_front(&mut out, check.seen, check.journal.counts());
+    put(sink, pushed, &out, Checked::BreaksOff)
+}
+
+/// Puts out how a line differs.
+fn tell_difference<K: Sink>(alloc: Global, sink: &mut K, line: &Line, due: &[u8]) -> Checked
+{
+    let mut out = Vec::new(alloc);
+    let pushed = push_difference(&mut out, line.number.saturating_add(1), line.text, due);
+    put(sink, pushed, &out, Checked::Differs)
+}
+
+/// Nothing may stand behind the last line.
+fn check_end<S: Source, K: Sink, D: Daemon, L: LockTable>(
+    alloc: Global,
+    source: &mut S,
+    sink: &mut K,
+    reader: &mut LineReader,
+    check: &Check<D, L>,
+) -> Checked
+{
+    match reader.read_line(source) {
+        Err(ReadError::Failed) => Checked::ReadFault,
+        Err(ReadError::NoMemory) => Checked::NoMemory,
+        Ok(Next::End) => tell_right(alloc, sink, check),
+        Ok(Next::Refused(why)) => refuse(alloc, sink, reader.next_number(), why, Checked::Refused),
+        Ok(Next::Line) => refuse(alloc, sink, reader.line().number, Refusal::Syntax, Checked::Refused),
+    }
+}
+
+/// Checks the lines behind the header. A last line without its line feed was cut off, and is not looked at.
+fn check_lines<S: Source, K: Sink, D: Daemon, L: LockTable>(
+    alloc: Global,
+    source: &mut S,
+    sink: &mut K,
+    reader: &mut LineReader,
+    check: &mut Check<D, L>,
+) -> Checked
+{
+    loop {
+        match reader.read_line(source) {
+            Err(ReadError::Failed) => return Checked::ReadFault,
+            Err(ReadError::NoMemory) => return Checked::NoMemory,
+            Ok(Next::End) => return tell_front(alloc, sink, check),
+            Ok(Next::Refused(why)) => return refuse(alloc, sink, reader.next_number(), why, Checked::Refused),
+            Ok(Next::Line) => {}
+        }
+        if reader.has_ended() {
+            return tell_front(alloc, sink, check);
+        }
+        let line = reader.line();
+        match check.take(&line) {
+            Err(_) => return Checked::NoMemory,
+            Ok(Found::Due) => {}
+            Ok(Found::Other) => return tell_difference(alloc, sink, &line, check.due_line()),
+            Ok(Found::Last) => return check_end(alloc, source, sink, reader, check),
+            Ok(Found::Barred(why)) => return refuse(alloc, sink, line.number, why, Checked::Differs),
+            Ok(Found::Misread(why)) => return refuse(alloc, sink, line.number, why, Checked::Refused),
+        }
+    }
+}
+
+/// Checks what stands behind a header.
+fn check_header<S: Source, K: Sink, D: Daemon, L: LockTable>(
+    alloc: Global,
+    source: &mut S,
+    sink: &mut K,
+    reader: &mut LineReader,
+    header: Header,
+) -> Checked
+{
+    let journal = match Journal::<D, L>::new(alloc, header) {
+        Err(_) => return Checked::NoMemory,
+        Ok(journal) => journal,
+    };
+    let mut due = Vec::new(alloc);
+    match journal.push_first(&mut due) {
+        Err(_) => return Checked::NoMemory,
+        Ok(()) => {}
+    }
+    let mut check = Check {
+        journal,
+        due,
+        at: 0,
+        seen: 0,
+        last: Vec::new(alloc),
+    };
+    check_lines(alloc, source, sink, reader, &mut check)
+}
+
+/// Whether the source begins with these bytes; they are read, and no more of it.
+fn begins_with<S: Source>(source: &mut S, front: &[u8]) -> Result<bool, Failed>
+{
+    for byte in front {
+        let mut one = [0u8; 1];
+        let count = source.read(&mut one)?;
+        if count == 0 || one[0] != *byte {
+            return Ok(false);
+        }
+    }
+    Ok(true)
+}
+
+/// Reads a journal from the source, and puts out whether it is that of a run of these daemons and locks, or what is wrong.
+pub fn check_journal<S: Source, K: Sink, D: Daemon, L: LockTable>(
+    alloc: Global,
+    source: &mut S,
+    sink: &mut K,
+) -> Checked
+{
+    match begins_with(source, b"journal 2\n") {
+        Err(_) => return Checked::ReadFault,
+        Ok(false) => return refuse(alloc, sink, 0, Refusal::Syntax, Checked::Refused),
+        Ok(true) => {}
+    }
+    let mut reader = match LineReader::new(alloc) {
+        Ok(reader) => reader,
+        Err(_) => return Checked::NoMemory,
+    };
+    match read_header(alloc, source, &mut reader) {
+        Err(ReadError::Failed) => Checked::ReadFault,
+        Err(ReadError::NoMemory) => Checked::NoMemory,
+        Ok(Err((number, why))) => refuse(alloc, sink, number, why, Checked::Refused),
+        Ok(Ok(header)) => check_header::<S, K, D, L>(alloc, source, sink, &mut reader, header),
+    }
+}

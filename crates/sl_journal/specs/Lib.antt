@@ -1,0 +1,4 @@
+pub mod JournalLines
+pub mod JournalRuns
+pub mod HeaderTexts
+pub mod Recordings
