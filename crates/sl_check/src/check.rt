@@ -2,14 +2,13 @@
 
 use crate::told::{push_difference, push_front, push_right};
 use sl_io::{Failed, Sink, Source, write_all};
-use sl_journal::{FIRST, Journal};
+use sl_journal::{Journal, Recorded};
 use sl_machine::LockTable;
 use sl_play::PlayError;
 use sl_reader::{LineReader, Next, ReadError, read_header};
 use sl_run::{Header, Refusal};
 use sl_schedule::{Line, push_refusal_line};
 use sl_text::line::split_line;
-use sl_world_state::Daemon;
 use std::alloc::{AllocError, Global};
 
 /// What a check comes to.
@@ -47,7 +46,7 @@ enum Found {
 
 /// A check: the journal as it is made again, and what of its last event's lines was not seen yet.
 #[derive(Drop)]
-struct Check<D: Daemon, L: LockTable> {
+struct Check<D: Recorded, L: LockTable> {
     journal: Journal<D, L>,
     due: Vec<u8>,
     at: usize,
@@ -62,7 +61,7 @@ fn is_same(a: &[u8], b: &[u8]) -> bool
     a == b
 }
 
-impl<D: Daemon, L: LockTable> Check<D, L> {
+impl<D: Recorded, L: LockTable> Check<D, L> {
     /// A line that is due must be this one.
     fn compare(&mut self, text: &[u8]) -> Found
     {
@@ -150,7 +149,7 @@ fn refuse<K: Sink>(alloc: Global, sink: &mut K, number: u64, why: Refusal, whole
 }
 
 /// Puts out that the journal is right.
-fn tell_right<K: Sink, D: Daemon, L: LockTable>(alloc: Global, sink: &mut K, check: &Check<D, L>) -> Checked
+fn tell_right<K: Sink, D: Recorded, L: LockTable>(alloc: Global, sink: &mut K, check: &Check<D, L>) -> Checked
 {
     let mut out = Vec::new(alloc);
     let pushed = push_right(&mut out, check.journal.entries(), check.journal.counts());
@@ -158,7 +157,7 @@ fn tell_right<K: Sink, D: Daemon, L: LockTable>(alloc: Global, sink: &mut K, che
 }
 
 /// Puts out that the journal is right as far as it goes.
-fn tell_front<K: Sink, D: Daemon, L: LockTable>(alloc: Global, sink: &mut K, check: &Check<D, L>) -> Checked
+fn tell_front<K: Sink, D: Recorded, L: LockTable>(alloc: Global, sink: &mut K, check: &Check<D, L>) -> Checked
 {
     let mut out = Vec::new(alloc);
     let pushed = push_front(&mut out, check.seen, check.journal.counts());
@@ -174,7 +173,7 @@ fn tell_difference<K: Sink>(alloc: Global, sink: &mut K, line: &Line, due: &[u8]
 }
 
 /// Nothing may stand behind the last line.
-fn check_end<S: Source, K: Sink, D: Daemon, L: LockTable>(
+fn check_end<S: Source, K: Sink, D: Recorded, L: LockTable>(
     alloc: Global,
     source: &mut S,
     sink: &mut K,
@@ -192,7 +191,7 @@ fn check_end<S: Source, K: Sink, D: Daemon, L: LockTable>(
 }
 
 /// Checks the lines behind the header. A last line without its line feed was cut off, and is not looked at.
-fn check_lines<S: Source, K: Sink, D: Daemon, L: LockTable>(
+fn check_lines<S: Source, K: Sink, D: Recorded, L: LockTable>(
     alloc: Global,
     source: &mut S,
     sink: &mut K,
@@ -224,7 +223,7 @@ fn check_lines<S: Source, K: Sink, D: Daemon, L: LockTable>(
 }
 
 /// Checks what stands behind a header.
-fn check_header<S: Source, K: Sink, D: Daemon, L: LockTable>(
+fn check_header<S: Source, K: Sink, D: Recorded, L: LockTable>(
     alloc: Global,
     source: &mut S,
     sink: &mut K,
@@ -265,7 +264,7 @@ fn begins_with<S: Source>(source: &mut S, front: &[u8]) -> Result<bool, Failed>
 }
 
 /// Reads a journal from the source, and puts out whether it is that of a run of these daemons and locks, or what is wrong.
-pub fn check_journal<S: Source, K: Sink, D: Daemon, L: LockTable>(
+pub fn check_journal<S: Source, K: Sink, D: Recorded, L: LockTable>(
     alloc: Global,
     source: &mut S,
     sink: &mut K,

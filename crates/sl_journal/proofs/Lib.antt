@@ -1,0 +1,4 @@
+pub mod Leads
+pub mod Standing
+pub mod JournalsMade
+pub mod JournalsWritten

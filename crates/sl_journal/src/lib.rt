@@ -20,5 +20,5 @@ mod write;
 
 pub use header_lines::push_header;
 pub use journal::Journal;
-pub use recording::Recording;
-pub use write::{FIRST, journal_schedule};
+pub use recording::{Recorded, Recording};
+pub use write::journal_schedule;

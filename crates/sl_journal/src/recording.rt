@@ -1,12 +1,10 @@
 //! A daemon that is written down.
 
-ghost use Rattle.sl_journal.specs.JournalLines.{news_of};
-ghost use Rattle.sl_journal.specs.JournalRuns.{news_since, steps_since};
+ghost use Rattle.sl_journal.specs.JournalRuns.{is_news};
 ghost use Rattle.sl_journal.specs.Recordings.{IsRecorded};
-ghost use Rattle.sl_text.specs.Forms.{as_bytes};
 ghost use Rattle.sl_trace.specs.Traces.{Setting, Trace};
 ghost use Rattle.sl_world_state.specs.Daemons.{entry_of, read_of};
-ghost use Rattle.std.specs.Prelude.{IfOk, IfSome, length, ◌++◌, ◌∷◌, ◌≡◌};
+ghost use Rattle.std.specs.Prelude.{IfSome, if◌then◌else◌, nat_lt, unwrap_or, ◌∷◌, ◌+◌, ◌≡◌};
 
 use crate::texts::{push_daemon, push_entry, push_read_entry};
 use sl_run::Header;
@@ -35,39 +33,25 @@ fn one_more(entries: u64) -> Option<u64>
     entries.checked_add(1)
 }
 
-impl<D: Daemon> Recording<D> {
-    /// How many entries it has, unless that isn't known.
-    pub(crate) fn entries(&self) -> Option<u64>
-        ensures { (st : Setting) → (es : Trace) → IsRecorded self.now.known self.now.machine self.now.entries self.now.text.items st es
-            → IfSome result (λ n. n ≡ length es) }
-    {
-        if self.known { Some(self.entries) } else { None }
-    }
+/// A daemon that tells what is new of it.
+pub trait Recorded: Daemon {
+    ghost use Rattle.sl_journal.specs.JournalRuns.{news_since, steps_since};
+    ghost use Rattle.sl_text.specs.Forms.{as_bytes};
+    ghost use Rattle.sl_trace.specs.Traces.{Setting, Trace};
+    ghost use Rattle.std.specs.Prelude.{IfOk, IfSome, length, ◌++◌, ◌≡◌};
+
+    /// How many entries it has, unless that isn't known for want of memory.
+    fn entries(&self) -> Option<u64>
+        ensures { (st : Setting) → (es : Trace) → stands self.now st es → IfSome result (λ n. n ≡ length es) };
 
     /// Adds what is new since it had so many entries, or since it had not begun, and tells how many entries that is. An `Err` is want of memory,
     /// now or at some entry.
-    pub(crate) fn push_news(
-        &self,
-        out: &mut Vec<u8>,
-        before: Option<u64>,
-    ) -> Result<u64, AllocError>
-        ensures { (st : Setting) → (es : Trace) → IsRecorded self.now.known self.now.machine self.now.entries self.now.text.items st es
-            → IfOk result (λ n. (out.new.items ≡ out.old.items ++ as_bytes (news_since before st es)) × (n ≡ steps_since before es)) }
-    {
-        if !self.known {
-            return Err(AllocError);
-        }
-        let since = match before {
-            None => 0,
-            Some(entries) => entries,
-        };
-        if before.is_some() && self.entries <= since {
-            return Ok(0);
-        }
-        out.extend_from_slice(&self.text)?;
-        if since < self.entries { Ok(1) } else { Ok(0) }
-    }
+    fn push_news(&self, out: &mut Vec<u8>, before: Option<u64>) -> Result<u64, AllocError>
+        ensures { (st : Setting) → (es : Trace) → stands self.now st es
+            → IfOk result (λ n. (out.new.items ≡ out.old.items ++ as_bytes (news_since before st es)) × (n ≡ steps_since before es)) };
+}
 
+impl<D: Daemon> Recording<D> {
     /// One more entry, of a step at this reading.
     fn note(&mut self, now: u64, input: &Input, effects: &Effects)
         ensures daemon { self.new.daemon ≡ self.old.daemon }
@@ -160,5 +144,42 @@ impl<D: Daemon> Daemon for Recording<D> {
         let effects = self.daemon.read(now, call, sectors)?;
         self.note_read(now, call, sectors, &effects);
         Ok(effects)
+    }
+}
+
+/// Whether more entries are there than there were before, where some were.
+fn is_news(before: Option<u64>, entries: u64) -> bool
+    ensures { result ≡ is_news before entries }
+{
+    match before {
+        None => true,
+        Some(since) => since < entries,
+    }
+}
+
+/// How many entries there are more than before: one or none.
+fn steps_of(before: Option<u64>, entries: u64) -> u64
+    ensures { result ≡ (if nat_lt (unwrap_or before 0) entries then 1 else 0) }
+{
+    let since = match before {
+        None => 0,
+        Some(since) => since,
+    };
+    if since < entries { 1 } else { 0 }
+}
+
+impl<D: Daemon> Recorded for Recording<D> {
+    fn entries(&self) -> Option<u64> {
+        if self.known { Some(self.entries) } else { None }
+    }
+
+    fn push_news(&self, out: &mut Vec<u8>, before: Option<u64>) -> Result<u64, AllocError> {
+        if !self.known {
+            return Err(AllocError);
+        }
+        if is_news(before, self.entries) {
+            out.extend_from_slice(&self.text)?;
+        }
+        Ok(steps_of(before, self.entries))
     }
 }
