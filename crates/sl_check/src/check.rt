@@ -1,14 +1,28 @@
 //! A journal is checked.
 
-use crate::told::{push_difference, push_front, push_right};
-use sl_io::{Failed, Sink, Source, write_all};
+ghost use Rattle.sl_check.specs.Checks.{ChecksJournal, Finds, HasSeen, Passes, RightJournal, check_state, ok_line, run_line};
+ghost use Rattle.sl_check.specs.declared.check.Checked.TheVariants as checked;
+ghost use Rattle.sl_io.specs.FaultCauses.{Rose};
+ghost use Rattle.sl_journal.specs.JournalPlays.{IsPlaying};
+ghost use Rattle.sl_play.specs.Replays.{MayPlay};
+ghost use Rattle.sl_reader.specs.HeaderBegins.{HeaderBegins};
+ghost use Rattle.sl_reader.specs.LineReads.{EndStands};
+ghost use Rattle.sl_run.specs.Headers.{IsHeader};
+ghost use Rattle.sl_run.specs.declared.header.Header.{Header as HeaderOf};
+ghost use Rattle.sl_schedule.specs.Lines.{line_seen};
+ghost use Rattle.sl_world_state.specs.SaneWorlds.{ReadsCommands};
+ghost use Rattle.std.specs.Io.KnownBytes.{Consumes};
+ghost use Rattle.std.specs.Prelude.{IfOk, List, OnOk, Option, [], drop, length, true, ℕ, ◌++◌, ◌+◌, ◌<◌, ◌∷◌, ◌≡◌};
+
+use crate::told::{put, push_difference, push_front, push_right, refuse};
+use sl_io::{Failed, Sink, Source};
 use sl_journal::{Journal, Recorded};
 use sl_machine::LockTable;
 use sl_play::PlayError;
 use sl_reader::{LineReader, Next, ReadError, read_header};
 use sl_run::{Header, Refusal};
-use sl_schedule::{Line, push_refusal_line};
-use sl_text::line::split_line;
+use sl_schedule::Line;
+use sl_text::same::is_same;
 use std::alloc::{AllocError, Global};
 
 /// What a check comes to.
@@ -31,6 +45,7 @@ pub enum Checked {
 }
 
 /// What a line is found to be.
+#[derive(Clone, Copy)]
 enum Found {
     /// The line that is due.
     Due,
@@ -44,6 +59,18 @@ enum Found {
     Misread(Refusal),
 }
 
+/// Whether what is due begins with this line.
+fn passes(rest: &[u8], text: &[u8]) -> bool
+    ensures cut { result ≡ true → rest.now ≡ text.now ++ 10 ∷ drop (length text.now + 1) rest.now }
+    ensures within { result ≡ true → length text.now < length rest.now }
+{
+    if rest.len() <= text.len() {
+        return false;
+    }
+    let (front, behind) = rest.split_at(text.len());
+    is_same(front, text) && behind[0] == b'\n'
+}
+
 /// A check: the journal as it is made again, and what of its last event's lines was not seen yet.
 #[derive(Drop)]
 struct Check<D: Recorded, L: LockTable> {
@@ -52,37 +79,35 @@ struct Check<D: Recorded, L: LockTable> {
     at: usize,
     /// How many entries were seen whole.
     seen: u64,
-    last: Vec<u8>,
-}
-
-/// Whether these are the same bytes.
-fn is_same(a: &[u8], b: &[u8]) -> bool
-{
-    a == b
 }
 
 impl<D: Recorded, L: LockTable> Check<D, L> {
-    /// A line that is due must be this one.
-    fn compare(&mut self, text: &[u8]) -> Found
+    /// Whether a line is due.
+    fn is_due(&self) -> bool {
+        self.at < self.due.len()
+    }
+
+    /// The line that is due must be this one.
+    fn compare(&mut self, text: &[u8]) -> bool
+        ensures { result ≡ true → Passes text.now (check_state L.locks self.old) (check_state L.locks self.new) }
     {
-        let (_, rest) = self.due.split_at(self.at);
-        match split_line(rest) {
-            None => Found::Other,
-            Some((line, behind)) => {
-                if !is_same(line, text) {
-                    return Found::Other;
-                }
-                self.at = self.due.len() - behind.len();
-                if behind.is_empty() {
-                    self.seen = self.journal.entries();
-                }
-                Found::Due
-            }
+        if self.due.len() <= self.at {
+            return false;
         }
+        let (_, rest) = self.due.split_at(self.at);
+        if !passes(rest, text) {
+            return false;
+        }
+        self.at = self.at + text.len() + 1;
+        if self.at == self.due.len() {
+            self.seen = self.journal.entries();
+        }
+        true
     }
 
     /// Whether the line is the last one.
-    fn is_last(&mut self, text: &[u8]) -> Result<bool, AllocError>
+    fn is_last(&self, text: &[u8]) -> Result<bool, AllocError>
+        ensures { IfOk result (λ last. last ≡ true → text.now ≡ end_line (check_state L.locks self.now).journal.entries) }
     {
         let line = format!(in *self.due.allocator(); "end {}", self.journal.entries())?;
         Ok(is_same(line.as_bytes(), text))
@@ -90,8 +115,11 @@ impl<D: Recorded, L: LockTable> Check<D, L> {
 
     /// Takes a line where none is due: the last one, or an event's.
     fn begin(&mut self, line: &Line) -> Result<Found, PlayError>
+        requires { IsPlaying D.commands D.stands (check_state L.locks self.old).journal }
+        ensures { IfOk result (Finds D.commands D.stands (line_seen line.now) (record (check_state L.locks self.old) { due = [] }) (check_state L.locks self.new)) }
     {
         if self.is_last(line.text)? {
+            self.due.clear();
             return Ok(Found::Last);
         }
         self.due.clear();
@@ -100,26 +128,35 @@ impl<D: Recorded, L: LockTable> Check<D, L> {
             Some(Refusal::Syntax) => Ok(Found::Misread(Refusal::Syntax)),
             Some(why) => Ok(Found::Barred(why)),
             None => {
-                if self.due.is_empty() {
-                    return Ok(Found::Misread(Refusal::Syntax));
+                if self.compare(line.text) {
+                    Ok(Found::Due)
+                } else {
+                    Ok(Found::Misread(Refusal::Syntax))
                 }
-                Ok(self.compare(line.text))
             }
         }
     }
 
     /// Takes a line.
     fn take(&mut self, line: &Line) -> Result<Found, PlayError>
+        requires { IsPlaying D.commands D.stands (check_state L.locks self.old).journal }
+        ensures { IfOk result (Finds D.commands D.stands (line_seen line.now) (check_state L.locks self.old) (check_state L.locks self.new)) }
     {
-        if self.at < self.due.len() {
-            return Ok(self.compare(line.text));
+        if !self.is_due() {
+            return self.begin(line);
         }
-        self.begin(line)
+        if self.compare(line.text) {
+            Ok(Found::Due)
+        } else {
+            Ok(Found::Other)
+        }
     }
 
     /// The line that is due, if one is.
-    fn due_line(&self) -> &[u8]
-    {
+    fn due_line(&self) -> &[u8] {
+        if self.due.len() <= self.at {
+            return b"-";
+        }
         let (_, rest) = self.due.split_at(self.at);
         match split_line(rest) {
             None => b"-",
@@ -128,45 +165,22 @@ impl<D: Recorded, L: LockTable> Check<D, L> {
     }
 }
 
-/// Puts out a text that stands, or found no memory.
-fn put<K: Sink>(sink: &mut K, pushed: Result<(), AllocError>, text: &[u8], whole: Checked) -> Checked
-{
-    match pushed {
-        Err(_) => Checked::NoMemory,
-        Ok(()) => match write_all(sink, text) {
-            Ok(()) => whole,
-            Err(_) => Checked::WriteFault,
-        },
-    }
-}
-
-/// Puts out the line of a refusal: the journal's first line stands before those that were counted.
-fn refuse<K: Sink>(alloc: Global, sink: &mut K, number: u64, why: Refusal, whole: Checked) -> Checked
-{
-    let mut out = Vec::new(alloc);
-    let pushed = push_refusal_line(&mut out, number.saturating_add(1), why);
-    put(sink, pushed, &out, whole)
-}
-
 /// Puts out that the journal is right.
-fn tell_right<K: Sink, D: Recorded, L: LockTable>(alloc: Global, sink: &mut K, check: &Check<D, L>) -> Checked
-{
+fn tell_right<K: Sink, D: Recorded, L: LockTable>(alloc: Global, sink: &mut K, check: &Check<D, L>) -> Checked {
     let mut out = Vec::new(alloc);
     let pushed = push_right(&mut out, check.journal.entries(), check.journal.counts());
     put(sink, pushed, &out, Checked::Same)
 }
 
 /// Puts out that the journal is right as far as it goes.
-fn tell_front<K: Sink, D: Recorded, L: LockTable>(alloc: Global, sink: &mut K, check: &Check<D, L>) -> Checked
-{
+fn tell_front<K: Sink, D: Recorded, L: LockTable>(alloc: Global, sink: &mut K, check: &Check<D, L>) -> Checked {
     let mut out = Vec::new(alloc);
-    let pushed = push_front(&mut out, check.seen, check.journal.counts());
+    let pushed = push_front(&mut out, check.seen);
     put(sink, pushed, &out, Checked::BreaksOff)
 }
 
 /// Puts out how a line differs.
-fn tell_difference<K: Sink>(alloc: Global, sink: &mut K, line: &Line, due: &[u8]) -> Checked
-{
+fn tell_difference<K: Sink>(alloc: Global, sink: &mut K, line: &Line, due: &[u8]) -> Checked {
     let mut out = Vec::new(alloc);
     let pushed = push_difference(&mut out, line.number.saturating_add(1), line.text, due);
     put(sink, pushed, &out, Checked::Differs)
@@ -179,8 +193,7 @@ fn check_end<S: Source, K: Sink, D: Recorded, L: LockTable>(
     sink: &mut K,
     reader: &mut LineReader,
     check: &Check<D, L>,
-) -> Checked
-{
+) -> Checked {
     match reader.read_line(source) {
         Err(ReadError::Failed) => Checked::ReadFault,
         Err(ReadError::NoMemory) => Checked::NoMemory,
@@ -197,8 +210,7 @@ fn check_lines<S: Source, K: Sink, D: Recorded, L: LockTable>(
     sink: &mut K,
     reader: &mut LineReader,
     check: &mut Check<D, L>,
-) -> Checked
-{
+) -> Checked {
     loop {
         match reader.read_line(source) {
             Err(ReadError::Failed) => return Checked::ReadFault,
@@ -230,6 +242,8 @@ fn check_header<S: Source, K: Sink, D: Recorded, L: LockTable>(
     reader: &mut LineReader,
     header: Header,
 ) -> Checked
+    requires header { IsHeader header × ReadsCommands D.commands header }
+    requires ends { EndStands (S.left source.old) reader.old }
 {
     let journal = match Journal::<D, L>::new(alloc, header) {
         Err(_) => return Checked::NoMemory,
@@ -245,14 +259,12 @@ fn check_header<S: Source, K: Sink, D: Recorded, L: LockTable>(
         due,
         at: 0,
         seen: 0,
-        last: Vec::new(alloc),
     };
     check_lines(alloc, source, sink, reader, &mut check)
 }
 
 /// Whether the source begins with these bytes; they are read, and no more of it.
-fn begins_with<S: Source>(source: &mut S, front: &[u8]) -> Result<bool, Failed>
-{
+fn begins_with<S: Source>(source: &mut S, front: &[u8]) -> Result<bool, Failed> {
     for byte in front {
         let mut one = [0u8; 1];
         let count = source.read(&mut one)?;
@@ -269,6 +281,7 @@ pub fn check_journal<S: Source, K: Sink, D: Recorded, L: LockTable>(
     source: &mut S,
     sink: &mut K,
 ) -> Checked
+    requires { MayPlay D.commands }
 {
     match begins_with(source, b"journal 2\n") {
         Err(_) => return Checked::ReadFault,

@@ -360,6 +360,8 @@ impl<'a> Placing<'a> {
 #[derive(Drop)]
 pub(crate) enum Met<'a> {
     Replay,
+    Journal,
+    Check,
     Generate(Seeding<'a>),
     Direct(Given<'a>),
     Live(Placing<'a>),
@@ -377,6 +379,10 @@ fn met_named<'a>(name: &str, matches: &ArgMatches<'a>) -> Option<Met<'a>>
         Some(Met::Direct(Given::new(matches)))
     } else if name == "live" {
         Some(Met::Live(Placing::new(matches)))
+    } else if name == "journal" {
+        Some(Met::Journal)
+    } else if name == "check" {
+        Some(Met::Check)
     } else {
         None
     }

@@ -1,0 +1,92 @@
+-- What is found of a journal.
+use Rattle.sl_check.specs.declared.check.Check.{Check}
+use Rattle.sl_check.specs.declared.check.Checked.TheVariants.{BreaksOff, ReadFault, Same, WriteFault}
+use Rattle.sl_check.specs.declared.check.Checked.{Checked}
+use Rattle.sl_check.specs.declared.check.Found.TheVariants.{Due, Last}
+use Rattle.sl_check.specs.declared.check.Found.{Found}
+use Rattle.sl_io.specs.FaultCauses.{Rose}
+use Rattle.sl_journal.specs.JournalLines.{end_line, first_line}
+use Rattle.sl_journal.specs.JournalPlays.{GoesOn, JournalState, journal_state}
+use Rattle.sl_journal.specs.JournalRuns.{first_news, run_news, run_steps, texts_of}
+use Rattle.sl_journal.specs.JournalWrites.{HasPlayed, HasTaken}
+use Rattle.sl_play.specs.Plays.{PlaysOn}
+use Rattle.sl_play.specs.Replays.{Moved, played_language}
+use Rattle.sl_reader.specs.LineReads.{ReaderState}
+use Rattle.sl_report.specs.Languages.{Language}
+use Rattle.sl_report.specs.OwedReports.{IsFrontOf, Promise}
+use Rattle.sl_report.specs.Reports.{Counts, no_counts, run_counts}
+use Rattle.sl_report.specs.Schedules.{At_end, Follows, FollowsSoFar, Header_read, NumberedLine, event_lines_of, numbered_lines, read_header}
+use Rattle.sl_run.specs.Locks.{Locks}
+use Rattle.sl_run.specs.Runs.{Happening}
+use Rattle.sl_run.specs.Worlds.{World, world_with}
+use Rattle.sl_run.specs.declared.header.Header.{Header}
+use Rattle.sl_sound.specs.MadeRuns.{MadeRun}
+use Rattle.sl_text.specs.Forms.{Form, as_bytes, spaced}
+use Rattle.sl_trace.specs.Traces.{Setting, Trace}
+use Rattle.sl_trace.specs.declared.command.Command.{Command}
+use Rattle.sl_world_state.specs.Daemons.{program_of}
+use Rattle.std.specs.Prelude.{Bool, List, Option, [], codes, decimal, drop, map, true, ℕ, ◌++◌, ◌∷◌, ◌≡◌}
+
+-- ---- what is told
+
+abbrev pub ok_line : ℕ → List ℕ
+ok_line entries = spaced (codes "journal" ∷ decimal entries ∷ codes "ok" ∷ [])
+
+abbrev pub front_line : ℕ → List ℕ
+front_line entries = spaced (codes "journal" ∷ decimal entries ∷ codes "so" ∷ codes "far" ∷ [])
+
+-- How many events there were, and how many of their grants left a conflict.
+abbrev pub run_line : Counts → List ℕ
+run_line k = spaced (codes "run" ∷ decimal k.events ∷ codes "conflicts" ∷ decimal k.conflicts ∷ [])
+
+-- ---- journals that are right
+
+-- The texts of lines.
+abbrev pub row_texts : List NumberedLine → List (List ℕ)
+row_texts ls = map (λ l. l.text) ls
+
+-- Behind its first line, these bytes have a header and lines that are just those of a run of which this is promised: each event's own line, and behind
+-- it what it brought; and last how many entries there are. So much is told of it.
+pub record RightJournal (promised : Promise) (lang : Language) (source written : List ℕ) : Type 0 where
+  pub body : List ℕ
+  pub first : source ≡ first_line ++ 10 ∷ body
+  pub header : Header
+  pub rows : List NumberedLine
+  pub read : read_header lang [] 1 (numbered_lines body) ≡ Header_read header rows
+  -- the events' own lines, and the run
+  pub own : List NumberedLine
+  pub xs : List Happening
+  pub follows : Follows (world_with lang.program header) (event_lines_of lang header own) xs At_end
+  pub made : promised lang.program header xs
+  pub text : as_bytes (row_texts rows) ≡ as_bytes (first_news (world_with lang.program header) ++ run_news (world_with lang.program header) (texts_of lang own) xs
+      ++ end_line (run_steps (world_with lang.program header) xs) ∷ [])
+  pub told : written ≡ as_bytes (ok_line (run_steps (world_with lang.program header) xs) ∷ run_line (run_counts (world_with lang.program header) no_counts xs) ∷ [])
+
+-- ---- within the lines behind a header
+
+-- The journal as it is made again, and what of it is due next.
+pub record CheckState (D : Type 0) : Type 0 where
+  pub journal : JournalState D
+  pub due : List ℕ
+
+abbrev pub check_state : {D L : Type 0} → {d : _} → {l : _} → (L → Locks) → Check D L d l → CheckState D
+check_state locks c = record { journal = journal_state locks c.journal; due = drop c.at c.due.items }
+
+-- These rows were read, and what was seen of the run's lines with what is due next is all that the run brought.
+pub record HasSeen {D : Type 0} (commands : Header → List (Form Command)) (stands : D → Setting → Trace → Type 0) (h : Header) (first left : Option (List ℕ)) (r : ReaderState)
+    (c : CheckState D) : Type 0 where
+  pub played : HasPlayed commands stands h c.journal
+  pub rows : List NumberedLine → List NumberedLine
+  pub read : HasTaken commands h first left r rows
+  pub seen : List ℕ
+  pub texts : (rest : List NumberedLine) → as_bytes (row_texts (rows rest)) ≡ seen ++ as_bytes (row_texts rest)
+  pub due : seen ++ c.due ≡ as_bytes (first_news (world_with (program_of commands) h)) ++ played.bytes
+
+-- A line is the one that is due: what is due is cut by it. Or it begins what its event brought.
+pub record Passes {D : Type 0} (text : List ℕ) (c n : CheckState D) : Type 0 where
+  pub same : n.journal ≡ c.journal
+  pub due : c.due ≡ text ++ 10 ∷ n.due
+
+pub record Starts {D : Type 0} (commands : Header → List (Form Command)) (stands : D → Setting → Trace → Type 0) (w : World) (c : CheckState D) (l : NumberedLine) (n : CheckState D) : Type 0 where
+  pub none : c.due ≡ []
+  pub goes : GoesOn commands stands w c.journal (λ rest. l ∷ rest) [] n.journal (l.text ++ 10 ∷ n.due)
