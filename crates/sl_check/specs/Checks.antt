@@ -25,7 +25,7 @@ use Rattle.sl_text.specs.Forms.{Form, as_bytes, spaced}
 use Rattle.sl_trace.specs.Traces.{Setting, Trace}
 use Rattle.sl_trace.specs.declared.command.Command.{Command}
 use Rattle.sl_world_state.specs.Daemons.{program_of}
-use Rattle.std.specs.Prelude.{Bool, List, Option, [], codes, decimal, drop, map, true, ℕ, ◌++◌, ◌∷◌, ◌≡◌}
+use Rattle.std.specs.Prelude.{Bool, List, Option, [], codes, decimal, drop, length, map, true, ℕ, ◌++◌, ◌∷◌, ◌≡◌, ◌≤◌, ◌⊎◌}
 
 -- ---- what is told
 
@@ -62,6 +62,21 @@ pub record RightJournal (promised : Promise) (lang : Language) (source written :
       ++ end_line (run_steps (world_with lang.program header) xs) ∷ [])
   pub told : written ≡ as_bytes (ok_line (run_steps (world_with lang.program header) xs) ∷ run_line (run_counts (world_with lang.program header) no_counts xs) ∷ [])
 
+-- It breaks off: so far it is that of a run, but for a last line that may be cut.
+pub record FrontJournal (promised : Promise) (lang : Language) (source : List ℕ) : Type 0 where
+  pub body : List ℕ
+  pub first : source ≡ first_line ++ 10 ∷ body
+  pub header : Header
+  pub rows : List NumberedLine
+  pub cut : List NumberedLine
+  pub read : read_header lang [] 1 (numbered_lines body) ≡ Header_read header (rows ++ cut)
+  pub few : length cut ≤ 1
+  pub own : List NumberedLine
+  pub xs : List Happening
+  pub follows : FollowsSoFar (world_with lang.program header) (event_lines_of lang header own) xs
+  pub made : promised lang.program header xs
+  pub text : IsFrontOf (as_bytes (row_texts rows)) (as_bytes (first_news (world_with lang.program header) ++ run_news (world_with lang.program header) (texts_of lang own) xs))
+
 -- ---- within the lines behind a header
 
 -- The journal as it is made again, and what of it is due next.
@@ -90,3 +105,20 @@ pub record Passes {D : Type 0} (text : List ℕ) (c n : CheckState D) : Type 0 w
 pub record Starts {D : Type 0} (commands : Header → List (Form Command)) (stands : D → Setting → Trace → Type 0) (w : World) (c : CheckState D) (l : NumberedLine) (n : CheckState D) : Type 0 where
   pub none : c.due ≡ []
   pub goes : GoesOn commands stands w c.journal (λ rest. l ∷ rest) [] n.journal (l.text ++ 10 ∷ n.due)
+
+-- What a line is found to be: the one that is due, or one that begins what its event brought; or the last one.
+abbrev pub Finds : {D : Type 0} → (Header → List (Form Command)) → (D → Setting → Trace → Type 0) → NumberedLine → CheckState D → CheckState D → Found → Type 0
+Finds commands stands l c n Due = Passes l.text c n ⊎ ((w : World) → PlaysOn commands stands c.journal.play w → Starts commands stands w c l n)
+Finds commands stands l c n Last = (c.due ≡ []) × (n ≡ c) × (l.text ≡ end_line c.journal.entries)
+Finds commands stands l c n f = Unit {0}
+
+-- ---- what is owed
+
+-- What was read and told, by what the check came to.
+pub record ChecksJournal {D : Type 0} (commands : Header → List (Form Command)) (stands : D → Setting → Trace → Type 0) (left after taken now : Option (List ℕ))
+    (faults later sink_faults sink_later : ℕ) (s : Checked) : Type 0 where
+  pub moved : Moved left after taken now
+  pub right : s ≡ Same → (moved.ended ≡ true) × RightJournal (λ p h xs. MadeRun stands p h xs) (played_language commands) moved.read moved.written
+  pub front : s ≡ BreaksOff → FrontJournal (λ p h xs. MadeRun stands p h xs) (played_language commands) moved.read
+  pub read_fault : s ≡ ReadFault → Rose faults later
+  pub write_fault : s ≡ WriteFault → Rose sink_faults sink_later

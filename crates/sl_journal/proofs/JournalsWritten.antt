@@ -43,7 +43,7 @@ use Rattle.std.specs.Prelude.{Err, IsTrue, List, None, Option, Some, true, [], �
 -- ---- the text of what was played
 
 -- What was written is the journal of what was played, up to there.
-text_here : {D : Type 0} (commands : Header → List (Form Command)) (stands : D → Setting → Trace → Type 0) (h : Header) (p : JournalState D) (x : HasPlayed commands stands h p)
+pub text_here : {D : Type 0} (commands : Header → List (Form Command)) (stands : D → Setting → Trace → Type 0) (h : Header) (p : JournalState D) (x : HasPlayed commands stands h p)
     (rest : List NumberedLine) → as_bytes (journal_lines (world_with (program_of commands) h) h (texts_of (played_language commands) (x.lines rest)) (x.leads.before []))
     ≡ as_bytes (first_lines (world_with (program_of commands) h) h) ++ x.bytes
 text_here commands stands h p x rest =
@@ -54,12 +54,12 @@ text_here commands stands h p x rest =
 plus_none : (a b : ℕ) → a ≡ b + 0 → a ≡ b
 plus_none a b is = omega (arith, is)
 
-steps_here : {D : Type 0} (commands : Header → List (Form Command)) (stands : D → Setting → Trace → Type 0) (h : Header) (p : JournalState D) (x : HasPlayed commands stands h p)
+pub steps_here : {D : Type 0} (commands : Header → List (Form Command)) (stands : D → Setting → Trace → Type 0) (h : Header) (p : JournalState D) (x : HasPlayed commands stands h p)
     → run_steps (world_with (program_of commands) h) (x.leads.before []) ≡ p.entries
 steps_here commands stands h p x = plus_none (run_steps (world_with (program_of commands) h) (x.leads.before [])) p.entries (x.leads.count [])
 
 -- Its run is made of such daemons.
-made_here : {D : Type 0} (commands : Header → List (Form Command)) (stands : D → Setting → Trace → Type 0) (h : Header) (p : JournalState D) (x : HasPlayed commands stands h p)
+pub made_here : {D : Type 0} (commands : Header → List (Form Command)) (stands : D → Setting → Trace → Type 0) (h : Header) (p : JournalState D) (x : HasPlayed commands stands h p)
     → MadeRun stands (program_of commands) h (x.leads.before [])
 made_here commands stands h p x =
     record {
@@ -97,7 +97,7 @@ far w [] = tt
 far w (l ∷ ls) = tt
 
 -- What was written, or a front of it, begins the journal.
-front_here : {D : Type 0} (commands : Header → List (Form Command)) (stands : D → Setting → Trace → Type 0) (h : Header) (p : JournalState D) (x : HasPlayed commands stands h p)
+pub front_here : {D : Type 0} (commands : Header → List (Form Command)) (stands : D → Setting → Trace → Type 0) (h : Header) (p : JournalState D) (x : HasPlayed commands stands h p)
     (source written : List ℕ) (rest : List NumberedLine) → read_header (played_language commands) [] 1 (numbered_lines source) ≡ Header_read h (x.lines rest)
     → IsFrontOf written (as_bytes (first_lines (world_with (program_of commands) h) h) ++ x.bytes)
     → JournalFront (λ q g xs. MadeRun stands q g xs) (played_language commands) source written
@@ -296,7 +296,7 @@ refused_out {D} commands stands h first before after taken since now faults late
 -- ---- a line is read
 
 -- What follows what is left of a piece.
-left_follows : (after : Option (List ℕ)) (n : ReaderState) (rest : List ℕ) → EndStands after n → MayFollow n.ended rest → MayFollow n.ended (n.left ++ rest)
+pub left_follows : (after : Option (List ℕ)) (n : ReaderState) (rest : List ℕ) → EndStands after n → MayFollow n.ended rest → MayFollow n.ended (n.left ++ rest)
 left_follows after n rest ends follows = λ is. ap (λ b. b ++ rest) (ends.none is) ∙ follows is
 
 -- What was played with one line more.
