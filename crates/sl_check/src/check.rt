@@ -11,6 +11,7 @@ ghost use Rattle.sl_run.specs.Headers.{IsHeader};
 ghost use Rattle.sl_run.specs.declared.header.Header.{Header as HeaderOf};
 ghost use Rattle.sl_schedule.specs.Lines.{line_seen};
 ghost use Rattle.sl_world_state.specs.SaneWorlds.{ReadsCommands};
+ghost use Rattle.sl_journal.specs.JournalLines.{end_line};
 ghost use Rattle.std.specs.Io.KnownBytes.{Consumes};
 ghost use Rattle.std.specs.Prelude.{IfOk, List, OnOk, Option, [], drop, length, true, ℕ, ◌++◌, ◌+◌, ◌<◌, ◌∷◌, ◌≡◌};
 
@@ -22,6 +23,7 @@ use sl_play::PlayError;
 use sl_reader::{LineReader, Next, ReadError, read_header};
 use sl_run::{Header, Refusal};
 use sl_schedule::Line;
+use sl_text::line::split_line;
 use sl_text::same::is_same;
 use std::alloc::{AllocError, Global};
 

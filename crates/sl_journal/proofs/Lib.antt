@@ -2,3 +2,4 @@ pub mod Leads
 pub mod Standing
 pub mod JournalsMade
 pub mod JournalsWritten
+pub mod JournalsGrow
