@@ -5,3 +5,4 @@ pub mod GenLaws
 pub mod OweLaws
 pub mod StatusLaws
 pub mod LiveLaws
+pub mod JournalLaws

@@ -1,5 +1,5 @@
 -- What a run owes where there was no memory for its words: nothing was read, and nothing written.
-use Rattle.sl_cli.specs.declared.command_words.Words.TheVariants.{Direct, Generate, Help, Live, Replay, Version}
+use Rattle.sl_cli.specs.declared.command_words.Words.TheVariants.{Check, Direct, Generate, Help, Journal, Live, Replay, Version}
 use Rattle.sl_cli.specs.declared.command_words.Words.{Words}
 use Rattle.sl_report.specs.GeneratedSchedules.{gen_lines}
 use Rattle.sl_run.specs.Worlds.{whole_program}
@@ -7,6 +7,7 @@ use Rattle.sl_text.specs.Forms.{as_bytes}
 use Rattle.sl_top.proofs.DirectLaws.{not_begun}
 use Rattle.sl_top.proofs.LiveLaws.{never_run}
 use Rattle.sl_top.proofs.RunLaws.{nothing_put, unread}
+use Rattle.sl_top.proofs.JournalLaws.{unchecked, unwritten}
 use Rattle.sl_top.proofs.TopLaws.{none_written}
 use Rattle.sl_top.specs.Runs.{Generates, Outside, Owes, PutsOut, bad_words_text}
 use Rattle.sl_top.specs.declared.status.Status.TheVariants.{Done, NoMemory}
@@ -30,6 +31,8 @@ none_generated seed hosts events paired taken faults =
 pub nothing_done : (w : Option Words) (x : Outside) → Owes w x x NoMemory
 nothing_done None x = nothing_told x.taken x.sink_faults bad_words_text _
 nothing_done (Some Replay) x = unread x.left x.source_faults x.taken x.sink_faults
+nothing_done (Some Journal) x = unwritten x.left x.source_faults x.taken x.sink_faults
+nothing_done (Some Check) x = unchecked x.left x.source_faults x.taken x.sink_faults
 nothing_done (Some (Generate seed hosts events paired)) x = none_generated seed hosts events paired x.taken x.sink_faults
 nothing_done (Some (Direct a)) x = not_begun a x.disks x.device_faults x.taken x.sink_faults
 nothing_done (Some (Live folder anew keeps events)) x = never_run folder (record { anew = anew; keeps = keeps; events = events }) x

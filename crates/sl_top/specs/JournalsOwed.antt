@@ -1,11 +1,13 @@
 -- What a journal that is written owes, and one that is checked.
 use Rattle.sl_check.specs.Checks.{FrontJournal, RightJournal}
+use Rattle.sl_check.specs.declared.check.Checked.{Checked}
 use Rattle.sl_headline.specs.PromisedRuns.{PromisedRun}
 use Rattle.sl_io.specs.FaultCauses.{Rose}
 use Rattle.sl_journal.specs.Journals.{JournalFront, JournalOf}
+use Rattle.sl_play.specs.declared.replay.Played.{Played}
 use Rattle.sl_report.specs.Languages.{whole_language}
 use Rattle.sl_report.specs.OwedReports.{MayHaveBeen, is_whole_status}
-use Rattle.sl_top.specs.Statuses.{code}
+use Rattle.sl_top.specs.Statuses.{code, status_of, status_of_check}
 use Rattle.sl_top.specs.declared.status.Status.TheVariants.{BreaksOff, Done, ReadFault, WriteFault}
 use Rattle.sl_top.specs.declared.status.Status.{Status}
 use Rattle.std.specs.Io.KnownBytes.{Appends, Consumes, IsAtEnd}
@@ -22,6 +24,8 @@ pub record Moves (left after taken now : Option (List ℕ)) : Type 0 where
 
 -- What is written is the journal of a run as it is promised, or, by the status, a front of it.
 pub record WritesJournal (left after : Option (List ℕ)) (faults later : ℕ) (taken now : Option (List ℕ)) (sink_faults sink_later : ℕ) (s : Status) : Type 0 where
+  pub ended : Played
+  pub status : s ≡ status_of ended
   pub moved : Moves left after taken now
   pub whole : IsTrue (is_whole_status (code s)) → (source : List ℕ) → MayHaveBeen moved.ended moved.read source → JournalOf PromisedRun whole_language source moved.written (code s)
   pub front : (source : List ℕ) → MayHaveBeen moved.ended moved.read source → JournalFront PromisedRun whole_language source moved.written
@@ -31,6 +35,8 @@ pub record WritesJournal (left after : Option (List ℕ)) (faults later : ℕ) (
 
 -- At status 0 what was read is the journal of a run as it is promised, to its last line; at 9 it is so as far as it goes.
 pub record ChecksJournal (left after : Option (List ℕ)) (faults later : ℕ) (taken now : Option (List ℕ)) (sink_faults sink_later : ℕ) (s : Status) : Type 0 where
+  pub ended : Checked
+  pub status : s ≡ status_of_check ended
   pub moved : Moves left after taken now
   pub to_end : s ≡ Done → moved.ended ≡ true
   pub right : s ≡ Done → RightJournal PromisedRun whole_language moved.read moved.written

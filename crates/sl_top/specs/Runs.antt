@@ -1,6 +1,6 @@
 -- What a run of the program owes: by what its words say, what it read and wrote, what it left on the disks, and its status.
 use Rattle.sl_cli.specs.CommandWords.{said_in}
-use Rattle.sl_cli.specs.declared.command_words.Words.TheVariants.{Direct, Generate, Help, Live, Replay, Version}
+use Rattle.sl_cli.specs.declared.command_words.Words.TheVariants.{Check, Direct, Generate, Help, Journal, Live, Replay, Version}
 use Rattle.sl_cli.specs.declared.command_words.Words.{Words}
 use Rattle.sl_cli.specs.declared.texts.TheConstants.{HELP, VERSION}
 use Rattle.sl_direct.specs.Actions.{Directs, path_of}
@@ -20,6 +20,7 @@ use Rattle.sl_live_play.specs.declared.play.Manner.{Manner}
 use Rattle.sl_outside.specs.Disks.{CountsBack, Disks, KeepsAllBut}
 use Rattle.sl_run.specs.Worlds.{whole_program}
 use Rattle.sl_text.specs.Forms.{as_bytes}
+use Rattle.sl_top.specs.JournalsOwed.{ChecksJournal, WritesJournal}
 use Rattle.sl_top.specs.Statuses.{code, status_after, status_of_live}
 use Rattle.sl_top.specs.declared.status.Status.TheVariants.{BadWords, Done, NoMemory, ReadFault, WriteFault}
 use Rattle.sl_top.specs.declared.status.Status.{Status}
@@ -130,6 +131,8 @@ pub record RunsLive (folder : List ℕ) (manner : Manner) (x y : Outside) (s : S
 abbrev pub Owes : Option Words → Outside → Outside → Status → Type 0
 Owes None x y s = Tells bad_words_text BadWords x y s
 Owes (Some Replay) x y s = Replays x.left y.left x.source_faults y.source_faults x.taken y.taken x.sink_faults y.sink_faults s
+Owes (Some Journal) x y s = WritesJournal x.left y.left x.source_faults y.source_faults x.taken y.taken x.sink_faults y.sink_faults s
+Owes (Some Check) x y s = ChecksJournal x.left y.left x.source_faults y.source_faults x.taken y.taken x.sink_faults y.sink_faults s
 Owes (Some (Generate seed hosts events paired)) x y s = Generates seed hosts events paired x.taken y.taken x.sink_faults y.sink_faults s
 Owes (Some (Direct a)) x y s = ActsOn a x.disks y.disks x.device_faults y.device_faults x.taken y.taken x.sink_faults y.sink_faults s
 Owes (Some (Live folder anew keeps events)) x y s = RunsLive folder (record { anew = anew; keeps = keeps; events = events }) x y s
@@ -139,6 +142,10 @@ Owes (Some Version) x y s = Tells VERSION.now Done x y s
 -- Only the words that need it touch the source, and the devices.
 abbrev pub IsReplay : Option Words → Type 0
 IsReplay w = w ≡ Some Replay
+
+-- A journal is to be written, or to be checked.
+abbrev pub IsJournal : Option Words → Type 0
+IsJournal w = (w ≡ Some Journal) ⊎ (w ≡ Some Check)
 
 abbrev pub IsDirect : Option Words → Type 0
 IsDirect w = (a : Action) × (w ≡ Some (Direct a))

@@ -15,7 +15,7 @@ use Rattle.sl_live_run.specs.declared.compare.LiveDiffer.{LiveDiffer}
 use Rattle.sl_report.specs.Languages.{whole_language}
 use Rattle.sl_run.specs.declared.header.Header.{Header}
 use Rattle.sl_sound.specs.Reports.FollowedSchedules.{IsAccepted}
-use Rattle.sl_top.specs.Runs.{IsCutShort, IsDirect, IsLive, Outside, Owes}
+use Rattle.sl_top.specs.Runs.{IsCutShort, IsDirect, IsJournal, IsLive, Outside, Owes}
 use Rattle.sl_top.specs.declared.status.Status.TheVariants.{AreaFault, BadWords, Differs, Done, NoMemory, NotTheLeader, ReadFault, Refused, WriteFault}
 use Rattle.sl_top.specs.declared.status.Status.{Status}
 use Rattle.sl_trace.specs.declared.command.ResourceArg.{ResourceArg}
@@ -57,9 +57,9 @@ pub record SomeDiffer (keeps : Bool) (x y : Outside) : Type 0 where
 
 -- Each status but 0 and want of memory comes only with its cause.
 pub record HasItsCause (w : Option Words) (x y : Outside) (s : Status) : Type 0 where
-  pub refused : s ≡ Refused → (w ≡ Some Replay) ⊎ IsLive w
+  pub refused : s ≡ Refused → (w ≡ Some Replay) ⊎ IsLive w ⊎ IsJournal w
   pub bad_words : s ≡ BadWords → w ≡ None
-  pub read_fault : s ≡ ReadFault → ((w ≡ Some Replay) ⊎ IsLive w) × Rose x.source_faults y.source_faults
+  pub read_fault : s ≡ ReadFault → ((w ≡ Some Replay) ⊎ IsLive w ⊎ IsJournal w) × Rose x.source_faults y.source_faults
   pub write_fault : s ≡ WriteFault → Rose x.sink_faults y.sink_faults
   pub area_fault : s ≡ AreaFault → (IsDirect w ⊎ IsLive w) × Rose x.device_faults y.device_faults
   pub not_the_leader : s ≡ NotTheLeader → IsNotTheLeader w x ⊎ CantBeUpgraded w x

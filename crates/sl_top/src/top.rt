@@ -6,7 +6,7 @@
 //! runs out, a front of the report. `gen` reads nothing: it draws its events as it plays them. `direct` takes one disk of the devices, does its action there, and gives the disk back.
 
 ghost use Rattle.sl_direct.specs.Actions.{IsAction};
-ghost use Rattle.sl_top.specs.Runs.{ActsOn, Generates, IsDirect, IsLive, IsReplay, Owes, PutsOut, Replays, RunsLive, place_in, place_of, said, said_from, told_from};
+ghost use Rattle.sl_top.specs.Runs.{ActsOn, Generates, IsDirect, IsJournal, IsLive, IsReplay, Owes, PutsOut, Replays, RunsLive, place_in, place_of, said, said_from, told_from};
 ghost use Rattle.sl_top.specs.declared.status.Status.TheVariants.{WriteFault};
 ghost use Rattle.std.specs.Prelude.{IfOk, option_map, ◌≡◌, ◌≢◌, ◌≤◌};
 
@@ -142,7 +142,7 @@ pub fn run_offline<S: Source, K: Sink, D: Devices>(
         (record { left = S.left source.old; source_faults = S.faults source.old; taken = K.taken sink.old; sink_faults = K.faults sink.old; disks = D.disks devices.old; device_faults = D.faults devices.old })
         (record { left = S.left source.new; source_faults = S.faults source.new; taken = K.taken sink.new; sink_faults = K.faults sink.new; disks = D.disks devices.new; device_faults = D.faults devices.new })
         result }
-    ensures source { (IsReplay (said words.now) → ⊥) → source.new ≡ source.old }
+    ensures source { (IsReplay (said words.now) → ⊥) → (IsJournal (said words.now) → ⊥) → source.new ≡ source.old }
     ensures devices { (IsDirect (said words.now) → ⊥) → devices.new ≡ devices.old }
 {
     match read_words(alloc, words) {
@@ -244,7 +244,7 @@ where
         (record { left = S.left source; source_faults = S.faults source; taken = K.taken sink; sink_faults = K.faults sink; disks = D.Devices.disks devices; device_faults = D.Devices.faults devices })
         (record { left = S.left result.1; source_faults = S.faults result.1; taken = K.taken result.2; sink_faults = K.faults result.2; disks = D.Devices.disks result.3; device_faults = D.Devices.faults result.3 })
         result.0 }
-    ensures source { (IsReplay (said words.now) → ⊥) → (IsLive (said words.now) → ⊥) → result.1 ≡ source }
+    ensures source { (IsReplay (said words.now) → ⊥) → (IsJournal (said words.now) → ⊥) → (IsLive (said words.now) → ⊥) → result.1 ≡ source }
     ensures devices { (IsDirect (said words.now) → ⊥) → (IsLive (said words.now) → ⊥) → result.3 ≡ devices }
 {
     let (mut source, mut sink, mut devices) = (source, sink, devices);
