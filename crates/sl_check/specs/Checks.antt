@@ -1,6 +1,6 @@
 -- What is found of a journal.
 use Rattle.sl_check.specs.declared.check.Check.{Check}
-use Rattle.sl_check.specs.declared.check.Checked.TheVariants.{BreaksOff, ReadFault, Same, WriteFault}
+use Rattle.sl_check.specs.declared.check.Checked.TheVariants.{BreaksOff, NoMemory, ReadFault, Same, WriteFault}
 use Rattle.sl_check.specs.declared.check.Checked.{Checked}
 use Rattle.sl_check.specs.declared.check.Found.TheVariants.{Due, Last}
 use Rattle.sl_check.specs.declared.check.Found.{Found}
@@ -11,7 +11,7 @@ use Rattle.sl_journal.specs.JournalRuns.{first_news, run_news, run_steps, texts_
 use Rattle.sl_journal.specs.JournalWrites.{HasPlayed, HasTaken}
 use Rattle.sl_play.specs.Plays.{PlaysOn}
 use Rattle.sl_play.specs.Replays.{Moved, played_language}
-use Rattle.sl_reader.specs.LineReads.{ReaderState}
+use Rattle.sl_reader.specs.LineReads.{Gives, ReaderState}
 use Rattle.sl_report.specs.Languages.{Language}
 use Rattle.sl_report.specs.OwedReports.{IsFrontOf, Promise}
 use Rattle.sl_report.specs.Reports.{Counts, no_counts, run_counts}
@@ -25,6 +25,7 @@ use Rattle.sl_text.specs.Forms.{Form, as_bytes, spaced}
 use Rattle.sl_trace.specs.Traces.{Setting, Trace}
 use Rattle.sl_trace.specs.declared.command.Command.{Command}
 use Rattle.sl_world_state.specs.Daemons.{program_of}
+use Rattle.std.specs.Io.KnownBytes.{Appends}
 use Rattle.std.specs.Prelude.{Bool, List, Option, [], codes, decimal, drop, length, map, true, ℕ, ◌++◌, ◌∷◌, ◌≡◌, ◌≤◌, ◌⊎◌}
 
 -- ---- what is told
@@ -38,6 +39,15 @@ front_line entries = spaced (codes "journal" ∷ decimal entries ∷ codes "so" 
 -- How many events there were, and how many of their grants left a conflict.
 abbrev pub run_line : Counts → List ℕ
 run_line k = spaced (codes "run" ∷ decimal k.events ∷ codes "conflicts" ∷ decimal k.conflicts ∷ [])
+
+-- Which line differs, what stands there, and what is due.
+abbrev pub difference_lines : ℕ → List ℕ → List ℕ → List (List ℕ)
+difference_lines number kept due =
+    spaced (codes "line" ∷ decimal number ∷ []) ∷ (codes "kept" ++ 32 ∷ kept) ∷ (codes "due" ++ 32 ∷ due) ∷ []
+
+-- The first line with its line feed.
+abbrev pub mark : List ℕ
+mark = first_line ++ 10 ∷ []
 
 -- ---- journals that are right
 
@@ -87,15 +97,20 @@ pub record CheckState (D : Type 0) : Type 0 where
 abbrev pub check_state : {D L : Type 0} → {d : _} → {l : _} → (L → Locks) → Check D L d l → CheckState D
 check_state locks c = record { journal = journal_state locks c.journal; due = drop c.at c.due.items }
 
--- These rows were read, and what was seen of the run's lines with what is due next is all that the run brought.
+-- These rows were read, and with what is due next they are all that the run brought.
 pub record HasSeen {D : Type 0} (commands : Header → List (Form Command)) (stands : D → Setting → Trace → Type 0) (h : Header) (first left : Option (List ℕ)) (r : ReaderState)
     (c : CheckState D) : Type 0 where
   pub played : HasPlayed commands stands h c.journal
-  pub rows : List NumberedLine → List NumberedLine
-  pub read : HasTaken commands h first left r rows
-  pub seen : List ℕ
-  pub texts : (rest : List NumberedLine) → as_bytes (row_texts (rows rest)) ≡ seen ++ as_bytes (row_texts rest)
-  pub due : seen ++ c.due ≡ as_bytes (first_news (world_with (program_of commands) h)) ++ played.bytes
+  pub rows : List NumberedLine
+  pub read : HasTaken commands h first left r (λ rest. rows ++ rest)
+  pub due : as_bytes (row_texts rows) ++ c.due ≡ as_bytes (first_news (world_with (program_of commands) h)) ++ played.bytes
+
+-- The last row was read behind all that the run brought.
+pub record IsLast {D : Type 0} (commands : Header → List (Form Command)) (stands : D → Setting → Trace → Type 0) (first left : Option (List ℕ)) (r : ReaderState) (c : CheckState D) : Type 0 where
+  pub consumed : List ℕ
+  pub gives : Gives first left [] (consumed ++ r.left)
+  pub right : RightJournal (λ p h xs. MadeRun stands p h xs) (played_language commands) (mark ++ (consumed ++ []))
+      (as_bytes (ok_line c.journal.entries ∷ run_line c.journal.play.counts ∷ []))
 
 -- A line is the one that is due: what is due is cut by it. Or it begins what its event brought.
 pub record Passes {D : Type 0} (text : List ℕ) (c n : CheckState D) : Type 0 where
@@ -114,11 +129,23 @@ Finds commands stands l c n f = Unit {0}
 
 -- ---- what is owed
 
--- What was read and told, by what the check came to.
-pub record ChecksJournal {D : Type 0} (commands : Header → List (Form Command)) (stands : D → Setting → Trace → Type 0) (left after taken now : Option (List ℕ))
+-- A text is put out whole, or a front of it, or there was no memory for it.
+pub data Puts (taken now : Option (List ℕ)) (faults later : ℕ) (text : List ℕ) (whole : Checked) : Checked → Type 0 where
+  All : Appends taken now text → Puts taken now faults later text whole whole
+  Part : (front : List ℕ) → Appends taken now front → Rose faults later → Puts taken now faults later text whole WriteFault
+  Nothing : Appends taken now [] → Puts taken now faults later text whole NoMemory
+
+-- What was read, behind these bytes of a journal, and told, by what the check came to.
+pub record ChecksBehind {D : Type 0} (commands : Header → List (Form Command)) (stands : D → Setting → Trace → Type 0) (before : List ℕ) (left after taken now : Option (List ℕ))
     (faults later sink_faults sink_later : ℕ) (s : Checked) : Type 0 where
   pub moved : Moved left after taken now
-  pub right : s ≡ Same → (moved.ended ≡ true) × RightJournal (λ p h xs. MadeRun stands p h xs) (played_language commands) moved.read moved.written
-  pub front : s ≡ BreaksOff → FrontJournal (λ p h xs. MadeRun stands p h xs) (played_language commands) moved.read
+  pub right : s ≡ Same → (moved.ended ≡ true) × RightJournal (λ p h xs. MadeRun stands p h xs) (played_language commands) (before ++ moved.read) moved.written
+  pub front : s ≡ BreaksOff → FrontJournal (λ p h xs. MadeRun stands p h xs) (played_language commands) (before ++ moved.read)
   pub read_fault : s ≡ ReadFault → Rose faults later
   pub write_fault : s ≡ WriteFault → Rose sink_faults sink_later
+
+-- .. of a whole journal.
+abbrev pub ChecksJournal : {D : Type 0} → (Header → List (Form Command)) → (D → Setting → Trace → Type 0) → Option (List ℕ) → Option (List ℕ) → Option (List ℕ) → Option (List ℕ)
+    → ℕ → ℕ → ℕ → ℕ → Checked → Type 0
+ChecksJournal commands stands left after taken now faults later sink_faults sink_later s =
+    ChecksBehind commands stands [] left after taken now faults later sink_faults sink_later s

@@ -1,8 +1,8 @@
 //! A journal is checked.
 
-ghost use Rattle.sl_check.specs.Checks.{ChecksJournal, Finds, HasSeen, Passes, RightJournal, check_state, ok_line, run_line};
+ghost use Rattle.sl_check.specs.Checks.{ChecksBehind, ChecksJournal, Finds, HasSeen, IsLast, Passes, Puts, check_state, mark, ok_line, run_line};
 ghost use Rattle.sl_check.specs.declared.check.Checked.TheVariants as checked;
-ghost use Rattle.sl_io.specs.FaultCauses.{Rose};
+ghost use Rattle.sl_io.specs.FaultCauses.{HasCause};
 ghost use Rattle.sl_journal.specs.JournalPlays.{IsPlaying};
 ghost use Rattle.sl_play.specs.Replays.{MayPlay};
 ghost use Rattle.sl_reader.specs.HeaderBegins.{HeaderBegins};
@@ -10,10 +10,12 @@ ghost use Rattle.sl_reader.specs.LineReads.{EndStands};
 ghost use Rattle.sl_run.specs.Headers.{IsHeader};
 ghost use Rattle.sl_run.specs.declared.header.Header.{Header as HeaderOf};
 ghost use Rattle.sl_schedule.specs.Lines.{line_seen};
+ghost use Rattle.sl_text.specs.Forms.{as_bytes};
 ghost use Rattle.sl_world_state.specs.SaneWorlds.{ReadsCommands};
 ghost use Rattle.sl_journal.specs.JournalLines.{end_line};
-ghost use Rattle.std.specs.Io.KnownBytes.{Consumes};
-ghost use Rattle.std.specs.Prelude.{IfOk, List, OnOk, Option, [], drop, length, true, ℕ, ◌++◌, ◌+◌, ◌<◌, ◌∷◌, ◌≡◌};
+ghost use Rattle.std.specs.Io.KnownBytes.{Consumes, Keeps};
+ghost use Rattle.std.specs.Option.{option_to_list};
+ghost use Rattle.std.specs.Prelude.{IfOk, List, OnErr, Option, [], drop, length, true, ℕ, ◌++◌, ◌+◌, ◌<◌, ◌∷◌, ◌≡◌};
 
 use crate::told::{put, push_difference, push_front, push_right, refuse};
 use sl_io::{Failed, Sink, Source};
@@ -168,21 +170,36 @@ impl<D: Recorded, L: LockTable> Check<D, L> {
 }
 
 /// Puts out that the journal is right.
-fn tell_right<K: Sink, D: Recorded, L: LockTable>(alloc: Global, sink: &mut K, check: &Check<D, L>) -> Checked {
+fn tell_right<K: Sink, D: Recorded, L: LockTable>(
+    alloc: Global,
+    sink: &mut K,
+    check: &Check<D, L>,
+) -> Checked
+    ensures { Puts (K.taken sink.old) (K.taken sink.new) (K.faults sink.old) (K.faults sink.new)
+        (as_bytes (ok_line (check_state L.locks check.now).journal.entries ∷ run_line (check_state L.locks check.now).journal.play.counts ∷ [])) checked.Same result }
+{
     let mut out = Vec::new(alloc);
     let pushed = push_right(&mut out, check.journal.entries(), check.journal.counts());
     put(sink, pushed, &out, Checked::Same)
 }
 
 /// Puts out that the journal is right as far as it goes.
-fn tell_front<K: Sink, D: Recorded, L: LockTable>(alloc: Global, sink: &mut K, check: &Check<D, L>) -> Checked {
+fn tell_front<K: Sink, D: Recorded, L: LockTable>(
+    alloc: Global,
+    sink: &mut K,
+    check: &Check<D, L>,
+) -> Checked
+    ensures { (text : List ℕ) × Puts (K.taken sink.old) (K.taken sink.new) (K.faults sink.old) (K.faults sink.new) text checked.BreaksOff result }
+{
     let mut out = Vec::new(alloc);
     let pushed = push_front(&mut out, check.seen);
     put(sink, pushed, &out, Checked::BreaksOff)
 }
 
 /// Puts out how a line differs.
-fn tell_difference<K: Sink>(alloc: Global, sink: &mut K, line: &Line, due: &[u8]) -> Checked {
+fn tell_difference<K: Sink>(alloc: Global, sink: &mut K, line: &Line, due: &[u8]) -> Checked
+    ensures { (text : List ℕ) × Puts (K.taken sink.old) (K.taken sink.new) (K.faults sink.old) (K.faults sink.new) text checked.Differs result }
+{
     let mut out = Vec::new(alloc);
     let pushed = push_difference(&mut out, line.number.saturating_add(1), line.text, due);
     put(sink, pushed, &out, Checked::Differs)
@@ -195,7 +212,11 @@ fn check_end<S: Source, K: Sink, D: Recorded, L: LockTable>(
     sink: &mut K,
     reader: &mut LineReader,
     check: &Check<D, L>,
-) -> Checked {
+) -> Checked
+    requires { EndStands (S.left source.old) reader.old }
+    ensures { (first : Option (List ℕ)) → IsLast D.commands D.stands first (S.left source.old) reader.old (check_state L.locks check.now)
+        → ChecksBehind D.commands D.stands mark first (S.left source.new) (K.taken sink.old) (K.taken sink.new) (S.faults source.old) (S.faults source.new) (K.faults sink.old) (K.faults sink.new) result }
+{
     match reader.read_line(source) {
         Err(ReadError::Failed) => Checked::ReadFault,
         Err(ReadError::NoMemory) => Checked::NoMemory,
@@ -212,7 +233,12 @@ fn check_lines<S: Source, K: Sink, D: Recorded, L: LockTable>(
     sink: &mut K,
     reader: &mut LineReader,
     check: &mut Check<D, L>,
-) -> Checked {
+) -> Checked
+    requires ends { EndStands (S.left source.old) reader.old }
+    requires plays { IsPlaying D.commands D.stands (check_state L.locks check.old).journal }
+    ensures { (h : HeaderOf) → (first : Option (List ℕ)) → HasSeen D.commands D.stands h first (S.left source.old) reader.old (check_state L.locks check.old)
+        → ChecksBehind D.commands D.stands mark first (S.left source.new) (K.taken sink.old) (K.taken sink.new) (S.faults source.old) (S.faults source.new) (K.faults sink.old) (K.faults sink.new) result }
+{
     loop {
         match reader.read_line(source) {
             Err(ReadError::Failed) => return Checked::ReadFault,
@@ -246,6 +272,8 @@ fn check_header<S: Source, K: Sink, D: Recorded, L: LockTable>(
 ) -> Checked
     requires header { IsHeader header × ReadsCommands D.commands header }
     requires ends { EndStands (S.left source.old) reader.old }
+    ensures { (first : Option (List ℕ)) → HeaderBegins first (S.left source.old) reader.old header
+        → ChecksBehind D.commands D.stands mark first (S.left source.new) (K.taken sink.old) (K.taken sink.new) (S.faults source.old) (S.faults source.new) (K.faults sink.old) (K.faults sink.new) result }
 {
     let journal = match Journal::<D, L>::new(alloc, header) {
         Err(_) => return Checked::NoMemory,
@@ -265,14 +293,29 @@ fn check_header<S: Source, K: Sink, D: Recorded, L: LockTable>(
     check_lines(alloc, source, sink, reader, &mut check)
 }
 
+/// The source's next byte, if there is one.
+fn next_byte<S: Source>(source: &mut S) -> Result<Option<u8>, Failed>
+    ensures byte { IfOk result (λ b. Consumes (S.left source.old) (S.left source.new) (option_to_list b)) }
+    ensures err { OnErr result (Keeps (S.left source.old) (S.left source.new)) }
+    ensures cause { HasCause (S.faults source.old) (S.faults source.new) result }
+{
+    let mut one = [0u8; 1];
+    let count = source.read(&mut one)?;
+    if count == 0 { Ok(None) } else { Ok(Some(one[0])) }
+}
+
 /// Whether the source begins with these bytes; they are read, and no more of it.
-fn begins_with<S: Source>(source: &mut S, front: &[u8]) -> Result<bool, Failed> {
-    for byte in front {
-        let mut one = [0u8; 1];
-        let count = source.read(&mut one)?;
-        if count == 0 || one[0] != *byte {
+fn begins_with<S: Source>(source: &mut S, front: &[u8]) -> Result<bool, Failed>
+    ensures whole { IfOk result (λ is. is ≡ true → Consumes (S.left source.old) (S.left source.new) front.now) }
+    ensures some { (bytes : List ℕ) × Consumes (S.left source.old) (S.left source.new) bytes }
+    ensures cause { HasCause (S.faults source.old) (S.faults source.new) result }
+{
+    let mut at = 0;
+    while at < front.len() {
+        if next_byte(source)? != Some(front[at]) {
             return Ok(false);
         }
+        at += 1;
     }
     Ok(true)
 }
@@ -284,6 +327,8 @@ pub fn check_journal<S: Source, K: Sink, D: Recorded, L: LockTable>(
     sink: &mut K,
 ) -> Checked
     requires { MayPlay D.commands }
+    ensures { ChecksJournal D.commands D.stands (S.left source.old) (S.left source.new) (K.taken sink.old) (K.taken sink.new) (S.faults source.old) (S.faults source.new)
+        (K.faults sink.old) (K.faults sink.new) result }
 {
     match begins_with(source, b"journal 2\n") {
         Err(_) => return Checked::ReadFault,

@@ -107,10 +107,10 @@ front_here commands stands h p x source written rest reads front =
 
 -- ---- what was read
 
-reads_of : (first after : Option (List ℕ)) (all : List ℕ) → Gives first after [] all → Consumes first after all
+pub reads_of : (first after : Option (List ℕ)) (all : List ℕ) → Gives first after [] all → Consumes first after all
 reads_of first after all g = subst (Consumes first after) g.all_are g.consumes
 
-never_ended : (after : Option (List ℕ)) → IsTrue false → IsAtEnd after
+pub never_ended : (after : Option (List ℕ)) → IsTrue false → IsAtEnd after
 never_ended after is = absurd (never is)
   where
     never : false ≡ true → ⊥
