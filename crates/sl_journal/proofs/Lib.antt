@@ -3,3 +3,4 @@ pub mod Standing
 pub mod JournalsMade
 pub mod JournalsWritten
 pub mod JournalsGrow
+pub mod Rows
