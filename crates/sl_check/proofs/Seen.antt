@@ -1,22 +1,25 @@
 -- Rows that are read one after another, each the one that is due.
-use Rattle.sl_check.specs.Checks.{All, CheckState, ChecksBehind, FrontJournal, HasSeen, IsLast, Nothing, Part, Passes, Puts, RightJournal, Starts, mark, ok_line, row_texts, run_line}
+use Rattle.sl_check.specs.Checks.{All, CheckState, ChecksBehind, FrontJournal, HasSeen, IsLast, Nothing, Part, IsWrong, Is_barred, Passes, Puts, RightJournal, Starts, WrongJournal, mark, ok_line, row_texts, run_line}
 use Rattle.sl_check.specs.declared.check.Checked.TheVariants.{BreaksOff, Differs, NoMemory, ReadFault, Refused, Same, WriteFault}
 use Rattle.sl_check.specs.declared.check.Checked.{Checked}
 use Rattle.sl_io.specs.FaultCauses.{Rose}
-use Rattle.sl_journal.proofs.JournalsWritten.{begun_play, header_taken, made_here, never_ended, played_on, reads_of, steps_here, taken_more}
+use Rattle.sl_journal.proofs.JournalsWritten.{begun_play, header_taken, left_follows, made_here, never_ended, played_on, reads_of, steps_here, taken_more}
 use Rattle.sl_journal.specs.JournalLines.{end_line, first_line}
-use Rattle.sl_journal.specs.JournalPlays.{Begins, GoesOn, IsPlaying, JournalState}
+use Rattle.sl_journal.specs.JournalPlays.{Begins, GoesOn, IsPlaying, JournalState, StopsAt}
 use Rattle.sl_journal.specs.JournalRuns.{first_news, run_news, run_steps, texts_of}
 use Rattle.sl_journal.specs.JournalWrites.{HasPlayed, HasTaken}
 use Rattle.sl_play.proofs.EndsFinish.{bytes_joined}
+use Rattle.sl_play.proofs.LinesPlayed.{been}
 use Rattle.sl_play.specs.Plays.{PlaysOn}
 use Rattle.sl_play.specs.Replays.{Moved, played_language}
 use Rattle.sl_reader.proofs.HeaderSteps.{gives_then}
 use Rattle.sl_reader.specs.HeaderBegins.{HeaderBegins, lines_left}
 use Rattle.sl_reader.specs.LineReads.{EndStands, Gives, IsCutOff, MayFollow, ReaderState, ReadsEnd, ReadsLine, line_of}
 use Rattle.sl_report.specs.Reports.{Counts, no_counts, run_counts}
-use Rattle.sl_report.specs.Schedules.{At_end, EventLine, FollowsSoFar, Header_read, NumberedLine, event_lines_of, numbered_lines, read_header}
+use Rattle.sl_report.specs.Schedules.{At_end, At_line, EventLine, Follows, FollowsSoFar, Header_read, NumberedLine, event_lines_of, numbered_lines, read_header}
+use Rattle.sl_report.specs.OwedReports.{MayHaveBeen}
 use Rattle.sl_run.specs.Worlds.{World, world_with}
+use Rattle.sl_run.specs.declared.event.Refusal.{Refusal}
 use Rattle.sl_run.specs.declared.header.Header.{Header}
 use Rattle.sl_sound.specs.MadeRuns.{MadeRun}
 use Rattle.sl_text.specs.Forms.{Form, as_bytes}
@@ -181,45 +184,49 @@ abbrev mv : (left after taken now : Option (List ℕ)) (ended : Bool) (read writ
 mv left after taken now ended read written reads at_end writes =
     record { read = read; ended = ended; written = written; reads = reads; at_end = at_end; writes = writes }
 
--- A check that tells nothing of a journal: it is refused or differs.
-pub data IsPlain : Checked → Type 0 where
-  Plain_differs : IsPlain Differs
-  Plain_refused : IsPlain Refused
-
-plain_is : {D : Type 0} (commands : Header → List (Form Command)) (stands : D → Setting → Trace → Type 0) (before : List ℕ) (left after taken now : Option (List ℕ))
-    (faults later sink_faults sink_later : ℕ) (x : Moved left after taken now) (s : Checked) → IsPlain s
-    → ChecksBehind commands stands before left after taken now faults later sink_faults sink_later s
-plain_is commands stands before left after taken now faults later sink_faults sink_later x Differs Plain_differs =
-    record { moved = x; right = λ e. absurd cc; front = λ e. absurd cc; read_fault = λ e. absurd cc; write_fault = λ e. absurd cc }
-plain_is commands stands before left after taken now faults later sink_faults sink_later x Refused Plain_refused =
-    record { moved = x; right = λ e. absurd cc; front = λ e. absurd cc; read_fault = λ e. absurd cc; write_fault = λ e. absurd cc }
+-- A line is none of a journal.
+refused_is : {D : Type 0} (commands : Header → List (Form Command)) (stands : D → Setting → Trace → Type 0) (before : List ℕ) (left after taken now : Option (List ℕ))
+    (faults later sink_faults sink_later : ℕ) → Moved left after taken now → ChecksBehind commands stands before left after taken now faults later sink_faults sink_later Refused
+refused_is commands stands before left after taken now faults later sink_faults sink_later x =
+    record { moved = x; right = λ e. absurd cc; differs = λ e. absurd cc; front = λ e. absurd cc; read_fault = λ e. absurd cc; write_fault = λ e. absurd cc }
 
 pub lacks : {D : Type 0} (commands : Header → List (Form Command)) (stands : D → Setting → Trace → Type 0) (before : List ℕ) (left after taken now : Option (List ℕ))
     (faults later sink_faults sink_later : ℕ) → Moved left after taken now → ChecksBehind commands stands before left after taken now faults later sink_faults sink_later NoMemory
 lacks commands stands before left after taken now faults later sink_faults sink_later x =
-    record { moved = x; right = λ e. absurd cc; front = λ e. absurd cc; read_fault = λ e. absurd cc; write_fault = λ e. absurd cc }
+    record { moved = x; right = λ e. absurd cc; differs = λ e. absurd cc; front = λ e. absurd cc; read_fault = λ e. absurd cc; write_fault = λ e. absurd cc }
 
 chokes : {D : Type 0} (commands : Header → List (Form Command)) (stands : D → Setting → Trace → Type 0) (before : List ℕ) (left after taken now : Option (List ℕ))
     (faults later sink_faults sink_later : ℕ) → Moved left after taken now → Rose sink_faults sink_later
     → ChecksBehind commands stands before left after taken now faults later sink_faults sink_later WriteFault
 chokes commands stands before left after taken now faults later sink_faults sink_later x rose =
-    record { moved = x; right = λ e. absurd cc; front = λ e. absurd cc; read_fault = λ e. absurd cc; write_fault = λ e. rose }
+    record { moved = x; right = λ e. absurd cc; differs = λ e. absurd cc; front = λ e. absurd cc; read_fault = λ e. absurd cc; write_fault = λ e. rose }
 
 pub breaks : {D : Type 0} (commands : Header → List (Form Command)) (stands : D → Setting → Trace → Type 0) (before : List ℕ) (left after taken now : Option (List ℕ))
     (faults later sink_faults sink_later : ℕ) → Moved left after taken now → Rose faults later
     → ChecksBehind commands stands before left after taken now faults later sink_faults sink_later ReadFault
 breaks commands stands before left after taken now faults later sink_faults sink_later x rose =
-    record { moved = x; right = λ e. absurd cc; front = λ e. absurd cc; read_fault = λ e. rose; write_fault = λ e. absurd cc }
+    record { moved = x; right = λ e. absurd cc; differs = λ e. absurd cc; front = λ e. absurd cc; read_fault = λ e. rose; write_fault = λ e. absurd cc }
 
 -- What is put out of it.
-pub plain_out : {D : Type 0} (commands : Header → List (Form Command)) (stands : D → Setting → Trace → Type 0) (before : List ℕ) (left after taken now : Option (List ℕ))
-    (faults later sink_faults sink_later : ℕ) (ended : Bool) (read text : List ℕ) (whole s : Checked) → IsPlain whole → Consumes left after read → (IsTrue ended → IsAtEnd after)
-    → Puts taken now sink_faults sink_later text whole s → ChecksBehind commands stands before left after taken now faults later sink_faults sink_later s
-plain_out commands stands before left after taken now faults later sink_faults sink_later ended read text whole s plain reads at_end (All appends) =
-    plain_is commands stands before left after taken now faults later sink_faults sink_later (mv left after taken now ended read text reads at_end appends) whole plain
-plain_out commands stands before left after taken now faults later sink_faults sink_later ended read text whole s plain reads at_end (Part front appends rose) =
+pub refused_out : {D : Type 0} (commands : Header → List (Form Command)) (stands : D → Setting → Trace → Type 0) (before : List ℕ) (left after taken now : Option (List ℕ))
+    (faults later sink_faults sink_later : ℕ) (ended : Bool) (read text : List ℕ) (s : Checked) → Consumes left after read → (IsTrue ended → IsAtEnd after)
+    → Puts taken now sink_faults sink_later text Refused s → ChecksBehind commands stands before left after taken now faults later sink_faults sink_later s
+refused_out commands stands before left after taken now faults later sink_faults sink_later ended read text s reads at_end (All appends) =
+    refused_is commands stands before left after taken now faults later sink_faults sink_later (mv left after taken now ended read text reads at_end appends)
+refused_out commands stands before left after taken now faults later sink_faults sink_later ended read text s reads at_end (Part front appends rose) =
     chokes commands stands before left after taken now faults later sink_faults sink_later (mv left after taken now ended read front reads at_end appends) rose
-plain_out commands stands before left after taken now faults later sink_faults sink_later ended read text whole s plain reads at_end (Nothing appends) =
+refused_out commands stands before left after taken now faults later sink_faults sink_later ended read text s reads at_end (Nothing appends) =
+    lacks commands stands before left after taken now faults later sink_faults sink_later (mv left after taken now ended read [] reads at_end appends)
+
+differs_out : {D : Type 0} (commands : Header → List (Form Command)) (stands : D → Setting → Trace → Type 0) (before : List ℕ) (left after taken now : Option (List ℕ))
+    (faults later sink_faults sink_later : ℕ) (ended : Bool) (read text : List ℕ) (s : Checked) → Consumes left after read → (IsTrue ended → IsAtEnd after)
+    → ((source : List ℕ) → MayHaveBeen ended read source → WrongJournal (λ p h xs. MadeRun stands p h xs) (played_language commands) (before ++ source))
+    → Puts taken now sink_faults sink_later text Differs s → ChecksBehind commands stands before left after taken now faults later sink_faults sink_later s
+differs_out commands stands before left after taken now faults later sink_faults sink_later ended read text s reads at_end wrong (All appends) =
+    record { moved = mv left after taken now ended read text reads at_end appends; right = λ e. absurd cc; differs = λ e. wrong; front = λ e. absurd cc; read_fault = λ e. absurd cc; write_fault = λ e. absurd cc }
+differs_out commands stands before left after taken now faults later sink_faults sink_later ended read text s reads at_end wrong (Part front appends rose) =
+    chokes commands stands before left after taken now faults later sink_faults sink_later (mv left after taken now ended read front reads at_end appends) rose
+differs_out commands stands before left after taken now faults later sink_faults sink_later ended read text s reads at_end wrong (Nothing appends) =
     lacks commands stands before left after taken now faults later sink_faults sink_later (mv left after taken now ended read [] reads at_end appends)
 
 pub right_out : {D : Type 0} (commands : Header → List (Form Command)) (stands : D → Setting → Trace → Type 0) (before : List ℕ) (left after taken now : Option (List ℕ))
@@ -227,7 +234,7 @@ pub right_out : {D : Type 0} (commands : Header → List (Form Command)) (stands
     → RightJournal (λ p h xs. MadeRun stands p h xs) (played_language commands) (before ++ read) text
     → Puts taken now sink_faults sink_later text Same s → ChecksBehind commands stands before left after taken now faults later sink_faults sink_later s
 right_out commands stands before left after taken now faults later sink_faults sink_later read text s reads at_end right (All appends) =
-    record { moved = mv left after taken now true read text reads (λ e. at_end) appends; right = λ e. (refl, right); front = λ e. absurd cc; read_fault = λ e. absurd cc; write_fault = λ e. absurd cc }
+    record { moved = mv left after taken now true read text reads (λ e. at_end) appends; right = λ e. (refl, right); differs = λ e. absurd cc; front = λ e. absurd cc; read_fault = λ e. absurd cc; write_fault = λ e. absurd cc }
 right_out commands stands before left after taken now faults later sink_faults sink_later read text s reads at_end right (Part front appends rose) =
     chokes commands stands before left after taken now faults later sink_faults sink_later (mv left after taken now true read front reads (λ e. at_end) appends) rose
 right_out commands stands before left after taken now faults later sink_faults sink_later read text s reads at_end right (Nothing appends) =
@@ -238,7 +245,7 @@ pub front_out : {D : Type 0} (commands : Header → List (Form Command)) (stands
     → FrontJournal (λ p h xs. MadeRun stands p h xs) (played_language commands) (before ++ read)
     → Puts taken now sink_faults sink_later text BreaksOff s → ChecksBehind commands stands before left after taken now faults later sink_faults sink_later s
 front_out commands stands before left after taken now faults later sink_faults sink_later read text s reads at_end front (All appends) =
-    record { moved = mv left after taken now true read text reads (λ e. at_end) appends; right = λ e. absurd cc; front = λ e. front; read_fault = λ e. absurd cc; write_fault = λ e. absurd cc }
+    record { moved = mv left after taken now true read text reads (λ e. at_end) appends; right = λ e. absurd cc; differs = λ e. absurd cc; front = λ e. front; read_fault = λ e. absurd cc; write_fault = λ e. absurd cc }
 front_out commands stands before left after taken now faults later sink_faults sink_later read text s reads at_end front (Part part appends rose) =
     chokes commands stands before left after taken now faults later sink_faults sink_later (mv left after taken now true read part reads (λ e. at_end) appends) rose
 front_out commands stands before left after taken now faults later sink_faults sink_later read text s reads at_end front (Nothing appends) =
@@ -288,6 +295,46 @@ front_cut {D} commands stands h first before after taken now faults later sink_f
 pub line_cut : (before after : Option (List ℕ)) (r n : ReaderState) → ReadsLine before after r n → IsCutOff before after r
 line_cut before after r n l = record { began = l.began; bytes = l.taken ++ n.left; gives = l.gives }
 
+-- A row is wrong.
+pub wrong_out : {D : Type 0} (commands : Header → List (Form Command)) (stands : D → Setting → Trace → Type 0) (h : Header) (first before after taken now : Option (List ℕ))
+    (faults later sink_faults sink_later : ℕ) (r n : ReaderState) (c : CheckState D) (text : List ℕ) (s : Checked) (x : HasSeen commands stands h first before r c) → ReadsLine before after r n
+    → EndStands after n → IsWrong (played_language commands) h x.played.lines (x.played.leads.before []) c.due (line_of n)
+    → Puts taken now sink_faults sink_later text Differs s → ChecksBehind commands stands mark first after taken now faults later sink_faults sink_later s
+wrong_out {D} commands stands h first before after taken now faults later sink_faults sink_later r n c text s x l ends wrong puts =
+    differs_out commands stands mark first after taken now faults later sink_faults sink_later n.ended (y.consumed ++ n.left) text s (reads_of first after (y.consumed ++ n.left) y.gives) ends.at_end there puts
+  where
+    y : HasTaken commands h first after n (λ rest. x.rows ++ line_of n ∷ rest)
+    y = taken_more commands h first before after r n (λ rest. x.rows ++ rest) x.read l
+    there : (source : List ℕ) → MayHaveBeen n.ended (y.consumed ++ n.left) source → WrongJournal (λ p g xs. MadeRun stands p g xs) (played_language commands) (mark ++ source)
+    there source may =
+        let b = been n.ended (y.consumed ++ n.left) source may in
+        let rest : List ℕ = n.left ++ b.0 in
+        record {
+          body = source;
+          first = marked source;
+          header = h;
+          rows = x.rows;
+          next = line_of n;
+          others = lines_left y.consumed rest n;
+          read = ap (λ d. read_header (played_language commands) [] 1 (numbered_lines d)) (b.1 ∙ append_assoc y.consumed n.left b.0) ∙ y.reads rest (left_follows after n b.0 ends b.2);
+          own = x.played.lines;
+          xs = x.played.leads.before [];
+          follows = x.played.leads.so_far [] [] (far x.played.world (event_lines_of (played_language commands) h []));
+          made = made_here commands stands h c.journal x.played;
+          due = c.due;
+          text = sym (text_seen commands stands h first before r c x []);
+          wrong = wrong;
+        }
+
+-- Its event may not happen.
+pub barred_so : {D : Type 0} (commands : Header → List (Form Command)) (stands : D → Setting → Trace → Type 0) (h : Header) (first before : Option (List ℕ)) (r n : ReaderState)
+    (c d : CheckState D) (why : Refusal) (x : HasSeen commands stands h first before r c) → ((w : World) → PlaysOn commands stands c.journal.play w → StopsAt commands w c.journal (line_of n) d.journal why)
+    → IsWrong (played_language commands) h x.played.lines (x.played.leads.before []) c.due (line_of n)
+barred_so commands stands h first before r n c d why x stops =
+    Is_barred why (λ rest. x.played.leads.follows (line_of n ∷ rest) [] (At_line n.number why)
+    (subst (λ (k : Header). Follows x.played.world (event_lines_of (played_language commands) k (line_of n ∷ rest)) [] (At_line n.number why)) x.played.header
+    ((stops x.played.world x.played.plays).ends rest)))
+
 -- ---- behind the last line
 
 pub last_read : {D : Type 0} (commands : Header → List (Form Command)) (stands : D → Setting → Trace → Type 0) (first before after : Option (List ℕ)) (r : ReaderState) (c : CheckState D)
@@ -310,12 +357,18 @@ check_later commands stands before first after taken now f g later j k sink_late
     record {
       moved = x.moved;
       right = x.right;
+      differs = x.differs;
       front = x.front;
       read_fault = λ is. rose_later f g later h (x.read_fault is);
       write_fault = λ is. rose_later j k sink_later i (x.write_fault is);
     }
 
 -- ---- the first line
+
+-- A source that goes on with what was read, behind the first line.
+behind_source : (ended : Bool) (read source : List ℕ) → MayHaveBeen ended (mark ++ read) source → (body : List ℕ) × (source ≡ mark ++ body) × MayHaveBeen ended read body
+behind_source true read source may = (read, may, refl)
+behind_source false read source may = (read ++ may.0, may.1 ∙ append_assoc mark read may.0, (may.0, refl))
 
 -- What was read behind the first line was read of the whole.
 pub behind_mark : {D : Type 0} (commands : Header → List (Form Command)) (stands : D → Setting → Trace → Type 0) (left behind after taken now : Option (List ℕ))
@@ -325,6 +378,7 @@ behind_mark commands stands left behind after taken now faults later sink_faults
     record {
       moved = mv left after taken now x.moved.ended (mark ++ x.moved.read) x.moved.written (Consumes-trans left behind after mark x.moved.read c x.moved.reads) x.moved.at_end x.moved.writes;
       right = x.right;
+      differs = λ e source may. let b = behind_source x.moved.ended x.moved.read source may in subst (WrongJournal (λ p h xs. MadeRun stands p h xs) (played_language commands)) (sym b.1) (x.differs e b.0 b.2);
       front = x.front;
       read_fault = x.read_fault;
       write_fault = x.write_fault;

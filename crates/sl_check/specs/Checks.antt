@@ -1,24 +1,25 @@
 -- What is found of a journal.
 use Rattle.sl_check.specs.declared.check.Check.{Check}
-use Rattle.sl_check.specs.declared.check.Checked.TheVariants.{BreaksOff, NoMemory, ReadFault, Same, WriteFault}
+use Rattle.sl_check.specs.declared.check.Checked.TheVariants.{BreaksOff, Differs, NoMemory, ReadFault, Same, WriteFault}
 use Rattle.sl_check.specs.declared.check.Checked.{Checked}
-use Rattle.sl_check.specs.declared.check.Found.TheVariants.{Due, Last}
+use Rattle.sl_check.specs.declared.check.Found.TheVariants.{Barred, Due, Last, Misread, Other}
 use Rattle.sl_check.specs.declared.check.Found.{Found}
 use Rattle.sl_io.specs.FaultCauses.{Rose}
 use Rattle.sl_journal.specs.JournalLines.{end_line, first_line}
-use Rattle.sl_journal.specs.JournalPlays.{GoesOn, JournalState, journal_state}
+use Rattle.sl_journal.specs.JournalPlays.{GoesOn, JournalState, StopsAt, journal_state}
 use Rattle.sl_journal.specs.JournalRuns.{first_news, run_news, run_steps, texts_of}
 use Rattle.sl_journal.specs.JournalWrites.{HasPlayed, HasTaken}
 use Rattle.sl_play.specs.Plays.{PlaysOn}
 use Rattle.sl_play.specs.Replays.{Moved, played_language}
 use Rattle.sl_reader.specs.LineReads.{Gives, ReaderState}
 use Rattle.sl_report.specs.Languages.{Language}
-use Rattle.sl_report.specs.OwedReports.{IsFrontOf, Promise}
+use Rattle.sl_report.specs.OwedReports.{IsFrontOf, MayHaveBeen, Promise}
 use Rattle.sl_report.specs.Reports.{Counts, no_counts, run_counts}
-use Rattle.sl_report.specs.Schedules.{At_end, Follows, FollowsSoFar, Header_read, NumberedLine, event_lines_of, numbered_lines, read_header}
+use Rattle.sl_report.specs.Schedules.{At_end, At_line, Follows, FollowsSoFar, Header_read, NumberedLine, event_lines_of, numbered_lines, read_header}
 use Rattle.sl_run.specs.Locks.{Locks}
 use Rattle.sl_run.specs.Runs.{Happening}
 use Rattle.sl_run.specs.Worlds.{World, world_with}
+use Rattle.sl_run.specs.declared.event.Refusal.{Refusal}
 use Rattle.sl_run.specs.declared.header.Header.{Header}
 use Rattle.sl_sound.specs.MadeRuns.{MadeRun}
 use Rattle.sl_text.specs.Forms.{Form, as_bytes, spaced}
@@ -87,6 +88,29 @@ pub record FrontJournal (promised : Promise) (lang : Language) (source : List �
   pub made : promised lang.program header xs
   pub text : IsFrontOf (as_bytes (row_texts rows)) (as_bytes (first_news (world_with lang.program header) ++ run_news (world_with lang.program header) (texts_of lang own) xs))
 
+-- Why a row is wrong behind what was seen, of which so much is due next: another one is due, or none is and its event may not happen.
+pub data IsWrong (lang : Language) (header : Header) (own : List NumberedLine → List NumberedLine) (xs : List Happening) (due : List ℕ) (next : NumberedLine) : Type 0 where
+  Is_other : (due ≡ [] → ⊥) → ((rest : List ℕ) → due ≡ next.text ++ 10 ∷ rest → ⊥) → IsWrong lang header own xs due next
+  Is_barred : (why : Refusal) → ((rest : List NumberedLine) → Follows (world_with lang.program header) (event_lines_of lang header (own (next ∷ rest))) xs (At_line next.number why))
+      → IsWrong lang header own xs due next
+
+-- A row is wrong: so far the journal is that of a run, and this row doesn't go on with it.
+pub record WrongJournal (promised : Promise) (lang : Language) (source : List ℕ) : Type 0 where
+  pub body : List ℕ
+  pub first : source ≡ first_line ++ 10 ∷ body
+  pub header : Header
+  pub rows : List NumberedLine
+  pub next : NumberedLine
+  pub others : List NumberedLine
+  pub read : read_header lang [] 1 (numbered_lines body) ≡ Header_read header (rows ++ next ∷ others)
+  pub own : List NumberedLine → List NumberedLine
+  pub xs : List Happening
+  pub follows : FollowsSoFar (world_with lang.program header) (event_lines_of lang header (own [])) xs
+  pub made : promised lang.program header xs
+  pub due : List ℕ
+  pub text : as_bytes (first_news (world_with lang.program header) ++ run_news (world_with lang.program header) (texts_of lang (own [])) xs) ≡ as_bytes (row_texts rows) ++ due
+  pub wrong : IsWrong lang header own xs due next
+
 -- ---- within the lines behind a header
 
 -- The journal as it is made again, and what of it is due next.
@@ -125,7 +149,9 @@ pub record Starts {D : Type 0} (commands : Header → List (Form Command)) (stan
 abbrev pub Finds : {D : Type 0} → (Header → List (Form Command)) → (D → Setting → Trace → Type 0) → NumberedLine → CheckState D → CheckState D → Found → Type 0
 Finds commands stands l c n Due = Passes l.text c n ⊎ ((w : World) → PlaysOn commands stands c.journal.play w → Starts commands stands w c l n)
 Finds commands stands l c n Last = (c.due ≡ []) × (n ≡ c) × (l.text ≡ end_line c.journal.entries)
-Finds commands stands l c n f = Unit {0}
+Finds commands stands l c n Other = (c.due ≡ [] → ⊥) × ((rest : List ℕ) → c.due ≡ l.text ++ 10 ∷ rest → ⊥)
+Finds commands stands l c n (Barred why) = (w : World) → PlaysOn commands stands c.journal.play w → StopsAt commands w c.journal l n.journal why
+Finds commands stands l c n (Misread why) = Unit {0}
 
 -- ---- what is owed
 
@@ -140,6 +166,8 @@ pub record ChecksBehind {D : Type 0} (commands : Header → List (Form Command))
     (faults later sink_faults sink_later : ℕ) (s : Checked) : Type 0 where
   pub moved : Moved left after taken now
   pub right : s ≡ Same → (moved.ended ≡ true) × RightJournal (λ p h xs. MadeRun stands p h xs) (played_language commands) (before ++ moved.read) moved.written
+  pub differs : s ≡ Differs → (source : List ℕ) → MayHaveBeen moved.ended moved.read source
+      → WrongJournal (λ p h xs. MadeRun stands p h xs) (played_language commands) (before ++ source)
   pub front : s ≡ BreaksOff → FrontJournal (λ p h xs. MadeRun stands p h xs) (played_language commands) (before ++ moved.read)
   pub read_fault : s ≡ ReadFault → Rose faults later
   pub write_fault : s ≡ WriteFault → Rose sink_faults sink_later

@@ -15,7 +15,7 @@ ghost use Rattle.sl_world_state.specs.SaneWorlds.{ReadsCommands};
 ghost use Rattle.sl_journal.specs.JournalLines.{end_line};
 ghost use Rattle.std.specs.Io.KnownBytes.{Consumes, Keeps};
 ghost use Rattle.std.specs.Option.{option_to_list};
-ghost use Rattle.std.specs.Prelude.{IfOk, List, OnErr, Option, [], drop, length, true, ℕ, ◌++◌, ◌+◌, ◌<◌, ◌∷◌, ◌≡◌};
+ghost use Rattle.std.specs.Prelude.{IfOk, List, OnErr, Option, [], drop, false, length, true, ℕ, ◌++◌, ◌+◌, ◌<◌, ◌∷◌, ◌≡◌};
 
 use crate::told::{put, push_difference, push_front, push_right, refuse};
 use sl_io::{Failed, Sink, Source};
@@ -67,6 +67,7 @@ enum Found {
 fn passes(rest: &[u8], text: &[u8]) -> bool
     ensures cut { result ≡ true → rest.now ≡ text.now ++ 10 ∷ drop (length text.now + 1) rest.now }
     ensures within { result ≡ true → length text.now < length rest.now }
+    ensures other { result ≡ false → (behind : List ℕ) → rest.now ≡ text.now ++ 10 ∷ behind → ⊥ }
 {
     if rest.len() <= text.len() {
         return false;
@@ -87,13 +88,17 @@ struct Check<D: Recorded, L: LockTable> {
 
 impl<D: Recorded, L: LockTable> Check<D, L> {
     /// Whether a line is due.
-    fn is_due(&self) -> bool {
+    fn is_due(&self) -> bool
+        ensures none { result ≡ false → (check_state L.locks self.now).due ≡ [] }
+        ensures some { result ≡ true → (check_state L.locks self.now).due ≡ [] → ⊥ }
+    {
         self.at < self.due.len()
     }
 
     /// The line that is due must be this one.
     fn compare(&mut self, text: &[u8]) -> bool
-        ensures { result ≡ true → Passes text.now (check_state L.locks self.old) (check_state L.locks self.new) }
+        ensures passes { result ≡ true → Passes text.now (check_state L.locks self.old) (check_state L.locks self.new) }
+        ensures other { result ≡ false → (behind : List ℕ) → (check_state L.locks self.old).due ≡ text.now ++ 10 ∷ behind → ⊥ }
     {
         if self.due.len() <= self.at {
             return false;

@@ -1,6 +1,6 @@
 -- What journals of hosts owe: the run that was made is as promised.
-use Rattle.sl_check.proofs.ChecksGrow.{front_right_grows, right_grows}
-use Rattle.sl_check.specs.Checks.{ChecksJournal as ChecksMade, FrontJournal, RightJournal}
+use Rattle.sl_check.proofs.ChecksGrow.{front_right_grows, right_grows, wrong_grows}
+use Rattle.sl_check.specs.Checks.{ChecksJournal as ChecksMade, FrontJournal, RightJournal, WrongJournal}
 use Rattle.sl_check.specs.declared.check.Checked.TheVariants as checked
 use Rattle.sl_check.specs.declared.check.Checked.{Checked}
 use Rattle.sl_due_law.proofs.DueIsLawful.{due_is_lawful}
@@ -21,7 +21,7 @@ use Rattle.sl_sound.specs.SoundLaws.{DaemonsDoWhatIsDue}
 use Rattle.sl_top.proofs.RunLaws.{asks_read, digest_of, done_is, good_headers, nothing_put, read_fault_is, same_code, same_language, write_fault_is}
 use Rattle.sl_top.specs.JournalsOwed.{ChecksJournal, Moves, WritesJournal}
 use Rattle.sl_top.specs.Statuses.{code, status_of, status_of_check}
-use Rattle.sl_top.specs.declared.status.Status.TheVariants.{AreaFault, BadWords, BreaksOff, Differs, Done, NoMemory, NotTheLeader, ReadFault, WriteFault}
+use Rattle.sl_top.specs.declared.status.Status.TheVariants.{AreaFault, BadWords, BreaksOff, Differs, Done, JournalDiffers, NoMemory, NotTheLeader, ReadFault, WriteFault}
 use Rattle.sl_top.specs.declared.status.Status.{Status}
 use Rattle.sl_trace.specs.Traces.{Setting, Trace}
 use Rattle.std.proofs.KnownBytes.{Consumes-nil}
@@ -83,6 +83,15 @@ same_is checked.BreaksOff e = absurd cc
 same_is checked.ReadFault e = absurd cc
 same_is checked.WriteFault e = absurd cc
 same_is checked.NoMemory e = absurd cc
+
+differs_is : (c : Checked) → status_of_check c ≡ JournalDiffers → c ≡ checked.Differs
+differs_is checked.Same e = absurd cc
+differs_is checked.Differs e = refl
+differs_is checked.Refused e = absurd cc
+differs_is checked.BreaksOff e = absurd cc
+differs_is checked.ReadFault e = absurd cc
+differs_is checked.WriteFault e = absurd cc
+differs_is checked.NoMemory e = absurd cc
 
 breaks_is : (c : Checked) → status_of_check c ≡ BreaksOff → c ≡ checked.BreaksOff
 breaks_is checked.Same e = absurd cc
@@ -152,6 +161,8 @@ check_by stands left after faults later taken now sink_faults sink_later c due x
       to_end = λ e. (x.right (same_is c e)).0;
       right = λ e. subst (λ (l : Language). RightJournal PromisedRun l x.moved.read x.moved.written) same_language
           (right_grows (λ q h xs. MadeRun stands q h xs) PromisedRun (played_language whole_commands) x.moved.read x.moved.written (grows stands due) (x.right (same_is c e)).1);
+      differs = λ e source may. subst (λ (l : Language). WrongJournal PromisedRun l source) same_language
+          (wrong_grows (λ q h xs. MadeRun stands q h xs) PromisedRun (played_language whole_commands) source (grows stands due) (x.differs (differs_is c e) source may));
       front = λ e. subst (λ (l : Language). FrontJournal PromisedRun l x.moved.read) same_language
           (front_right_grows (λ q h xs. MadeRun stands q h xs) PromisedRun (played_language whole_commands) x.moved.read (grows stands due) (x.front (breaks_is c e)));
       read_fault = λ e. x.read_fault (read_is c e);
@@ -184,6 +195,7 @@ unchecked left faults taken sink_faults =
       moved = nothing_moved left taken;
       to_end = λ e. absurd cc;
       right = λ e. absurd cc;
+      differs = λ e. absurd cc;
       front = λ e. absurd cc;
       read_fault = λ e. absurd cc;
       write_fault = λ e. absurd cc;

@@ -1,5 +1,5 @@
 -- What a journal that is written owes, and one that is checked.
-use Rattle.sl_check.specs.Checks.{FrontJournal, RightJournal}
+use Rattle.sl_check.specs.Checks.{FrontJournal, RightJournal, WrongJournal}
 use Rattle.sl_check.specs.declared.check.Checked.{Checked}
 use Rattle.sl_headline.specs.PromisedRuns.{PromisedRun}
 use Rattle.sl_io.specs.FaultCauses.{Rose}
@@ -8,7 +8,7 @@ use Rattle.sl_play.specs.declared.replay.Played.{Played}
 use Rattle.sl_report.specs.Languages.{whole_language}
 use Rattle.sl_report.specs.OwedReports.{MayHaveBeen, is_whole_status}
 use Rattle.sl_top.specs.Statuses.{code, status_of, status_of_check}
-use Rattle.sl_top.specs.declared.status.Status.TheVariants.{BreaksOff, Done, ReadFault, WriteFault}
+use Rattle.sl_top.specs.declared.status.Status.TheVariants.{BreaksOff, Done, JournalDiffers, ReadFault, WriteFault}
 use Rattle.sl_top.specs.declared.status.Status.{Status}
 use Rattle.std.specs.Io.KnownBytes.{Appends, Consumes, IsAtEnd}
 use Rattle.std.specs.Prelude.{Bool, IsTrue, List, Option, true, ℕ, ◌≡◌}
@@ -40,6 +40,8 @@ pub record ChecksJournal (left after : Option (List ℕ)) (faults later : ℕ) (
   pub moved : Moves left after taken now
   pub to_end : s ≡ Done → moved.ended ≡ true
   pub right : s ≡ Done → RightJournal PromisedRun whole_language moved.read moved.written
+  -- at 7 it is so up to a line that doesn't go on with it
+  pub differs : s ≡ JournalDiffers → (source : List ℕ) → MayHaveBeen moved.ended moved.read source → WrongJournal PromisedRun whole_language source
   pub front : s ≡ BreaksOff → FrontJournal PromisedRun whole_language moved.read
   pub read_fault : s ≡ ReadFault → Rose faults later
   pub write_fault : s ≡ WriteFault → Rose sink_faults sink_later
