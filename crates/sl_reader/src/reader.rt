@@ -200,7 +200,7 @@ impl LineReader {
     }
 
     /// Whether the source has ended.
-    fn has_ended(&self) -> bool
+    pub fn has_ended(&self) -> bool
         ensures { result ≡ self.now.ended }
     {
         self.ended

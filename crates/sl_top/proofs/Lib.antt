@@ -6,3 +6,4 @@ pub mod OweLaws
 pub mod StatusLaws
 pub mod LiveLaws
 pub mod PictureLaws
+pub mod JournalLaws

@@ -1,6 +1,6 @@
 -- Which statuses a run may end with, by what its words say, and why.
 use Rattle.sl_area.specs.AreaSizes.{Sizes}
-use Rattle.sl_cli.specs.declared.command_words.Words.TheVariants.{Direct, Draw, Generate, Help, Live, Replay, Version}
+use Rattle.sl_cli.specs.declared.command_words.Words.TheVariants.{Check, Direct, Draw, Generate, Help, Journal, Live, Replay, Version}
 use Rattle.sl_cli.specs.declared.command_words.Words.{Words}
 use Rattle.sl_cli.specs.declared.texts.TheConstants.{HELP, VERSION}
 use Rattle.sl_direct.proofs.AreaLaws.{leader_is_told}
@@ -24,6 +24,8 @@ use Rattle.sl_top.proofs.LiveLaws.{live_caused, not_a_look, not_bad as not_bad_l
 use Rattle.sl_top.proofs.RunLaws.{whole_headers}
 use Rattle.sl_top.specs.StatusLaws.{AcceptedSchedulesEndWell, CantBeUpgraded, CausesHaveStatuses, HasItsCause, IsNotTheLeader, NothingFailed, OtherSchedulesAreRefused, StatusesHaveCauses, has_leader}
 use Rattle.sl_top.specs.Runs.{ActsOn, IsCutShort, IsWritten, Outside, PutsOut, Replays, RunsLive, bad_words_text}
+use Rattle.sl_top.proofs.JournalLaws.{checked_not, played_not}
+use Rattle.sl_top.specs.JournalsOwed.{ChecksJournal, WritesJournal}
 use Rattle.sl_top.specs.Statuses.{code, status_after}
 use Rattle.sl_top.specs.declared.status.Status.TheVariants.{AreaFault, BadWords, Differs, Done, NoMemory, NotTheLeader, ReadFault, Refused, WriteFault}
 use Rattle.sl_top.specs.declared.status.Status.{Status}
@@ -259,13 +261,39 @@ live_has_cause : (folder : List ℕ) (m : Manner) (x y : Outside) (s : Status) �
 live_has_cause folder m x y s run =
     let why = live_caused folder m x y s run in
     record {
-      refused = λ e. inr (folder, m, refl);
+      refused = λ e. inr (inl (folder, m, refl));
       bad_words = λ e. absurd (not_bad_live run.ended (sym run.status ∙ e));
-      read_fault = λ e. (inr (folder, m, refl), why.read e);
+      read_fault = λ e. (inr (inl (folder, m, refl)), why.read e);
       write_fault = why.written;
       area_fault = λ e. (inr (folder, m, refl), why.area e);
       not_the_leader = λ e. absurd (not_a_look run.ended (sym run.status ∙ e));
       differs = λ e. ((folder, m, refl), why.differs e);
+    }
+
+-- ---- journals
+
+journal_caused : (x y : Outside) (s : Status) → WritesJournal x.left y.left x.source_faults y.source_faults x.taken y.taken x.sink_faults y.sink_faults s → HasItsCause (Some Journal) x y s
+journal_caused x y s run =
+    record {
+      refused = λ e. inr (inr (inl refl));
+      bad_words = λ e. absurd (played_not run.ended BadWords (sym run.status ∙ e) (inl refl));
+      read_fault = λ e. (inr (inr (inl refl)), run.read_fault e);
+      write_fault = run.write_fault;
+      area_fault = λ e. absurd (played_not run.ended AreaFault (sym run.status ∙ e) (inr (inl refl)));
+      not_the_leader = λ e. absurd (played_not run.ended NotTheLeader (sym run.status ∙ e) (inr (inr (inl refl))));
+      differs = λ e. absurd (played_not run.ended Differs (sym run.status ∙ e) (inr (inr (inr refl))));
+    }
+
+check_caused : (x y : Outside) (s : Status) → ChecksJournal x.left y.left x.source_faults y.source_faults x.taken y.taken x.sink_faults y.sink_faults s → HasItsCause (Some Check) x y s
+check_caused x y s run =
+    record {
+      refused = λ e. inr (inr (inr refl));
+      bad_words = λ e. absurd (checked_not run.ended BadWords (sym run.status ∙ e) (inl refl));
+      read_fault = λ e. (inr (inr (inr refl)), run.read_fault e);
+      write_fault = run.write_fault;
+      area_fault = λ e. absurd (checked_not run.ended AreaFault (sym run.status ∙ e) (inr (inl refl)));
+      not_the_leader = λ e. absurd (checked_not run.ended NotTheLeader (sym run.status ∙ e) (inr (inr (inl refl))));
+      differs = λ e. absurd (checked_not run.ended Differs (sym run.status ∙ e) (inr (inr (inr refl))));
     }
 
 -- ---- all words
@@ -274,6 +302,8 @@ pub statuses_have_causes : StatusesHaveCauses
 statuses_have_causes None x y s h = bad_caused x y s h
 statuses_have_causes (Some Replay) x y s h = replay_caused x y s h
 statuses_have_causes (Some (Draw first last)) x y s h = draw_caused first last x y s h
+statuses_have_causes (Some Journal) x y s h = journal_caused x y s h
+statuses_have_causes (Some Check) x y s h = check_caused x y s h
 statuses_have_causes (Some (Generate seed hosts events paired)) x y s h = done_caused (Some (Generate seed hosts events paired)) x y _ s h.puts
 statuses_have_causes (Some (Direct a)) x y s h = direct_caused a x y s h
 statuses_have_causes (Some (Live folder anew keeps events)) x y s h = live_has_cause folder (record { anew = anew; keeps = keeps; events = events }) x y s h

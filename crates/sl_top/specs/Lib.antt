@@ -1,4 +1,5 @@
 pub mod Statuses
+pub mod JournalsOwed
 pub mod Runs
 pub mod StatusLaws
 pub mod LiveHistories

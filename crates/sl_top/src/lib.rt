@@ -9,6 +9,7 @@
 #![tactic(auto)]
 
 pub mod laws;
+mod journals;
 mod status;
 mod top;
 

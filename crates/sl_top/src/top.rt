@@ -11,6 +11,7 @@ ghost use Rattle.sl_top.specs.Runs.{ActsOn, Generates, IsDirect, IsLive, Owes, P
 ghost use Rattle.sl_top.specs.declared.status.Status.TheVariants.{WriteFault};
 ghost use Rattle.std.specs.Prelude.{IfOk, option_map, ◌≡◌, ◌≢◌, ◌≤◌};
 
+use crate::journals::{check, journal};
 use crate::status::{Status, status_after, status_of, status_of_generated, status_of_live};
 use sl_area::Area;
 use sl_cli::{Folder, HELP, VERSION, Words, WordsError, read_words};
@@ -159,6 +160,8 @@ pub fn run_offline<S: Source, K: Sink, D: Devices>(
     match read_words(alloc, words) {
         Ok(Words::Replay) => replay(alloc, source, sink),
         Ok(Words::Draw { first, last }) => draw(alloc, Part { first, last }, source, sink),
+        Ok(Words::Journal) => journal(alloc, source, sink),
+        Ok(Words::Check) => check(alloc, source, sink),
         Ok(
             Words::Generate {
                 seed,
@@ -203,6 +206,8 @@ fn place_of(words: Words, at_terminal: bool) -> Option<Place>
         }),
         Words::Replay => None,
         Words::Draw { .. } => None,
+        Words::Journal => None,
+        Words::Check => None,
         Words::Generate { .. } => None,
         Words::Direct(_) => None,
         Words::Help => None,

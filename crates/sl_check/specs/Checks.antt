@@ -1,0 +1,179 @@
+-- What is found of a journal.
+use Rattle.sl_check.specs.declared.check.Check.{Check}
+use Rattle.sl_check.specs.declared.check.Checked.TheVariants.{BreaksOff, Differs, NoMemory, ReadFault, Same, WriteFault}
+use Rattle.sl_check.specs.declared.check.Checked.{Checked}
+use Rattle.sl_check.specs.declared.check.Found.TheVariants.{Barred, Due, Last, Misread, Other}
+use Rattle.sl_check.specs.declared.check.Found.{Found}
+use Rattle.sl_io.specs.FaultCauses.{Rose}
+use Rattle.sl_journal.specs.JournalLines.{end_line, first_line}
+use Rattle.sl_journal.specs.JournalPlays.{GoesOn, JournalState, StopsAt, journal_state}
+use Rattle.sl_journal.specs.JournalRuns.{first_news, run_news, run_steps, texts_of}
+use Rattle.sl_journal.specs.JournalWrites.{HasPlayed, HasTaken}
+use Rattle.sl_play.specs.Plays.{PlaysOn}
+use Rattle.sl_play.specs.Replays.{Moved, played_language}
+use Rattle.sl_reader.specs.LineReads.{Gives, ReaderState}
+use Rattle.sl_report.specs.Languages.{Language}
+use Rattle.sl_report.specs.OwedReports.{IsFrontOf, MayHaveBeen, Promise}
+use Rattle.sl_report.specs.Reports.{Counts, no_counts, run_counts}
+use Rattle.sl_report.specs.Schedules.{At_end, At_line, Follows, FollowsSoFar, Header_read, NumberedLine, event_lines_of, numbered_lines, read_header}
+use Rattle.sl_run.specs.Locks.{Locks}
+use Rattle.sl_run.specs.Runs.{Happening}
+use Rattle.sl_run.specs.Worlds.{World, world_with}
+use Rattle.sl_run.specs.declared.event.Refusal.{Refusal}
+use Rattle.sl_run.specs.declared.header.Header.{Header}
+use Rattle.sl_sound.specs.MadeRuns.{MadeRun}
+use Rattle.sl_text.specs.Forms.{Form, as_bytes, spaced}
+use Rattle.sl_trace.specs.Traces.{Setting, Trace}
+use Rattle.sl_trace.specs.declared.command.Command.{Command}
+use Rattle.sl_world_state.specs.Daemons.{program_of}
+use Rattle.std.specs.Io.KnownBytes.{Appends}
+use Rattle.std.specs.Prelude.{Bool, List, Option, [], codes, decimal, drop, length, map, true, ℕ, ◌++◌, ◌∷◌, ◌≡◌, ◌≤◌, ◌⊎◌}
+
+-- ---- what is told
+
+abbrev pub ok_line : ℕ → List ℕ
+ok_line entries = spaced (codes "journal" ∷ decimal entries ∷ codes "ok" ∷ [])
+
+abbrev pub front_line : ℕ → List ℕ
+front_line entries = spaced (codes "journal" ∷ decimal entries ∷ codes "so" ∷ codes "far" ∷ [])
+
+-- How many events there were, and how many of their grants left a conflict.
+abbrev pub run_line : Counts → List ℕ
+run_line k = spaced (codes "run" ∷ decimal k.events ∷ codes "conflicts" ∷ decimal k.conflicts ∷ [])
+
+-- Which line differs, what stands there, and what is due.
+abbrev pub difference_lines : ℕ → List ℕ → List ℕ → List (List ℕ)
+difference_lines number kept due =
+    spaced (codes "line" ∷ decimal number ∷ []) ∷ (codes "kept" ++ 32 ∷ kept) ∷ (codes "due" ++ 32 ∷ due) ∷ []
+
+-- The first line with its line feed.
+abbrev pub mark : List ℕ
+mark = first_line ++ 10 ∷ []
+
+-- ---- journals that are right
+
+-- The texts of lines.
+abbrev pub row_texts : List NumberedLine → List (List ℕ)
+row_texts ls = map (λ l. l.text) ls
+
+-- Behind its first line, these bytes have a header and lines that are just those of a run of which this is promised: each event's own line, and behind
+-- it what it brought; and last how many entries there are. So much is told of it.
+pub record RightJournal (promised : Promise) (lang : Language) (source written : List ℕ) : Type 0 where
+  pub body : List ℕ
+  pub first : source ≡ first_line ++ 10 ∷ body
+  pub header : Header
+  pub rows : List NumberedLine
+  pub read : read_header lang [] 1 (numbered_lines body) ≡ Header_read header rows
+  -- the events' own lines, and the run
+  pub own : List NumberedLine
+  pub xs : List Happening
+  pub follows : Follows (world_with lang.program header) (event_lines_of lang header own) xs At_end
+  pub made : promised lang.program header xs
+  pub text : as_bytes (row_texts rows) ≡ as_bytes (first_news (world_with lang.program header) ++ run_news (world_with lang.program header) (texts_of lang own) xs
+      ++ end_line (run_steps (world_with lang.program header) xs) ∷ [])
+  pub told : written ≡ as_bytes (ok_line (run_steps (world_with lang.program header) xs) ∷ run_line (run_counts (world_with lang.program header) no_counts xs) ∷ [])
+
+-- It breaks off: so far it is that of a run, but for a last line that may be cut.
+pub record FrontJournal (promised : Promise) (lang : Language) (source : List ℕ) : Type 0 where
+  pub body : List ℕ
+  pub first : source ≡ first_line ++ 10 ∷ body
+  pub header : Header
+  pub rows : List NumberedLine
+  pub cut : List NumberedLine
+  pub read : read_header lang [] 1 (numbered_lines body) ≡ Header_read header (rows ++ cut)
+  pub few : length cut ≤ 1
+  pub own : List NumberedLine
+  pub xs : List Happening
+  pub follows : FollowsSoFar (world_with lang.program header) (event_lines_of lang header own) xs
+  pub made : promised lang.program header xs
+  pub text : IsFrontOf (as_bytes (row_texts rows)) (as_bytes (first_news (world_with lang.program header) ++ run_news (world_with lang.program header) (texts_of lang own) xs))
+
+-- Why a row is wrong behind what was seen, of which so much is due next: another one is due, or none is and its event may not happen.
+pub data IsWrong (lang : Language) (header : Header) (own : List NumberedLine → List NumberedLine) (xs : List Happening) (due : List ℕ) (next : NumberedLine) : Type 0 where
+  Is_other : (due ≡ [] → ⊥) → ((rest : List ℕ) → due ≡ next.text ++ 10 ∷ rest → ⊥) → IsWrong lang header own xs due next
+  Is_barred : (why : Refusal) → ((rest : List NumberedLine) → Follows (world_with lang.program header) (event_lines_of lang header (own (next ∷ rest))) xs (At_line next.number why))
+      → IsWrong lang header own xs due next
+
+-- A row is wrong: so far the journal is that of a run, and this row doesn't go on with it.
+pub record WrongJournal (promised : Promise) (lang : Language) (source : List ℕ) : Type 0 where
+  pub body : List ℕ
+  pub first : source ≡ first_line ++ 10 ∷ body
+  pub header : Header
+  pub rows : List NumberedLine
+  pub next : NumberedLine
+  pub others : List NumberedLine
+  pub read : read_header lang [] 1 (numbered_lines body) ≡ Header_read header (rows ++ next ∷ others)
+  pub own : List NumberedLine → List NumberedLine
+  pub xs : List Happening
+  pub follows : FollowsSoFar (world_with lang.program header) (event_lines_of lang header (own [])) xs
+  pub made : promised lang.program header xs
+  pub due : List ℕ
+  pub text : as_bytes (first_news (world_with lang.program header) ++ run_news (world_with lang.program header) (texts_of lang (own [])) xs) ≡ as_bytes (row_texts rows) ++ due
+  pub wrong : IsWrong lang header own xs due next
+
+-- ---- within the lines behind a header
+
+-- The journal as it is made again, and what of it is due next.
+pub record CheckState (D : Type 0) : Type 0 where
+  pub journal : JournalState D
+  pub due : List ℕ
+
+abbrev pub check_state : {D L : Type 0} → {d : _} → {l : _} → (L → Locks) → Check D L d l → CheckState D
+check_state locks c = record { journal = journal_state locks c.journal; due = drop c.at c.due.items }
+
+-- These rows were read, and with what is due next they are all that the run brought.
+pub record HasSeen {D : Type 0} (commands : Header → List (Form Command)) (stands : D → Setting → Trace → Type 0) (h : Header) (first left : Option (List ℕ)) (r : ReaderState)
+    (c : CheckState D) : Type 0 where
+  pub played : HasPlayed commands stands h c.journal
+  pub rows : List NumberedLine
+  pub read : HasTaken commands h first left r (λ rest. rows ++ rest)
+  pub due : as_bytes (row_texts rows) ++ c.due ≡ as_bytes (first_news (world_with (program_of commands) h)) ++ played.bytes
+
+-- The last row was read behind all that the run brought.
+pub record IsLast {D : Type 0} (commands : Header → List (Form Command)) (stands : D → Setting → Trace → Type 0) (first left : Option (List ℕ)) (r : ReaderState) (c : CheckState D) : Type 0 where
+  pub consumed : List ℕ
+  pub gives : Gives first left [] (consumed ++ r.left)
+  pub right : RightJournal (λ p h xs. MadeRun stands p h xs) (played_language commands) (mark ++ (consumed ++ []))
+      (as_bytes (ok_line c.journal.entries ∷ run_line c.journal.play.counts ∷ []))
+
+-- A line is the one that is due: what is due is cut by it. Or it begins what its event brought.
+pub record Passes {D : Type 0} (text : List ℕ) (c n : CheckState D) : Type 0 where
+  pub same : n.journal ≡ c.journal
+  pub due : c.due ≡ text ++ 10 ∷ n.due
+
+pub record Starts {D : Type 0} (commands : Header → List (Form Command)) (stands : D → Setting → Trace → Type 0) (w : World) (c : CheckState D) (l : NumberedLine) (n : CheckState D) : Type 0 where
+  pub none : c.due ≡ []
+  pub goes : GoesOn commands stands w c.journal (λ rest. l ∷ rest) [] n.journal (l.text ++ 10 ∷ n.due)
+
+-- What a line is found to be: the one that is due, or one that begins what its event brought; or the last one.
+abbrev pub Finds : {D : Type 0} → (Header → List (Form Command)) → (D → Setting → Trace → Type 0) → NumberedLine → CheckState D → CheckState D → Found → Type 0
+Finds commands stands l c n Due = Passes l.text c n ⊎ ((w : World) → PlaysOn commands stands c.journal.play w → Starts commands stands w c l n)
+Finds commands stands l c n Last = (c.due ≡ []) × (n ≡ c) × (l.text ≡ end_line c.journal.entries)
+Finds commands stands l c n Other = (c.due ≡ [] → ⊥) × ((rest : List ℕ) → c.due ≡ l.text ++ 10 ∷ rest → ⊥)
+Finds commands stands l c n (Barred why) = (w : World) → PlaysOn commands stands c.journal.play w → StopsAt commands w c.journal l n.journal why
+Finds commands stands l c n (Misread why) = Unit {0}
+
+-- ---- what is owed
+
+-- A text is put out whole, or a front of it, or there was no memory for it.
+pub data Puts (taken now : Option (List ℕ)) (faults later : ℕ) (text : List ℕ) (whole : Checked) : Checked → Type 0 where
+  All : Appends taken now text → Puts taken now faults later text whole whole
+  Part : (front : List ℕ) → Appends taken now front → Rose faults later → Puts taken now faults later text whole WriteFault
+  Nothing : Appends taken now [] → Puts taken now faults later text whole NoMemory
+
+-- What was read, behind these bytes of a journal, and told, by what the check came to.
+pub record ChecksBehind {D : Type 0} (commands : Header → List (Form Command)) (stands : D → Setting → Trace → Type 0) (before : List ℕ) (left after taken now : Option (List ℕ))
+    (faults later sink_faults sink_later : ℕ) (s : Checked) : Type 0 where
+  pub moved : Moved left after taken now
+  pub right : s ≡ Same → (moved.ended ≡ true) × RightJournal (λ p h xs. MadeRun stands p h xs) (played_language commands) (before ++ moved.read) moved.written
+  pub differs : s ≡ Differs → (source : List ℕ) → MayHaveBeen moved.ended moved.read source
+      → WrongJournal (λ p h xs. MadeRun stands p h xs) (played_language commands) (before ++ source)
+  pub front : s ≡ BreaksOff → FrontJournal (λ p h xs. MadeRun stands p h xs) (played_language commands) (before ++ moved.read)
+  pub read_fault : s ≡ ReadFault → Rose faults later
+  pub write_fault : s ≡ WriteFault → Rose sink_faults sink_later
+
+-- .. of a whole journal.
+abbrev pub ChecksJournal : {D : Type 0} → (Header → List (Form Command)) → (D → Setting → Trace → Type 0) → Option (List ℕ) → Option (List ℕ) → Option (List ℕ) → Option (List ℕ)
+    → ℕ → ℕ → ℕ → ℕ → Checked → Type 0
+ChecksJournal commands stands left after taken now faults later sink_faults sink_later s =
+    ChecksBehind commands stands [] left after taken now faults later sink_faults sink_later s

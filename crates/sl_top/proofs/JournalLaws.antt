@@ -1,0 +1,202 @@
+-- What journals of hosts owe: the run that was made is as promised.
+use Rattle.sl_check.proofs.ChecksGrow.{front_right_grows, right_grows, wrong_grows}
+use Rattle.sl_check.specs.Checks.{ChecksJournal as ChecksMade, FrontJournal, RightJournal, WrongJournal}
+use Rattle.sl_check.specs.declared.check.Checked.TheVariants as checked
+use Rattle.sl_check.specs.declared.check.Checked.{Checked}
+use Rattle.sl_due_law.proofs.DueIsLawful.{due_is_lawful}
+use Rattle.sl_headline.proofs.RunsArePromised.{made_runs_are_promised}
+use Rattle.sl_headline.specs.PromisedRuns.{PromisedRun}
+use Rattle.sl_host_step.specs.HostServes.{whole_commands}
+use Rattle.sl_io.specs.FaultCauses.{Rose}
+use Rattle.sl_journal.proofs.JournalsGrow.{Grows, front_grows, journal_grows}
+use Rattle.sl_journal.specs.JournalWrites.{WritesJournal as WritesMade}
+use Rattle.sl_journal.specs.Journals.{JournalFront, JournalOf, Of_nothing}
+use Rattle.sl_play.specs.Replays.{code as played_code, played_language}
+use Rattle.sl_play.specs.declared.replay.Played.TheVariants as played
+use Rattle.sl_play.specs.declared.replay.Played.{Played}
+use Rattle.sl_report.specs.Languages.{Language, whole_language}
+use Rattle.sl_report.specs.OwedReports.{IsFrontOf, MayHaveBeen, is_whole_status}
+use Rattle.sl_sound.specs.MadeRuns.{MadeRun}
+use Rattle.sl_sound.specs.SoundLaws.{DaemonsDoWhatIsDue}
+use Rattle.sl_top.proofs.RunLaws.{asks_read, digest_of, done_is, good_headers, nothing_put, read_fault_is, same_code, same_language, write_fault_is}
+use Rattle.sl_top.specs.JournalsOwed.{ChecksJournal, Moves, WritesJournal}
+use Rattle.sl_top.specs.Statuses.{code, status_of, status_of_check}
+use Rattle.sl_top.specs.declared.status.Status.TheVariants.{AreaFault, BadWords, BreaksOff, Differs, Done, JournalDiffers, NoMemory, NotTheLeader, ReadFault, WriteFault}
+use Rattle.sl_top.specs.declared.status.Status.{Status}
+use Rattle.sl_trace.specs.Traces.{Setting, Trace}
+use Rattle.std.proofs.KnownBytes.{Consumes-nil}
+use Rattle.std.proofs.Common.{List, Option, [], ap, inl, inr, refl, subst, sym, true, ℕ, ◌∙◌}
+use Rattle.std.specs.Io.KnownBytes.{Appends, Consumes, IsAtEnd}
+use Rattle.std.specs.Prelude.{Bool, IsTrue, false, ◌≡◌, ◌⊎◌}
+
+-- ---- statuses
+
+abbrev pub NoneOfThese : Status → Type 0
+NoneOfThese s = (s ≡ BadWords) ⊎ (s ≡ AreaFault) ⊎ (s ≡ NotTheLeader) ⊎ (s ≡ Differs)
+
+-- Whether a status is one of these.
+abbrev is_one : Status → Bool
+is_one BadWords = true
+is_one AreaFault = true
+is_one NotTheLeader = true
+is_one Differs = true
+is_one s = false
+
+one_of : (s : Status) → NoneOfThese s → is_one s ≡ true
+one_of s (inl e) = ap is_one e
+one_of s (inr (inl e)) = ap is_one e
+one_of s (inr (inr (inl e))) = ap is_one e
+one_of s (inr (inr (inr e))) = ap is_one e
+
+clash : (b : Bool) → b ≡ false → b ≡ true → ⊥
+clash true no yes = absurd cc
+clash false no yes = absurd cc
+
+played_none : (p : Played) → is_one (status_of p) ≡ false
+played_none played.Done = refl
+played_none played.Refused = refl
+played_none played.ReadFault = refl
+played_none played.WriteFault = refl
+played_none played.NoMemory = refl
+
+checked_none : (c : Checked) → is_one (status_of_check c) ≡ false
+checked_none checked.Same = refl
+checked_none checked.Differs = refl
+checked_none checked.Refused = refl
+checked_none checked.BreaksOff = refl
+checked_none checked.ReadFault = refl
+checked_none checked.WriteFault = refl
+checked_none checked.NoMemory = refl
+
+-- What was played, or checked, doesn't end so.
+pub played_not : (p : Played) (s : Status) → status_of p ≡ s → NoneOfThese s → ⊥
+played_not p s is n = clash (is_one s) (sym (ap is_one is) ∙ played_none p) (one_of s n)
+
+pub checked_not : (c : Checked) (s : Status) → status_of_check c ≡ s → NoneOfThese s → ⊥
+checked_not c s is n = clash (is_one s) (sym (ap is_one is) ∙ checked_none c) (one_of s n)
+
+same_is : (c : Checked) → status_of_check c ≡ Done → c ≡ checked.Same
+same_is checked.Same e = refl
+same_is checked.Differs e = absurd cc
+same_is checked.Refused e = absurd cc
+same_is checked.BreaksOff e = absurd cc
+same_is checked.ReadFault e = absurd cc
+same_is checked.WriteFault e = absurd cc
+same_is checked.NoMemory e = absurd cc
+
+differs_is : (c : Checked) → status_of_check c ≡ JournalDiffers → c ≡ checked.Differs
+differs_is checked.Same e = absurd cc
+differs_is checked.Differs e = refl
+differs_is checked.Refused e = absurd cc
+differs_is checked.BreaksOff e = absurd cc
+differs_is checked.ReadFault e = absurd cc
+differs_is checked.WriteFault e = absurd cc
+differs_is checked.NoMemory e = absurd cc
+
+breaks_is : (c : Checked) → status_of_check c ≡ BreaksOff → c ≡ checked.BreaksOff
+breaks_is checked.Same e = absurd cc
+breaks_is checked.Differs e = absurd cc
+breaks_is checked.Refused e = absurd cc
+breaks_is checked.BreaksOff e = refl
+breaks_is checked.ReadFault e = absurd cc
+breaks_is checked.WriteFault e = absurd cc
+breaks_is checked.NoMemory e = absurd cc
+
+read_is : (c : Checked) → status_of_check c ≡ ReadFault → c ≡ checked.ReadFault
+read_is checked.Same e = absurd cc
+read_is checked.Differs e = absurd cc
+read_is checked.Refused e = absurd cc
+read_is checked.BreaksOff e = absurd cc
+read_is checked.ReadFault e = refl
+read_is checked.WriteFault e = absurd cc
+read_is checked.NoMemory e = absurd cc
+
+write_is : (c : Checked) → status_of_check c ≡ WriteFault → c ≡ checked.WriteFault
+write_is checked.Same e = absurd cc
+write_is checked.Differs e = absurd cc
+write_is checked.Refused e = absurd cc
+write_is checked.BreaksOff e = absurd cc
+write_is checked.ReadFault e = absurd cc
+write_is checked.WriteFault e = refl
+write_is checked.NoMemory e = absurd cc
+
+-- ---- promises
+
+-- Of daemons that do what is due, made runs are as promised.
+grows : {D : Type 0} (stands : D → Setting → Trace → Type 0) → DaemonsDoWhatIsDue stands → Grows (λ p h xs. MadeRun stands p h xs) PromisedRun (played_language whole_commands)
+grows stands due source h rest xs reads made =
+    made_runs_are_promised stands due due_is_lawful (played_language whole_commands).program asks_read h xs (good_headers source h rest reads) digest_of made
+
+-- ---- what is owed
+
+pub journal_by : {D : Type 0} (stands : D → Setting → Trace → Type 0) (left after : Option (List ℕ)) (faults later : ℕ) (taken now : Option (List ℕ)) (sink_faults sink_later : ℕ) (p : Played)
+    → DaemonsDoWhatIsDue stands → WritesMade whole_commands stands left after taken now faults later sink_faults sink_later p → (s : Status) → s ≡ status_of p
+    → WritesJournal left after faults later taken now sink_faults sink_later s
+journal_by stands left after faults later taken now sink_faults sink_later p due x s is =
+    subst (WritesJournal left after faults later taken now sink_faults sink_later) (sym is)
+    (record {
+      ended = p;
+      status = refl;
+      moved = record { read = x.moved.read; ended = x.moved.ended; written = x.moved.written; reads = x.moved.reads; at_end = x.moved.at_end; writes = x.moved.writes };
+      whole = λ w source may. subst (λ (l : Language). JournalOf PromisedRun l source x.moved.written (code (status_of p))) same_language
+          (subst (λ k. JournalOf PromisedRun (played_language whole_commands) source x.moved.written k) (same_code p)
+          (journal_grows (λ q h xs. MadeRun stands q h xs) PromisedRun (played_language whole_commands) source x.moved.written (played_code p) (grows stands due)
+          (x.whole (subst (λ k. IsTrue (is_whole_status k)) (sym (same_code p)) w) source may)));
+      front = λ source may. subst (λ (l : Language). JournalFront PromisedRun l source x.moved.written) same_language
+          (front_grows (λ q h xs. MadeRun stands q h xs) PromisedRun (played_language whole_commands) source x.moved.written (grows stands due) (x.front source may));
+      to_end = λ e. x.to_end (done_is p e);
+      read_fault = λ e. x.read_fault (read_fault_is p e);
+      write_fault = λ e. x.write_fault (write_fault_is p e);
+    })
+
+pub check_by : {D : Type 0} (stands : D → Setting → Trace → Type 0) (left after : Option (List ℕ)) (faults later : ℕ) (taken now : Option (List ℕ)) (sink_faults sink_later : ℕ) (c : Checked)
+    → DaemonsDoWhatIsDue stands → ChecksMade whole_commands stands left after taken now faults later sink_faults sink_later c → (s : Status) → s ≡ status_of_check c
+    → ChecksJournal left after faults later taken now sink_faults sink_later s
+check_by stands left after faults later taken now sink_faults sink_later c due x s is =
+    subst (ChecksJournal left after faults later taken now sink_faults sink_later) (sym is)
+    (record {
+      ended = c;
+      status = refl;
+      moved = record { read = x.moved.read; ended = x.moved.ended; written = x.moved.written; reads = x.moved.reads; at_end = x.moved.at_end; writes = x.moved.writes };
+      to_end = λ e. (x.right (same_is c e)).0;
+      right = λ e. subst (λ (l : Language). RightJournal PromisedRun l x.moved.read x.moved.written) same_language
+          (right_grows (λ q h xs. MadeRun stands q h xs) PromisedRun (played_language whole_commands) x.moved.read x.moved.written (grows stands due) (x.right (same_is c e)).1);
+      differs = λ e source may. subst (λ (l : Language). WrongJournal PromisedRun l source) same_language
+          (wrong_grows (λ q h xs. MadeRun stands q h xs) PromisedRun (played_language whole_commands) source (grows stands due) (x.differs (differs_is c e) source may));
+      front = λ e. subst (λ (l : Language). FrontJournal PromisedRun l x.moved.read) same_language
+          (front_right_grows (λ q h xs. MadeRun stands q h xs) PromisedRun (played_language whole_commands) x.moved.read (grows stands due) (x.front (breaks_is c e)));
+      read_fault = λ e. x.read_fault (read_is c e);
+      write_fault = λ e. x.write_fault (write_is c e);
+    })
+
+-- ---- for want of memory
+
+nothing_moved : (left taken : Option (List ℕ)) → Moves left left taken taken
+nothing_moved left taken = record { read = []; ended = false; written = []; reads = Consumes-nil left; at_end = λ e. absurd (clash false refl e); writes = nothing_put taken }
+
+pub unwritten : (left : Option (List ℕ)) (faults : ℕ) (taken : Option (List ℕ)) (sink_faults : ℕ) → WritesJournal left left faults faults taken taken sink_faults sink_faults NoMemory
+unwritten left faults taken sink_faults =
+    record {
+      ended = played.NoMemory;
+      status = refl;
+      moved = nothing_moved left taken;
+      whole = λ w. absurd (clash false refl w);
+      front = λ source may. Of_nothing refl;
+      to_end = λ e. absurd cc;
+      read_fault = λ e. absurd cc;
+      write_fault = λ e. absurd cc;
+    }
+
+pub unchecked : (left : Option (List ℕ)) (faults : ℕ) (taken : Option (List ℕ)) (sink_faults : ℕ) → ChecksJournal left left faults faults taken taken sink_faults sink_faults NoMemory
+unchecked left faults taken sink_faults =
+    record {
+      ended = checked.NoMemory;
+      status = refl;
+      moved = nothing_moved left taken;
+      to_end = λ e. absurd cc;
+      right = λ e. absurd cc;
+      differs = λ e. absurd cc;
+      front = λ e. absurd cc;
+      read_fault = λ e. absurd cc;
+      write_fault = λ e. absurd cc;
+    }
