@@ -75,6 +75,20 @@ played_not p s is n = clash (is_one s) (sym (ap is_one is) ∙ played_none p) (o
 pub checked_not : (c : Checked) (s : Status) → status_of_check c ≡ s → NoneOfThese s → ⊥
 checked_not c s is n = clash (is_one s) (sym (ap is_one is) ∙ checked_none c) (one_of s n)
 
+pub played_not_compared : (p : Played) → status_of p ≡ JournalDiffers → ⊥
+played_not_compared played.Done e = absurd cc
+played_not_compared played.Refused e = absurd cc
+played_not_compared played.ReadFault e = absurd cc
+played_not_compared played.WriteFault e = absurd cc
+played_not_compared played.NoMemory e = absurd cc
+
+pub played_not_broken : (p : Played) → status_of p ≡ BreaksOff → ⊥
+played_not_broken played.Done e = absurd cc
+played_not_broken played.Refused e = absurd cc
+played_not_broken played.ReadFault e = absurd cc
+played_not_broken played.WriteFault e = absurd cc
+played_not_broken played.NoMemory e = absurd cc
+
 same_is : (c : Checked) → status_of_check c ≡ Done → c ≡ checked.Same
 same_is checked.Same e = refl
 same_is checked.Differs e = absurd cc

@@ -16,11 +16,11 @@ use Rattle.sl_run.specs.declared.header.Header.{Header}
 use Rattle.sl_top.proofs.RunLaws.{nothing_put}
 use Rattle.sl_top.specs.LiveHistories.{LiveHistoriesAreGood}
 use Rattle.sl_top.specs.StatusLaws.{SomeDiffer}
-use Rattle.sl_cli.specs.declared.command_words.Words.TheVariants.{Direct, Draw, Generate, Help, Live, Replay, Version}
+use Rattle.sl_cli.specs.declared.command_words.Words.TheVariants.{Check, Direct, Draw, Generate, Help, Journal, Live, Replay, Version}
 use Rattle.sl_cli.specs.declared.command_words.Words.{Words}
 use Rattle.sl_top.specs.Runs.{IsLive, Outside, Owes, RunsLive, place_in, place_of, told_from}
 use Rattle.sl_top.specs.Statuses.{status_of_live}
-use Rattle.sl_top.specs.declared.status.Status.TheVariants.{AreaFault, BadWords, Differs, NoMemory, NotTheLeader, ReadFault, WriteFault}
+use Rattle.sl_top.specs.declared.status.Status.TheVariants.{AreaFault, BadWords, BreaksOff, Differs, JournalDiffers, NoMemory, NotTheLeader, ReadFault, WriteFault}
 use Rattle.sl_top.specs.declared.status.Status.{Status}
 use Rattle.sl_io.specs.FaultCauses.{Rose}
 use Rattle.sl_words.proofs.CaseLaws.{none_some, some_value}
@@ -59,6 +59,24 @@ not_a_look lived.WriteFault e = absurd cc
 not_a_look lived.NoMemory e = absurd cc
 not_a_look lived.AreaFault e = absurd cc
 not_a_look lived.Differs e = absurd cc
+
+pub not_a_check : (l : Lived) → status_of_live l ≡ JournalDiffers → ⊥
+not_a_check lived.Done e = absurd cc
+not_a_check lived.Refused e = absurd cc
+not_a_check lived.ReadFault e = absurd cc
+not_a_check lived.WriteFault e = absurd cc
+not_a_check lived.NoMemory e = absurd cc
+not_a_check lived.AreaFault e = absurd cc
+not_a_check lived.Differs e = absurd cc
+
+pub not_broken_off : (l : Lived) → status_of_live l ≡ BreaksOff → ⊥
+not_broken_off lived.Done e = absurd cc
+not_broken_off lived.Refused e = absurd cc
+not_broken_off lived.ReadFault e = absurd cc
+not_broken_off lived.WriteFault e = absurd cc
+not_broken_off lived.NoMemory e = absurd cc
+not_broken_off lived.AreaFault e = absurd cc
+not_broken_off lived.Differs e = absurd cc
 
 read_failed : (l : Lived) → status_of_live l ≡ ReadFault → l ≡ lived.ReadFault
 read_failed lived.Done e = absurd cc
@@ -223,6 +241,8 @@ place_is_live : (w : Words) (p : List ℕ × Manner) → place_of w ≡ Some p �
 place_is_live (Live folder anew keeps events) p is = ap live_words (some_value (folder, record { anew = anew; keeps = keeps; events = events }) p is)
 place_is_live Replay p is = absurd cc
 place_is_live (Draw first last) p is = absurd cc
+place_is_live Journal p is = absurd cc
+place_is_live Check p is = absurd cc
 place_is_live (Generate seed hosts events paired) p is = absurd cc
 place_is_live (Direct a) p is = absurd cc
 place_is_live Help p is = absurd cc
@@ -242,6 +262,8 @@ is_live_from : (at_terminal : Bool) (w : Words) (p : List ℕ × Manner) → pla
 is_live_from at_terminal (Live folder anew keeps events) p is = (folder, record { anew = anew; keeps = keeps; events = events }, refl)
 is_live_from at_terminal Replay p is = absurd cc
 is_live_from at_terminal (Draw first last) p is = absurd cc
+is_live_from at_terminal Journal p is = absurd cc
+is_live_from at_terminal Check p is = absurd cc
 is_live_from at_terminal (Generate seed hosts events paired) p is = absurd cc
 is_live_from at_terminal (Direct a) p is = absurd cc
 is_live_from at_terminal Help p is = absurd cc
@@ -260,6 +282,8 @@ same_from : (at_terminal : Bool) (w : Words) → place_of (told_from at_terminal
 same_from at_terminal (Live folder anew keeps events) none = absurd cc
 same_from at_terminal Replay none = refl
 same_from at_terminal (Draw first last) none = refl
+same_from at_terminal Journal none = refl
+same_from at_terminal Check none = refl
 same_from at_terminal (Generate seed hosts events paired) none = refl
 same_from at_terminal (Direct a) none = refl
 same_from at_terminal Help none = refl

@@ -20,14 +20,14 @@ use Rattle.sl_report.specs.Languages.{whole_language}
 use Rattle.sl_sound.proofs.Reports.OneReport.{accepted_schedules_end_well as accepted_runs}
 use Rattle.sl_sound.specs.Reports.ReportLaws.{replay_status}
 use Rattle.sl_live_play.specs.declared.play.Manner.{Manner}
-use Rattle.sl_top.proofs.LiveLaws.{live_caused, not_a_look, not_bad as not_bad_live}
+use Rattle.sl_top.proofs.LiveLaws.{live_caused, not_a_check, not_a_look, not_bad as not_bad_live, not_broken_off}
 use Rattle.sl_top.proofs.RunLaws.{whole_headers}
 use Rattle.sl_top.specs.StatusLaws.{AcceptedSchedulesEndWell, CantBeUpgraded, CausesHaveStatuses, HasItsCause, IsNotTheLeader, NothingFailed, OtherSchedulesAreRefused, StatusesHaveCauses, has_leader}
 use Rattle.sl_top.specs.Runs.{ActsOn, IsCutShort, IsWritten, Outside, PutsOut, Replays, RunsLive, bad_words_text}
-use Rattle.sl_top.proofs.JournalLaws.{checked_not, played_not}
+use Rattle.sl_top.proofs.JournalLaws.{checked_not, played_not, played_not_broken, played_not_compared}
 use Rattle.sl_top.specs.JournalsOwed.{ChecksJournal, WritesJournal}
 use Rattle.sl_top.specs.Statuses.{code, status_after}
-use Rattle.sl_top.specs.declared.status.Status.TheVariants.{AreaFault, BadWords, Differs, Done, NoMemory, NotTheLeader, ReadFault, Refused, WriteFault}
+use Rattle.sl_top.specs.declared.status.Status.TheVariants.{AreaFault, BadWords, BreaksOff, Differs, Done, JournalDiffers, NoMemory, NotTheLeader, ReadFault, Refused, WriteFault}
 use Rattle.sl_top.specs.declared.status.Status.{Status}
 use Rattle.sl_trace.specs.declared.command.ResourceArg.{ResourceArg}
 use Rattle.sl_io.specs.FaultCauses.{Rose}
@@ -56,6 +56,8 @@ done_caused w x y text s put =
       write_fault = put.cause;
       area_fault = λ e. absurd (none_of s AreaFault Done ends e (λ no. absurd cc) (λ no. absurd cc) (λ no. absurd cc));
       not_the_leader = λ e. absurd (none_of s NotTheLeader Done ends e (λ no. absurd cc) (λ no. absurd cc) (λ no. absurd cc));
+      journal_differs = λ e. absurd (none_of s JournalDiffers Done ends e (λ no. absurd cc) (λ no. absurd cc) (λ no. absurd cc));
+      breaks_off = λ e. absurd (none_of s BreaksOff Done ends e (λ no. absurd cc) (λ no. absurd cc) (λ no. absurd cc));
       differs = λ e. absurd (none_of s Differs Done ends e (λ no. absurd cc) (λ no. absurd cc) (λ no. absurd cc));
     }
 
@@ -69,6 +71,8 @@ bad_caused x y s put =
       write_fault = put.cause;
       area_fault = λ e. absurd (none_of s AreaFault BadWords ends e (λ no. absurd cc) (λ no. absurd cc) (λ no. absurd cc));
       not_the_leader = λ e. absurd (none_of s NotTheLeader BadWords ends e (λ no. absurd cc) (λ no. absurd cc) (λ no. absurd cc));
+      journal_differs = λ e. absurd (none_of s JournalDiffers BadWords ends e (λ no. absurd cc) (λ no. absurd cc) (λ no. absurd cc));
+      breaks_off = λ e. absurd (none_of s BreaksOff BadWords ends e (λ no. absurd cc) (λ no. absurd cc) (λ no. absurd cc));
       differs = λ e. absurd (none_of s Differs BadWords ends e (λ no. absurd cc) (λ no. absurd cc) (λ no. absurd cc));
     }
 
@@ -88,6 +92,8 @@ replay_caused x y s run =
       write_fault = run.write_fault;
       area_fault = λ e. absurd (outside run.ended run.read run.written s AreaFault run.headline e (λ h. let no : false ≡ true = h.0 in absurd cc));
       not_the_leader = λ e. absurd (outside run.ended run.read run.written s NotTheLeader run.headline e (λ h. let no : false ≡ true = h.0 in absurd cc));
+      journal_differs = λ e. absurd (outside run.ended run.read run.written s JournalDiffers run.headline e (λ h. let no : false ≡ true = h.0 in absurd cc));
+      breaks_off = λ e. absurd (outside run.ended run.read run.written s BreaksOff run.headline e (λ h. let no : false ≡ true = h.0 in absurd cc));
       differs = λ e. absurd (outside run.ended run.read run.written s Differs run.headline e (λ h. let no : false ≡ true = h.0 in absurd cc));
     }
 
@@ -102,16 +108,34 @@ draw_caused : (first last : ℕ) (x y : Outside) (s : Status)
     → Draws (record { first = first; last = last }) x.left y.left x.source_faults y.source_faults x.taken y.taken x.sink_faults y.sink_faults s → HasItsCause (Some (Draw first last)) x y s
 draw_caused first last x y s run =
     record {
-      refused = λ e. inl (inr (first, last, refl));
+      refused = λ e. inl (inr (inl (first, last, refl)));
       bad_words = λ e. absurd (not_drawn _ run.ended run.read run.written s BadWords run.owed e (λ h. let no : false ≡ true = h.0 in absurd cc));
-      read_fault = λ e. (inl (inr (first, last, refl)), run.read_fault e);
+      read_fault = λ e. (inl (inr (inl (first, last, refl))), run.read_fault e);
       write_fault = run.write_fault;
       area_fault = λ e. absurd (not_drawn _ run.ended run.read run.written s AreaFault run.owed e (λ h. let no : false ≡ true = h.0 in absurd cc));
       not_the_leader = λ e. absurd (not_drawn _ run.ended run.read run.written s NotTheLeader run.owed e (λ h. let no : false ≡ true = h.0 in absurd cc));
+      journal_differs = λ e. absurd (not_drawn _ run.ended run.read run.written s JournalDiffers run.owed e (λ h. let no : false ≡ true = h.0 in absurd cc));
+      breaks_off = λ e. absurd (not_drawn _ run.ended run.read run.written s BreaksOff run.owed e (λ h. let no : false ≡ true = h.0 in absurd cc));
       differs = λ e. absurd (not_drawn _ run.ended run.read run.written s Differs run.owed e (λ h. let no : false ≡ true = h.0 in absurd cc));
     }
 
 -- ---- an action
+
+not_compared : (d : Directed) → status_after d ≡ JournalDiffers → ⊥
+not_compared directed.Done e = absurd cc
+not_compared directed.WriteFault e = absurd cc
+not_compared directed.NoMemory e = absurd cc
+not_compared directed.AreaFault e = absurd cc
+not_compared directed.NotTheLeader e = absurd cc
+not_compared directed.TornBlock e = absurd cc
+
+not_broken : (d : Directed) → status_after d ≡ BreaksOff → ⊥
+not_broken directed.Done e = absurd cc
+not_broken directed.WriteFault e = absurd cc
+not_broken directed.NoMemory e = absurd cc
+not_broken directed.AreaFault e = absurd cc
+not_broken directed.NotTheLeader e = absurd cc
+not_broken directed.TornBlock e = absurd cc
 
 not_refused : (d : Directed) → status_after d ≡ Refused → ⊥
 not_refused directed.Done e = absurd cc
@@ -252,6 +276,8 @@ direct_caused a x y s run =
       write_fault = λ e. run.directs.write_fault (write_failed run.ended (sym run.status ∙ e));
       area_fault = λ e. (inl (a, refl), run.count.rose (some_fault run.counted (run.directs.area_fault (area_failed run.ended (sym run.status ∙ e)))));
       not_the_leader = λ e. other_caused a x y s run (other_leader run.ended (sym run.status ∙ e));
+      journal_differs = λ e. absurd (not_compared run.ended (sym run.status ∙ e));
+      breaks_off = λ e. absurd (not_broken run.ended (sym run.status ∙ e));
       differs = λ e. absurd (not_differing run.ended (sym run.status ∙ e));
     }
 
@@ -261,12 +287,14 @@ live_has_cause : (folder : List ℕ) (m : Manner) (x y : Outside) (s : Status) �
 live_has_cause folder m x y s run =
     let why = live_caused folder m x y s run in
     record {
-      refused = λ e. inr (inl (folder, m, refl));
+      refused = λ e. inr (folder, m, refl);
       bad_words = λ e. absurd (not_bad_live run.ended (sym run.status ∙ e));
-      read_fault = λ e. (inr (inl (folder, m, refl)), why.read e);
+      read_fault = λ e. (inr (folder, m, refl), why.read e);
       write_fault = why.written;
       area_fault = λ e. (inr (folder, m, refl), why.area e);
       not_the_leader = λ e. absurd (not_a_look run.ended (sym run.status ∙ e));
+      journal_differs = λ e. absurd (not_a_check run.ended (sym run.status ∙ e));
+      breaks_off = λ e. absurd (not_broken_off run.ended (sym run.status ∙ e));
       differs = λ e. ((folder, m, refl), why.differs e);
     }
 
@@ -275,24 +303,28 @@ live_has_cause folder m x y s run =
 journal_caused : (x y : Outside) (s : Status) → WritesJournal x.left y.left x.source_faults y.source_faults x.taken y.taken x.sink_faults y.sink_faults s → HasItsCause (Some Journal) x y s
 journal_caused x y s run =
     record {
-      refused = λ e. inr (inr (inl refl));
+      refused = λ e. inl (inr (inr (inl refl)));
       bad_words = λ e. absurd (played_not run.ended BadWords (sym run.status ∙ e) (inl refl));
-      read_fault = λ e. (inr (inr (inl refl)), run.read_fault e);
+      read_fault = λ e. (inl (inr (inr (inl refl))), run.read_fault e);
       write_fault = run.write_fault;
       area_fault = λ e. absurd (played_not run.ended AreaFault (sym run.status ∙ e) (inr (inl refl)));
       not_the_leader = λ e. absurd (played_not run.ended NotTheLeader (sym run.status ∙ e) (inr (inr (inl refl))));
+      journal_differs = λ e. absurd (played_not_compared run.ended (sym run.status ∙ e));
+      breaks_off = λ e. absurd (played_not_broken run.ended (sym run.status ∙ e));
       differs = λ e. absurd (played_not run.ended Differs (sym run.status ∙ e) (inr (inr (inr refl))));
     }
 
 check_caused : (x y : Outside) (s : Status) → ChecksJournal x.left y.left x.source_faults y.source_faults x.taken y.taken x.sink_faults y.sink_faults s → HasItsCause (Some Check) x y s
 check_caused x y s run =
     record {
-      refused = λ e. inr (inr (inr refl));
+      refused = λ e. inl (inr (inr (inr refl)));
       bad_words = λ e. absurd (checked_not run.ended BadWords (sym run.status ∙ e) (inl refl));
-      read_fault = λ e. (inr (inr (inr refl)), run.read_fault e);
+      read_fault = λ e. (inl (inr (inr (inr refl))), run.read_fault e);
       write_fault = run.write_fault;
       area_fault = λ e. absurd (checked_not run.ended AreaFault (sym run.status ∙ e) (inr (inl refl)));
       not_the_leader = λ e. absurd (checked_not run.ended NotTheLeader (sym run.status ∙ e) (inr (inr (inl refl))));
+      journal_differs = λ e. refl;
+      breaks_off = λ e. refl;
       differs = λ e. absurd (checked_not run.ended Differs (sym run.status ∙ e) (inr (inr (inr refl))));
     }
 
