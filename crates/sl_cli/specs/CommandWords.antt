@@ -1,5 +1,6 @@
 -- How the words of the command line are read, from the left.
 use Rattle.sl_cli.specs.Actions.{Given, action_in}
+use Rattle.sl_cli.specs.OwnWords.{is_own, own_in}
 use Rattle.sl_cli.specs.declared.command_words.Words.TheVariants.{Direct, Generate, Help, Live, Replay, Version}
 use Rattle.sl_cli.specs.declared.command_words.Words.{Words}
 use Rattle.sl_text.specs.Numbers.{is_number_that, number_of}
@@ -10,9 +11,9 @@ use Rattle.std.specs.Prelude.{Bool, List, None, Option, Some, bytes_eq, codes, d
 
 -- ---- what is given to `direct`
 
--- The options, `-s`, `-r`, `-n`, `-d`, `-g` and `-v`: the letter of each, and what it gives.
+-- The options, `-s`, `-r`, `-n`, `-d`, `-g`, `-v` and `-t`: the letter of each, and what it gives.
 abbrev pub options : List (ℕ × List ℕ)
-options = (115, codes "lockspace") ∷ (114, codes "resource") ∷ (110, codes "hosts") ∷ (100, codes "stretch") ∷ (103, codes "geometry") ∷ (118, codes "format") ∷ []
+options = (115, codes "lockspace") ∷ (114, codes "resource") ∷ (110, codes "hosts") ∷ (100, codes "stretch") ∷ (103, codes "geometry") ∷ (118, codes "format") ∷ (116, codes "times") ∷ []
 
 -- What the option of this letter gives.
 abbrev pub option_named : ℕ → Option (List ℕ)
@@ -100,6 +101,7 @@ given_by uses = record {
   stretch = value_of (codes "stretch") uses;
   geometry = value_of (codes "geometry") uses;
   format = value_of (codes "format") uses;
+  times = value_of (codes "times") uses;
 }
 
 -- ---- what is given to `gen`
@@ -239,4 +241,5 @@ abbrev pub said_in : List (List ℕ) → Option Words
 said_in ws =
     if is_only (codes "--help") (codes "-h") ws then Some Help
     else if is_only (codes "--version") (codes "-V") ws then Some Version
+    else if is_own ws then own_in ws
     else command_in ws

@@ -10,6 +10,7 @@ ghost use Rattle.sl_cli.specs.declared.command_words.WordsError.TheVariants.{Bad
 ghost use Rattle.std.specs.Prelude.{Err, IfOk, IfSome, None, Some, map, option_and_then, option_map, string_bytes, ◌≡◌};
 
 use crate::folder::Folder;
+use crate::own_words::{is_own, own_words};
 use crate::parsed_command::{Given, Met, Seeding, met_in};
 use crate::parser_shape::command_line;
 use clap::Error;
@@ -36,6 +37,16 @@ pub enum Words {
     Live {
         folder: Folder,
         anew: bool,
+        keeps: bool,
+        events: bool,
+    },
+    /// Run the machine of this number alone, 1 to 16, by the live script on standard input, on disks that stand as files below this folder; `watchdog`:
+    /// the path of a watchdog device, if one is given; `syncs`: writes reach the storage before they are answered; `keeps` and `events` as above.
+    Own {
+        folder: Folder,
+        machine: u32,
+        watchdog: Option<Folder>,
+        syncs: bool,
         keeps: bool,
         events: bool,
     },
@@ -148,6 +159,8 @@ pub fn read_words(alloc: Global, words: &[String]) -> Result<Words, WordsError>
         Ok(Words::Help)
     } else if is_only(words, "--version", "-V") {
         Ok(Words::Version)
+    } else if is_own(words) {
+        own_words(alloc, words)?.ok_or(WordsError::Bad)
     } else {
         let met = command(alloc, words)?.ok_or(WordsError::Bad)?;
         said(alloc, met)?.ok_or(WordsError::Bad)

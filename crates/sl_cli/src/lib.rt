@@ -17,9 +17,11 @@ mod command_words;
 mod folder;
 pub mod laws;
 mod option_values;
+mod own_words;
 mod parsed_command;
 mod parser_shape;
 mod texts;
+mod times;
 
 pub use command_words::{Words, WordsError, read_words};
 pub use folder::Folder;
