@@ -1,0 +1,234 @@
+//! The play of a script for one machine in a process of its own.
+
+use crate::ground::{OwnGround, prepare_own};
+use crate::no_place::{NoPlace, push_no_place};
+use crate::place::take_place;
+use crate::run::run_own;
+use sl_cell::Teller;
+use sl_io::{Sink, Source};
+use sl_live_play::{Lived, put, put_refusal, put_run};
+use sl_live_run::{Disks, LiveRun, give_back};
+use sl_outside::StandingDevices;
+use sl_reader::{LineReader, Origin, ReadError, Scope, ScriptLines, read_header};
+use sl_run::{Header, Refusal};
+use sl_standing::NotStanding;
+use std::alloc::Global;
+use std::marker::Brand;
+use std::sync::Wait;
+use std::thread::Threads;
+use std::time;
+
+/// How a script for one machine is to be played.
+#[derive(Clone, Copy)]
+pub struct OwnManner {
+    /// The machine that runs, from 1 on.
+    pub machine: u32,
+    /// Writes are answered once the storage has them.
+    pub syncs: bool,
+    /// A line that is refused is told, and the script goes on behind it.
+    pub keeps: bool,
+    /// Beside replies the exits, signals and ends of children and the connections that run out are told.
+    pub events: bool,
+}
+
+/// Puts out why a machine can't run.
+fn put_no_place<K: Sink>(alloc: Global, sink: &mut K, why: NoPlace) -> Lived {
+    if let NoPlace::NotStanding(NotStanding::NoMemory) = why {
+        return Lived::NoMemory;
+    }
+    let mut out = Vec::new(alloc);
+    let pushed = push_no_place(&mut out, &why);
+    put(sink, pushed, &out, Lived::AreaFault)
+}
+
+/// Gives the disks back.
+fn give_all_back<V: StandingDevices>(disks: Vec<Disks<V::Area>>, devices: &mut V) {
+    for Disks { delta, resource } in disks {
+        give_back(delta, resource, devices);
+    }
+}
+
+/// Runs the machine of this ground, beside the lines that are still to be read, as a script of this origin.
+fn play_as<
+    D: Teller + Send,
+    J: Origin + Send + Sync,
+    S: Source + Send,
+    K: Sink + Send,
+    V: StandingDevices,
+    R: Threads + Wait + time::Clock + Eprint + Sync,
+>(
+    rt: &R,
+    alloc: Global,
+    ground: OwnGround<V>,
+    manner: OwnManner,
+    source: S,
+    reader: LineReader,
+    sink: K,
+    devices: &mut V,
+) -> (Lived, S, K)
+where
+    V::Area: Send,
+{
+    let scope = Scope::of_machine(&ground.header, manner.machine);
+    let mut lines: ScriptLines<S, J> =
+        ScriptLines::new(alloc, source, reader, scope, manner.keeps);
+    let run = run_own::<D, ScriptLines<S, J>, K, R, V>(
+        rt,
+        alloc,
+        ground,
+        manner.events,
+        sink,
+        &mut lines,
+    );
+    let LiveRun {
+        replies,
+        machines,
+        sink,
+        cut,
+        disks,
+        ended: _,
+    } = run;
+    let mut sink = sink;
+    give_all_back::<V>(disks, devices);
+    if replies.is_ok() {
+        devices.release();
+    }
+    let (source, end) = lines.close();
+    let lived = put_run(alloc, &mut sink, cut, machines, replies, end);
+    (lived, source, sink)
+}
+
+/// Runs the machine of this ground, beside the lines that are still to be read.
+fn play_ground<
+    D: Teller + Send,
+    S: Source + Send,
+    K: Sink + Send,
+    V: StandingDevices,
+    R: Threads + Wait + time::Clock + Eprint + Sync,
+>(
+    rt: &R,
+    alloc: Global,
+    ground: OwnGround<V>,
+    manner: OwnManner,
+    source: S,
+    reader: LineReader,
+    sink: K,
+    devices: &mut V,
+) -> (Lived, S, K)
+where
+    V::Area: Send,
+{
+    play_as::<D, Brand, S, K, V, R>(rt, alloc, ground, manner, source, reader, sink, devices)
+}
+
+/// What the machine begins with, in this folder: the folder is claimed, what stands there is seen to, and the watchdog device is opened. After an
+/// `Err` no area is handed out.
+fn begin<V: StandingDevices>(
+    alloc: Global,
+    folder: &str,
+    watchdog: Option<&str>,
+    manner: OwnManner,
+    header: Header,
+    devices: &mut V,
+) -> Result<OwnGround<V>, NoPlace> {
+    take_place(alloc, folder, &header, manner.machine, devices)?;
+    if manner.syncs {
+        devices.sync_writes();
+    }
+    if let Some(path) = watchdog {
+        if devices.watch(path).is_err() {
+            return Err(NoPlace::NotStanding(NotStanding::AreaFault));
+        }
+    }
+    prepare_own(alloc, header, folder, manner.machine, devices)
+}
+
+/// Why this header is none for the machine of this number, if it is none: it has no such machine, or sessions that would be joined at moment 0.
+fn header_refusal(header: &Header, machine: u32) -> Option<Refusal> {
+    if header.machines < machine {
+        Some(Refusal::MissingMachine)
+    } else if header.sessions.as_slice().is_empty() {
+        None
+    } else {
+        Some(Refusal::Syntax)
+    }
+}
+
+/// Runs the machine of a header that was read, where its place can be had.
+fn play_header<
+    D: Teller + Send,
+    S: Source + Send,
+    K: Sink + Send,
+    V: StandingDevices,
+    R: Threads + Wait + time::Clock + Eprint + Sync,
+>(
+    rt: &R,
+    alloc: Global,
+    folder: &str,
+    watchdog: Option<&str>,
+    manner: OwnManner,
+    source: S,
+    reader: LineReader,
+    header: Header,
+    sink: K,
+    devices: &mut V,
+) -> (Lived, S, K)
+where
+    V::Area: Send,
+{
+    let mut sink = sink;
+    if let Some(why) = header_refusal(&header, manner.machine) {
+        let number = reader.line().number;
+        return (put_refusal(alloc, &mut sink, number, why), source, sink);
+    }
+    match begin::<V>(alloc, folder, watchdog, manner, header, devices) {
+        Ok(ground) => {
+            play_ground::<D, S, K, V, R>(rt, alloc, ground, manner, source, reader, sink, devices)
+        }
+        Err(why) => (put_no_place(alloc, &mut sink, why), source, sink),
+    }
+}
+
+/// Plays a script for one machine: reads its header from the source, claims the machine in the folder, sees that the header's disks and areas stand
+/// there, opens the watchdog device at this path, if one is given, runs the machine, gives it the script's lines as they are read, and puts out what it
+/// replies, as it comes.
+///
+/// Where the header has session lines or no such machine, its last line is refused. Where something does not stand, it is put out what, and nothing is
+/// written. A line for another machine is refused.
+///
+/// The machine ends when the script has ended, no child of it runs and nothing of it is unanswered. Where it has ended in order the watchdog device is
+/// told to rest. The source and the sink come back.
+pub fn play_own<
+    D: Teller + Send,
+    S: Source + Send,
+    K: Sink + Send,
+    V: StandingDevices,
+    R: Threads + Wait + time::Clock + Eprint + Sync,
+>(
+    rt: &R,
+    alloc: Global,
+    folder: &str,
+    watchdog: Option<&str>,
+    manner: OwnManner,
+    source: S,
+    sink: K,
+    devices: &mut V,
+) -> (Lived, S, K)
+where
+    V::Area: Send,
+{
+    let mut source = source;
+    let mut sink = sink;
+    let mut reader = match LineReader::new(alloc) {
+        Ok(reader) => reader,
+        Err(_) => return (Lived::NoMemory, source, sink),
+    };
+    match read_header(alloc, &mut source, &mut reader) {
+        Err(ReadError::Failed) => (Lived::ReadFault, source, sink),
+        Err(ReadError::NoMemory) => (Lived::NoMemory, source, sink),
+        Ok(Err((number, why))) => (put_refusal(alloc, &mut sink, number, why), source, sink),
+        Ok(Ok(header)) => play_header::<D, S, K, V, R>(
+            rt, alloc, folder, watchdog, manner, source, reader, header, sink, devices,
+        ),
+    }
+}
