@@ -16,7 +16,8 @@ use Rattle.sl_sector.specs.declared.sector.Rec.TheVariants.{LeaderIs, PairLeader
 use Rattle.sl_sector.specs.declared.sector.Rec.{Rec}
 use Rattle.sl_standing.specs.declared.not_standing.NotStanding.TheVariants.{AreaFault, NoLabel, NoLeader, NoMemory, OtherFormat, OtherLabel, OtherLeader, OtherTime}
 use Rattle.sl_standing.specs.declared.not_standing.NotStanding.{NotStanding}
-use Rattle.std.specs.Prelude.{All, Bool, Err, IsTrue, List, None, Ok, Option, Result, Some, bytes_eq, false, length, true, [], ⊤, ℕ, ◌&&◌, ◌==◌, ◌∷◌, ◌≡◌, ◌≢◌}
+use Rattle.sl_words.specs.Words.{same_truth}
+use Rattle.std.specs.Prelude.{All, Bool, Contains, Err, List, None, Ok, Option, Result, Some, bytes_eq, false, length, true, ℕ, ◌&&◌, ◌==◌, ◌≡◌, ◌≢◌}
 
 -- ---- what is due
 
@@ -26,15 +27,28 @@ label_of h l = record { timing = h.timing; grace = h.grace; geometry = h.geometr
 
 -- Whether a leader is that of a header's resource.
 abbrev pub is_leader_of : Header → ResourceLine → Leader → Bool
-is_leader_of h r l = bytes_eq l.lockspace r.lockspace && bytes_eq l.resource r.name && l.num_hosts == h.geometry.hosts
+is_leader_of h r l = bytes_eq l.lockspace r.lockspace && (bytes_eq l.resource r.name && l.num_hosts == h.geometry.hosts)
 
--- What a sector may spell where a header has the leader of a resource: its leader, or nothing. A leader that is torn is for the daemon to find.
-abbrev pub MayLead : Header → ResourceLine → Bool → Result Rec Bad → Type 0
-MayLead h r true (Ok (PairLeaderIs l)) = is_leader_of h r l ≡ true
-MayLead h r true (Ok x) = ⊥
-MayLead h r false (Ok (LeaderIs l)) = is_leader_of h r l ≡ true
-MayLead h r false (Ok x) = ⊥
-MayLead h r paired (Err bad) = ⊤
+-- The leader that a record is, and whether it is one of an area with pairs.
+abbrev pub leader_in : Rec → Option (Leader × Bool)
+leader_in (LeaderIs l) = Some (l, false)
+leader_in (PairLeaderIs l) = Some (l, true)
+leader_in r = None
+
+-- How the leader of an area of this kind is to be refused where a header has its own, if it is.
+abbrev pub leader_refusal : Header → ResourceLine → Leader → Bool → Result (Unit {0}) NotStanding
+leader_refusal h r l paired =
+    elim (same_truth paired h.geometry.paired) [
+      | false ↦ Err (OtherFormat r.lockspace r.name paired)
+      | true ↦ elim (is_leader_of h r l) [ true ↦ Ok tt | false ↦ Err (OtherLeader r.lockspace r.name l) ]
+    ]
+
+-- How what a sector spells is to be refused, where a header has the leader of a resource. A leader that is torn is for the daemon to find.
+abbrev pub leader_found : Header → ResourceLine → Result Rec Bad → Result (Unit {0}) NotStanding
+leader_found h r (Ok (LeaderIs l)) = leader_refusal h r l false
+leader_found h r (Ok (PairLeaderIs l)) = leader_refusal h r l true
+leader_found h r (Ok x) = Err (NoLeader r.lockspace r.name)
+leader_found h r (Err bad) = Ok tt
 
 -- ---- what was read
 
@@ -53,49 +67,42 @@ pub record IsLabelled (h : Header) (content : Option (List ℕ)) (l : LockspaceL
 pub record IsLed (h : Header) (content : Option (List ℕ)) (r : ResourceLine) : Type 0 where
   pub sector : List ℕ
   pub at : IsSectorOf h content (leader_offset r.offset) sector
-  pub leads : MayLead h r h.geometry.paired (decoded sha256 sector)
+  pub leads : leader_found h r (decoded sha256 sector) ≡ Ok tt
 
--- .. of those on the disk at this path.
-abbrev pub StandsOn : {L : Type 0} → (L → List ℕ) → (L → Type 0) → List ℕ → L → Type 0
-StandsOn path_of stands path l = path_of l ≡ path → stands l
+-- .. if it lies on the disk at this path.
+abbrev pub HasLabelOn : Header → List ℕ → Option (List ℕ) → LockspaceLine → Type 0
+HasLabelOn h path content l = l.path ≡ path → IsLabelled h content l
+
+abbrev pub HasLeaderOn : Header → List ℕ → Option (List ℕ) → ResourceLine → Type 0
+HasLeaderOn h path content r = r.path ≡ path → IsLed h content r
 
 -- All that a header has on the disk at this path stands on it.
 pub record AreStanding (h : Header) (path : List ℕ) (content : Option (List ℕ)) : Type 0 where
-  pub lockspaces : All (StandsOn (λ l. l.path) (IsLabelled h content) path) h.lockspaces
-  pub resources : All (StandsOn (λ r. r.path) (IsLed h content) path) h.resources
+  pub lockspaces : All (HasLabelOn h path content) h.lockspaces
+  pub resources : All (HasLeaderOn h path content) h.resources
 
 -- ---- why it does not
 
--- What the text of another label tells.
-abbrev pub IsOtherText : Label → List ℕ → Bool → Type 0
-IsOtherText l text same_time = (text ≢ label_text l) × (has_time l text ≡ same_time)
+-- How a label that was found differs from the one that is due; or there was no memory to tell.
+pub data LabelDiffers (l : Label) (found : Result Rec Bad) : NotStanding → Type 0 where
+  Lacks : label_in found ≡ None → LabelDiffers l found (NoLabel l.lockspace)
+  Has_other_time : (text : List ℕ) → label_in found ≡ Some text → text ≢ label_text l → has_time l text ≡ false → LabelDiffers l found (OtherTime l.lockspace text)
+  Has_other_area : (text : List ℕ) → label_in found ≡ Some text → text ≢ label_text l → has_time l text ≡ true → LabelDiffers l found (OtherLabel l.lockspace text)
+  No_memory : LabelDiffers l found NoMemory
 
--- What is told of a lockspace whose label was read.
-abbrev pub DiffersAs : Header → LockspaceLine → Result Rec Bad → NotStanding → Type 0
-DiffersAs h l found (NoLabel name) = (name ≡ l.name) × (label_in found ≡ None)
-DiffersAs h l found (OtherTime name text) = (name ≡ l.name) × (label_in found ≡ Some text) × IsOtherText (label_of h l) text false
-DiffersAs h l found (OtherLabel name text) = (name ≡ l.name) × (label_in found ≡ Some text) × IsOtherText (label_of h l) text true
-DiffersAs h l found NoMemory = ⊤
-DiffersAs h l found d = ⊥
+-- A lockspace has not its label: its sector was read, or can't be read.
+pub data LabelLacks (h : Header) (content : Option (List ℕ)) (faults later : ℕ) (l : LockspaceLine) : NotStanding → Type 0 where
+  Faults : Rose faults later → LabelLacks h content faults later l AreaFault
+  Differs : (sector : List ℕ) (d : NotStanding) → IsSectorOf h content (value_offset (layout_of h.geometry) l.offset) sector
+      → LabelDiffers (label_of h l) (decoded sha256 sector) d → LabelLacks h content faults later l d
 
--- .. of a resource whose leader was read.
-abbrev pub LeadsAs : Header → ResourceLine → Bool → Result Rec Bad → NotStanding → Type 0
-LeadsAs h r true (Ok (PairLeaderIs l)) d = (is_leader_of h r l ≡ false) × (d ≡ OtherLeader r.lockspace r.name l)
-LeadsAs h r true (Ok (LeaderIs l)) d = d ≡ OtherFormat r.lockspace r.name false
-LeadsAs h r true (Ok x) d = d ≡ NoLeader r.lockspace r.name
-LeadsAs h r false (Ok (LeaderIs l)) d = (is_leader_of h r l ≡ false) × (d ≡ OtherLeader r.lockspace r.name l)
-LeadsAs h r false (Ok (PairLeaderIs l)) d = d ≡ OtherFormat r.lockspace r.name true
-LeadsAs h r false (Ok x) d = d ≡ NoLeader r.lockspace r.name
-LeadsAs h r paired (Err bad) d = ⊥
+-- Where a resource has its leader another record stands: the sector was read, or can't be read.
+pub data LeaderLacks (h : Header) (content : Option (List ℕ)) (faults later : ℕ) (r : ResourceLine) : NotStanding → Type 0 where
+  Leader_faults : Rose faults later → LeaderLacks h content faults later r AreaFault
+  Leader_differs : (sector : List ℕ) (d : NotStanding) → IsSectorOf h content (leader_offset r.offset) sector
+      → leader_found h r (decoded sha256 sector) ≡ Err d → LeaderLacks h content faults later r d
 
--- A lockspace's label was read, and differs so.
-pub record LabelDiffers (h : Header) (content : Option (List ℕ)) (l : LockspaceLine) (d : NotStanding) : Type 0 where
-  pub sector : List ℕ
-  pub at : IsSectorOf h content (value_offset (layout_of h.geometry) l.offset) sector
-  pub differs : DiffersAs h l (decoded sha256 sector) d
-
--- A resource's leader was read, and differs so.
-pub record LeaderDiffers (h : Header) (content : Option (List ℕ)) (r : ResourceLine) (d : NotStanding) : Type 0 where
-  pub sector : List ℕ
-  pub at : IsSectorOf h content (leader_offset r.offset) sector
-  pub differs : LeadsAs h r h.geometry.paired (decoded sha256 sector) d
+-- Something that a header has on the disk at this path does not stand on it.
+pub data StandsNot (h : Header) (path : List ℕ) (content : Option (List ℕ)) (faults later : ℕ) (d : NotStanding) : Type 0 where
+  Lockspace_lacks : (l : LockspaceLine) → Contains h.lockspaces l → l.path ≡ path → LabelLacks h content faults later l d → StandsNot h path content faults later d
+  Resource_lacks : (r : ResourceLine) → Contains h.resources r → r.path ≡ path → LeaderLacks h content faults later r d → StandsNot h path content faults later d

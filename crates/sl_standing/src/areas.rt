@@ -1,7 +1,9 @@
 //! All areas of a disk, compared with a header.
 
 ghost use Rattle.sl_run.specs.Headers.{IsHeader};
-ghost use Rattle.std.specs.Prelude.{Contains};
+ghost use Rattle.sl_standing.specs.Standing.{AreStanding, HasLabelOn, HasLeaderOn, StandsNot};
+ghost use Rattle.std.specs.Io.KnownBytes.{Keeps};
+ghost use Rattle.std.specs.Prelude.{All, Contains, IfErr, OnOk, ◌≤◌};
 
 use crate::labels::check_lockspace;
 use crate::leaders::check_resource;
@@ -24,6 +26,10 @@ fn check_lockspace_at<A: Area>(
 ) -> Result<(), NotStanding>
     requires header { IsHeader header.now }
     requires line { Contains header.now.lockspaces line.now }
+    ensures kept { Keeps (A.content area.old) (A.content area.new) }
+    ensures ok { OnOk result (HasLabelOn header.now path (A.content area.old) line.now) }
+    ensures lacks { IfErr result (StandsNot header.now path (A.content area.old) (A.faults area.old) (A.faults area.new)) }
+    ensures later { A.faults area.old ≤ A.faults area.new }
 {
     if line.path == path {
         check_lockspace(alloc, header, line, area)
@@ -41,6 +47,10 @@ fn check_resource_at<A: Area>(
 ) -> Result<(), NotStanding>
     requires header { IsHeader header.now }
     requires line { Contains header.now.resources line.now }
+    ensures kept { Keeps (A.content area.old) (A.content area.new) }
+    ensures ok { OnOk result (HasLeaderOn header.now path (A.content area.old) line.now) }
+    ensures lacks { IfErr result (StandsNot header.now path (A.content area.old) (A.faults area.old) (A.faults area.new)) }
+    ensures later { A.faults area.old ≤ A.faults area.new }
 {
     if line.path == path {
         check_resource(header, line, area)
@@ -57,6 +67,10 @@ fn check_lockspaces<A: Area>(
     area: &mut A,
 ) -> Result<(), NotStanding>
     requires { IsHeader header.now }
+    ensures kept { Keeps (A.content area.old) (A.content area.new) }
+    ensures ok { OnOk result (All (HasLabelOn header.now path (A.content area.old)) header.now.lockspaces) }
+    ensures lacks { IfErr result (StandsNot header.now path (A.content area.old) (A.faults area.old) (A.faults area.new)) }
+    ensures later { A.faults area.old ≤ A.faults area.new }
 {
     for line in header.lockspaces.as_slice() {
         check_lockspace_at(alloc, header, path, line, area)?;
@@ -71,6 +85,10 @@ fn check_resources<A: Area>(
     area: &mut A,
 ) -> Result<(), NotStanding>
     requires { IsHeader header.now }
+    ensures kept { Keeps (A.content area.old) (A.content area.new) }
+    ensures ok { OnOk result (All (HasLeaderOn header.now path (A.content area.old)) header.now.resources) }
+    ensures lacks { IfErr result (StandsNot header.now path (A.content area.old) (A.faults area.old) (A.faults area.new)) }
+    ensures later { A.faults area.old ≤ A.faults area.new }
 {
     for line in header.resources.as_slice() {
         check_resource_at(header, path, line, area)?;
@@ -88,6 +106,10 @@ pub fn check_disk<A: Area>(
     area: &mut A,
 ) -> Result<(), NotStanding>
     requires { IsHeader header.now }
+    ensures kept { Keeps (A.content area.old) (A.content area.new) }
+    ensures ok { OnOk result (AreStanding header.now path (A.content area.old)) }
+    ensures lacks { IfErr result (StandsNot header.now path (A.content area.old) (A.faults area.old) (A.faults area.new)) }
+    ensures later { A.faults area.old ≤ A.faults area.new }
 {
     check_lockspaces(alloc, header, path, area)?;
     check_resources(header, path, area)

@@ -1,5 +1,10 @@
 //! Why areas are not those of a header, and the line that says so.
 
+ghost use Rattle.sl_standing.specs.StandingTexts.{difference_text};
+ghost use Rattle.sl_standing.specs.declared.not_standing.NotStanding.TheVariants.{OtherFormat, OtherLeader};
+ghost use Rattle.sl_text.specs.Forms.{spaced};
+ghost use Rattle.std.specs.Prelude.{OnErr, OnOk, [], ◌++◌, ◌∷◌, ◌≡◌};
+
 use sl_io::Failed;
 use sl_sector::Leader;
 use sl_text::write::push_line;
@@ -63,7 +68,10 @@ fn push_label_line(
     words: &str,
     lockspace: Name,
     stands: &Data,
-) -> Result<(), AllocError> {
+) -> Result<(), AllocError>
+    ensures ok { OnOk result (out.new.items ≡ out.old.items ++ spaced (words.now ∷ lockspace ∷ stands.now ∷ []) ++ 10 ∷ []) }
+    ensures err { OnErr result (out.new.items ≡ out.old.items) }
+{
     let mut line = format!(in *out.allocator(); "{words} {lockspace} ")?.into_bytes();
     line.extend_from_slice(stands.as_slice())?;
     push_line(out, &line)
@@ -75,7 +83,10 @@ fn push_other_leader(
     lockspace: Name,
     resource: Name,
     stands: &Leader,
-) -> Result<(), AllocError> {
+) -> Result<(), AllocError>
+    ensures ok { OnOk result (out.new.items ≡ out.old.items ++ difference_text (OtherLeader lockspace resource stands.now)) }
+    ensures err { OnErr result (out.new.items ≡ out.old.items) }
+{
     let line = format!(in *out.allocator();
         "other leader {lockspace}:{resource} {} {} {}",
         stands.lockspace, stands.resource, stands.num_hosts
@@ -89,14 +100,20 @@ fn push_other_format(
     lockspace: Name,
     resource: Name,
     paired: bool,
-) -> Result<(), AllocError> {
+) -> Result<(), AllocError>
+    ensures ok { OnOk result (out.new.items ≡ out.old.items ++ difference_text (OtherFormat lockspace resource paired)) }
+    ensures err { OnErr result (out.new.items ≡ out.old.items) }
+{
     let format: u32 = if paired { 2 } else { 1 };
     let line = format!(in *out.allocator(); "other format {lockspace}:{resource} {format}")?;
     push_line(out, line.as_bytes())
 }
 
 /// Adds the line of a difference, with its line feed. After an `Err`, which is want of memory, nothing is added. Of want of memory nothing is told.
-pub fn push_not_standing(out: &mut Vec<u8>, why: &NotStanding) -> Result<(), AllocError> {
+pub fn push_not_standing(out: &mut Vec<u8>, why: &NotStanding) -> Result<(), AllocError>
+    ensures ok { OnOk result (out.new.items ≡ out.old.items ++ difference_text why.now) }
+    ensures err { OnErr result (out.new.items ≡ out.old.items) }
+{
     match why {
         NotStanding::AreaFault => push_line(out, b"area fault"),
         NotStanding::NoMemory => Ok(()),

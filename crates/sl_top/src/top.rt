@@ -10,6 +10,7 @@ ghost use Rattle.sl_top.specs.Runs.{ActsOn, Generates, IsDirect, IsLive, IsRepla
 ghost use Rattle.sl_top.specs.declared.status.Status.TheVariants.{WriteFault};
 ghost use Rattle.std.specs.Prelude.{IfOk, option_map, ◌≡◌, ◌≢◌, ◌≤◌};
 
+use crate::own::{OwnPlace, own};
 use crate::status::{Status, status_after, status_of, status_of_generated, status_of_live};
 use sl_area::Area;
 use sl_cli::{Folder, HELP, VERSION, Words, WordsError, read_words};
@@ -19,7 +20,8 @@ use sl_host_step::HostDaemon;
 use sl_io::{Sink, Source, write_all};
 use sl_live_play::{LiveHost, Manner, play_live};
 use sl_locks::LvmLocks;
-use sl_outside::{Devices, LiveDevices};
+use sl_outside::{Devices, LiveDevices, StandingDevices};
+use sl_own::OwnManner;
 use sl_play::laws::headers::whole_language_may_play;
 use sl_play::play_schedule;
 use std::alloc::{AllocError, Global};
@@ -136,7 +138,8 @@ pub fn run_offline<S: Source, K: Sink, D: Devices>(
     sink: &mut K,
     devices: &mut D,
 ) -> Status
-    requires { IsLive (said words.now) → ⊥ }
+    requires live { IsLive (said words.now) → ⊥ }
+    requires own { IsOwn (said words.now) → ⊥ }
     ensures owes { Owes (said words.now)
         (record { left = S.left source.old; source_faults = S.faults source.old; taken = K.taken sink.old; sink_faults = K.faults sink.old; disks = D.disks devices.old; device_faults = D.faults devices.old })
         (record { left = S.left source.new; source_faults = S.faults source.new; taken = K.taken sink.new; sink_faults = K.faults sink.new; disks = D.disks devices.new; device_faults = D.faults devices.new })
@@ -163,10 +166,54 @@ pub fn run_offline<S: Source, K: Sink, D: Devices>(
                 events: _events,
             },
         ) => unreachable!(),
+        Ok(
+            Words::Own {
+                folder: _folder,
+                machine: _machine,
+                watchdog: _watchdog,
+                syncs: _syncs,
+                keeps: _keeps,
+                events: _events,
+            },
+        ) => unreachable!(),
         Ok(Words::Help) => tell(sink, HELP.as_bytes(), Status::Done),
         Ok(Words::Version) => tell(sink, VERSION.as_bytes(), Status::Done),
         Err(WordsError::Bad) => tell(sink, b"sanlock: bad words\n", Status::BadWords),
         Err(WordsError::NoMemory) => Status::NoMemory,
+    }
+}
+
+/// Where machines run that the words ask for: all of a script's, or one of them in a process of its own.
+#[derive(Drop)]
+enum Asked {
+    All(Place),
+    One(OwnPlace),
+}
+
+/// What the words ask for, if it is machines, where the source is a terminal or not.
+fn asked_of(words: Words, at_terminal: bool) -> Option<Asked> {
+    match words {
+        Words::Own {
+            folder,
+            machine,
+            watchdog,
+            syncs,
+            keeps,
+            events,
+        } => Some(Asked::One(OwnPlace {
+            folder,
+            watchdog,
+            manner: OwnManner {
+                machine,
+                syncs,
+                keeps: keeps || at_terminal,
+                events,
+            },
+        })),
+        words => match place_of(words, at_terminal) {
+            Some(place) => Some(Asked::All(place)),
+            None => None,
+        },
     }
 }
 
@@ -191,21 +238,21 @@ fn place_of(words: Words, at_terminal: bool) -> Option<Place>
         Words::Replay => None,
         Words::Generate { .. } => None,
         Words::Direct(_) => None,
+        Words::Own { .. } => None,
         Words::Help => None,
         Words::Version => None,
     }
 }
 
-/// The place of live machines, if the words of the command line ask for them, where the source is a terminal or not. An `Err` is want of memory.
-fn live_place(
+/// What the words of the command line ask for, if it is machines, where the source is a terminal or not. An `Err` is want of memory.
+fn machines_asked(
     alloc: Global,
     words: &[String],
     at_terminal: bool,
-) -> Result<Option<Place>, AllocError>
-    ensures { IfOk result (λ place. option_map (λ p. (p.folder, p.manner)) place ≡ place_in (said_from at_terminal words.now)) }
+) -> Result<Option<Asked>, AllocError>
 {
     match read_words(alloc, words) {
-        Ok(words) => Ok(place_of(words, at_terminal)),
+        Ok(words) => Ok(asked_of(words, at_terminal)),
         Err(WordsError::Bad) => Ok(None),
         Err(WordsError::NoMemory) => Err(AllocError),
     }
@@ -223,7 +270,7 @@ pub fn run<
     R: Threads + Wait + Clock + Eprint + Sync,
     S: Source + Send,
     K: Sink + Send,
-    D: LiveDevices,
+    D: StandingDevices,
 >(
     rt: &R,
     alloc: Global,
@@ -243,10 +290,14 @@ where
     ensures devices { (IsDirect (said words.now) → ⊥) → (IsLive (said words.now) → ⊥) → result.3 ≡ devices }
 {
     let (mut source, mut sink, mut devices) = (source, sink, devices);
-    match live_place(alloc, words, at_terminal) {
+    match machines_asked(alloc, words, at_terminal) {
         Err(_) => (Status::NoMemory, source, sink, devices),
-        Ok(Some(place)) => {
+        Ok(Some(Asked::All(place))) => {
             let (status, source, sink) = live(rt, alloc, &place, source, sink, &mut devices);
+            (status, source, sink, devices)
+        }
+        Ok(Some(Asked::One(place))) => {
+            let (status, source, sink) = own(rt, alloc, &place, source, sink, &mut devices);
             (status, source, sink, devices)
         }
         Ok(None) => {
