@@ -6,7 +6,8 @@ ghost use Rattle.sl_label.specs.Labels.{IsLabel};
 ghost use Rattle.sl_sector.specs.Records.{IsRecord};
 ghost use Rattle.sl_sector.specs.SectorLayouts.{IsSectorSize, decoded};
 ghost use Rattle.sl_text.specs.Forms.{spaced};
-ghost use Rattle.std.specs.Prelude.{IfOk, length, string_bytes, [], ◌++◌, ◌∷◌, ◌≡◌};
+ghost use Rattle.std.specs.List.{list_all};
+ghost use Rattle.std.specs.Prelude.{IfOk, IsTrue, length, nat_lt, string_bytes, [], ◌++◌, ◌∷◌, ◌≡◌};
 
 use sl_area::Geometry;
 use sl_sector::{Rec, ValueRec, decode};
@@ -25,6 +26,13 @@ pub struct Label {
     pub grace: u64,
     pub geometry: Geometry,
     pub lockspace: Name,
+}
+
+/// Bytes are below 256.
+fn are_bytes(bytes: &[u8])
+    ensures { IsTrue (list_all (λ b. nat_lt b 256) bytes.now) }
+{
+    let _size = bytes.len();
 }
 
 impl Label {
@@ -65,7 +73,9 @@ impl Label {
         ensures exact { IfOk result (λ rec. rec ≡ labels.label_record self.now) }
         ensures rules { IfOk result (λ rec. IsRecord rec) }
     {
+        let _area = self.geometry.area();
         let text = self.text(alloc)?;
+        are_bytes(&text);
         let Some(bytes) = Data::new(&text) else {
             unreachable!()
         };
