@@ -30,20 +30,33 @@ abbrev pub is_rooted : List ℕ → Bool
 is_rooted [] = false
 is_rooted (c ∷ cs) = c == 47
 
--- One more word: each option stands once.
-abbrev pub with_option : Options → List ℕ → Option Options
-with_option o w =
-    if o.waits then choose (is_rooted w) (record o { watchdog = Some w; waits = false })
-    else if bytes_eq w (codes "--watchdog") then choose (not (is_some o.watchdog)) (record o { waits = true })
-    else if bytes_eq w (codes "--no-sync") then choose o.syncs (record o { syncs = false })
+-- With the path of the watchdog device.
+abbrev pub with_path : Options → List ℕ → Option Options
+with_path o w = choose (is_rooted w) (record o { watchdog = Some w; waits = false })
+
+-- With the option whose value it is; each option stands once.
+abbrev pub with_watchdog : Options → Option Options
+with_watchdog o = choose (not (is_some o.watchdog)) (record o { waits = true })
+
+-- With a flag.
+abbrev pub with_flag : Options → List ℕ → Option Options
+with_flag o w =
+    if bytes_eq w (codes "--no-sync") then choose o.syncs (record o { syncs = false })
     else if bytes_eq w (codes "--keep-going") then choose (not o.keeps) (record o { keeps = true })
     else if bytes_eq w (codes "--events") then choose (not o.events) (record o { events = true })
     else None
 
+-- One more word.
+abbrev pub with_word : Options → List ℕ → Option Options
+with_word o w =
+    if o.waits then with_path o w
+    else if bytes_eq w (codes "--watchdog") then with_watchdog o
+    else with_flag o w
+
 -- What all of them say.
 abbrev pub options_from : Options → List (List ℕ) → Option Options
 options_from o [] = choose (not o.waits) o
-options_from o (w ∷ ws) = option_and_then (λ next. options_from next ws) (with_option o w)
+options_from o (w ∷ ws) = option_and_then (λ next. options_from next ws) (with_word o w)
 
 -- A folder's word is no option.
 abbrev pub is_folder : List ℕ → Bool

@@ -5,7 +5,7 @@
 ghost use Rattle.sl_cli.specs.OwnWords as own;
 ghost use Rattle.sl_words.specs.Words.{choose};
 ghost use Rattle.sl_text.specs.Numbers.{number_of};
-ghost use Rattle.std.specs.Prelude.{IfOk, map, option_map, string_bytes, ◌≡◌};
+ghost use Rattle.std.specs.Prelude.{IfOk, map, option_map, string_bytes, [], ◌≡◌};
 
 use crate::command_words::Words;
 use crate::folder::Folder;
@@ -14,7 +14,7 @@ use std::alloc::{AllocError, Global};
 use std::marker::Model;
 
 /// What the options say so far, and whether the next word is the path of the watchdog device.
-#[derive(Clone, Copy)]
+#[derive(Drop)]
 struct Options<'a> {
     watchdog: Option<&'a str>,
     syncs: bool,
@@ -23,14 +23,134 @@ struct Options<'a> {
     waits: bool,
 }
 
-/// Before all of them.
-const NO_OPTIONS: Options<'static> = Options {
-    watchdog: None,
-    syncs: true,
-    keeps: false,
-    events: false,
-    waits: false,
-};
+impl<'a> Model for Options<'a> {
+    ghost use Rattle.sl_cli.specs.OwnWords as own;
+    ghost use Rattle.std.specs.Prelude.{option_map};
+
+    ghost Value = { own.Options };
+
+    ghost view = { λ o. record { watchdog = option_map (λ w. w.now) o.watchdog; syncs = o.syncs; keeps = o.keeps; events = o.events; waits = o.waits } };
+}
+
+impl<'a> Options<'a> {
+    /// Before all of them.
+    fn none() -> Options<'a>
+        ensures { result ≡ own.no_options }
+    {
+        Options {
+            watchdog: None,
+            syncs: true,
+            keeps: false,
+            events: false,
+            waits: false,
+        }
+    }
+
+    /// With the path of the watchdog device, which is waited for.
+    fn with_path(self, word: &'a str) -> Option<Options<'a>>
+        ensures { result ≡ own.with_path self word.now }
+    {
+        if is_rooted(word) {
+            Some(Options {
+                watchdog: Some(word),
+                syncs: self.syncs,
+                keeps: self.keeps,
+                events: self.events,
+                waits: false,
+            })
+        } else {
+            None
+        }
+    }
+
+    /// With the option of a watchdog device, whose path is waited for.
+    fn with_watchdog(self) -> Option<Options<'a>>
+        ensures { result ≡ own.with_watchdog self }
+    {
+        match self.watchdog {
+            Some(_) => None,
+            None => Some(Options {
+                watchdog: None,
+                syncs: self.syncs,
+                keeps: self.keeps,
+                events: self.events,
+                waits: true,
+            }),
+        }
+    }
+
+    /// With this flag, if it is one, and was not given before.
+    fn with_flag(self, word: &str) -> Option<Options<'a>>
+        ensures { result ≡ own.with_flag self word.now }
+    {
+        let Options {
+            watchdog,
+            syncs,
+            keeps,
+            events,
+            waits,
+        } = self;
+        if word == "--no-sync" {
+            if syncs {
+                Some(Options {
+                    watchdog,
+                    syncs: false,
+                    keeps,
+                    events,
+                    waits,
+                })
+            } else {
+                None
+            }
+        } else if word == "--keep-going" {
+            if keeps {
+                None
+            } else {
+                Some(Options {
+                    watchdog,
+                    syncs,
+                    keeps: true,
+                    events,
+                    waits,
+                })
+            }
+        } else if word == "--events" {
+            if events {
+                None
+            } else {
+                Some(Options {
+                    watchdog,
+                    syncs,
+                    keeps,
+                    events: true,
+                    waits,
+                })
+            }
+        } else {
+            None
+        }
+    }
+
+    /// With one more word.
+    fn with_word(self, word: &'a str) -> Option<Options<'a>>
+        ensures { result ≡ own.with_word self word.now }
+    {
+        if self.waits {
+            self.with_path(word)
+        } else if word == "--watchdog" {
+            self.with_watchdog()
+        } else {
+            self.with_flag(word)
+        }
+    }
+
+    /// All of them, if none is waited for.
+    fn whole(self) -> Option<Options<'a>>
+        ensures { result ≡ own.options_from self [] }
+    {
+        if self.waits { None } else { Some(self) }
+    }
+}
 
 /// Whether the words are of this form: the third behind `live` names the machine.
 pub(crate) fn is_own(words: &[String]) -> bool
@@ -62,68 +182,21 @@ fn is_folder(word: &str) -> bool
     }
 }
 
-/// The path of the watchdog device.
-fn with_watchdog<'a>(options: Options<'a>, word: &'a str) -> Option<Options<'a>> {
-    if is_rooted(word) {
-        Some(Options {
-            watchdog: Some(word),
-            waits: false,
-            ..options
-        })
-    } else {
-        None
-    }
-}
-
-/// One more word, where none is waited for: each option stands once.
-fn with_name<'a>(options: Options<'a>, word: &str) -> Option<Options<'a>> {
-    let mut options = options;
-    if word == "--watchdog" {
-        if options.watchdog.is_some() {
-            return None;
-        }
-        options.waits = true;
-    } else if word == "--no-sync" {
-        if !options.syncs {
-            return None;
-        }
-        options.syncs = false;
-    } else if word == "--keep-going" {
-        if options.keeps {
-            return None;
-        }
-        options.keeps = true;
-    } else if word == "--events" {
-        if options.events {
-            return None;
-        }
-        options.events = true;
-    } else {
-        return None;
-    }
-    Some(options)
-}
-
-/// One more word.
-fn with_option<'a>(options: Options<'a>, word: &'a str) -> Option<Options<'a>> {
-    if options.waits {
-        with_watchdog(options, word)
-    } else {
-        with_name(options, word)
-    }
-}
-
 /// What all of these say.
-fn options_of<'a>(words: &'a [String]) -> Option<Options<'a>> {
-    let mut options = NO_OPTIONS;
+fn options_of<'a>(words: &'a [String]) -> Option<Options<'a>>
+    ensures { result ≡ own.options_from own.no_options (map string_bytes words.entry.now) }
+{
+    let mut options = Options::none();
     for word in words {
-        options = with_option(options, word.as_str())?;
+        options = options.with_word(word.as_str())?;
     }
-    if options.waits { None } else { Some(options) }
+    options.whole()
 }
 
 /// The word of a path, if one is given. An `Err` is want of memory.
-fn path_of(alloc: Global, word: Option<&str>) -> Result<Option<Folder>, AllocError> {
+fn path_of(alloc: Global, word: Option<&str>) -> Result<Option<Folder>, AllocError>
+    ensures { IfOk result (λ path. path ≡ option_map (λ w. w.now) word.entry) }
+{
     match word {
         Some(word) => Ok(Some(Folder::new(alloc, word)?)),
         None => Ok(None),
@@ -144,7 +217,9 @@ fn own_of(
     folder: &str,
     machine: &str,
     words: &[String],
-) -> Result<Option<Words>, AllocError> {
+) -> Result<Option<Words>, AllocError>
+    ensures { IfOk result (λ said. said ≡ own.own_of folder.now machine.now (map string_bytes words.now)) }
+{
     if !is_folder(folder) {
         return Ok(None);
     }

@@ -1,3 +1,2 @@
 pub mod OwnRuns
-pub mod OwnOwed
-pub mod OwnTexts
+pub mod OwnSettling
