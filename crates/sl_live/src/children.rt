@@ -208,6 +208,13 @@ impl<P: Spawner> Children<P> {
         self.spawner.starter()
     }
 
+    /// The spawner.
+    pub(crate) fn into_spawner(self) -> P
+        ensures { result ≡ self.spawner }
+    {
+        self.spawner
+    }
+
     /// Whether none runs, and none is awaited.
     pub fn is_idle(&self) -> bool
         ensures { result ≡ (length self.now.numbers == 0) }

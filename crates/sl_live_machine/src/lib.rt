@@ -22,7 +22,7 @@ mod ticker;
 mod turn;
 mod worker;
 
-pub use machine::{CloseError, Parts, Ran, run_machine};
+pub use machine::{CloseError, Parts, Ran, Spawners, run_machine};
 pub use mail::Mail;
 pub use printer::Desk;
 pub use script_waits::{Post, fail_all};

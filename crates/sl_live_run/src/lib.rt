@@ -45,5 +45,5 @@ pub use folder::{NoEntry, enter};
 pub use ground::{Ground, NoGround, Prepared, prepare};
 pub use machine_runs::{Machine, Shared, Work};
 pub use machine_sites::{clocks_of, site_of};
-pub use run::{Disks, LiveRun, MACHINE_THREADS, ended_early, run_machines};
+pub use run::{LiveRun, MACHINE_THREADS, Remains, ended_early, run_machines};
 pub use script::Ways;

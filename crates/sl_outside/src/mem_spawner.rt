@@ -46,6 +46,19 @@ struct ToStart {
     acts: Option<Room<Act>>,
 }
 
+impl Model for ToStart {
+    ghost use Rattle.sl_outside.specs.Acts.{Tells};
+    ghost use Rattle.sl_outside.specs.MemSpawners.{told};
+    ghost use Rattle.sl_outside.specs.declared.act.Act.{Act};
+    ghost use Rattle.std.specs.Prelude.{List, Option, []};
+
+    ghost Value = { Option (List Act) };
+
+    ghost view = { λ s. told s.acts };
+
+    ghost invariant = { λ s. Tells (told s.acts) [] };
+}
+
 /// Runs children in memory.
 #[derive(Drop)]
 pub struct MemSpawner {

@@ -1,5 +1,5 @@
 //! The children in memory of live machines: a start may take its time, and how many children run at once, over all machines, is counted.
-ghost use Rattle.sl_outside.specs.MemSpawners.{numbers};
+ghost use Rattle.sl_outside.specs.MemSpawners.{numbers, told};
 ghost use Rattle.std.specs.Prelude.{OnErr, OnOk, [], ◌++◌, ◌∷◌, ◌≡◌, ◌≤◌};
 
 use crate::mem_spawner::MemSpawner;
@@ -122,6 +122,8 @@ impl<R: Wait + Clock + Copy + Drop> Spawner for SharedSpawner<R> {
     ghost faults = { λ s. s.starts.faults };
 
     ghost running = { λ s. numbers s.children };
+
+    ghost acts = { λ s. told s.acts };
 
     fn starter(&mut self) -> SharedSpawner<R> {
         let starter = self.spawner.starter();

@@ -1,5 +1,5 @@
 //! The child programs of a machine.
-ghost use Rattle.sl_outside.specs.Acts.{Grows, IsTold};
+ghost use Rattle.sl_outside.specs.Acts.{Grows, IsTold, Tells};
 ghost use Rattle.sl_outside.specs.declared.act.Act.TheVariants.{Signalled, Started};
 ghost use Rattle.sl_outside.specs.declared.act.Act.{Act};
 ghost use Rattle.sl_io.specs.FaultCauses.{HasCause};
@@ -24,10 +24,11 @@ pub trait Spawner: Drop {
     /// room for it is used up, and never begins again.
     ghost acts: { Self → Option (List Act) } = { λ _. None };
 
-    /// A spawner that starts programs for this one. It has no child, and has counted no fault.
+    /// A spawner that starts programs for this one. It has no child, has counted no fault, and was asked for nothing.
     fn starter(&mut self) -> Self
         ensures fresh { faults result ≡ 0 }
         ensures idle { running result ≡ [] }
+        ensures unasked { Tells (acts result) [] }
         ensures running { running self.new ≡ running self.old }
         ensures acts { acts self.new ≡ acts self.old }
         ensures count { faults self.new ≡ faults self.old };
