@@ -5,7 +5,9 @@ use sl_book::{Ledger, Shelf};
 use sl_io::Sink;
 use sl_live_lines::GivenLine;
 use sl_live_machine::Ran;
-use sl_live_run::{Disks, LiveRun, LiveStop, Machine, Settled, are_pieces, settle_early, settle_one};
+use sl_live_run::{
+    LiveRun, LiveStop, Machine, Remains, Settled, are_pieces, settle_early, settle_one,
+};
 use sl_output::{Front as Pieces, Output, Press, Put, Seat as Writer};
 use sl_outside::{Device, Spawner};
 use sl_reader::NoLine;
@@ -13,11 +15,11 @@ use sl_time::Clock;
 use std::alloc::{AllocError, Global};
 
 /// How many replies the machine of this number was given, or why it has no history: where threads ended too soon, a case goes before want of memory.
-fn settle<O: Press, T: Shelf, A: Area>(
+fn settle<O: Press, T: Shelf, A: Area, P: Spawner>(
     early: bool,
     machine: u32,
     ledger: &Ledger<T, GivenLine>,
-    ran: &Ran<O, T, A>,
+    ran: &Ran<O, T, A, P>,
 ) -> Result<u64, LiveStop> {
     let Some(next) = ran.entries.checked_add(1) else {
         return Err(LiveStop::NoMemory);
@@ -56,7 +58,7 @@ fn writers_of<O: Press>(
 }
 
 /// What the machine came to whose threads have all ended: with the script's lines, and with the pieces that were put out.
-fn finish<O: Press, T: Shelf, A: Area>(
+fn finish<O: Press, T: Shelf, A: Area, P: Spawner>(
     alloc: Global,
     early: bool,
     machine: u32,
@@ -64,8 +66,8 @@ fn finish<O: Press, T: Shelf, A: Area>(
     script: Writer<O>,
     pieces: &Pieces<O>,
     unwritten: &Pieces<O>,
-    ran: Ran<O, T, A>,
-) -> (Result<u64, LiveStop>, Disks<A>)
+    ran: Ran<O, T, A, P>,
+) -> (Result<u64, LiveStop>, Remains<A, P>)
 {
     let settled = settle(early, machine, ledger, &ran);
     let Ran {
@@ -76,18 +78,23 @@ fn finish<O: Press, T: Shelf, A: Area>(
         entries: _,
         delta,
         resource,
+        spawners,
     } = ran;
-    let disks = Disks { delta, resource };
+    let remains = Remains {
+        delta,
+        resource,
+        spawners,
+    };
     let place = writer.by();
     match writers_of(alloc, place, unwritten, writer, script) {
         Ok(writers) => {
             if settled.is_ok() && !are_pieces(&writers, pieces) {
-                (Err(LiveStop::NoMemory), disks)
+                (Err(LiveStop::NoMemory), remains)
             } else {
-                (settled, disks)
+                (settled, remains)
             }
         }
-        Err(_) => (Err(LiveStop::NoMemory), disks),
+        Err(_) => (Err(LiveStop::NoMemory), remains),
     }
 }
 
@@ -103,16 +110,16 @@ pub(crate) fn leave<K: Sink, C: Clock, P: Spawner, V: Device, A: Area, O: Press,
     unwritten: &Pieces<O>,
     output: Output<K, O>,
     machine: Machine<C, P, V, A, O, T>,
-) -> LiveRun<K, A> {
+) -> LiveRun<K, A, P> {
     let Put { sink, front, cut } = output.into_parts();
     let Machine { work: _, ran } = machine;
-    let mut disks = Vec::new(alloc);
+    let mut remains = Vec::new(alloc);
     let replies = match ran {
         Some(ran) => {
             let (replies, left) = finish(
                 alloc, early, number, ledger, script, &front, unwritten, ran,
             );
-            match disks.push(left) {
+            match remains.push(left) {
                 Ok(()) => replies,
                 Err(_) => Err(LiveStop::NoMemory),
             }
@@ -124,7 +131,7 @@ pub(crate) fn leave<K: Sink, C: Clock, P: Spawner, V: Device, A: Area, O: Press,
         machines: 1,
         sink,
         cut,
-        disks,
+        remains,
         ended,
     }
 }

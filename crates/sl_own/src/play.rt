@@ -7,7 +7,7 @@ use crate::run::run_own;
 use sl_cell::Teller;
 use sl_io::{Sink, Source};
 use sl_live_play::{Lived, put, put_refusal, put_run};
-use sl_live_run::{Disks, LiveRun, give_back};
+use sl_live_run::{LiveRun, Remains, give_back};
 use sl_outside::StandingDevices;
 use sl_reader::{LineReader, Origin, ReadError, Scope, ScriptLines, read_header};
 use sl_run::{Header, Refusal};
@@ -42,8 +42,16 @@ fn put_no_place<K: Sink>(alloc: Global, sink: &mut K, why: NoPlace) -> Lived {
 }
 
 /// Gives the disks back.
-fn give_all_back<V: StandingDevices>(disks: Vec<Disks<V::Area>>, devices: &mut V) {
-    for Disks { delta, resource } in disks {
+fn give_all_back<V: StandingDevices>(
+    remains: Vec<Remains<V::Area, V::Spawner>>,
+    devices: &mut V,
+) {
+    for Remains {
+        delta,
+        resource,
+        spawners: _,
+    } in remains
+    {
         give_back(delta, resource, devices);
     }
 }
@@ -85,11 +93,11 @@ where
         machines,
         sink,
         cut,
-        disks,
+        remains,
         ended: _,
     } = run;
     let mut sink = sink;
-    give_all_back::<V>(disks, devices);
+    give_all_back::<V>(remains, devices);
     if replies.is_ok() {
         devices.release();
     }

@@ -3,14 +3,15 @@
 use crate::begun::{THREADS, machine_of, open_posts};
 use crate::ends::leave;
 use crate::ground::OwnGround;
-use sl_book::{Book, Front, Ledger, Opened, Shelf};
+use sl_area::Area;
+use sl_book::{Book, Ledger, Opened, Shelf};
 use sl_cell::Teller;
 use sl_io::Sink;
 use sl_live_lines::GivenLine;
 use sl_live_machine::{Mail, Parts, Post, Roll};
 use sl_live_run::{LiveRun, LiveStop, Machine, Shared, Ways, beside, ended_early};
 use sl_output::{Front as Pieces, Output, Press, Put, Seat as Writer};
-use sl_outside::{Gate, StandingDevices};
+use sl_outside::{Spawner, StandingDevices};
 use sl_reader::{LiveLines, NoLine};
 use sl_run::Header;
 use sl_text::Bytes;
@@ -22,10 +23,10 @@ use std::thread::Threads;
 use std::time;
 
 /// A run without memory, into whose output nothing more comes.
-fn no_run<K: Sink, O: Press, A: sl_area::Area>(
+fn no_run<K: Sink, O: Press, A: Area, P: Spawner>(
     alloc: Global,
     output: Output<K, O>,
-) -> LiveRun<K, A> {
+) -> LiveRun<K, A, P> {
     let Put {
         sink,
         front: _,
@@ -36,7 +37,7 @@ fn no_run<K: Sink, O: Press, A: sl_area::Area>(
         machines: 0,
         sink,
         cut,
-        disks: Vec::new(alloc),
+        remains: Vec::new(alloc),
         ended: None,
     }
 }
@@ -108,7 +109,7 @@ fn run_with<
     events: bool,
     machine: Machine<V::Clock, V::Spawner, V::Device, V::Area, O, T>,
     lines: &mut L,
-) -> LiveRun<K, V::Area>
+) -> LiveRun<K, V::Area, V::Spawner>
 where
     V::Area: Send,
 {
@@ -169,7 +170,7 @@ fn run_named<
     events: bool,
     sink: K,
     lines: &mut L,
-) -> LiveRun<K, V::Area>
+) -> LiveRun<K, V::Area, V::Spawner>
 where
     V::Area: Send,
 {
@@ -206,7 +207,7 @@ fn run_put<
     events: bool,
     sink: K,
     lines: &mut L,
-) -> LiveRun<K, V::Area>
+) -> LiveRun<K, V::Area, V::Spawner>
 where
     V::Area: Send,
 {
@@ -246,7 +247,7 @@ pub(crate) fn run_own<
     events: bool,
     sink: K,
     lines: &mut L,
-) -> LiveRun<K, V::Area>
+) -> LiveRun<K, V::Area, V::Spawner>
 where
     V::Area: Send,
 {
