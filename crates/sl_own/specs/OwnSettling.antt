@@ -16,7 +16,7 @@ use Rattle.sl_live_run.specs.declared.machine_runs.Machine.{Machine}
 use Rattle.sl_live_run.specs.declared.run.LiveRun.{LiveRun}
 use Rattle.sl_output.specs.Outputs.{IsPut}
 use Rattle.sl_output.specs.Pieces.{Piece}
-use Rattle.std.specs.Prelude.{All, Bool, IfErr, IfOk, List, Ok, Option, Some, false, length, map, [], ℕ, ◌++◌, ◌+◌, ◌∷◌, ◌≡◌, ◌⊎◌}
+use Rattle.std.specs.Prelude.{All, Bool, Err, IfErr, IfOk, List, Ok, Option, Result, Some, false, length, map, [], ℕ, ◌++◌, ◌+◌, ◌∷◌, ◌≡◌, ◌⊎◌}
 
 -- It has a whole history, has read all its lines, and was given so many replies.
 pub record IsSettled {O T A P : Type 0} (early : Bool) (l : LedgerState GivenLine) (r : Ran O T A P) (replies : ℕ) : Type 0 where
@@ -42,6 +42,11 @@ pub record IsCaseOf {O T A P : Type 0} (early : Bool) (l : LedgerState GivenLine
 abbrev pub Stops : {O T A P : Type 0} → Bool → ℕ → LedgerState GivenLine → Ran O T A P → LiveStop → Type 0
 Stops early number l r (Differ machine d) = (machine ≡ number) × IsCaseOf early l r d
 Stops early number l r NoMemory = Unit {0}
+
+-- What it comes to where not all pieces are known.
+abbrev pub without_pieces : Result ℕ LiveStop → Result ℕ LiveStop
+without_pieces (Ok n) = Err NoMemory
+without_pieces (Err s) = Err s
 
 -- What is left of it, once its threads have all ended.
 pub record HasLeftOwn {K C P V A O T : Type 0} (early : Bool) (number place : ℕ) (l : LedgerState GivenLine) (w : SeatState (List ℕ)) (m : Machine C P V A O T) (taken now : Option (List ℕ))

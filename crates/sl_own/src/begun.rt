@@ -1,12 +1,14 @@
 //! What is there before the threads of a machine begin.
 
+ghost use Rattle.sl_live_run.specs.Runs.{IsFresh};
+ghost use Rattle.std.specs.Prelude.{[], ◌≡◌};
+
 use sl_book::{Front, Reader, Shelf};
 use sl_live_lines::GivenLine;
-use sl_live_machine::{Mail, Parts, Post};
-use sl_live_run::{MACHINE_THREADS, Machine, Work};
+use sl_live_machine::{Mail, Post};
+use sl_live_run::{MACHINE_THREADS, Prepared, Work};
 use sl_output::{Front as Pieces, Press, Seat as Writer};
 use sl_outside::StandingDevices;
-use sl_world_state::Site;
 use std::alloc::{AllocError, Global};
 
 /// The threads of the process: the machine's, and the script's.
@@ -15,13 +17,13 @@ pub(crate) const THREADS: u64 = MACHINE_THREADS + 1;
 /// Posts and mails for so many machines, of which the last is the one that runs. An `Err` is want of memory.
 pub(crate) fn open_posts<T: Shelf>(
     alloc: Global,
-    machine: u32,
+    machines: u32,
     first_job: u64,
     events: bool,
 ) -> Result<(Vec<Post>, Vec<Mail<T>>), AllocError> {
     let mut posts = Vec::new(alloc);
     let mut mails = Vec::new(alloc);
-    for _ in 0..machine {
+    for _ in 0..machines {
         posts.reserve(1)?;
         mails.reserve(1)?;
         posts.push_reserved(Post::new(alloc, first_job, events));
@@ -30,18 +32,24 @@ pub(crate) fn open_posts<T: Shelf>(
     Ok((posts, mails))
 }
 
-/// The machine, which has read nothing and put nothing out, at the place of its number.
-pub(crate) fn machine_of<V: StandingDevices, O: Press, T: Shelf>(
-    site: Site,
-    parts: Parts<V::Clock, V::Spawner, V::Device, V::Area>,
+/// What the machine at this place is to run on, which has read nothing and put nothing out.
+pub(crate) fn work_of<V: StandingDevices, O: Press, T: Shelf>(
+    ready: Prepared<V>,
     place: u32,
     unread: &Front<T, GivenLine>,
     pieces: &Pieces<O>,
-) -> Machine<V::Clock, V::Spawner, V::Device, V::Area, O, T> {
-    Machine::new(Work {
+) -> Work<V::Clock, V::Spawner, V::Device, V::Area, O, T>
+    requires unread { unread.now ≡ [] }
+    ensures site { result.site ≡ ready.site }
+    ensures parts { result.parts ≡ ready.parts }
+    ensures by { result.reader.by ≡ place }
+    ensures fresh { IsFresh result }
+{
+    let Prepared { site, parts } = ready;
+    Work {
         site,
         parts,
         reader: Reader::new(place, unread),
         writer: Writer::new(place, pieces.again()),
-    })
+    }
 }

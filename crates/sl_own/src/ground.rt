@@ -4,19 +4,18 @@ use crate::lending::lend;
 use crate::no_place::NoPlace;
 use sl_cell::Part;
 use sl_live_machine::Parts;
-use sl_live_run::{TICKS, clocks_of, read_once, site_of, take_back, with_readings};
+use sl_live_run::{Prepared, TICKS, clocks_of, read_once, site_of, take_back, with_readings};
 use sl_outside::StandingDevices;
 use sl_run::{FirstReading, Header};
-use sl_world_state::Site;
 use std::alloc::{AllocError, Global};
 
-/// What a machine begins with: the header, with its clock's reading in place of all `clock` lines, its site and what it runs on, and the gate round its
-/// sector calls.
+/// What a machine begins with: the header, with its clock's reading in place of all `clock` lines, how many machines come before it, its site and what
+/// it runs on, and the gate round its sector calls.
 #[derive(Drop)]
 pub(crate) struct OwnGround<V: StandingDevices> {
     pub header: Header,
-    pub site: Site,
-    pub parts: Parts<V::Clock, V::Spawner, V::Device, V::Area>,
+    pub place: u32,
+    pub ready: Prepared<V>,
     pub gate: V::Gate,
 }
 
@@ -73,8 +72,8 @@ pub(crate) fn prepare_own<V: StandingDevices>(
     };
     Ok(OwnGround {
         header,
-        site,
-        parts,
+        place: machine - 1,
+        ready: Prepared { site, parts },
         gate: devices.gate(),
     })
 }
