@@ -56,6 +56,6 @@ pub record HasRunOwn {D K A P : Type 0} (content : A → Option (List ℕ)) (are
     (taken now : Option (List ℕ)) (faults later : ℕ) (r : LiveRun K A P) : Type 0 where
   pub pieces : List Piece
   pub put : IsPut taken now faults later pieces r.cut
-  pub ok : IfOk r.replies (λ n. (left : Leavings A P) × (map remains_of r.remains.items ≡ left ∷ [])
+  pub ok : IfOk r.replies (λ n. (r.machines ≡ 1) × (left : Leavings A P) × (map remains_of r.remains.items ≡ left ∷ [])
       × HasToldOwn content area_faults spawned events stands commands header place site disks before after pieces n left)
   pub stop : IfErr r.replies (IsOwnStop stands commands header place site before after)

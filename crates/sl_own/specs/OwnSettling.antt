@@ -53,5 +53,6 @@ pub record HasLeftOwn {K C P V A O T : Type 0} (early : Bool) (number place : �
     (faults later : ℕ) (r : LiveRun K A P) : Type 0 where
   pub pieces : List Piece
   pub put : IsPut taken now faults later pieces r.cut
+  pub one : r.machines ≡ 1
   pub ok : IfOk r.replies (λ n. (ran : Ran O T A P) × (m.ran ≡ Some ran) × IsSettled early l ran n × ArePieces w place ran pieces × (map remains_of r.remains.items ≡ remains_after ran ∷ []))
   pub stop : IfErr r.replies (λ s. (s ≡ NoMemory) ⊎ ((ran : Ran O T A P) × (m.ran ≡ Some ran) × Stops early number l ran s))

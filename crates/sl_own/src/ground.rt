@@ -1,8 +1,15 @@
 //! What a machine in a process of its own begins with.
 
+ghost use Rattle.sl_cell.specs.declared.part.Part.TheVariants.{Delta, Resource};
+ghost use Rattle.sl_live_run.specs.Clocks.{with_readings};
+ghost use Rattle.sl_own.specs.OwnGrounds.{AreLeft, IsOwnGround, NotLent, SeesTo};
+ghost use Rattle.sl_run.specs.Headers.{IsHeader};
+ghost use Rattle.std.specs.Prelude.{IfErr, IfOk, [], ◌∷◌, ◌<◌, ◌^◌, ◌≡◌, ◌≤◌};
+
 use crate::lending::lend;
 use crate::no_place::NoPlace;
 use sl_cell::Part;
+use sl_live::Disk;
 use sl_live_machine::Parts;
 use sl_live_run::{Prepared, TICKS, clocks_of, read_once, site_of, take_back, with_readings};
 use sl_outside::StandingDevices;
@@ -25,7 +32,9 @@ fn with_reading(
     header: Header,
     machine: u32,
     reading: u64,
-) -> Result<Header, AllocError> {
+) -> Result<Header, AllocError>
+    ensures { IfOk result (λ h. h ≡ with_readings (record { machine = machine; reading = reading } ∷ []) header) }
+{
     let mut readings = Vec::new(alloc);
     readings.push(FirstReading { machine, reading })?;
     Ok(with_readings(header, readings))
@@ -38,7 +47,13 @@ fn lend_both<V: StandingDevices>(
     folder: &str,
     machine: u32,
     devices: &mut V,
-) -> Result<(Vec<sl_live::Disk<V::Area>>, Vec<sl_live::Disk<V::Area>>), NoPlace> {
+) -> Result<(Vec<Disk<V::Area>>, Vec<Disk<V::Area>>), NoPlace>
+    requires { IsHeader header.now }
+    ensures delta { IfOk result (λ both. AreLeft V.Area.content (SeesTo header.now Delta) header.now.disks both.0.items) }
+    ensures resource { IfOk result (λ both. AreLeft V.Area.content (SeesTo header.now Resource) header.now.disks both.1.items) }
+    ensures not { IfErr result (NotLent header.now (V.Devices.faults devices.old) (V.Devices.faults devices.new)) }
+    ensures later { V.Devices.faults devices.old ≤ V.Devices.faults devices.new }
+{
     let delta = lend(alloc, header, folder, machine, Part::Delta, devices)?;
     match lend(alloc, header, folder, machine, Part::Resource, devices) {
         Ok(resource) => Ok((delta, resource)),
@@ -56,7 +71,13 @@ pub(crate) fn prepare_own<V: StandingDevices>(
     folder: &str,
     machine: u32,
     devices: &mut V,
-) -> Result<OwnGround<V>, NoPlace> {
+) -> Result<OwnGround<V>, NoPlace>
+    requires header { IsHeader header }
+    requires machine { (1 ≤ machine) × (machine ≤ header.machines) }
+    ensures ok { IfOk result (IsOwnGround V.Area.content V.Spawner.acts header machine) }
+    ensures not { IfErr result (NotLent header (V.Devices.faults devices.old) (V.Devices.faults devices.new)) }
+    ensures later { V.Devices.faults devices.old ≤ V.Devices.faults devices.new }
+{
     let mut ticks = devices.clock(machine, TICKS);
     let reading = read_once(&mut ticks);
     let header = with_reading(alloc, header, machine, reading)?;

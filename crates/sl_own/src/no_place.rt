@@ -1,5 +1,13 @@
 //! Why a machine can't run where it is to, and the line that says so.
 
+ghost use Rattle.sl_io.specs.FaultCauses.{Rose};
+ghost use Rattle.sl_outside.specs.Disks.{Disks};
+ghost use Rattle.sl_own.specs.OwnGrounds.{Bars};
+ghost use Rattle.sl_own.specs.OwnTexts.{no_place_text};
+ghost use Rattle.sl_own.specs.declared.no_place.NoPlace.TheVariants.{OtherSize};
+ghost use Rattle.sl_run.specs.declared.header.Header.{Header as HeaderOf};
+ghost use Rattle.std.specs.Prelude.{List, OnErr, OnOk, [], ℕ, ◌++◌, ◌∷◌, ◌≡◌};
+
 use sl_outside::NotClaimed;
 use sl_standing::{NotStanding, push_not_standing};
 use sl_text::FilePath;
@@ -46,7 +54,9 @@ impl From<AllocError> for NoPlace {
 
 impl NoPlace {
     /// Why a machine of this number can't be claimed.
-    pub(crate) fn of_claim(machine: u32, why: NotClaimed) -> NoPlace {
+    pub(crate) fn of_claim(machine: u32, why: NotClaimed) -> NoPlace
+        ensures { (disks : Disks) (folder : List ℕ) (h : HeaderOf) (faults : ℕ) (later : ℕ) → Rose faults later → Bars disks folder h machine faults later result }
+    {
         match why {
             NotClaimed::FolderInUse => NoPlace::FolderInUse,
             NotClaimed::MachineInUse => NoPlace::MachineInUse { machine },
@@ -61,20 +71,29 @@ fn push_disk_line(
     words: &str,
     path: &FilePath,
     behind: &str,
-) -> Result<(), AllocError> {
+) -> Result<(), AllocError>
+    ensures ok { OnOk result (out.new.items ≡ out.old.items ++ words.now ++ 32 ∷ (path.now ++ (behind.now ++ 10 ∷ []))) }
+    ensures err { OnErr result (out.new.items ≡ out.old.items) }
+{
     let path = path.as_str();
     let line = format!(in *out.allocator(); "{words} {path}{behind}")?;
     push_line(out, line.as_bytes())
 }
 
 /// Adds the line of a disk of another size.
-fn push_size_line(out: &mut Vec<u8>, path: &FilePath, bytes: u64) -> Result<(), AllocError> {
+fn push_size_line(out: &mut Vec<u8>, path: &FilePath, bytes: u64) -> Result<(), AllocError>
+    ensures ok { OnOk result (out.new.items ≡ out.old.items ++ no_place_text (OtherSize path.now bytes)) }
+    ensures err { OnErr result (out.new.items ≡ out.old.items) }
+{
     let behind = format!(in *out.allocator(); " {bytes}")?;
     push_disk_line(out, "disk size", path, behind.as_str())
 }
 
 /// Adds the line that says why, with its line feed. After an `Err`, which is want of memory, nothing is added. Of want of memory nothing is told.
-pub(crate) fn push_no_place(out: &mut Vec<u8>, why: &NoPlace) -> Result<(), AllocError> {
+pub(crate) fn push_no_place(out: &mut Vec<u8>, why: &NoPlace) -> Result<(), AllocError>
+    ensures ok { OnOk result (out.new.items ≡ out.old.items ++ no_place_text why.now) }
+    ensures err { OnErr result (out.new.items ≡ out.old.items) }
+{
     match why {
         NoPlace::FolderInUse => push_line(out, b"folder in use"),
         NoPlace::MachineInUse { machine } => {

@@ -1,5 +1,12 @@
 //! The place of a machine: the folder, claimed for it, and the disks that stand there.
 
+ghost use Rattle.sl_own.specs.OwnGrounds.{Bars, SizeDiffers};
+ghost use Rattle.sl_own.specs.declared.no_place.NoPlace.TheVariants.{NotStanding};
+ghost use Rattle.sl_run.specs.Headers.{IsHeader};
+ghost use Rattle.sl_run.specs.declared.header.Header.{Header as HeaderOf};
+ghost use Rattle.sl_standing.specs.declared.not_standing.NotStanding.TheVariants.{NoMemory};
+ghost use Rattle.std.specs.Prelude.{Contains, IfErr, ◌≡◌, ◌≤◌, ◌⊎◌};
+
 use crate::no_place::NoPlace;
 use sl_outside::{StandingDevices, disk_path};
 use sl_run::{Disk, Header};
@@ -14,7 +21,12 @@ fn look_at<V: StandingDevices>(
     folder: &str,
     disk: &Disk,
     devices: &mut V,
-) -> Result<(), NoPlace> {
+) -> Result<(), NoPlace>
+    requires { disk.now.mebibytes ≤ 64 }
+    ensures differs { (h : HeaderOf) → Contains h.disks disk.now → IfErr result (λ why. (why ≡ NotStanding NoMemory) ⊎ SizeDiffers (V.Devices.disks devices.old) folder.now h why) }
+    ensures same { V.Devices.disks devices.new ≡ V.Devices.disks devices.old }
+    ensures count { V.Devices.faults devices.new ≡ V.Devices.faults devices.old }
+{
     let whole = disk_path(alloc, folder, disk.path.as_str())?;
     match devices.size(whole.as_str()) {
         None => Err(NoPlace::NoDisk { path: disk.path }),
@@ -37,7 +49,11 @@ fn look_at_each<V: StandingDevices>(
     folder: &str,
     header: &Header,
     devices: &mut V,
-) -> Result<(), NoPlace> {
+) -> Result<(), NoPlace>
+    requires { IsHeader header.now }
+    ensures differs { IfErr result (λ why. (why ≡ NotStanding NoMemory) ⊎ SizeDiffers (V.Devices.disks devices.old) folder.now header.now why) }
+    ensures count { V.Devices.faults devices.new ≡ V.Devices.faults devices.old }
+{
     for disk in header.disks.as_slice() {
         look_at(alloc, folder, disk, devices)?;
     }
@@ -51,7 +67,11 @@ pub(crate) fn take_place<V: StandingDevices>(
     header: &Header,
     machine: u32,
     devices: &mut V,
-) -> Result<(), NoPlace> {
+) -> Result<(), NoPlace>
+    requires { IsHeader header.now }
+    ensures bars { IfErr result (Bars (V.Devices.disks devices.old) folder.now header.now machine (V.Devices.faults devices.old) (V.Devices.faults devices.new)) }
+    ensures later { V.Devices.faults devices.old ≤ V.Devices.faults devices.new }
+{
     match devices.claim(folder, machine) {
         Ok(()) => look_at_each(alloc, folder, header, devices),
         Err(why) => Err(NoPlace::of_claim(machine, why)),

@@ -1,5 +1,21 @@
 //! The play of a script for one machine in a process of its own.
 
+ghost use Rattle.sl_outside.specs.Acts.{Tells};
+ghost use Rattle.sl_outside.specs.Disks.{Disks};
+ghost use Rattle.sl_own.specs.OwnGrounds.{Bars, IsOwnGround};
+ghost use Rattle.sl_own.specs.OwnOwed.{OwesOwn, PutsNoPlace, header_refusal};
+ghost use Rattle.sl_reader.specs.HeaderBegins.{HeaderBegins};
+ghost use Rattle.sl_reader.specs.LineReads.{EndStands};
+ghost use Rattle.sl_reader.specs.Scopes.{own_scope};
+ghost use Rattle.sl_report.specs.Languages.{whole_language};
+ghost use Rattle.sl_report.specs.OwedReports.{HeadersAreGood};
+ghost use Rattle.sl_run.specs.Headers.{IsHeader};
+ghost use Rattle.sl_run.specs.Lawful.{IsSetting};
+ghost use Rattle.sl_run.specs.declared.header.Header.{Header as HeaderOf};
+ghost use Rattle.sl_world_state.specs.Daemons.{begun_with};
+ghost use Rattle.sl_world_state.specs.SaneWorlds.{ReadsCommands};
+ghost use Rattle.std.specs.Prelude.{IfErr, IfOk, List, Option, [], ℕ, ◌+◌, ◌<◌, ◌^◌, ◌≡◌, ◌≤◌};
+
 use crate::ground::{OwnGround, prepare_own};
 use crate::no_place::{NoPlace, push_no_place};
 use crate::place::take_place;
@@ -32,7 +48,9 @@ pub struct OwnManner {
 }
 
 /// Puts out why a machine can't run.
-fn put_no_place<K: Sink>(alloc: Global, sink: &mut K, why: NoPlace) -> Lived {
+fn put_no_place<K: Sink>(alloc: Global, sink: &mut K, why: NoPlace) -> Lived
+    ensures { PutsNoPlace (K.taken sink.old) (K.taken sink.new) (K.faults sink.old) (K.faults sink.new) why result }
+{
     if let NoPlace::NotStanding(NotStanding::NoMemory) = why {
         return Lived::NoMemory;
     }
@@ -76,6 +94,21 @@ fn play_as<
 ) -> (Lived, S, K)
 where
     V::Area: Send,
+    requires place { ground.place + 1 < 2 ^ 32 }
+    requires numbered { manner.machine ≡ ground.place + 1 }
+    requires unasked { Tells (V.Spawner.acts ground.ready.parts.spawner) [] }
+    requires header { IsHeader ground.header }
+    requires setting { IsSetting (begun_with D.Daemon.commands ground.header ground.ready.site) }
+    requires ends { EndStands (S.left source) reader }
+    requires left { S.left source ≡ J.left }
+    requires faults { S.faults source ≡ J.faults }
+    requires began { reader ≡ J.began }
+    requires scope { own_scope ground.header manner.machine ≡ J.scope }
+    requires keeps { manner.keeps ≡ J.keeps }
+    ensures { (disks : Disks) (folder : List ℕ) (first : Option (List ℕ)) (h : HeaderOf) → IsOwnGround V.Area.content V.Spawner.acts h manner.machine ground
+        → HeaderBegins first (S.left source) reader h
+        → OwesOwn D.Daemon.stands D.Daemon.commands disks folder manner first (S.left result.1) (K.taken sink) (K.taken result.2) (S.faults source) (S.faults result.1)
+        (K.faults sink) (K.faults result.2) (V.Devices.faults devices.old) (V.Devices.faults devices.new) result.0 }
 {
     let scope = Scope::of_machine(&ground.header, manner.machine);
     let mut lines: ScriptLines<S, J> =
@@ -125,6 +158,16 @@ fn play_ground<
 ) -> (Lived, S, K)
 where
     V::Area: Send,
+    requires place { ground.place + 1 < 2 ^ 32 }
+    requires numbered { manner.machine ≡ ground.place + 1 }
+    requires unasked { Tells (V.Spawner.acts ground.ready.parts.spawner) [] }
+    requires header { IsHeader ground.header }
+    requires setting { IsSetting (begun_with D.Daemon.commands ground.header ground.ready.site) }
+    requires ends { EndStands (S.left source) reader }
+    ensures { (disks : Disks) (folder : List ℕ) (first : Option (List ℕ)) (h : HeaderOf) → IsOwnGround V.Area.content V.Spawner.acts h manner.machine ground
+        → HeaderBegins first (S.left source) reader h
+        → OwesOwn D.Daemon.stands D.Daemon.commands disks folder manner first (S.left result.1) (K.taken sink) (K.taken result.2) (S.faults source) (S.faults result.1)
+        (K.faults sink) (K.faults result.2) (V.Devices.faults devices.old) (V.Devices.faults devices.new) result.0 }
 {
     play_as::<D, Brand, S, K, V, R>(rt, alloc, ground, manner, source, reader, sink, devices)
 }
@@ -138,7 +181,13 @@ fn begin<V: StandingDevices>(
     manner: OwnManner,
     header: Header,
     devices: &mut V,
-) -> Result<OwnGround<V>, NoPlace> {
+) -> Result<OwnGround<V>, NoPlace>
+    requires header { IsHeader header }
+    requires machine { (1 ≤ manner.machine) × (manner.machine ≤ header.machines) }
+    ensures ok { IfOk result (IsOwnGround V.Area.content V.Spawner.acts header manner.machine) }
+    ensures bars { IfErr result (Bars (V.Devices.disks devices.old) folder.now header manner.machine (V.Devices.faults devices.old) (V.Devices.faults devices.new)) }
+    ensures later { V.Devices.faults devices.old ≤ V.Devices.faults devices.new }
+{
     take_place(alloc, folder, &header, manner.machine, devices)?;
     if manner.syncs {
         devices.sync_writes();
@@ -152,7 +201,9 @@ fn begin<V: StandingDevices>(
 }
 
 /// Why this header is none for the machine of this number, if it is none: it has no such machine, or sessions that would be joined at moment 0.
-fn header_refusal(header: &Header, machine: u32) -> Option<Refusal> {
+fn header_refusal(header: &Header, machine: u32) -> Option<Refusal>
+    ensures { result ≡ header_refusal header.now machine }
+{
     if header.machines < machine {
         Some(Refusal::MissingMachine)
     } else if header.sessions.as_slice().is_empty() {
@@ -183,6 +234,13 @@ fn play_header<
 ) -> (Lived, S, K)
 where
     V::Area: Send,
+    requires header { IsHeader header }
+    requires machine { 1 ≤ manner.machine }
+    requires reads { (h : HeaderOf) → IsHeader h → ReadsCommands D.Daemon.commands h }
+    requires ends { EndStands (S.left source) reader }
+    ensures { (first : Option (List ℕ)) → HeaderBegins first (S.left source) reader header
+        → OwesOwn D.Daemon.stands D.Daemon.commands (V.Devices.disks devices.old) folder.now manner first (S.left result.1) (K.taken sink) (K.taken result.2) (S.faults source) (S.faults result.1)
+        (K.faults sink) (K.faults result.2) (V.Devices.faults devices.old) (V.Devices.faults devices.new) result.0 }
 {
     let mut sink = sink;
     if let Some(why) = header_refusal(&header, manner.machine) {
@@ -224,6 +282,11 @@ pub fn play_own<
 ) -> (Lived, S, K)
 where
     V::Area: Send,
+    requires machine { 1 ≤ manner.machine }
+    requires reads { (h : HeaderOf) → IsHeader h → ReadsCommands D.Daemon.commands h }
+    requires headers { HeadersAreGood whole_language }
+    ensures { OwesOwn D.Daemon.stands D.Daemon.commands (V.Devices.disks devices.old) folder.now manner (S.left source) (S.left result.1) (K.taken sink) (K.taken result.2) (S.faults source) (S.faults result.1)
+        (K.faults sink) (K.faults result.2) (V.Devices.faults devices.old) (V.Devices.faults devices.new) result.0 }
 {
     let mut source = source;
     let mut sink = sink;
