@@ -1,5 +1,8 @@
 //! One machine in a process of its own.
 
+ghost use Rattle.sl_top.specs.Runs.{RunsOwn};
+ghost use Rattle.std.specs.Prelude.{option_map, ◌≡◌, ◌≤◌};
+
 use crate::status::{Status, status_of_live};
 use sl_cli::Folder;
 use sl_io::{Sink, Source};
@@ -21,7 +24,9 @@ pub(crate) struct OwnPlace {
 }
 
 /// The text of a path, if there is one.
-fn text_of(path: &Option<Folder>) -> Option<&str> {
+fn text_of(path: &Option<Folder>) -> Option<&str>
+    ensures { option_map (λ w. w.now) result ≡ path.entry.now }
+{
     match path {
         Some(path) => Some(path.as_str()),
         None => None,
@@ -44,6 +49,11 @@ pub(crate) fn own<
 ) -> (Status, S, K)
 where
     D::Area: Send,
+    requires { 1 ≤ place.now.manner.machine }
+    ensures { RunsOwn place.now.folder place.now.manner
+        (record { left = S.left source; source_faults = S.faults source; taken = K.taken sink; sink_faults = K.faults sink; disks = D.Devices.disks devices.old; device_faults = D.Devices.faults devices.old })
+        (record { left = S.left result.1; source_faults = S.faults result.1; taken = K.taken result.2; sink_faults = K.faults result.2; disks = D.Devices.disks devices.new; device_faults = D.Devices.faults devices.new })
+        result.0 }
 {
     whole_language_may_play();
     let (lived, source, sink) = play_own::<LiveHost, S, K, D, R>(

@@ -6,9 +6,12 @@
 //! runs out, a front of the report. `gen` reads nothing: it draws its events as it plays them. `direct` takes one disk of the devices, does its action there, and gives the disk back.
 
 ghost use Rattle.sl_direct.specs.Actions.{IsAction};
-ghost use Rattle.sl_top.specs.Runs.{ActsOn, Generates, IsDirect, IsLive, IsReplay, Owes, PutsOut, Replays, RunsLive, place_in, place_of, said, said_from, told_from};
+ghost use Rattle.sl_top.specs.Runs.{ActsOn, Generates, IsDirect, IsLive, IsOwn, IsReplay, Owes, PutsOut, Replays, RunsLive, own_place_in, own_place_of, place_in, place_of, said, said_from, told_from};
+ghost use Rattle.sl_top.specs.declared.own.OwnPlace.{OwnPlace as OwnPlaceOf};
+ghost use Rattle.sl_top.specs.declared.top.Asked.TheVariants.{All, One};
+ghost use Rattle.sl_top.specs.declared.top.Place.{Place as PlaceOf};
 ghost use Rattle.sl_top.specs.declared.status.Status.TheVariants.{WriteFault};
-ghost use Rattle.std.specs.Prelude.{IfOk, option_map, ◌≡◌, ◌≢◌, ◌≤◌};
+ghost use Rattle.std.specs.Prelude.{IfOk, None, Ok, Some, option_map, ◌≡◌, ◌≢◌, ◌≤◌};
 
 use crate::own::{OwnPlace, own};
 use crate::status::{Status, status_after, status_of, status_of_generated, status_of_live};
@@ -191,7 +194,11 @@ enum Asked {
 }
 
 /// What the words ask for, if it is machines, where the source is a terminal or not.
-fn asked_of(words: Words, at_terminal: bool) -> Option<Asked> {
+fn asked_of(words: Words, at_terminal: bool) -> Option<Asked>
+    ensures all { (p : PlaceOf) → result ≡ Some (All p) → place_of (told_from at_terminal words) ≡ Some (p.folder, p.manner) }
+    ensures one { (p : OwnPlaceOf) → result ≡ Some (One p) → own_place_of (told_from at_terminal words) ≡ Some (p.folder, p.watchdog, p.manner) }
+    ensures none { result ≡ None → (place_of (told_from at_terminal words) ≡ None) × (own_place_of (told_from at_terminal words) ≡ None) }
+{
     match words {
         Words::Own {
             folder,
@@ -250,6 +257,9 @@ fn machines_asked(
     words: &[String],
     at_terminal: bool,
 ) -> Result<Option<Asked>, AllocError>
+    ensures all { (p : PlaceOf) → result ≡ Ok (Some (All p)) → place_in (said_from at_terminal words.now) ≡ Some (p.folder, p.manner) }
+    ensures one { (p : OwnPlaceOf) → result ≡ Ok (Some (One p)) → own_place_in (said_from at_terminal words.now) ≡ Some (p.folder, p.watchdog, p.manner) }
+    ensures none { result ≡ Ok None → (place_in (said_from at_terminal words.now) ≡ None) × (own_place_in (said_from at_terminal words.now) ≡ None) }
 {
     match read_words(alloc, words) {
         Ok(words) => Ok(asked_of(words, at_terminal)),
@@ -286,8 +296,8 @@ where
         (record { left = S.left source; source_faults = S.faults source; taken = K.taken sink; sink_faults = K.faults sink; disks = D.Devices.disks devices; device_faults = D.Devices.faults devices })
         (record { left = S.left result.1; source_faults = S.faults result.1; taken = K.taken result.2; sink_faults = K.faults result.2; disks = D.Devices.disks result.3; device_faults = D.Devices.faults result.3 })
         result.0 }
-    ensures source { (IsReplay (said words.now) → ⊥) → (IsLive (said words.now) → ⊥) → result.1 ≡ source }
-    ensures devices { (IsDirect (said words.now) → ⊥) → (IsLive (said words.now) → ⊥) → result.3 ≡ devices }
+    ensures source { (IsReplay (said words.now) → ⊥) → (IsLive (said words.now) → ⊥) → (IsOwn (said words.now) → ⊥) → result.1 ≡ source }
+    ensures devices { (IsDirect (said words.now) → ⊥) → (IsLive (said words.now) → ⊥) → (IsOwn (said words.now) → ⊥) → result.3 ≡ devices }
 {
     let (mut source, mut sink, mut devices) = (source, sink, devices);
     match machines_asked(alloc, words, at_terminal) {
