@@ -1,15 +1,14 @@
 -- What the words of `direct` ask for, once each is known by its option.
 use Rattle.sl_area.specs.AreaSizes.{Sizes, layout_of}
 use Rattle.sl_cli.specs.OptionValues.{for_hosts, is_host_count, is_new_lockspace, is_stretch, new_lockspace, paired_said, sizes_said, stretch_of}
-use Rattle.sl_cli.specs.TimesWords.{grace_of, is_times, timing_of}
-use Rattle.sl_direct.specs.declared.action.Action.TheVariants.{Dump, InitLabelled, InitLockspace, InitResource, ReadLeader, Upgrade}
+use Rattle.sl_direct.specs.declared.action.Action.TheVariants.{Dump, InitLockspace, InitResource, ReadLeader, Upgrade}
 use Rattle.sl_direct.specs.declared.action.Action.{Action}
 use Rattle.sl_text.specs.Numbers.{number_of}
 use Rattle.sl_trace.specs.CommandForms.{is_resource_word, resource_of_word}
 use Rattle.sl_words.specs.Words.{choose}
 use Rattle.std.specs.Prelude.{Bool, List, None, Option, Some, bytes_eq, codes, false, if◌then◌else◌, option_and_then, true, ℕ, ◌&&◌}
 
--- The word of the action, and the values of `-s`, `-r`, `-n`, `-d`, `-g`, `-v` and `-t`: each where it was given.
+-- The word of the action, and the values of `-s`, `-r`, `-n`, `-d`, `-g` and `-v`: each where it was given.
 pub record Given : Type 0 where
   pub action : Option (List ℕ)
   pub lockspace : Option (List ℕ)
@@ -18,7 +17,6 @@ pub record Given : Type 0 where
   pub stretch : Option (List ℕ)
   pub geometry : Option (List ℕ)
   pub format : Option (List ℕ)
-  pub times : Option (List ℕ)
 
 -- The sizes of an action's area, if it were for the most hosts, and its options: a lockspace or a resource, hosts, a stretch.
 abbrev pub Wants : Type 0
@@ -79,31 +77,10 @@ named_in name most s r n d v =
     if bytes_eq name (codes "init") then init_in most s r n d v
     else without_format v (other_in name most s r n d)
 
--- A new lockspace for so many hosts, which is given a label of these times.
-abbrev pub labelled_lockspace_in : Sizes → List ℕ → List ℕ → List ℕ → Option Action
-labelled_lockspace_in most s n t =
-    choose (is_times t && (is_new_lockspace most s && is_host_count false most n))
-    (InitLabelled (new_lockspace s) (for_hosts false most (number_of n)) (timing_of t) (grace_of t))
-
--- Only `init` of a lockspace may have times.
-abbrev pub labelled_by : List ℕ → Sizes → Option (List ℕ) → Option (List ℕ) → Option (List ℕ) → Option (List ℕ) → Option (List ℕ) → List ℕ → Option Action
-labelled_by name most (Some s) None (Some n) None None t = if bytes_eq name (codes "init") then labelled_lockspace_in most s n t else None
-labelled_by name most s r n d v t = None
-
--- What is asked for where times were given.
-abbrev pub labelled_in : List ℕ → Given → Option Action
-labelled_in t g = elim g.action [
-  | Some name ↦ option_and_then (λ most. labelled_by name most g.lockspace g.resource g.hosts g.stretch g.format t) (sizes_said g.geometry)
-  | None ↦ None
-]
-
--- .. and where none were: its options are there, no others are, and each has a value of its form. Any action may have the option of sizes.
-abbrev pub untimed_in : Given → Option Action
-untimed_in g = elim g.action [
+-- The action that was asked for, if it is one: its options are there, no others are, and each has a value of its form. Any action may
+-- have the option of sizes.
+abbrev pub action_in : Given → Option Action
+action_in g = elim g.action [
   | Some name ↦ option_and_then (λ most. named_in name most g.lockspace g.resource g.hosts g.stretch g.format) (sizes_said g.geometry)
   | None ↦ None
 ]
-
--- The action that was asked for, if it is one.
-abbrev pub action_in : Given → Option Action
-action_in g = elim g.times [ Some t ↦ labelled_in t g | None ↦ untimed_in g ]

@@ -20,7 +20,6 @@ given_in rows = record {
   stretch = first_of (codes "stretch") rows;
   geometry = first_of (codes "geometry") rows;
   format = first_of (codes "format") rows;
-  times = first_of (codes "times") rows;
 }
 
 -- The words of a seed, of hosts, of events and of a format, by what was found.

@@ -11,9 +11,9 @@ option_rule id letter = record (new_rule id) { short = Some letter }
 -- `direct ACTION`, with the options of all actions.
 abbrev pub direct_app : App
 direct_app =
-    with_rule (with_rule (with_rule (with_rule (with_rule (with_rule (with_rule (with_rule (new_app (codes "direct")) (new_rule (codes "action")))
+    with_rule (with_rule (with_rule (with_rule (with_rule (with_rule (with_rule (new_app (codes "direct")) (new_rule (codes "action")))
     (option_rule (codes "lockspace") 115)) (option_rule (codes "resource") 114)) (option_rule (codes "hosts") 110)) (option_rule (codes "stretch") 100))
-    (option_rule (codes "geometry") 103)) (option_rule (codes "format") 118)) (option_rule (codes "times") 116)
+    (option_rule (codes "geometry") 103)) (option_rule (codes "format") 118)
 
 -- `gen SEED HOSTS EVENTS FORMAT`, of which the last word may be left out.
 abbrev pub seed_app : List ℕ → App

@@ -13,9 +13,13 @@ use crate::folder::Folder;
 use crate::own_words::{is_own, own_words};
 use crate::parsed_command::{Given, Met, Seeding, met_in};
 use crate::parser_shape::command_line;
+use crate::timed_words::{is_timed, timed_words};
 use clap::Error;
 use clap::error::ErrorKind;
+use sl_area::Geometry;
 use sl_direct::Action;
+use sl_time::Timing;
+use sl_trace::LockspaceArg;
 use std::alloc::{AllocError, Global};
 
 /// What the words of the command line say.
@@ -32,6 +36,13 @@ pub enum Words {
     },
     /// Do this to an area.
     Direct(Action),
+    /// Initialise this lockspace with a label of these times, and this grace.
+    Label {
+        lockspace: LockspaceArg,
+        geometry: Geometry,
+        timing: Timing,
+        grace: u64,
+    },
     /// Run live machines by a script, on disks that are files below this folder; `anew`: those that are there are made anew; `keeps`: a line that
     /// is refused ends nothing; `events`: beside replies what becomes of children, and which connections run out, is told.
     Live {
@@ -148,6 +159,16 @@ fn command<'a>(alloc: Global, words: &'a [String]) -> Result<Option<Met<'a>>, Wo
     parse(alloc, words)
 }
 
+/// What words say that are all the parser's. `Bad` comes exactly where they say nothing.
+pub(crate) fn plain_words(alloc: Global, words: &[String]) -> Result<Words, WordsError>
+    ensures read { IfOk result (λ w. command_in (map string_bytes words.now) ≡ Some w) }
+    ensures bad { result ≡ Err Bad → command_in (map string_bytes words.now) ≡ None }
+    ensures can { IfOk result CanBeDone }
+{
+    let met = command(alloc, words)?.ok_or(WordsError::Bad)?;
+    said(alloc, met)?.ok_or(WordsError::Bad)
+}
+
 /// What the words of the command line say; the program's name is none of them. An action that they ask for can be done. `Bad` comes exactly
 /// where they say nothing; in place of either may come `NoMemory`.
 pub fn read_words(alloc: Global, words: &[String]) -> Result<Words, WordsError>
@@ -161,8 +182,9 @@ pub fn read_words(alloc: Global, words: &[String]) -> Result<Words, WordsError>
         Ok(Words::Version)
     } else if is_own(words) {
         own_words(alloc, words)?.ok_or(WordsError::Bad)
+    } else if is_timed(words) {
+        timed_words(alloc, words)
     } else {
-        let met = command(alloc, words)?.ok_or(WordsError::Bad)?;
-        said(alloc, met)?.ok_or(WordsError::Bad)
+        plain_words(alloc, words)
     }
 }

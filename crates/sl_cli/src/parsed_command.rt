@@ -3,7 +3,7 @@
 ghost use Rattle.clap.specs.Matches.{found_of};
 ghost use Rattle.clap.specs.Simple.{subcommand_rows_of};
 ghost use Rattle.clap.specs.Walk.{first_of, rows_of};
-ghost use Rattle.sl_cli.specs.Actions.{action_in, area_in, dump_in, init_in, labelled_in, lockspace_in, other_in, read_leader_in, resource_in, untimed_in, upgrade_in};
+ghost use Rattle.sl_cli.specs.Actions.{action_in, area_in, dump_in, init_in, lockspace_in, other_in, read_leader_in, resource_in, upgrade_in};
 ghost use Rattle.sl_cli.specs.CommandWords.{is_event_count, is_format, is_machine_count, is_seed, placed_in, seeding_in};
 ghost use Rattle.sl_cli.specs.ParserMeets.{given_in, is_set, met_in, named_met, placing_of, seeding_of};
 ghost use Rattle.sl_text.specs.Numbers.{number_of};
@@ -15,7 +15,6 @@ use crate::folder::Folder;
 use crate::option_values::{
     lockspace_of, paired_said, resource_of, sizes_for, sizes_said, stretch_of,
 };
-use crate::times::times_of;
 use clap::ArgMatches;
 use sl_area::Geometry;
 use sl_direct::Action;
@@ -33,7 +32,6 @@ pub(crate) struct Given<'a> {
     stretch: Option<&'a str>,
     geometry: Option<&'a str>,
     format: Option<&'a str>,
-    times: Option<&'a str>,
 }
 
 impl<'a> Model for Given<'a> {
@@ -50,7 +48,6 @@ impl<'a> Model for Given<'a> {
       stretch = option_map (λ w. w.now) g.stretch;
       geometry = option_map (λ w. w.now) g.geometry;
       format = option_map (λ w. w.now) g.format;
-      times = option_map (λ w. w.now) g.times;
     } };
 }
 
@@ -94,7 +91,6 @@ impl<'a> Given<'a> {
             stretch: value_of(matches, "stretch"),
             geometry: value_of(matches, "geometry"),
             format: value_of(matches, "format"),
-            times: value_of(matches, "times"),
         }
     }
 
@@ -184,39 +180,9 @@ impl<'a> Given<'a> {
         }
     }
 
-    /// A new lockspace for so many hosts, with a label of these times.
-    fn labelled(&self, times: &str) -> Option<Action>
-        ensures { result ≡ labelled_in times.now self.now }
-    {
-        let name = self.action?;
-        let most = sizes_said(self.geometry)?;
-        match (self.lockspace, self.resource, self.hosts, self.stretch, self.format) {
-            (Some(lockspace), None, Some(hosts), None, None) if name == "init" => {
-                let times = times_of(times)?;
-                Some(Action::InitLabelled {
-                    lockspace: lockspace_of(lockspace, &most)?,
-                    geometry: sizes_for(hosts, &most, false)?,
-                    timing: times.timing,
-                    grace: times.grace,
-                })
-            }
-            _ => None,
-        }
-    }
-
     /// The action that was asked for, if it is one.
     pub(crate) fn action(&self) -> Option<Action>
         ensures { result ≡ action_in self.now }
-    {
-        match self.times {
-            Some(times) => self.labelled(times),
-            None => self.untimed(),
-        }
-    }
-
-    /// An action without times.
-    fn untimed(&self) -> Option<Action>
-        ensures { result ≡ untimed_in self.now }
     {
         let name = self.action?;
         let most = sizes_said(self.geometry)?;

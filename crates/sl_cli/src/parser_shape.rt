@@ -42,16 +42,15 @@ fn with_area_options<'a>(alloc: Global, command: Command<'a>) -> Result<Command<
     with_option(alloc, command, "hosts", 'n')
 }
 
-/// The command with the options of a stretch, of sizes, of a format and of times.
+/// The command with the options of a stretch, of sizes and of a format.
 fn with_other_options<'a>(alloc: Global, command: Command<'a>) -> Result<Command<'a>, AllocError>
     requires { (fields_of command).has_globals ≡ false }
-    ensures app { IfOk result (λ c. app_of c ≡ with_rule (with_rule (with_rule (with_rule (app_of command.entry) (option_rule (codes "stretch") 100)) (option_rule (codes "geometry") 103)) (option_rule (codes "format") 118)) (option_rule (codes "times") 116)) }
+    ensures app { IfOk result (λ c. app_of c ≡ with_rule (with_rule (with_rule (app_of command.entry) (option_rule (codes "stretch") 100)) (option_rule (codes "geometry") 103)) (option_rule (codes "format") 118)) }
     ensures local { IfOk result (λ c. (fields_of c).has_globals ≡ false) }
 {
     let command = with_option(alloc, command, "stretch", 'd')?;
     let command = with_option(alloc, command, "geometry", 'g')?;
-    let command = with_option(alloc, command, "format", 'v')?;
-    with_option(alloc, command, "times", 't')
+    with_option(alloc, command, "format", 'v')
 }
 
 /// `direct`, with its action and the options of all actions.

@@ -24,9 +24,10 @@ usage: sanlock COMMAND
                            the others, on disks that are there; PATH is a
                            watchdog device; without --no-sync a write is
                            answered once the storage has it
-  direct init -s LOCKSPACE -n N [-t TIMES] [-g GEOMETRY]
+  direct init [-t TIMES] -s LOCKSPACE -n N [-g GEOMETRY]
                            write the sectors of a lockspace for N hosts; with
-                           -t a label as well, which live --machine wants
+                           -t, right behind init, a label as well, which
+                           live --machine wants
   direct init -r RESOURCE -n N [-v 2] [-g GEOMETRY]
                            write the sectors of a resource for N hosts; with
                            -v 2 each host's block has a pair of sectors

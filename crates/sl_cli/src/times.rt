@@ -52,7 +52,7 @@ fn times_parts(parts: &mut Parts<'_>) -> Result<Times, usize> {
 
 /// The times that a word says, if it says some.
 pub(crate) fn times_of(word: &str) -> Option<Times>
-    ensures some { IfSome result (λ t. (is_times word.now ≡ true) × (t.timing ≡ timing_of word.now) × (t.grace ≡ grace_of word.now)) }
+    ensures some { IfSome result (λ t. (is_times word.now ≡ true) × (t.timing ≡ timing_of word.now) × (t.grace ≡ grace_of word.now) × (t.grace ≤ 600000)) }
     ensures none { IfNone result (is_times word.now ≡ false) }
 {
     times_parts(&mut Parts::new(word.as_bytes())).ok()

@@ -1,9 +1,10 @@
 -- What a run of the program owes: by what its words say, what it read and wrote, what it left on the disks, and its status.
 use Rattle.sl_cli.specs.CommandWords.{said_in}
-use Rattle.sl_cli.specs.declared.command_words.Words.TheVariants.{Direct, Generate, Help, Live, Own, Replay, Version}
+use Rattle.sl_cli.specs.declared.command_words.Words.TheVariants.{Direct, Generate, Help, Label, Live, Own, Replay, Version}
 use Rattle.sl_cli.specs.declared.command_words.Words.{Words}
 use Rattle.sl_cli.specs.declared.texts.TheConstants.{HELP, VERSION}
 use Rattle.sl_direct.specs.Actions.{Directs, path_of}
+use Rattle.sl_direct.specs.declared.action.Action.TheVariants.{InitLabelled}
 use Rattle.sl_direct.specs.declared.action.Action.{Action}
 use Rattle.sl_direct.specs.declared.action.Directed.{Directed}
 use Rattle.sl_play.specs.Replays.{ReportsComplete}
@@ -21,7 +22,10 @@ use Rattle.sl_outside.specs.Disks.{CountsBack, Disks, KeepsAllBut}
 use Rattle.sl_own.specs.OwnOwed.{OwesOwn}
 use Rattle.sl_own.specs.declared.play.OwnManner.{OwnManner}
 use Rattle.sl_run.specs.Worlds.{whole_program}
+use Rattle.sl_area.specs.AreaSizes.{Sizes}
 use Rattle.sl_text.specs.Forms.{as_bytes}
+use Rattle.sl_time.specs.Times.{TimingNumbers}
+use Rattle.sl_trace.specs.declared.command.LockspaceArg.{LockspaceArg}
 use Rattle.sl_top.specs.Statuses.{code, status_after, status_of_live}
 use Rattle.sl_top.specs.declared.status.Status.TheVariants.{BadWords, Done, NoMemory, ReadFault, WriteFault}
 use Rattle.sl_top.specs.declared.status.Status.{Status}
@@ -142,6 +146,7 @@ Owes None x y s = Tells bad_words_text BadWords x y s
 Owes (Some Replay) x y s = Replays x.left y.left x.source_faults y.source_faults x.taken y.taken x.sink_faults y.sink_faults s
 Owes (Some (Generate seed hosts events paired)) x y s = Generates seed hosts events paired x.taken y.taken x.sink_faults y.sink_faults s
 Owes (Some (Direct a)) x y s = ActsOn a x.disks y.disks x.device_faults y.device_faults x.taken y.taken x.sink_faults y.sink_faults s
+Owes (Some (Label l g t grace)) x y s = ActsOn (InitLabelled l g t grace) x.disks y.disks x.device_faults y.device_faults x.taken y.taken x.sink_faults y.sink_faults s
 Owes (Some (Live folder anew keeps events)) x y s = RunsLive folder (record { anew = anew; keeps = keeps; events = events }) x y s
 Owes (Some (Own folder machine watchdog syncs keeps events)) x y s = RunsOwn folder (record { machine = machine; syncs = syncs; keeps = keeps; events = events }) x y s
 Owes (Some Help) x y s = Tells HELP.now Done x y s
@@ -151,8 +156,11 @@ Owes (Some Version) x y s = Tells VERSION.now Done x y s
 abbrev pub IsReplay : Option Words → Type 0
 IsReplay w = w ≡ Some Replay
 
+abbrev pub IsLabel : Option Words → Type 0
+IsLabel w = (l : LockspaceArg) × (g : Sizes) × (t : TimingNumbers) × (grace : ℕ) × (w ≡ Some (Label l g t grace))
+
 abbrev pub IsDirect : Option Words → Type 0
-IsDirect w = (a : Action) × (w ≡ Some (Direct a))
+IsDirect w = ((a : Action) × (w ≡ Some (Direct a))) ⊎ IsLabel w
 
 -- Only these wait for anything.
 abbrev pub IsLive : Option Words → Type 0

@@ -170,6 +170,24 @@ pub fn run_offline<S: Source, K: Sink, D: Devices>(
             },
         ) => unreachable!(),
         Ok(
+            Words::Label {
+                lockspace,
+                geometry,
+                timing,
+                grace,
+            },
+        ) => direct(
+            alloc,
+            &Action::InitLabelled {
+                lockspace,
+                geometry,
+                timing,
+                grace,
+            },
+            sink,
+            devices,
+        ),
+        Ok(
             Words::Own {
                 folder: _folder,
                 machine: _machine,
@@ -245,6 +263,7 @@ fn place_of(words: Words, at_terminal: bool) -> Option<Place>
         Words::Replay => None,
         Words::Generate { .. } => None,
         Words::Direct(_) => None,
+        Words::Label { .. } => None,
         Words::Own { .. } => None,
         Words::Help => None,
         Words::Version => None,
