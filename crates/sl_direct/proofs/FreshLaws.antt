@@ -51,6 +51,20 @@ broke_as result at p r s a b place rec h =
     subst (λ (x : Rec). OnErr result (BrokeOff (write_of p.size p.offset x ∷ []) a b)) rec
     (subst (λ (q : SectorPlace). OnErr result (BrokeOff (write_of q.size q.offset r ∷ []) a b)) place h)
 
+-- ---- a label's write, behind those of its lockspace
+
+pub label_wrote : (ws : List Write) (at p : SectorPlace) (r s : Rec) (a b c : Option (List ℕ)) → at ≡ p → r ≡ s → Wrote ws a b → Wrote (write_of at.size at.offset r ∷ []) b c
+    → Wrote (ws ++ write_of p.size p.offset s ∷ []) a c
+label_wrote ws at p r s a b c place rec first last =
+    Wrote-append ws (write_of p.size p.offset s ∷ []) a b c first
+    (subst (λ (x : Rec). Wrote (write_of p.size p.offset x ∷ []) b c) rec (subst (λ (q : SectorPlace). Wrote (write_of q.size q.offset r ∷ []) b c) place last))
+
+pub label_broke : (ws : List Write) (at p : SectorPlace) (r s : Rec) (a b c : Option (List ℕ)) → at ≡ p → r ≡ s → Wrote ws a b → BrokeOff (write_of at.size at.offset r ∷ []) b c
+    → BrokeOff (ws ++ write_of p.size p.offset s ∷ []) a c
+label_broke ws at p r s a b c place rec first broke =
+    BrokeOff-behind ws (write_of p.size p.offset s ∷ []) a b c first
+    (subst (λ (x : Rec). BrokeOff (write_of p.size p.offset x ∷ []) b c) rec (subst (λ (q : SectorPlace). BrokeOff (write_of q.size q.offset r ∷ []) b c) place broke))
+
 -- ---- a resource's writes, one behind another
 
 -- All of them.
