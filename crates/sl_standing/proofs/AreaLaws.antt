@@ -8,15 +8,15 @@ use Rattle.sl_run.specs.Worlds.{mebibyte}
 use Rattle.sl_run.specs.declared.header.Header.{Header}
 use Rattle.sl_run.specs.declared.header.LockspaceLine.{LockspaceLine}
 use Rattle.sl_run.specs.declared.header.ResourceLine.{ResourceLine}
-use Rattle.sl_standing.specs.Standing.{Differs, Faults, HasLabelOn, HasLeaderOn, IsLabelled, IsLed, IsSectorOf, LabelLacks, LeaderLacks, Leader_differs, Leader_faults, Lockspace_lacks, Resource_lacks, StandsNot}
+use Rattle.sl_standing.specs.Standing.{AreStanding, Differs, Faults, HasLabelOn, HasLeaderOn, IsLabelled, IsLed, IsSectorOf, LabelLacks, LeaderLacks, Leader_differs, Leader_faults, Lockspace_lacks, Resource_lacks, StandsNot}
 use Rattle.sl_standing.specs.declared.not_standing.NotStanding.TheVariants.{AreaFault}
 use Rattle.sl_standing.specs.declared.not_standing.NotStanding.{NotStanding}
 use Rattle.std.proofs.Common.{ap, arith, refl, subst, sym, ◌∙◌}
 use Rattle.std.proofs.lemmas.Bool.{and_from, eq-eqb, lt-ltb}
-use Rattle.std.proofs.lemmas.List.Elements.{All-push, All-weaker}
+use Rattle.std.proofs.lemmas.List.Elements.{All-push, All-weaker, Contains-get_or}
 use Rattle.std.proofs.lemmas.List.{take_all, take_more}
 use Rattle.std.specs.Io.KnownBytes.{Keeps}
-use Rattle.std.specs.Prelude.{All, Contains, Err, IfErr, IsTrue, List, None, Ok, OnErr, Option, Result, Some, get_or, length, take, true, [], ℕ, ◌%◌, ◌*◌, ◌++◌, ◌+◌, ◌<◌, ◌^◌, ◌∷◌, ◌≡◌, ◌≤◌}
+use Rattle.std.specs.Prelude.{All, Contains, Err, IfErr, IsTrue, List, None, Ok, OnOk, Option, Result, Some, get_or, length, take, true, [], ℕ, ◌%◌, ◌*◌, ◌++◌, ◌+◌, ◌<◌, ◌^◌, ◌∷◌, ◌≡◌, ◌≤◌}
 
 -- ---- where areas begin
 
@@ -42,6 +42,12 @@ pub read_before : (a b : Option (List ℕ)) (at : ℕ) (sector : List ℕ) → K
 read_before None b at sector kept read = tt
 read_before (Some x) None at sector kept read = absurd kept
 read_before (Some x) (Some y) at sector kept read = subst (λ (c : List ℕ). IsReadAt (Some c) at sector) kept read
+
+pub kept_behind : (a b c : Option (List ℕ)) → Keeps a b → Keeps b c → Keeps a c
+kept_behind None b c first second = tt
+kept_behind (Some x) None c first second = absurd first
+kept_behind (Some x) (Some y) None first second = absurd second
+kept_behind (Some x) (Some y) (Some z) first second = second ∙ first
 
 sector_before : (h : Header) (a b : Option (List ℕ)) (at : ℕ) (sector : List ℕ) → Keeps a b → IsSectorOf h b at sector → IsSectorOf h a at sector
 sector_before h a b at sector kept s = record { long = s.long; read = read_before a b at sector kept s.read }
@@ -83,6 +89,10 @@ if_stands_not (Err d) h path a b m n k kept before not = stands_not_before h pat
 
 -- ---- all of them
 
+-- A line of them is one of theirs.
+pub item_inside : {X : Type 0} (xs ys : List X) (k : ℕ) (x : X) → ys ≡ xs → k < length ys → x ≡ get_or ys k x → Contains xs x
+item_inside xs ys k x same inside is = subst (λ zs. Contains zs x) same (subst (Contains ys) (sym is) (Contains-get_or ys k x inside))
+
 -- Of one more.
 pub all_more : {X : Type 0} (P : X → Type 0) (xs : List X) (k : ℕ) (x : X) → k < length xs → x ≡ get_or xs k x → All P (take k xs) → P x → All P (take (k + 1) xs)
 all_more P xs k x inside is all one =
@@ -92,3 +102,10 @@ all_more P xs k x inside is all one =
 -- Of all.
 pub all_whole : {X : Type 0} (P : X → Type 0) (xs ys : List X) (k : ℕ) → ys ≡ xs → length ys ≤ k → All P (take k ys) → All P xs
 all_whole P xs ys k same past all = subst (All P) (take_all k ys past ∙ same) all
+
+-- Lockspaces first, and then resources of a disk that was as before.
+pub all_standing : (r : Result (Unit {0}) NotStanding) (h : Header) (path : List ℕ) (a b : Option (List ℕ)) → Keeps a b → All (HasLabelOn h path a) h.lockspaces
+    → OnOk r (All (HasLeaderOn h path b) h.resources) → OnOk r (AreStanding h path a)
+all_standing (Ok t) h path a b kept labels leaders =
+    record { lockspaces = labels; resources = All-weaker (HasLeaderOn h path b) (HasLeaderOn h path a) (λ r. leader_on_before h path a b r kept) h.resources leaders }
+all_standing (Err d) h path a b kept labels leaders = tt
