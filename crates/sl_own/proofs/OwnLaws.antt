@@ -19,12 +19,13 @@ use Rattle.sl_live_machine.specs.ServedDisks.{ServedDisks}
 use Rattle.sl_live_machine.specs.declared.machine.Ran.{Ran}
 use Rattle.sl_live_run.proofs.CaseLaws.{case_so, met}
 use Rattle.sl_live_run.proofs.RunLaws.{if_err_on, if_ok_on}
-use Rattle.sl_live_run.specs.Runs.{AreGiven, Both, HasPutOut, HasTold, IsLiveCase, Leavings, begun_on, begun_telling, lines_for, refusals_text, remains_of}
+use Rattle.sl_live_run.specs.Runs.{AreGiven, Both, HasPutOut, HasTold, IsLiveCase, Leavings, Runs, begun_on, begun_telling, disks_in, lines_for, refusals_text, remains_of}
 use Rattle.sl_live_run.specs.Settling.{remains_after}
 use Rattle.sl_live_run.specs.declared.compare.LiveDiffer.{LiveDiffer}
 use Rattle.sl_live_run.specs.declared.compare.LiveStop.TheVariants.{Differ, NoMemory}
 use Rattle.sl_live_run.specs.declared.compare.LiveStop.{LiveStop}
 use Rattle.sl_live_run.specs.declared.machine_runs.Machine.{Machine}
+use Rattle.sl_live_run.specs.declared.machine_runs.Work.{Work}
 use Rattle.sl_live_run.specs.declared.run.LiveRun.{LiveRun}
 use Rattle.sl_outside.specs.declared.act.Act.{Act}
 use Rattle.sl_output.specs.Outputs.{IsPut}
@@ -43,7 +44,7 @@ use Rattle.sl_world_state.specs.declared.daemon.Site.{Site}
 use Rattle.std.proofs.Common.{List, ap, arith, inl, inr, length, map, refl, subst, sym, zero, suc, ◌++◌, ◌+◌, ◌<◌, ◌≤◌, ◌∙◌, ◌∷◌, ◌≡◌, ◌⊎◌, [], ℕ}
 use Rattle.std.proofs.lemmas.List.Elements.{All-head, All-tail}
 use Rattle.std.specs.List.{concat}
-use Rattle.std.specs.Prelude.{All, Bool, Err, IfErr, IfOk, IsOk, Ok, Option, Result, Some, false}
+use Rattle.std.specs.Prelude.{All, Bool, Err, IfErr, IfOk, IfSome, IsOk, Ok, Option, Result, Some, false}
 use mathlib.Core.List.{IsPrefix}
 
 -- ---- seats that make up a log
@@ -152,3 +153,69 @@ own_stop content area_faults spawned events stands commands header place site di
       gave = tells.gave;
       case_of = case_so stands st a run.history (lines_read r.reader) due early so.1.reading r.end r.entries d run.ends run.counted (met early so.1.reading r.reader l due first exact so.1.read) so.1.case_is;
     }
+
+-- ---- the whole run
+
+-- What the machine that was begun has left is of what it began with.
+ran_here : {D C P V A O T : Type 0} (content : A → Option (List ℕ)) (area_faults : A → ℕ) (spawned : P → Option (List Act)) (events : Bool) (stands : D → Setting → Trace → Type 0)
+    (commands : Header → List (Form Command)) (header : Header) (work : Work C P V A O T) (old new : Machine C P V A O T) (r : Ran O T A P) → old.work ≡ Some work
+    → Runs content area_faults spawned events commands stands header old new → new.ran ≡ Some r
+    → HasRun content area_faults spawned header.geometry.sector stands (begun_with commands header work.site) (begun_telling events header work.site) (begun_on header work.site)
+    work.parts.delta.items work.parts.resource.items r × (r.reader.by ≡ work.reader.by)
+ran_here {D} {C} {P} {V} {A} {O} {T} content area_faults spawned events stands commands header work old new r begun runs at =
+    let Leaves = λ (w : Work C P V A O T) (x : Ran O T A P).
+    HasRun content area_faults spawned header.geometry.sector stands (begun_with commands header w.site) (begun_telling events header w.site) (begun_on header w.site)
+    w.parts.delta.items w.parts.resource.items x × (x.reader.by ≡ w.reader.by) in
+    let here : IfSome new.ran (Leaves work) = subst (λ (o : Option (Work C P V A O T)). IfSome o (λ w. IfSome new.ran (Leaves w))) begun runs in
+    subst (λ (o : Option (Ran O T A P)). IfSome o (Leaves work)) at here
+
+pub has_run_own : {D K C P V A O T T' E : Type 0} (content : A → Option (List ℕ)) (area_faults : A → ℕ) (spawned : P → Option (List Act)) (events : Bool) (stands : D → Setting → Trace → Type 0)
+    (commands : Header → List (Form Command)) (header : Header) (place : ℕ) (work : Work C P V A O T) (old new : Machine C P V A O T) (before after : List LiveLine → Type 0) (early : Bool)
+    (l : LedgerState GivenLine) (w : SeatState (List ℕ)) (told : Result T' E) (taken now : Option (List ℕ)) (faults later : ℕ) (r : LiveRun K A P)
+    → old.work ≡ Some work → work.reader.by ≡ place → Runs content area_faults spawned events commands stands header old new
+    → HasTold (place + 1) before after l w told → (early ≡ false → IsOk told) → HasLeftOwn early (place + 1) place l w new taken now faults later r
+    → HasRunOwn content area_faults spawned events stands commands header place work.site (disks_in work.parts) before after taken now faults later r
+has_run_own {D} {K} {C} {P} {V} {A} {O} {T} content area_faults spawned events stands commands header place work old new before after early l w told taken now faults later r begun by runs tells in_time left = record {
+  pieces = left.pieces;
+  put = left.put;
+  ok = if_ok_on r.replies
+      (λ n. (ran : Ran O T A P) × (new.ran ≡ Some ran) × IsSettled early l ran n × ArePieces w place ran left.pieces × (map remains_of r.remains.items ≡ remains_after ran ∷ []))
+      (λ n. (r.machines ≡ 1) × (left_over : Leavings A P) × (map remains_of r.remains.items ≡ left_over ∷ [])
+      × HasToldOwn content area_faults spawned events stands commands header place work.site (disks_in work.parts) before after left.pieces n left_over)
+      (λ n so.
+      let run = ran_here content area_faults spawned events stands commands header work old new so.0 begun runs so.1 in (
+        left.one,
+        remains_after so.0,
+        so.2.1.1,
+        own_told content area_faults spawned events stands commands header place work.site (disks_in work.parts) before after early l w told left.pieces n so.0 run.0 (run.1 ∙ by) tells in_time
+            so.2.0 so.2.1.0,
+      )) left.ok;
+  stop = if_err_on r.replies (λ s. (s ≡ NoMemory) ⊎ ((ran : Ran O T A P) × (new.ran ≡ Some ran) × Stops early (place + 1) l ran s)) (IsOwnStop stands commands header place work.site before after)
+      (stops_own content area_faults spawned events stands commands header place work old new before after early l w told begun by runs tells in_time) left.stop;
+}
+  where
+    stops_own : {D C P V A O T T' E : Type 0} (content : A → Option (List ℕ)) (area_faults : A → ℕ) (spawned : P → Option (List Act)) (events : Bool) (stands : D → Setting → Trace → Type 0)
+        (commands : Header → List (Form Command)) (header : Header) (place : ℕ) (work : Work C P V A O T) (old new : Machine C P V A O T) (before after : List LiveLine → Type 0) (early : Bool)
+        (l : LedgerState GivenLine) (w : SeatState (List ℕ)) (told : Result T' E)
+        → old.work ≡ Some work → work.reader.by ≡ place → Runs content area_faults spawned events commands stands header old new
+        → HasTold (place + 1) before after l w told → (early ≡ false → IsOk told) → (s : LiveStop)
+        → (s ≡ NoMemory) ⊎ ((ran : Ran O T A P) × (new.ran ≡ Some ran) × Stops early (place + 1) l ran s)
+        → IsOwnStop stands commands header place work.site before after s
+    stops_own content area_faults spawned events stands commands header place work old new before after early l w told begun by runs tells in_time s (inl is) =
+        subst (IsOwnStop stands commands header place work.site before after) (sym is) tt
+    stops_own content area_faults spawned events stands commands header place work old new before after early l w told begun by runs tells in_time s (inr so) =
+        let run = ran_here content area_faults spawned events stands commands header work old new so.0 begun runs so.1 in
+        own_stop content area_faults spawned events stands commands header place work.site (disks_in work.parts) before after early l w told s so.0 run.0 (run.1 ∙ by) tells in_time so.2
+
+-- There was no memory to run.
+pub no_run_own : {D K A P : Type 0} (content : A → Option (List ℕ)) (area_faults : A → ℕ) (spawned : P → Option (List Act)) (events : Bool) (stands : D → Setting → Trace → Type 0)
+    (commands : Header → List (Form Command)) (header : Header) (place : ℕ) (site : Site) (disks : Both A) (before after : List LiveLine → Type 0)
+    (taken now : Option (List ℕ)) (faults later : ℕ) (r : LiveRun K A P) → r.replies ≡ Err NoMemory → (ps : List Piece) × IsPut taken now faults later ps r.cut
+    → HasRunOwn content area_faults spawned events stands commands header place site disks before after taken now faults later r
+no_run_own {D} {K} {A} {P} content area_faults spawned events stands commands header place site disks before after taken now faults later r is put = record {
+  pieces = put.0;
+  put = put.1;
+  ok = subst (λ (x : Result ℕ LiveStop). IfOk x (λ n. (r.machines ≡ 1) × (left : Leavings A P) × (map remains_of r.remains.items ≡ left ∷ [])
+      × HasToldOwn content area_faults spawned events stands commands header place site disks before after put.0 n left)) (sym is) tt;
+  stop = subst (λ (x : Result ℕ LiveStop). IfErr x (IsOwnStop stands commands header place site before after)) (sym is) tt;
+}
