@@ -20,9 +20,12 @@ abbrev pub lockspace_line : LockspaceArg → ℕ → List ℕ
 lockspace_line l hosts = spaced (codes "init" ∷ l.name ∷ decimal hosts ∷ [])
 
 -- `init LOCKSPACE HOSTS time IO FIRE LAND RHO GRACE`
+-- The words of times.
+abbrev pub times_words : TimingNumbers → ℕ → List (List ℕ)
+times_words t grace = codes "time" ∷ decimal t.io ∷ decimal t.fire ∷ decimal t.land ∷ decimal t.rho ∷ decimal grace ∷ []
+
 abbrev pub labelled_line : LockspaceArg → ℕ → TimingNumbers → ℕ → List ℕ
-labelled_line l hosts t grace =
-    spaced (codes "init" ∷ l.name ∷ decimal hosts ∷ codes "time" ∷ decimal t.io ∷ decimal t.fire ∷ decimal t.land ∷ decimal t.rho ∷ decimal grace ∷ [])
+labelled_line l hosts t grace = spaced (codes "init" ∷ l.name ∷ decimal hosts ∷ times_words t grace)
 
 -- `init LOCKSPACE:RESOURCE HOSTS`
 abbrev pub resource_line : ResourceArg → ℕ → List ℕ

@@ -28,6 +28,14 @@ pub(crate) fn push_lockspace_line(
     push_line(out, line.as_bytes())
 }
 
+/// The words of times, behind which their lockspace was initialised.
+fn times_text(alloc: Global, timing: Timing, grace: u64) -> Result<String, AllocError>
+    ensures { IfOk result (λ text. string_bytes text ≡ spaced (texts.times_words timing grace)) }
+{
+    let (io, fire, land, rho) = (timing.io(), timing.fire(), timing.land(), timing.rho());
+    format!(in alloc; "time {io} {fire} {land} {rho} {grace}")
+}
+
 /// Adds the line of a lockspace that is initialised and given a label.
 pub(crate) fn push_labelled_line(
     out: &mut Vec<u8>,
@@ -40,11 +48,8 @@ pub(crate) fn push_labelled_line(
     ensures err { OnErr result (out.new.items ≡ out.old.items) }
 {
     let hosts = geometry.hosts();
-    let (io, fire, land, rho) = (timing.io(), timing.fire(), timing.land(), timing.rho());
-    let line = format!(in *out.allocator();
-        "init {} {hosts} time {io} {fire} {land} {rho} {grace}",
-        lockspace.name
-    )?;
+    let times = times_text(*out.allocator(), timing, grace)?;
+    let line = format!(in *out.allocator(); "init {} {hosts} {times}", lockspace.name)?;
     push_line(out, line.as_bytes())
 }
 

@@ -17,7 +17,7 @@ returns-in-Ok-write_labelled-clause-acted g c =
     let label = label_for l c.args.geometry c.args.timing c.args.grace in
     writes_done (labelled_writes (layout_of c.args.geometry) label l.offset) (labelled_line l c.args.geometry.hosts c.args.timing c.args.grace) _ _ _ _
     (labelled_apart c.args.geometry label l.offset c.requires.action.0 c.requires.action.1
-    (subst (λ (r : Rec). IsRecord r) c.in_ok-record.ensures.exact c.in_ok-record.ensures.rules)) c.in-Ok-write_labelled.ensures.ok c.requires.first c.in-Ok.ensures.ok
+    (subst (λ (r : Rec). IsRecord r) c.in-Ok.ensures.exact c.in-Ok.ensures.rules)) c.in-Ok-write_labelled.ensures.ok c.requires.first c.in-Ok-push_labelled_line.ensures.ok
 
 pub returns-in-Err-write_labelled-clause-acted : goal.returns-in-Err-write_labelled-clause-acted
 returns-in-Err-write_labelled-clause-acted g c =
@@ -25,4 +25,4 @@ returns-in-Err-write_labelled-clause-acted g c =
     let label = label_for l c.args.geometry c.args.timing c.args.grace in
     writes_broke (labelled_writes (layout_of c.args.geometry) label l.offset) (labelled_line l c.args.geometry.hosts c.args.timing c.args.grace) _ _ _
     (labelled_apart c.args.geometry label l.offset c.requires.action.0 c.requires.action.1
-    (subst (λ (r : Rec). IsRecord r) c.in_ok-record.ensures.exact c.in_ok-record.ensures.rules)) c.in-Err-write_labelled.ensures.failed c.clear.ensures.items
+    (subst (λ (r : Rec). IsRecord r) c.in-Ok.ensures.exact c.in-Ok.ensures.rules)) c.in-Err-write_labelled.ensures.failed c.clear.ensures.items
