@@ -1,4 +1,5 @@
 -- The word of times, with which a lockspace's label is written.
+use Rattle.sl_cli.specs.declared.times.Times.{Times}
 use Rattle.sl_text.specs.Forms.{pieces, word_at}
 use Rattle.sl_text.specs.Numbers.{is_number_that, number_of}
 use Rattle.sl_time.specs.Times.{TimingNumbers}
@@ -20,3 +21,6 @@ timing_of w = let ps : List (List ℕ) = pieces 58 w in
 -- .. and the grace.
 abbrev pub grace_of : List ℕ → ℕ
 grace_of w = number_of (word_at (pieces 58 w) 4)
+
+abbrev pub times_said : List ℕ → Times
+times_said w = record { timing = timing_of w; grace = grace_of w }

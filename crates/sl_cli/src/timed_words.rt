@@ -6,7 +6,7 @@ ghost use Rattle.sl_cli.specs.CommandWords as words_of;
 ghost use Rattle.sl_cli.specs.CommandWords.{command_in, labelled, timed_in};
 ghost use Rattle.sl_cli.specs.Spellings.{CanBeDone};
 ghost use Rattle.sl_cli.specs.declared.command_words.WordsError.TheVariants.{Bad};
-ghost use Rattle.std.specs.Prelude.{Err, IfOk, IfSome, None, Some, map, string_bytes, ◌++◌, ◌∷◌, ◌≡◌};
+ghost use Rattle.std.specs.Prelude.{Err, IfOk, IfSome, None, OnOk, Some, map, string_bytes, ◌++◌, ◌∷◌, ◌≡◌};
 
 use crate::command_words::{Words, WordsError, plain_words};
 use crate::times::times_of;

@@ -1,11 +1,10 @@
 //! The word of times, with which a lockspace's label is written.
 
-ghost use Rattle.sl_cli.specs.TimesWords.{grace_of, is_times, timing_of};
-ghost use Rattle.sl_text.specs.Numbers.{is_number_that, number_of};
-ghost use Rattle.sl_text.specs.Walks.{left_after, next_as};
+ghost use Rattle.sl_cli.specs.PartReadings.{times_read, within_part};
+ghost use Rattle.sl_cli.specs.TimesWords.{is_times, times_said};
+ghost use Rattle.sl_text.specs.Walks.{left_after, next_part};
 ghost use Rattle.sl_words.specs.Words.{choose};
-ghost use Rattle.std.specs.Int.{is_in_range};
-ghost use Rattle.std.specs.Prelude.{IfNone, IfSome, true, false, ◌≡◌, ◌≤◌};
+ghost use Rattle.std.specs.Prelude.{IfOk, IfSome, ◌≡◌, ◌≤◌};
 
 use sl_text::number::read_number_within;
 use sl_text::words::Parts;
@@ -26,8 +25,9 @@ pub(crate) struct Times {
 
 /// Reads the next part as a number from `low` to `high`.
 fn number_part(parts: &mut Parts<'_>, low: u64, high: u64) -> Result<u64, usize>
-    ensures exact { result ≡ next_as (is_number_that (is_in_range low high)) number_of parts.old }
+    ensures exact { result ≡ next_part (within_part low high) parts.old }
     ensures left { parts.new ≡ left_after result parts.old }
+    ensures within { IfOk result (λ n. (low ≤ n) × (n ≤ high)) }
 {
     parts.accept(
         parts
@@ -36,24 +36,41 @@ fn number_part(parts: &mut Parts<'_>, low: u64, high: u64) -> Result<u64, usize>
     )
 }
 
+/// The times of these numbers.
+fn timing_with(io: u64, fire: u64, land: u64, rho: u64) -> Timing
+    requires io { (1 ≤ io) × (io ≤ 600000) }
+    requires fire { fire ≤ 600000 }
+    requires land { land ≤ 600000 }
+    requires rho { rho ≤ 100 }
+    ensures { result ≡ record { io = io; fire = fire; land = land; rho = rho } }
+{
+    match Timing::new(io, fire, land, rho) {
+        Ok(timing) => timing,
+        Err(_) => unreachable!(),
+    }
+}
+
 /// Reads the parts of a word of times.
-fn times_parts(parts: &mut Parts<'_>) -> Result<Times, usize> {
+fn times_parts(parts: &mut Parts<'_>) -> Result<Times, usize>
+    ensures exact { result ≡ times_read parts.old }
+    ensures within { IfOk result (λ t. t.grace ≤ 600000) }
+{
     let io = number_part(parts, 1, LONGEST)?;
     let fire = number_part(parts, 0, LONGEST)?;
     let land = number_part(parts, 0, LONGEST)?;
     let rho = number_part(parts, 0, MOST_DRIFT)?;
     let grace = number_part(parts, 0, LONGEST)?;
     parts.finish()?;
-    match Timing::new(io, fire, land, rho) {
-        Ok(timing) => Ok(Times { timing, grace }),
-        Err(_) => unreachable!(),
-    }
+    Ok(Times {
+        timing: timing_with(io, fire, land, rho),
+        grace,
+    })
 }
 
 /// The times that a word says, if it says some.
 pub(crate) fn times_of(word: &str) -> Option<Times>
-    ensures some { IfSome result (λ t. (is_times word.now ≡ true) × (t.timing ≡ timing_of word.now) × (t.grace ≡ grace_of word.now) × (t.grace ≤ 600000)) }
-    ensures none { IfNone result (is_times word.now ≡ false) }
+    ensures exact { result ≡ choose (is_times word.now) (times_said word.now) }
+    ensures within { IfSome result (λ t. t.grace ≤ 600000) }
 {
     times_parts(&mut Parts::new(word.as_bytes())).ok()
 }

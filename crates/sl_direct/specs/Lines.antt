@@ -19,11 +19,11 @@ use Rattle.std.specs.Prelude.{Bool, Err, List, Ok, Result, bytes_eq, codes, deci
 abbrev pub lockspace_line : LockspaceArg → ℕ → List ℕ
 lockspace_line l hosts = spaced (codes "init" ∷ l.name ∷ decimal hosts ∷ [])
 
--- `init LOCKSPACE HOSTS time IO FIRE LAND RHO GRACE`
 -- The words of times.
 abbrev pub times_words : TimingNumbers → ℕ → List (List ℕ)
 times_words t grace = codes "time" ∷ decimal t.io ∷ decimal t.fire ∷ decimal t.land ∷ decimal t.rho ∷ decimal grace ∷ []
 
+-- `init LOCKSPACE HOSTS time IO FIRE LAND RHO GRACE`
 abbrev pub labelled_line : LockspaceArg → ℕ → TimingNumbers → ℕ → List ℕ
 labelled_line l hosts t grace = spaced (codes "init" ∷ l.name ∷ decimal hosts ∷ times_words t grace)
 

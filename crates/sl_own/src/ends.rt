@@ -2,6 +2,7 @@
 
 ghost use Rattle.sl_book.specs.Closings.{AreBelow, AreExact};
 ghost use Rattle.sl_live_run.specs.Runs.{remains_of};
+ghost use Rattle.sl_live_run.specs.Settling as settling;
 ghost use Rattle.sl_live_run.specs.Settling.{remains_after};
 ghost use Rattle.sl_live_run.specs.declared.compare.LiveStop.TheVariants.{NoMemory as NoMemoryStop};
 ghost use Rattle.sl_live_machine.specs.declared.machine.Ran.{Ran as RanOf};
@@ -10,10 +11,10 @@ ghost use Rattle.sl_own.specs.OwnSettling.{ArePieces, HasLeftOwn, IsSettled, Sto
 ghost use Rattle.std.specs.Prelude.{All, IfErr, IfOk, List, Some, [], length, map, true, ◌++◌, ◌+◌, ◌<◌, ◌^◌, ◌∷◌, ◌≡◌, ◌⊎◌};
 
 use sl_area::Area;
-use sl_book::{Ledger, Shelf};
+use sl_book::{Ledger, Reading, Shelf};
 use sl_io::Sink;
 use sl_live_lines::GivenLine;
-use sl_live_machine::Ran;
+use sl_live_machine::{CloseError, Ran};
 use sl_live_run::{
     LiveRun, LiveStop, Machine, Remains, Settled, are_pieces, settle_early, settle_one,
 };
@@ -22,6 +23,17 @@ use sl_outside::{Device, Spawner};
 use sl_reader::NoLine;
 use sl_time::Clock;
 use std::alloc::{AllocError, Global};
+
+/// What a machine came to whose printer has read so far, and ended so, with the next entry of this number.
+fn come_to(early: bool, reading: Reading, end: Result<(), CloseError>, next: u64) -> Settled
+    ensures { result ≡ settling.come_to early reading end next }
+{
+    if early {
+        settle_early(reading, end)
+    } else {
+        settle_one(reading, end, next)
+    }
+}
 
 /// How many replies the machine of this number was given, or why it has no history: where threads ended too soon, a case goes before want of memory.
 fn settle<O: Press, T: Shelf, A: Area, P: Spawner>(
@@ -36,13 +48,7 @@ fn settle<O: Press, T: Shelf, A: Area, P: Spawner>(
     let Some(next) = ran.entries.checked_add(1) else {
         return Err(LiveStop::NoMemory);
     };
-    let reading = ledger.reading(&ran.reader);
-    let settled = if early {
-        settle_early(reading, ran.end)
-    } else {
-        settle_one(reading, ran.end, next)
-    };
-    match settled {
+    match come_to(early, ledger.reading(&ran.reader), ran.end, next) {
         Settled::Whole => Ok(ran.replies),
         Settled::Case(differ) => Err(LiveStop::Differ {
             machine: machine as usize,
