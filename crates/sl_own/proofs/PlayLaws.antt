@@ -4,15 +4,17 @@ use Rattle.sl_live_lines.specs.LiveTexts.{count_replies}
 use Rattle.sl_live_play.specs.LiveOwed.{All, Puts, PutsEnded, PutsStop}
 use Rattle.sl_live_play.specs.declared.play.Lived.TheVariants.{AreaFault, Differs, Done, NoMemory, ReadFault, Refused}
 use Rattle.sl_live_play.specs.declared.play.Lived.{Lived}
+use Rattle.sl_live_run.specs.Laws.{SitesAreSettings}
 use Rattle.sl_live_run.specs.Runs.{Both, IsLiveCase, IsLiveHistory, Leavings, begun_on, lines_for}
 use Rattle.sl_live_run.specs.declared.compare.LiveStop.TheVariants as stop
 use Rattle.sl_live_run.specs.declared.compare.LiveStop.{LiveStop}
 use Rattle.sl_outside.specs.Disks.{Disks}
 use Rattle.sl_outside.specs.declared.act.Act.{Act}
 use Rattle.sl_output.specs.Pieces.{Piece, text_of}
-use Rattle.sl_own.specs.OwnGrounds.{Area_bars, Bars, Differs as LentDiffers, Folder_bars, Has_fault, Machine_bars, No_memory, NotLent, Size_bars}
+use Rattle.sl_own.specs.OwnGrounds.{Area_bars, Bars, Differs as LentDiffers, Folder_bars, Has_fault, IsOwnGround, Machine_bars, No_memory, NotLent, Size_bars}
 use Rattle.sl_own.specs.OwnOwed.{Breaks, Breaks_early, DifferingOwn, Ends, Is_barred, IsWovenOwn, Lacks, LivesOwn, Of, OwesOwn, OwnBeginning, OwnDue, Parts, PutsNoPlace, ReadsOwn, Stops, Stops_early, Stops_header, header_refusal}
 use Rattle.sl_own.specs.OwnRuns.{HasToldOwn, IsOwnStop}
+use Rattle.sl_own.specs.declared.ground.OwnGround.{OwnGround}
 use Rattle.sl_own.specs.declared.no_place.NoPlace.{NoPlace}
 use Rattle.sl_own.specs.declared.play.OwnManner.{OwnManner}
 use Rattle.sl_reader.specs.HeaderBegins.{HeaderBegins, HeaderBreaks, HeaderStops}
@@ -23,6 +25,8 @@ use Rattle.sl_reader.specs.declared.scope.Scope.{Scope}
 use Rattle.sl_reader.specs.declared.script_reading.ScriptEnd.TheVariants as script
 use Rattle.sl_reader.specs.declared.script_reading.ScriptEnd.{ScriptEnd}
 use Rattle.sl_report.specs.RefusalLines.{refusal_line}
+use Rattle.sl_run.specs.Headers.{IsHeader}
+use Rattle.sl_run.specs.Lawful.{IsSetting}
 use Rattle.sl_run.specs.declared.event.Refusal.{Refusal}
 use Rattle.sl_run.specs.declared.header.Header.{Header}
 use Rattle.sl_text.specs.Forms.{Form, as_bytes}
@@ -30,7 +34,8 @@ use Rattle.sl_trace.specs.Traces.{Setting, Trace}
 use Rattle.sl_trace.specs.declared.command.Command.{Command}
 use Rattle.sl_trace.specs.declared.effects.Entry.{Entry}
 use Rattle.sl_world_state.specs.Daemons.{begun_with}
-use Rattle.std.proofs.Common.{Bool, Err, List, None, Ok, Option, Result, Some, [], append-nil, arith, inl, inr, subst, sym, ℕ, ◌+◌, ◌++◌, ◌≡◌, ◌≤◌, ◌⊎◌, ◌∷◌}
+use Rattle.sl_world_state.specs.SaneWorlds.{ReadsCommands}
+use Rattle.std.proofs.Common.{Bool, Err, List, None, Ok, Option, Result, Some, [], append-nil, arith, inl, inr, subst, sym, ℕ, ◌+◌, ◌++◌, ◌<◌, ◌^◌, ◌≡◌, ◌≤◌, ◌⊎◌, ◌∷◌}
 use Rattle.std.specs.Io.KnownBytes.{Appends}
 use Rattle.std.specs.Prelude.{IfErr, IfOk}
 
@@ -107,6 +112,21 @@ owes_run_own content area_faults spawned stands commands disks folder w left aft
     (subst (λ (k : ℕ). PutsStop taken now sink_faults sink_later pieces (stop.Differ k d) s) same stops)
 owes_run_own content area_faults spawned stands commands disks folder w left after taken now faults later sink_faults sink_later device_faults device_later h begun areas was is pieces machines remains (Err stop.NoMemory) end s none reads ok err puts stops =
     lacks stands commands disks folder w left after taken now faults later sink_faults sink_later device_faults device_later s stops.0 stops.1.0 stops.1.1
+
+-- ---- what the machine begins with
+
+unfoldable pub beginning : {V C P D W G A : Type 0} (content : A → Option (List ℕ)) (spawned : P → Option (List Act)) (h : Header) (m : ℕ) (g : OwnGround V C P D W G A)
+    → IsOwnGround content spawned h m g → OwnBeginning h m
+beginning content spawned h m g is =
+    record { header = g.header; lawful = is.lawful; same = is.same; place = g.place; numbered = is.numbered; site = g.ready.site; begun = is.site }
+
+pub small_place : {V C P D W G A : Type 0} (content : A → Option (List ℕ)) (spawned : P → Option (List Act)) (h : Header) (m : ℕ) (g : OwnGround V C P D W G A)
+    → IsOwnGround content spawned h m g → g.place + 1 < 2 ^ 32
+small_place content spawned h m g is = subst (λ (k : ℕ). k < 2 ^ 32) is.numbered is.small
+
+pub own_setting : {V C P D W G A : Type 0} (content : A → Option (List ℕ)) (spawned : P → Option (List Act)) (commands : Header → List (Form Command)) (h : Header) (m : ℕ) (g : OwnGround V C P D W G A)
+    → SitesAreSettings → ((header : Header) → IsHeader header → ReadsCommands commands header) → IsOwnGround content spawned h m g → IsSetting (begun_with commands g.header g.ready.site)
+own_setting content spawned commands h m g sites reads is = sites commands g.header is.lawful (reads g.header is.lawful) m g.ready.site is.site
 
 -- ---- a machine that can't run there
 

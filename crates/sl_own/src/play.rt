@@ -60,17 +60,20 @@ fn put_no_place<K: Sink>(alloc: Global, sink: &mut K, why: NoPlace) -> Lived
 }
 
 /// Gives the disks back.
-fn give_all_back<V: StandingDevices>(
-    remains: Vec<Remains<V::Area, V::Spawner>>,
-    devices: &mut V,
-) {
+fn give_all_back<V: StandingDevices>(remains: Vec<Remains<V::Area, V::Spawner>>, devices: &mut V) {
     for Remains {
         delta,
         resource,
         spawners: _,
-    } in remains
-    {
+    } in remains {
         give_back(delta, resource, devices);
+    }
+}
+
+/// Tells the watchdog device to rest where the machine ended in order.
+fn rest_if<V: StandingDevices>(in_order: bool, devices: &mut V) {
+    if in_order {
+        devices.release();
     }
 }
 
@@ -111,8 +114,7 @@ where
         (K.faults sink) (K.faults result.2) (V.Devices.faults devices.old) (V.Devices.faults devices.new) result.0 }
 {
     let scope = Scope::of_machine(&ground.header, manner.machine);
-    let mut lines: ScriptLines<S, J> =
-        ScriptLines::new(alloc, source, reader, scope, manner.keeps);
+    let mut lines: ScriptLines<S, J> = ScriptLines::new(alloc, source, reader, scope, manner.keeps);
     let run = run_own::<D, ScriptLines<S, J>, K, R, V>(
         rt,
         alloc,
@@ -131,9 +133,7 @@ where
     } = run;
     let mut sink = sink;
     give_all_back::<V>(remains, devices);
-    if replies.is_ok() {
-        devices.release();
-    }
+    rest_if(replies.is_ok(), devices);
     let (source, end) = lines.close();
     let lived = put_run(alloc, &mut sink, cut, machines, replies, end);
     (lived, source, sink)
