@@ -1,7 +1,10 @@
 -- How the words of the command line are read, from the left.
 use Rattle.sl_cli.specs.Actions.{Given, action_in}
-use Rattle.sl_cli.specs.declared.command_words.Words.TheVariants.{Check, Direct, Draw, Generate, Help, Journal, Live, Replay, Version}
+use Rattle.sl_cli.specs.OwnWords.{is_own, own_in}
+use Rattle.sl_cli.specs.TimesWords.{grace_of, is_times, timing_of}
+use Rattle.sl_cli.specs.declared.command_words.Words.TheVariants.{Check, Direct, Draw, Generate, Help, Journal, Label, Live, Replay, Version}
 use Rattle.sl_cli.specs.declared.command_words.Words.{Words}
+use Rattle.sl_direct.specs.declared.action.Action.TheVariants.{InitLockspace}
 use Rattle.sl_text.specs.Numbers.{is_number_that, number_of}
 use Rattle.sl_words.specs.Words.{choose, is_empty}
 use Rattle.std.specs.Int.{is_in_range}
@@ -270,9 +273,28 @@ command_in (w ∷ ws) =
     else if bytes_eq (codes "live") w then live_in ws
     else journals_in w ws
 
+-- The words are of this form: `direct init -t`, and then the times.
+abbrev pub is_timed : List (List ℕ) → Bool
+is_timed [] = false
+is_timed (c ∷ []) = false
+is_timed (c ∷ i ∷ []) = false
+is_timed (c ∷ i ∷ d ∷ ws) = bytes_eq c (codes "direct") && (bytes_eq i (codes "init") && bytes_eq d (codes "-t"))
+
+-- With a label of these times, if a lockspace is asked for.
+abbrev pub labelled : List ℕ → Option Words → Option Words
+labelled t (Some (Direct (InitLockspace l g))) = choose (is_times t) (Label l g (timing_of t) (grace_of t))
+labelled t w = None
+
+-- What words of this form say: what is left says that a lockspace is made.
+abbrev pub timed_in : List (List ℕ) → Option Words
+timed_in (c ∷ i ∷ d ∷ t ∷ ws) = labelled t (command_in (c ∷ i ∷ ws))
+timed_in ws = None
+
 -- What the words of the command line say.
 abbrev pub said_in : List (List ℕ) → Option Words
 said_in ws =
     if is_only (codes "--help") (codes "-h") ws then Some Help
     else if is_only (codes "--version") (codes "-V") ws then Some Version
+    else if is_own ws then own_in ws
+    else if is_timed ws then timed_in ws
     else command_in ws

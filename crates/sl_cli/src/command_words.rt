@@ -10,11 +10,16 @@ ghost use Rattle.sl_cli.specs.declared.command_words.WordsError.TheVariants.{Bad
 ghost use Rattle.std.specs.Prelude.{Err, IfOk, IfSome, None, Some, map, option_and_then, option_map, string_bytes, ◌≡◌};
 
 use crate::folder::Folder;
+use crate::own_words::{is_own, own_words};
 use crate::parsed_command::{Given, Met, Seeding, met_in};
 use crate::parser_shape::command_line;
+use crate::timed_words::{is_timed, timed_words};
 use clap::Error;
 use clap::error::ErrorKind;
+use sl_area::Geometry;
 use sl_direct::Action;
+use sl_time::Timing;
+use sl_trace::LockspaceArg;
 use std::alloc::{AllocError, Global};
 
 /// What the words of the command line say.
@@ -40,11 +45,28 @@ pub enum Words {
     },
     /// Do this to an area.
     Direct(Action),
+    /// Initialise this lockspace with a label of these times, and this grace.
+    Label {
+        lockspace: LockspaceArg,
+        geometry: Geometry,
+        timing: Timing,
+        grace: u64,
+    },
     /// Run live machines by a script, on disks that are files below this folder; `anew`: those that are there are made anew; `keeps`: a line that
     /// is refused ends nothing; `events`: beside replies what becomes of children, and which connections run out, is told.
     Live {
         folder: Folder,
         anew: bool,
+        keeps: bool,
+        events: bool,
+    },
+    /// Run the machine of this number alone, 1 to 16, by the live script on standard input, on disks that stand as files below this folder; `watchdog`:
+    /// the path of a watchdog device, if one is given; `syncs`: writes reach the storage before they are answered; `keeps` and `events` as above.
+    Own {
+        folder: Folder,
+        machine: u32,
+        watchdog: Option<Folder>,
+        syncs: bool,
         keeps: bool,
         events: bool,
     },
@@ -149,6 +171,16 @@ fn command<'a>(alloc: Global, words: &'a [String]) -> Result<Option<Met<'a>>, Wo
     parse(alloc, words)
 }
 
+/// What words say that are all the parser's. `Bad` comes exactly where they say nothing.
+pub(crate) fn plain_words(alloc: Global, words: &[String]) -> Result<Words, WordsError>
+    ensures read { IfOk result (λ w. command_in (map string_bytes words.now) ≡ Some w) }
+    ensures bad { result ≡ Err Bad → command_in (map string_bytes words.now) ≡ None }
+    ensures can { IfOk result CanBeDone }
+{
+    let met = command(alloc, words)?.ok_or(WordsError::Bad)?;
+    said(alloc, met)?.ok_or(WordsError::Bad)
+}
+
 /// What the words of the command line say; the program's name is none of them. An action that they ask for can be done. `Bad` comes exactly
 /// where they say nothing; in place of either may come `NoMemory`.
 pub fn read_words(alloc: Global, words: &[String]) -> Result<Words, WordsError>
@@ -160,8 +192,11 @@ pub fn read_words(alloc: Global, words: &[String]) -> Result<Words, WordsError>
         Ok(Words::Help)
     } else if is_only(words, "--version", "-V") {
         Ok(Words::Version)
+    } else if is_own(words) {
+        own_words(alloc, words)?.ok_or(WordsError::Bad)
+    } else if is_timed(words) {
+        timed_words(alloc, words)
     } else {
-        let met = command(alloc, words)?.ok_or(WordsError::Bad)?;
-        said(alloc, met)?.ok_or(WordsError::Bad)
+        plain_words(alloc, words)
     }
 }

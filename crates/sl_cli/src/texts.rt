@@ -25,8 +25,16 @@ usage: sanlock COMMAND
                            is told and ends nothing, as from a terminal; with
                            --events the exits, signals and ends of children and
                            the connections that run out are told as well
-  direct init -s LOCKSPACE -n N [-g GEOMETRY]
-                           write the sectors of a lockspace for N hosts
+  live FOLDER --machine M [--watchdog PATH] [--no-sync] [--keep-going]
+              [--events]
+                           run machine M alone, beside other processes that run
+                           the others, on disks that are there; PATH is a
+                           watchdog device; without --no-sync a write is
+                           answered once the storage has it
+  direct init [-t TIMES] -s LOCKSPACE -n N [-g GEOMETRY]
+                           write the sectors of a lockspace for N hosts; with
+                           -t, right behind init, a label as well, which
+                           live --machine wants
   direct init -r RESOURCE -n N [-v 2] [-g GEOMETRY]
                            write the sectors of a resource for N hosts; with
                            -v 2 each host's block has a pair of sectors
@@ -44,6 +52,7 @@ The language of schedules, reports and live scripts is in docs/LANGUAGE.md.
 LOCKSPACE is NAME:0:PATH:OFFSET, RESOURCE is LOCKSPACE_NAME:NAME:PATH:OFFSET,
 with OFFSET a multiple of an area's size. In a dump OFFSET and SIZE are
 multiples of a sector's, SIZE at most 1048576. Offsets are below 10^12.
+TIMES is IO:FIRE:LAND:RHO:GRACE, as in the line time of all hosts of the area.
 GEOMETRY is SECTOR:MIB, the bytes of a sector and the mebibytes of an area:
 512:1, which holds without -g, for N of 1 to 2000, 4096:1 for at most 250,
 4096:2 for 500, 4096:4 for 1000, 4096:8 for 2000, and half of them where blocks
@@ -51,9 +60,10 @@ have pairs. Options come in any order.
 SEED is below 2^64, HOSTS 1 to 16, EVENTS at most 1000000.
 
 Status: 0 done; 1 a line was refused; 2 bad words; 3 a read and 4 a write
-failed; 5 no memory; 6 a read or a write of an area failed; 7 not the leader,
-for an upgrade a torn block, or a journal that differs from what is due; 8 a
-live machine's threads and its history differ; 9 a journal breaks off.
+failed; 5 no memory; 6 a read or a write of an area failed, or areas that are
+there are not those of the header; 7 not the leader, for an upgrade a torn
+block, or a journal that differs from what is due; 8 a live machine's threads
+and its history differ; 9 a journal breaks off.
 ";
 
 /// What `--version` puts out.

@@ -28,7 +28,7 @@ use sl_live_run::{
     Ground, LiveRun, LiveStop, NoEntry, NoGround, Remains, enter, give_back, prepare, run_machines,
 };
 use sl_outside::LiveDevices;
-use sl_reader::{LineReader, Origin, ReadError, ScriptEnd, ScriptLines, read_header};
+use sl_reader::{LineReader, Origin, ReadError, Scope, ScriptEnd, ScriptLines, read_header};
 use sl_run::Header;
 use std::alloc::Global;
 use std::marker::Brand;
@@ -155,7 +155,7 @@ fn put_no_ground<K: Sink>(sink: &mut K, why: NoGround) -> Lived
 }
 
 /// Puts out what came of a run whose script ended so, behind what its machines told.
-fn put_run<K: Sink>(
+pub fn put_run<K: Sink>(
     alloc: Global,
     sink: &mut K,
     cut: bool,
@@ -217,7 +217,7 @@ where
         alloc,
         source,
         reader,
-        &ground.header,
+        Scope::of(&ground.header),
         manner.keeps,
     );
     let (run, _header) = run_machines::<D, V, ScriptLines<S, J>, K, R>(

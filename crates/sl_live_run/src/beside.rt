@@ -23,7 +23,7 @@ use std::thread::{Threads, for_each_mut, join_mut};
 use std::time;
 
 /// Does the rest of a run beside the script, which begins once all threads of the run are there: how the script ended.
-fn beside<
+pub fn beside<
     F: FnMut() + Send,
     L: LiveLines + Send,
     K: Sink + Send,

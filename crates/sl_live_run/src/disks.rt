@@ -46,7 +46,7 @@ pub(crate) fn make_disks<V: LiveDevices>(
 }
 
 /// The number of a part's worker.
-fn worker_of(part: Part) -> u32 {
+pub fn worker_of(part: Part) -> u32 {
     match part {
         Part::Delta => 1,
         Part::Resource => 2,
@@ -161,7 +161,7 @@ pub(crate) fn lend<V: LiveDevices>(
 }
 
 /// Takes areas back, those that were handed out last first.
-pub(crate) fn take_back<V: Devices>(disks: Vec<Disk<V::Area>>, devices: &mut V)
+pub fn take_back<V: Devices>(disks: Vec<Disk<V::Area>>, devices: &mut V)
     ensures { CountsBack (faults_in V.Area.faults disks.items) (V.faults devices.old) (V.faults devices.new) }
 {
     let mut disks = disks;

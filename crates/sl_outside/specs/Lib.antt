@@ -4,3 +4,4 @@ pub mod MemDisks
 pub mod MemSpawners
 pub mod MemPlans
 pub mod MemBits
+pub mod Standing

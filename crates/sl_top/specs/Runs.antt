@@ -1,9 +1,10 @@
 -- What a run of the program owes: by what its words say, what it read and wrote, what it left on the disks, and its status.
 use Rattle.sl_cli.specs.CommandWords.{said_in}
-use Rattle.sl_cli.specs.declared.command_words.Words.TheVariants.{Check, Direct, Draw, Generate, Help, Journal, Live, Replay, Version}
+use Rattle.sl_cli.specs.declared.command_words.Words.TheVariants.{Check, Direct, Draw, Generate, Help, Journal, Label, Live, Own, Replay, Version}
 use Rattle.sl_cli.specs.declared.command_words.Words.{Words}
 use Rattle.sl_cli.specs.declared.texts.TheConstants.{HELP, VERSION}
 use Rattle.sl_direct.specs.Actions.{Directs, path_of}
+use Rattle.sl_direct.specs.declared.action.Action.TheVariants.{InitLabelled}
 use Rattle.sl_direct.specs.declared.action.Action.{Action}
 use Rattle.sl_direct.specs.declared.action.Directed.{Directed}
 use Rattle.sl_play.specs.Replays.{ReportsComplete}
@@ -18,8 +19,13 @@ use Rattle.sl_live_play.specs.LiveOwed.{Owes as OwesLive}
 use Rattle.sl_live_play.specs.declared.play.Lived.{Lived}
 use Rattle.sl_live_play.specs.declared.play.Manner.{Manner}
 use Rattle.sl_outside.specs.Disks.{CountsBack, Disks, KeepsAllBut}
+use Rattle.sl_own.specs.OwnOwed.{OwesOwn}
+use Rattle.sl_own.specs.declared.play.OwnManner.{OwnManner}
 use Rattle.sl_run.specs.Worlds.{whole_program}
+use Rattle.sl_area.specs.AreaSizes.{Sizes}
 use Rattle.sl_text.specs.Forms.{as_bytes}
+use Rattle.sl_time.specs.Times.{TimingNumbers}
+use Rattle.sl_trace.specs.declared.command.LockspaceArg.{LockspaceArg}
 use Rattle.sl_top.specs.Pictures.{Draws}
 use Rattle.sl_top.specs.JournalsOwed.{ChecksJournal, WritesJournal}
 use Rattle.sl_top.specs.Statuses.{code, status_after, status_of_live}
@@ -37,6 +43,7 @@ said words = said_in (map string_bytes words)
 -- What they say where the source is a terminal, or is not: from a terminal a live script goes on behind a line that is refused.
 abbrev pub told_from : Bool → Words → Words
 told_from at_terminal (Live folder anew keeps events) = Live folder anew (keeps || at_terminal) events
+told_from at_terminal (Own folder machine watchdog syncs keeps events) = Own folder machine watchdog syncs (keeps || at_terminal) events
 told_from at_terminal w = w
 
 -- .. if they say something.
@@ -128,6 +135,13 @@ pub record RunsLive (folder : List ℕ) (manner : Manner) (x y : Outside) (s : S
   pub owes : OwesLive Serves whole_commands (record { path = folder; anew = manner.anew; disks = x.disks }) manner x.left y.left x.taken y.taken x.source_faults y.source_faults x.sink_faults y.sink_faults x.device_faults y.device_faults ended
   pub status : s ≡ status_of_live ended
 
+-- What a run of one machine owes, in this folder, played in this manner: what is told of it, as the history of a host whose records were compared with what its
+-- threads did; or why there is none.
+pub record RunsOwn (folder : List ℕ) (manner : OwnManner) (x y : Outside) (s : Status) : Type 0 where
+  pub ended : Lived
+  pub owes : OwesOwn Serves whole_commands x.disks folder manner x.left y.left x.taken y.taken x.source_faults y.source_faults x.sink_faults y.sink_faults x.device_faults y.device_faults ended
+  pub status : s ≡ status_of_live ended
+
 -- What a run owes, by what its words say.
 abbrev pub Owes : Option Words → Outside → Outside → Status → Type 0
 Owes None x y s = Tells bad_words_text BadWords x y s
@@ -138,7 +152,9 @@ Owes (Some Journal) x y s = WritesJournal x.left y.left x.source_faults y.source
 Owes (Some Check) x y s = ChecksJournal x.left y.left x.source_faults y.source_faults x.taken y.taken x.sink_faults y.sink_faults s
 Owes (Some (Generate seed hosts events paired)) x y s = Generates seed hosts events paired x.taken y.taken x.sink_faults y.sink_faults s
 Owes (Some (Direct a)) x y s = ActsOn a x.disks y.disks x.device_faults y.device_faults x.taken y.taken x.sink_faults y.sink_faults s
+Owes (Some (Label l g t grace)) x y s = ActsOn (InitLabelled l g t grace) x.disks y.disks x.device_faults y.device_faults x.taken y.taken x.sink_faults y.sink_faults s
 Owes (Some (Live folder anew keeps events)) x y s = RunsLive folder (record { anew = anew; keeps = keeps; events = events }) x y s
+Owes (Some (Own folder machine watchdog syncs keeps events)) x y s = RunsOwn folder (record { machine = machine; syncs = syncs; keeps = keeps; events = events }) x y s
 Owes (Some Help) x y s = Tells HELP.now Done x y s
 Owes (Some Version) x y s = Tells VERSION.now Done x y s
 
@@ -156,13 +172,18 @@ IsJournal w = (w ≡ Some Journal) ⊎ (w ≡ Some Check)
 -- The source is read: of a schedule, or of a journal.
 abbrev pub ReadsSource : Option Words → Type 0
 ReadsSource w = IsReplay w ⊎ IsDraw w ⊎ IsJournal w
+abbrev pub IsLabel : Option Words → Type 0
+IsLabel w = (l : LockspaceArg) × (g : Sizes) × (t : TimingNumbers) × (grace : ℕ) × (w ≡ Some (Label l g t grace))
 
 abbrev pub IsDirect : Option Words → Type 0
-IsDirect w = (a : Action) × (w ≡ Some (Direct a))
+IsDirect w = ((a : Action) × (w ≡ Some (Direct a))) ⊎ IsLabel w
 
 -- Only these wait for anything.
 abbrev pub IsLive : Option Words → Type 0
 IsLive w = (folder : List ℕ) × (manner : Manner) × (w ≡ Some (Live folder manner.anew manner.keeps manner.events))
+
+abbrev pub IsOwn : Option Words → Type 0
+IsOwn w = (folder : List ℕ) × (watchdog : Option (List ℕ)) × (manner : OwnManner) × (w ≡ Some (Own folder manner.machine watchdog manner.syncs manner.keeps manner.events))
 
 -- The folder of live machines, and how their script is played, if the words ask for them.
 abbrev pub place_of : Words → Option (List ℕ × Manner)
@@ -173,3 +194,17 @@ place_of w = None
 abbrev pub place_in : Option Words → Option (List ℕ × Manner)
 place_in None = None
 place_in (Some w) = place_of w
+
+-- The folder of one machine, its watchdog device, and how its script is played, if the words ask for it.
+abbrev pub OwnPlaced : Type 0
+OwnPlaced = List ℕ × Option (List ℕ) × OwnManner
+
+abbrev pub own_place_of : Words → Option OwnPlaced
+own_place_of (Own folder machine watchdog syncs keeps events) =
+    Some (folder, watchdog, record { machine = machine; syncs = syncs; keeps = keeps; events = events })
+own_place_of w = None
+
+-- .. if they say anything.
+abbrev pub own_place_in : Option Words → Option OwnPlaced
+own_place_in None = None
+own_place_in (Some w) = own_place_of w

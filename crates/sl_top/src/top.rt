@@ -7,11 +7,15 @@
 
 ghost use Rattle.sl_direct.specs.Actions.{IsAction};
 ghost use Rattle.sl_top.specs.Pictures.{Draws};
-ghost use Rattle.sl_top.specs.Runs.{ActsOn, Generates, IsDirect, IsLive, Owes, PutsOut, ReadsSource, Replays, RunsLive, place_in, place_of, said, said_from, told_from};
+ghost use Rattle.sl_top.specs.Runs.{ActsOn, Generates, IsDirect, IsLive, IsOwn, Owes, PutsOut, ReadsSource, Replays, RunsLive, own_place_in, own_place_of, place_in, place_of, said, said_from, told_from};
+ghost use Rattle.sl_top.specs.declared.own.OwnPlace.{OwnPlace as OwnPlaceOf};
+ghost use Rattle.sl_top.specs.declared.top.Asked.TheVariants.{All, One};
+ghost use Rattle.sl_top.specs.declared.top.Place.{Place as PlaceOf};
 ghost use Rattle.sl_top.specs.declared.status.Status.TheVariants.{WriteFault};
-ghost use Rattle.std.specs.Prelude.{IfOk, option_map, ◌≡◌, ◌≢◌, ◌≤◌};
+ghost use Rattle.std.specs.Prelude.{IfOk, None, Ok, Some, option_map, ◌≡◌, ◌≢◌, ◌≤◌};
 
 use crate::journals::{check, journal};
+use crate::own::{OwnPlace, own};
 use crate::status::{Status, status_after, status_of, status_of_generated, status_of_live};
 use sl_area::Area;
 use sl_cli::{Folder, HELP, VERSION, Words, WordsError, read_words};
@@ -22,7 +26,8 @@ use sl_host_step::HostDaemon;
 use sl_io::{Sink, Source, write_all};
 use sl_live_play::{LiveHost, Manner, play_live};
 use sl_locks::LvmLocks;
-use sl_outside::{Devices, LiveDevices};
+use sl_outside::{Devices, LiveDevices, StandingDevices};
+use sl_own::OwnManner;
 use sl_picture::Part;
 use sl_play::laws::headers::whole_language_may_play;
 use sl_play::play_schedule;
@@ -149,7 +154,8 @@ pub fn run_offline<S: Source, K: Sink, D: Devices>(
     sink: &mut K,
     devices: &mut D,
 ) -> Status
-    requires { IsLive (said words.now) → ⊥ }
+    requires live { IsLive (said words.now) → ⊥ }
+    requires own { IsOwn (said words.now) → ⊥ }
     ensures owes { Owes (said words.now)
         (record { left = S.left source.old; source_faults = S.faults source.old; taken = K.taken sink.old; sink_faults = K.faults sink.old; disks = D.disks devices.old; device_faults = D.faults devices.old })
         (record { left = S.left source.new; source_faults = S.faults source.new; taken = K.taken sink.new; sink_faults = K.faults sink.new; disks = D.disks devices.new; device_faults = D.faults devices.new })
@@ -179,10 +185,76 @@ pub fn run_offline<S: Source, K: Sink, D: Devices>(
                 events: _events,
             },
         ) => unreachable!(),
+        Ok(
+            Words::Label {
+                lockspace,
+                geometry,
+                timing,
+                grace,
+            },
+        ) => direct(
+            alloc,
+            &Action::InitLabelled {
+                lockspace,
+                geometry,
+                timing,
+                grace,
+            },
+            sink,
+            devices,
+        ),
+        Ok(
+            Words::Own {
+                folder: _folder,
+                machine: _machine,
+                watchdog: _watchdog,
+                syncs: _syncs,
+                keeps: _keeps,
+                events: _events,
+            },
+        ) => unreachable!(),
         Ok(Words::Help) => tell(sink, HELP.as_bytes(), Status::Done),
         Ok(Words::Version) => tell(sink, VERSION.as_bytes(), Status::Done),
         Err(WordsError::Bad) => tell(sink, b"sanlock: bad words\n", Status::BadWords),
         Err(WordsError::NoMemory) => Status::NoMemory,
+    }
+}
+
+/// Where machines run that the words ask for: all of a script's, or one of them in a process of its own.
+#[derive(Drop)]
+enum Asked {
+    All(Place),
+    One(OwnPlace),
+}
+
+/// What the words ask for, if it is machines, where the source is a terminal or not.
+fn asked_of(words: Words, at_terminal: bool) -> Option<Asked>
+    ensures all { (p : PlaceOf) → result ≡ Some (All p) → place_of (told_from at_terminal words) ≡ Some (p.folder, p.manner) }
+    ensures one { (p : OwnPlaceOf) → result ≡ Some (One p) → own_place_of (told_from at_terminal words) ≡ Some (p.folder, p.watchdog, p.manner) }
+    ensures none { result ≡ None → (place_of (told_from at_terminal words) ≡ None) × (own_place_of (told_from at_terminal words) ≡ None) }
+{
+    match words {
+        Words::Own {
+            folder,
+            machine,
+            watchdog,
+            syncs,
+            keeps,
+            events,
+        } => Some(Asked::One(OwnPlace {
+            folder,
+            watchdog,
+            manner: OwnManner {
+                machine,
+                syncs,
+                keeps: keeps || at_terminal,
+                events,
+            },
+        })),
+        words => match place_of(words, at_terminal) {
+            Some(place) => Some(Asked::All(place)),
+            None => None,
+        },
     }
 }
 
@@ -210,21 +282,25 @@ fn place_of(words: Words, at_terminal: bool) -> Option<Place>
         Words::Check => None,
         Words::Generate { .. } => None,
         Words::Direct(_) => None,
+        Words::Label { .. } => None,
+        Words::Own { .. } => None,
         Words::Help => None,
         Words::Version => None,
     }
 }
 
-/// The place of live machines, if the words of the command line ask for them, where the source is a terminal or not. An `Err` is want of memory.
-fn live_place(
+/// What the words of the command line ask for, if it is machines, where the source is a terminal or not. An `Err` is want of memory.
+fn machines_asked(
     alloc: Global,
     words: &[String],
     at_terminal: bool,
-) -> Result<Option<Place>, AllocError>
-    ensures { IfOk result (λ place. option_map (λ p. (p.folder, p.manner)) place ≡ place_in (said_from at_terminal words.now)) }
+) -> Result<Option<Asked>, AllocError>
+    ensures all { (p : PlaceOf) → result ≡ Ok (Some (All p)) → place_in (said_from at_terminal words.now) ≡ Some (p.folder, p.manner) }
+    ensures one { (p : OwnPlaceOf) → result ≡ Ok (Some (One p)) → own_place_in (said_from at_terminal words.now) ≡ Some (p.folder, p.watchdog, p.manner) }
+    ensures none { result ≡ Ok None → (place_in (said_from at_terminal words.now) ≡ None) × (own_place_in (said_from at_terminal words.now) ≡ None) }
 {
     match read_words(alloc, words) {
-        Ok(words) => Ok(place_of(words, at_terminal)),
+        Ok(words) => Ok(asked_of(words, at_terminal)),
         Err(WordsError::Bad) => Ok(None),
         Err(WordsError::NoMemory) => Err(AllocError),
     }
@@ -242,7 +318,7 @@ pub fn run<
     R: Threads + Wait + Clock + Eprint + Sync,
     S: Source + Send,
     K: Sink + Send,
-    D: LiveDevices,
+    D: StandingDevices,
 >(
     rt: &R,
     alloc: Global,
@@ -258,14 +334,18 @@ where
         (record { left = S.left source; source_faults = S.faults source; taken = K.taken sink; sink_faults = K.faults sink; disks = D.Devices.disks devices; device_faults = D.Devices.faults devices })
         (record { left = S.left result.1; source_faults = S.faults result.1; taken = K.taken result.2; sink_faults = K.faults result.2; disks = D.Devices.disks result.3; device_faults = D.Devices.faults result.3 })
         result.0 }
-    ensures source { (ReadsSource (said words.now) → ⊥) → (IsLive (said words.now) → ⊥) → result.1 ≡ source }
-    ensures devices { (IsDirect (said words.now) → ⊥) → (IsLive (said words.now) → ⊥) → result.3 ≡ devices }
+    ensures source { (ReadsSource (said words.now) → ⊥) → (IsLive (said words.now) → ⊥) → (IsOwn (said words.now) → ⊥) → result.1 ≡ source }
+    ensures devices { (IsDirect (said words.now) → ⊥) → (IsLive (said words.now) → ⊥) → (IsOwn (said words.now) → ⊥) → result.3 ≡ devices }
 {
     let (mut source, mut sink, mut devices) = (source, sink, devices);
-    match live_place(alloc, words, at_terminal) {
+    match machines_asked(alloc, words, at_terminal) {
         Err(_) => (Status::NoMemory, source, sink, devices),
-        Ok(Some(place)) => {
+        Ok(Some(Asked::All(place))) => {
             let (status, source, sink) = live(rt, alloc, &place, source, sink, &mut devices);
+            (status, source, sink, devices)
+        }
+        Ok(Some(Asked::One(place))) => {
+            let (status, source, sink) = own(rt, alloc, &place, source, sink, &mut devices);
             (status, source, sink, devices)
         }
         Ok(None) => {

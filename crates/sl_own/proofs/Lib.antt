@@ -1,0 +1,4 @@
+pub mod OwnLaws
+pub mod SettleLaws
+pub mod PlayLaws
+pub mod GroundLaws
