@@ -26,11 +26,7 @@ pub(crate) fn is_timed(words: &[String]) -> bool
 }
 
 /// Adds copies of these words. An `Err` is want of memory.
-fn push_copies(
-    alloc: Global,
-    words: &[String],
-    copies: &mut Vec<String>,
-) -> Result<(), AllocError>
+fn push_copies(alloc: Global, words: &[String], copies: &mut Vec<String>) -> Result<(), AllocError>
     ensures { OnOk result (map string_bytes copies.new.items ≡ map string_bytes copies.old.items ++ map string_bytes words.now) }
 {
     for word in words {
