@@ -5,5 +5,6 @@ pub mod GenLaws
 pub mod OweLaws
 pub mod StatusLaws
 pub mod LiveLaws
+pub mod OwnLaws
 pub mod PictureLaws
 pub mod JournalLaws

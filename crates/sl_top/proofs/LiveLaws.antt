@@ -3,7 +3,7 @@ use Rattle.sl_world_state.specs.Daemons.{begun_with}
 use Rattle.sl_due_law.proofs.DueIsLawful.{due_is_lawful}
 use Rattle.sl_host_step.specs.HostServes.{Serves, whole_commands}
 use Rattle.sl_live_play.specs.DifferenceLines.{differ_text}
-use Rattle.sl_live_play.specs.LiveOwed.{All, Breaks, Breaks_early, Differing, Disk_there, Due, Ends, Faults, Front, In_use, Lacks, Of, Owes as OwesLive, Part, Parts, Puts, Stops, Stops_early}
+use Rattle.sl_live_play.specs.LiveOwed.{All as AllPut, Breaks, Breaks_early, Differing, Disk_there, Due, Ends, Faults, Front, In_use, Lacks, Of, Owes as OwesLive, Part, Parts, Puts, Stops, Stops_early}
 use Rattle.sl_live_play.specs.declared.play.Lived.TheVariants as lived
 use Rattle.sl_live_play.specs.declared.play.Lived.{Lived}
 use Rattle.sl_live_play.specs.declared.play.Manner.{Manner}
@@ -16,12 +16,16 @@ use Rattle.sl_run.specs.declared.header.Header.{Header}
 use Rattle.sl_top.proofs.RunLaws.{nothing_put}
 use Rattle.sl_top.specs.LiveHistories.{LiveHistoriesAreGood}
 use Rattle.sl_top.specs.StatusLaws.{SomeDiffer}
-use Rattle.sl_cli.specs.declared.command_words.Words.TheVariants.{Check, Direct, Draw, Generate, Help, Journal, Live, Replay, Version}
+use Rattle.sl_cli.specs.declared.command_words.Words.TheVariants.{Check, Direct, Draw, Generate, Help, Journal, Label, Live, Own, Replay, Version}
 use Rattle.sl_cli.specs.declared.command_words.Words.{Words}
-use Rattle.sl_top.specs.Runs.{IsLive, Outside, Owes, RunsLive, place_in, place_of, told_from}
+use Rattle.sl_top.specs.Runs.{IsLive, IsOwn, Outside, Owes, RunsLive, RunsOwn, asked_in, asked_of, told_from}
 use Rattle.sl_top.specs.Statuses.{status_of_live}
 use Rattle.sl_top.specs.declared.status.Status.TheVariants.{AreaFault, BadWords, BreaksOff, Differs, JournalDiffers, NoMemory, NotTheLeader, ReadFault, WriteFault}
+use Rattle.sl_top.specs.declared.own.OwnPlace.{OwnPlace}
 use Rattle.sl_top.specs.declared.status.Status.{Status}
+use Rattle.sl_top.specs.declared.top.Asked.TheVariants.{All, One}
+use Rattle.sl_top.specs.declared.top.Asked.{Asked}
+use Rattle.sl_top.specs.declared.top.Place.{Place}
 use Rattle.sl_io.specs.FaultCauses.{Rose}
 use Rattle.sl_words.proofs.CaseLaws.{none_some, some_value}
 use Rattle.std.proofs.Common.{Bool, List, None, Option, Some, [], ap, refl, subst, sym, ℕ, ◌++◌, ◌||◌, ◌∙◌, ◌≡◌}
@@ -78,7 +82,7 @@ not_broken_off lived.NoMemory e = absurd cc
 not_broken_off lived.AreaFault e = absurd cc
 not_broken_off lived.Differs e = absurd cc
 
-read_failed : (l : Lived) → status_of_live l ≡ ReadFault → l ≡ lived.ReadFault
+pub read_failed : (l : Lived) → status_of_live l ≡ ReadFault → l ≡ lived.ReadFault
 read_failed lived.Done e = absurd cc
 read_failed lived.Refused e = absurd cc
 read_failed lived.ReadFault e = refl
@@ -87,7 +91,7 @@ read_failed lived.NoMemory e = absurd cc
 read_failed lived.AreaFault e = absurd cc
 read_failed lived.Differs e = absurd cc
 
-write_failed : (l : Lived) → status_of_live l ≡ WriteFault → l ≡ lived.WriteFault
+pub write_failed : (l : Lived) → status_of_live l ≡ WriteFault → l ≡ lived.WriteFault
 write_failed lived.Done e = absurd cc
 write_failed lived.Refused e = absurd cc
 write_failed lived.ReadFault e = absurd cc
@@ -96,7 +100,7 @@ write_failed lived.NoMemory e = absurd cc
 write_failed lived.AreaFault e = absurd cc
 write_failed lived.Differs e = absurd cc
 
-area_failed : (l : Lived) → status_of_live l ≡ AreaFault → l ≡ lived.AreaFault
+pub area_failed : (l : Lived) → status_of_live l ≡ AreaFault → l ≡ lived.AreaFault
 area_failed lived.Done e = absurd cc
 area_failed lived.Refused e = absurd cc
 area_failed lived.ReadFault e = absurd cc
@@ -105,7 +109,7 @@ area_failed lived.NoMemory e = absurd cc
 area_failed lived.AreaFault e = refl
 area_failed lived.Differs e = absurd cc
 
-differed : (l : Lived) → status_of_live l ≡ Differs → l ≡ lived.Differs
+pub differed : (l : Lived) → status_of_live l ≡ Differs → l ≡ lived.Differs
 differed lived.Done e = absurd cc
 differed lived.Refused e = absurd cc
 differed lived.ReadFault e = absurd cc
@@ -173,7 +177,7 @@ pub record Caused (keeps : Bool) (left after taken now : Option (List ℕ)) (fau
 put_caused : (keeps : Bool) (left after taken now : Option (List ℕ)) (faults later sink_faults sink_later device_faults device_later : ℕ) (text : List ℕ) (whole s : Lived)
     → Tells keeps left after faults later device_faults device_later text whole → Puts taken now sink_faults sink_later text whole s
     → Caused keeps left after taken now faults later sink_faults sink_later device_faults device_later s
-put_caused keeps left after taken now faults later sink_faults sink_later device_faults device_later text whole s tells (All appends) =
+put_caused keeps left after taken now faults later sink_faults sink_later device_faults device_later text whole s tells (AllPut appends) =
     record {
       read = tells.read;
       written = λ e. absurd (tells.written e);
@@ -232,64 +236,111 @@ live_caused folder manner x y s run =
           });
     }
 
--- ---- words that ask for live machines
+-- ---- words that ask for machines
 
-abbrev live_words : List ℕ × Manner → Words
-live_words p = Live p.0 p.1.anew p.1.keeps p.1.events
+abbrev live_words : Place → Words
+live_words p = Live p.folder p.manner.anew p.manner.keeps p.manner.events
 
-place_is_live : (w : Words) (p : List ℕ × Manner) → place_of w ≡ Some p → w ≡ live_words p
-place_is_live (Live folder anew keeps events) p is = ap live_words (some_value (folder, record { anew = anew; keeps = keeps; events = events }) p is)
-place_is_live Replay p is = absurd cc
-place_is_live (Draw first last) p is = absurd cc
-place_is_live Journal p is = absurd cc
-place_is_live Check p is = absurd cc
-place_is_live (Generate seed hosts events paired) p is = absurd cc
-place_is_live (Direct a) p is = absurd cc
-place_is_live Help p is = absurd cc
-place_is_live Version p is = absurd cc
+abbrev own_words : OwnPlace → Words
+own_words p = Own p.folder p.manner.machine p.watchdog p.manner.syncs p.manner.keeps p.manner.events
 
--- So what live machines did is owed by such words.
-pub owes_live : (s : Option Words) (p : List ℕ × Manner) (x y : Outside) (st : Status) → place_in s ≡ Some p → RunsLive p.0 p.1 x y st → Owes s x y st
-owes_live None p x y st is run = absurd cc
-owes_live (Some w) p x y st is run = subst (λ w. Owes (Some w) x y st) (sym (place_is_live w p is)) run
+-- The words that ask for this.
+abbrev words_for : Asked → Words
+words_for (All p) = live_words p
+words_for (One p) = own_words p
+
+asked_is : (w : Words) (a : Asked) → asked_of w ≡ Some a → w ≡ words_for a
+asked_is (Live folder anew keeps events) a is = ap words_for (some_value _ a is)
+asked_is (Own folder machine watchdog syncs keeps events) a is = ap words_for (some_value _ a is)
+asked_is Replay a is = absurd cc
+asked_is (Draw first last) a is = absurd cc
+asked_is Journal a is = absurd cc
+asked_is Check a is = absurd cc
+asked_is (Generate seed hosts events paired) a is = absurd cc
+asked_is (Direct b) a is = absurd cc
+asked_is (Label l g t grace) a is = absurd cc
+asked_is Help a is = absurd cc
+asked_is Version a is = absurd cc
+
+said_for : (s : Option Words) (a : Asked) → asked_in s ≡ Some a → s ≡ Some (words_for a)
+said_for None a is = absurd cc
+said_for (Some w) a is = ap (λ v. Some v) (asked_is w a is)
+
+-- So what machines did is owed by such words.
+pub owes_live : (s : Option Words) (p : Place) (x y : Outside) (st : Status) → asked_in s ≡ Some (All p) → RunsLive p.folder p.manner x y st → Owes s x y st
+owes_live s p x y st is run = subst (λ v. Owes v x y st) (sym (said_for s (All p) is)) run
+
+pub owes_own : (s : Option Words) (p : OwnPlace) (x y : Outside) (st : Status) → asked_in s ≡ Some (One p) → RunsOwn p.folder p.manner x y st → Owes s x y st
+owes_own s p x y st is run = subst (λ v. Owes v x y st) (sym (said_for s (One p) is)) run
 
 -- Such words ask for live machines.
 pub said_live : (s : Option Words) (folder : List ℕ) (anew keeps events : Bool) → s ≡ Some (Live folder anew keeps events) → IsLive s
 said_live s folder anew keeps events is = (folder, record { anew = anew; keeps = keeps; events = events }, is)
 
--- Where a live script is told, a terminal changes whether it goes on alone; and nothing else.
-is_live_from : (at_terminal : Bool) (w : Words) (p : List ℕ × Manner) → place_of (told_from at_terminal w) ≡ Some p → IsLive (Some w)
-is_live_from at_terminal (Live folder anew keeps events) p is = (folder, record { anew = anew; keeps = keeps; events = events }, refl)
-is_live_from at_terminal Replay p is = absurd cc
-is_live_from at_terminal (Draw first last) p is = absurd cc
-is_live_from at_terminal Journal p is = absurd cc
-is_live_from at_terminal Check p is = absurd cc
-is_live_from at_terminal (Generate seed hosts events paired) p is = absurd cc
-is_live_from at_terminal (Direct a) p is = absurd cc
-is_live_from at_terminal Help p is = absurd cc
-is_live_from at_terminal Version p is = absurd cc
+-- .. or for one in a process of its own.
+pub said_own : (s : Option Words) (folder : List ℕ) (machine : ℕ) (watchdog : Option (List ℕ)) (syncs keeps events : Bool) → s ≡ Some (Own folder machine watchdog syncs keeps events)
+    → IsOwn s
+said_own s folder machine watchdog syncs keeps events is = (folder, watchdog, record { machine = machine; syncs = syncs; keeps = keeps; events = events }, is)
 
-pub is_live : (at_terminal : Bool) (s : Option Words) (p : List ℕ × Manner) → place_in (option_map (told_from at_terminal) s) ≡ Some p → IsLive s
+-- Where a script for machines is told, a terminal changes whether it goes on alone; and nothing else.
+live_from : (at_terminal : Bool) (w : Words) (p : Place) → asked_of (told_from at_terminal w) ≡ Some (All p) → IsLive (Some w)
+live_from at_terminal (Live folder anew keeps events) p is = (folder, record { anew = anew; keeps = keeps; events = events }, refl)
+live_from at_terminal (Own folder machine watchdog syncs keeps events) p is = absurd cc
+live_from at_terminal Replay p is = absurd cc
+live_from at_terminal (Draw first last) p is = absurd cc
+live_from at_terminal Journal p is = absurd cc
+live_from at_terminal Check p is = absurd cc
+live_from at_terminal (Generate seed hosts events paired) p is = absurd cc
+live_from at_terminal (Direct b) p is = absurd cc
+live_from at_terminal (Label l g t grace) p is = absurd cc
+live_from at_terminal Help p is = absurd cc
+live_from at_terminal Version p is = absurd cc
+
+pub is_live : (at_terminal : Bool) (s : Option Words) (p : Place) → asked_in (option_map (told_from at_terminal) s) ≡ Some (All p) → IsLive s
 is_live at_terminal None p is = absurd cc
-is_live at_terminal (Some w) p is = is_live_from at_terminal w p is
+is_live at_terminal (Some w) p is = live_from at_terminal w p is
 
-pub not_live : (at_terminal : Bool) (s : Option Words) → place_in (option_map (told_from at_terminal) s) ≡ None → IsLive s → ⊥
+own_from : (at_terminal : Bool) (w : Words) (p : OwnPlace) → asked_of (told_from at_terminal w) ≡ Some (One p) → IsOwn (Some w)
+own_from at_terminal (Live folder anew keeps events) p is = absurd cc
+own_from at_terminal (Own folder machine watchdog syncs keeps events) p is =
+    (folder, watchdog, record { machine = machine; syncs = syncs; keeps = keeps; events = events }, refl)
+own_from at_terminal Replay p is = absurd cc
+own_from at_terminal (Draw first last) p is = absurd cc
+own_from at_terminal Journal p is = absurd cc
+own_from at_terminal Check p is = absurd cc
+own_from at_terminal (Generate seed hosts events paired) p is = absurd cc
+own_from at_terminal (Direct b) p is = absurd cc
+own_from at_terminal (Label l g t grace) p is = absurd cc
+own_from at_terminal Help p is = absurd cc
+own_from at_terminal Version p is = absurd cc
+
+pub is_own : (at_terminal : Bool) (s : Option Words) (p : OwnPlace) → asked_in (option_map (told_from at_terminal) s) ≡ Some (One p) → IsOwn s
+is_own at_terminal None p is = absurd cc
+is_own at_terminal (Some w) p is = own_from at_terminal w p is
+
+pub not_live : (at_terminal : Bool) (s : Option Words) → asked_in (option_map (told_from at_terminal) s) ≡ None → IsLive s → ⊥
 not_live at_terminal s none live =
-    absurd (none_some _ (sym none ∙ ap (λ o. place_in (option_map (told_from at_terminal) o)) live.2))
+    absurd (none_some _ (sym none ∙ ap (λ o. asked_in (option_map (told_from at_terminal) o)) live.2))
+
+pub not_own : (at_terminal : Bool) (s : Option Words) → asked_in (option_map (told_from at_terminal) s) ≡ None → IsOwn s → ⊥
+not_own at_terminal s none own =
+    absurd (none_some _ (sym none ∙ ap (λ o. asked_in (option_map (told_from at_terminal) o)) own.3))
 
 -- Other words say the same from anywhere.
-same_from : (at_terminal : Bool) (w : Words) → place_of (told_from at_terminal w) ≡ None → told_from at_terminal w ≡ w
+same_from : (at_terminal : Bool) (w : Words) → asked_of (told_from at_terminal w) ≡ None → told_from at_terminal w ≡ w
 same_from at_terminal (Live folder anew keeps events) none = absurd cc
+same_from at_terminal (Own folder machine watchdog syncs keeps events) none = absurd cc
 same_from at_terminal Replay none = refl
 same_from at_terminal (Draw first last) none = refl
 same_from at_terminal Journal none = refl
 same_from at_terminal Check none = refl
 same_from at_terminal (Generate seed hosts events paired) none = refl
-same_from at_terminal (Direct a) none = refl
+same_from at_terminal (Direct b) none = refl
+same_from at_terminal (Label l g t grace) none = refl
 same_from at_terminal Help none = refl
 same_from at_terminal Version none = refl
 
-pub owes_from : (at_terminal : Bool) (s : Option Words) (x y : Outside) (st : Status) → place_in (option_map (told_from at_terminal) s) ≡ None → Owes s x y st
+pub owes_from : (at_terminal : Bool) (s : Option Words) (x y : Outside) (st : Status) → asked_in (option_map (told_from at_terminal) s) ≡ None → Owes s x y st
     → Owes (option_map (told_from at_terminal) s) x y st
 owes_from at_terminal None x y st none owes = owes
 owes_from at_terminal (Some w) x y st none owes = subst (λ v. Owes (Some v) x y st) (sym (same_from at_terminal w none)) owes

@@ -1,11 +1,13 @@
 -- What a run owes where there was no memory for its words: nothing was read, and nothing written.
-use Rattle.sl_cli.specs.declared.command_words.Words.TheVariants.{Check, Direct, Draw, Generate, Help, Journal, Live, Replay, Version}
+use Rattle.sl_cli.specs.declared.command_words.Words.TheVariants.{Check, Direct, Draw, Generate, Help, Journal, Label, Live, Own, Replay, Version}
 use Rattle.sl_cli.specs.declared.command_words.Words.{Words}
+use Rattle.sl_direct.specs.declared.action.Action.TheVariants.{InitLabelled}
 use Rattle.sl_report.specs.GeneratedSchedules.{gen_lines}
 use Rattle.sl_run.specs.Worlds.{whole_program}
 use Rattle.sl_text.specs.Forms.{as_bytes}
 use Rattle.sl_top.proofs.DirectLaws.{not_begun}
 use Rattle.sl_top.proofs.LiveLaws.{never_run}
+use Rattle.sl_top.proofs.OwnLaws.{never_run as never_run_alone}
 use Rattle.sl_top.proofs.PictureLaws.{undrawn}
 use Rattle.sl_top.proofs.RunLaws.{nothing_put, unread}
 use Rattle.sl_top.proofs.JournalLaws.{unchecked, unwritten}
@@ -37,6 +39,9 @@ nothing_done (Some Journal) x = unwritten x.left x.source_faults x.taken x.sink_
 nothing_done (Some Check) x = unchecked x.left x.source_faults x.taken x.sink_faults
 nothing_done (Some (Generate seed hosts events paired)) x = none_generated seed hosts events paired x.taken x.sink_faults
 nothing_done (Some (Direct a)) x = not_begun a x.disks x.device_faults x.taken x.sink_faults
+nothing_done (Some (Label l g t grace)) x = not_begun (InitLabelled l g t grace) x.disks x.device_faults x.taken x.sink_faults
 nothing_done (Some (Live folder anew keeps events)) x = never_run folder (record { anew = anew; keeps = keeps; events = events }) x
+nothing_done (Some (Own folder machine watchdog syncs keeps events)) x =
+    never_run_alone folder (record { machine = machine; syncs = syncs; keeps = keeps; events = events }) x
 nothing_done (Some Help) x = nothing_told x.taken x.sink_faults _ _
 nothing_done (Some Version) x = nothing_told x.taken x.sink_faults _ _

@@ -29,12 +29,14 @@ use Rattle.sl_trace.specs.declared.command.LockspaceArg.{LockspaceArg}
 use Rattle.sl_top.specs.Pictures.{Draws}
 use Rattle.sl_top.specs.JournalsOwed.{ChecksJournal, WritesJournal}
 use Rattle.sl_top.specs.Statuses.{code, status_after, status_of_live}
+use Rattle.sl_top.specs.declared.top.Asked.TheVariants.{All, One}
+use Rattle.sl_top.specs.declared.top.Asked.{Asked}
 use Rattle.sl_top.specs.declared.status.Status.TheVariants.{BadWords, Done, NoMemory, ReadFault, WriteFault}
 use Rattle.sl_top.specs.declared.status.Status.{Status}
 use Rattle.sl_io.specs.FaultCauses.{Rose}
 use Rattle.std.specs.Global.{Global}
 use Rattle.std.specs.Io.KnownBytes.{Appends, Consumes, IsAtEnd}
-use Rattle.std.specs.Prelude.{Bool, IsTrue, List, None, Option, Some, String, codes, map, option_map, string_bytes, true, [], ℕ, ◌++◌, ◌||◌, ◌∷◌, ◌≡◌, ◌⊎◌}
+use Rattle.std.specs.Prelude.{Bool, IsTrue, List, None, Option, Some, String, codes, map, option_map, string_bytes, true, [], ℕ, ◌++◌, ◌||◌, ◌∷◌, ◌≡◌, ◌≤◌, ◌⊎◌}
 
 -- What the words of the command line say, if they say something.
 abbrev pub said : List (String Global) → Option Words
@@ -172,39 +174,34 @@ IsJournal w = (w ≡ Some Journal) ⊎ (w ≡ Some Check)
 -- The source is read: of a schedule, or of a journal.
 abbrev pub ReadsSource : Option Words → Type 0
 ReadsSource w = IsReplay w ⊎ IsDraw w ⊎ IsJournal w
+
+-- An action is done to a disk; a lockspace with a label is made by words of its own.
 abbrev pub IsLabel : Option Words → Type 0
 IsLabel w = (l : LockspaceArg) × (g : Sizes) × (t : TimingNumbers) × (grace : ℕ) × (w ≡ Some (Label l g t grace))
 
 abbrev pub IsDirect : Option Words → Type 0
 IsDirect w = ((a : Action) × (w ≡ Some (Direct a))) ⊎ IsLabel w
 
--- Only these wait for anything.
+-- Only these wait for anything: all machines of a script, or one of them in a process of its own.
 abbrev pub IsLive : Option Words → Type 0
 IsLive w = (folder : List ℕ) × (manner : Manner) × (w ≡ Some (Live folder manner.anew manner.keeps manner.events))
 
 abbrev pub IsOwn : Option Words → Type 0
 IsOwn w = (folder : List ℕ) × (watchdog : Option (List ℕ)) × (manner : OwnManner) × (w ≡ Some (Own folder manner.machine watchdog manner.syncs manner.keeps manner.events))
 
--- The folder of live machines, and how their script is played, if the words ask for them.
-abbrev pub place_of : Words → Option (List ℕ × Manner)
-place_of (Live folder anew keeps events) = Some (folder, record { anew = anew; keeps = keeps; events = events })
-place_of w = None
+-- Where machines run that the words ask for: all of a script's, or one of them in a process of its own.
+abbrev pub asked_of : Words → Option Asked
+asked_of (Live folder anew keeps events) = Some (All (record { folder = folder; manner = record { anew = anew; keeps = keeps; events = events } }))
+asked_of (Own folder machine watchdog syncs keeps events) =
+    Some (One (record { folder = folder; watchdog = watchdog; manner = record { machine = machine; syncs = syncs; keeps = keeps; events = events } }))
+asked_of w = None
 
 -- .. if they say anything.
-abbrev pub place_in : Option Words → Option (List ℕ × Manner)
-place_in None = None
-place_in (Some w) = place_of w
+abbrev pub asked_in : Option Words → Option Asked
+asked_in None = None
+asked_in (Some w) = asked_of w
 
--- The folder of one machine, its watchdog device, and how its script is played, if the words ask for it.
-abbrev pub OwnPlaced : Type 0
-OwnPlaced = List ℕ × Option (List ℕ) × OwnManner
-
-abbrev pub own_place_of : Words → Option OwnPlaced
-own_place_of (Own folder machine watchdog syncs keeps events) =
-    Some (folder, watchdog, record { machine = machine; syncs = syncs; keeps = keeps; events = events })
-own_place_of w = None
-
--- .. if they say anything.
-abbrev pub own_place_in : Option Words → Option OwnPlaced
-own_place_in None = None
-own_place_in (Some w) = own_place_of w
+-- Machines are numbered from 1 on.
+abbrev pub IsNumbered : Asked → Type 0
+IsNumbered (All p) = Unit {0}
+IsNumbered (One p) = 1 ≤ p.manner.machine

@@ -3,16 +3,14 @@
 //! All but `live` is done by `run_offline`, which takes no handle that waits.
 //!
 //! `replay` plays its source line by line, so where a read fails the report of the lines before it stands written; where a write fails or memory
-//! runs out, a front of the report. `gen` reads nothing: it draws its events as it plays them. `direct` takes one disk of the devices, does its action there, and gives the disk back.
+//! runs out, a front of the report. So does `journal`. `gen` reads nothing: it draws its events as it plays them. `direct` takes one disk of the devices, does its action there, and gives the disk back.
 
+ghost use Rattle.sl_cli.specs.Spellings.{CanBeDone};
 ghost use Rattle.sl_direct.specs.Actions.{IsAction};
 ghost use Rattle.sl_top.specs.Pictures.{Draws};
-ghost use Rattle.sl_top.specs.Runs.{ActsOn, Generates, IsDirect, IsLive, IsOwn, Owes, PutsOut, ReadsSource, Replays, RunsLive, own_place_in, own_place_of, place_in, place_of, said, said_from, told_from};
-ghost use Rattle.sl_top.specs.declared.own.OwnPlace.{OwnPlace as OwnPlaceOf};
-ghost use Rattle.sl_top.specs.declared.top.Asked.TheVariants.{All, One};
-ghost use Rattle.sl_top.specs.declared.top.Place.{Place as PlaceOf};
+ghost use Rattle.sl_top.specs.Runs.{ActsOn, Generates, IsDirect, IsLive, IsNumbered, IsOwn, Owes, PutsOut, ReadsSource, Replays, RunsLive, asked_in, asked_of, said, said_from, told_from};
 ghost use Rattle.sl_top.specs.declared.status.Status.TheVariants.{WriteFault};
-ghost use Rattle.std.specs.Prelude.{IfOk, None, Ok, Some, option_map, ◌≡◌, ◌≢◌, ◌≤◌};
+ghost use Rattle.std.specs.Prelude.{IfOk, IfSome, ◌≡◌, ◌≢◌, ◌≤◌};
 
 use crate::journals::{check, journal};
 use crate::own::{OwnPlace, own};
@@ -137,16 +135,17 @@ where
 
 /// Does what the words say (those behind the program's name), with no handle that waits: so it returns.
 ///
-/// `replay` reads a schedule from the source to its end, or to one byte past 1000000000, and puts out its report, `draw` the picture of its lines. `gen` makes a schedule from a
-/// seed, plays it, and puts out what was generated and the last line of its report. `direct` does its action
-/// to the disk at the action's path, and puts out what that tells. The help and the version are put out as they are. Words that say none of
-/// these put out one line.
+/// `replay` reads a schedule from the source to its end, or to one byte past 1000000000, and puts out its report, `draw` the picture of its lines,
+/// `journal` its journal. `check` reads a journal, and puts out whether it is that of a run. `gen` makes a schedule from a seed, plays it, and puts
+/// out what was generated and the last line of its report. `direct` does its action to the disk at the action's path, and puts out what that
+/// tells. The help and the version are put out as they are. Words that say none of these put out one line.
 ///
 /// # Statuses
-/// `Done` and `Refused` where the report is whole, `Done` also where an action, the help or the version is; `BadWords` for words that say
-/// nothing; `ReadFault` and `WriteFault` only where the source's or the sink's count of faults rose; `AreaFault` only where the devices'
-/// did; `NotTheLeader` where the sector that an action read is not its resource's leader; `NoMemory` for want of memory, after which a
-/// front of the output was put out.
+/// `Done` and `Refused` where the report, the picture or the journal is whole, `Done` also where an action, the help or the version is, and where a
+/// journal that was checked is that of a run; `JournalDiffers` and `BreaksOff` only of a journal that was checked: it differs at a line, or ends
+/// before its last; `BadWords` for words that say nothing; `ReadFault` and `WriteFault` only where the source's or the sink's count of faults
+/// rose; `AreaFault` only where the devices' did; `NotTheLeader` where the sector that an action read is not its resource's leader; `NoMemory`
+/// for want of memory, after which a front of the output was put out.
 pub fn run_offline<S: Source, K: Sink, D: Devices>(
     alloc: Global,
     words: &[String],
@@ -227,13 +226,26 @@ enum Asked {
     One(OwnPlace),
 }
 
-/// What the words ask for, if it is machines, where the source is a terminal or not.
+/// Where machines run that the words ask for, if they ask for some, where the source is a terminal or not.
 fn asked_of(words: Words, at_terminal: bool) -> Option<Asked>
-    ensures all { (p : PlaceOf) → result ≡ Some (All p) → place_of (told_from at_terminal words) ≡ Some (p.folder, p.manner) }
-    ensures one { (p : OwnPlaceOf) → result ≡ Some (One p) → own_place_of (told_from at_terminal words) ≡ Some (p.folder, p.watchdog, p.manner) }
-    ensures none { result ≡ None → (place_of (told_from at_terminal words) ≡ None) × (own_place_of (told_from at_terminal words) ≡ None) }
+    requires { CanBeDone words }
+    ensures exact { result ≡ asked_of (told_from at_terminal words) }
+    ensures numbered { IfSome result IsNumbered }
 {
     match words {
+        Words::Live {
+            folder,
+            anew,
+            keeps,
+            events,
+        } => Some(Asked::All(Place {
+            folder,
+            manner: Manner {
+                anew,
+                keeps: keeps || at_terminal,
+                events,
+            },
+        })),
         Words::Own {
             folder,
             machine,
@@ -251,31 +263,6 @@ fn asked_of(words: Words, at_terminal: bool) -> Option<Asked>
                 events,
             },
         })),
-        words => match place_of(words, at_terminal) {
-            Some(place) => Some(Asked::All(place)),
-            None => None,
-        },
-    }
-}
-
-/// The place of live machines, if the words ask for them, where the source is a terminal or not.
-fn place_of(words: Words, at_terminal: bool) -> Option<Place>
-    ensures { option_map (λ p. (p.folder, p.manner)) result ≡ place_of (told_from at_terminal words) }
-{
-    match words {
-        Words::Live {
-            folder,
-            anew,
-            keeps,
-            events,
-        } => Some(Place {
-            folder,
-            manner: Manner {
-                anew,
-                keeps: keeps || at_terminal,
-                events,
-            },
-        }),
         Words::Replay => None,
         Words::Draw { .. } => None,
         Words::Journal => None,
@@ -283,21 +270,20 @@ fn place_of(words: Words, at_terminal: bool) -> Option<Place>
         Words::Generate { .. } => None,
         Words::Direct(_) => None,
         Words::Label { .. } => None,
-        Words::Own { .. } => None,
         Words::Help => None,
         Words::Version => None,
     }
 }
 
-/// What the words of the command line ask for, if it is machines, where the source is a terminal or not. An `Err` is want of memory.
+/// Where machines run that the words of the command line ask for, if they ask for some, where the source is a terminal or not. An `Err` is want
+/// of memory.
 fn machines_asked(
     alloc: Global,
     words: &[String],
     at_terminal: bool,
 ) -> Result<Option<Asked>, AllocError>
-    ensures all { (p : PlaceOf) → result ≡ Ok (Some (All p)) → place_in (said_from at_terminal words.now) ≡ Some (p.folder, p.manner) }
-    ensures one { (p : OwnPlaceOf) → result ≡ Ok (Some (One p)) → own_place_in (said_from at_terminal words.now) ≡ Some (p.folder, p.watchdog, p.manner) }
-    ensures none { result ≡ Ok None → (place_in (said_from at_terminal words.now) ≡ None) × (own_place_in (said_from at_terminal words.now) ≡ None) }
+    ensures exact { IfOk result (λ asked. asked ≡ asked_in (said_from at_terminal words.now)) }
+    ensures numbered { IfOk result (λ asked. IfSome asked IsNumbered) }
 {
     match read_words(alloc, words) {
         Ok(words) => Ok(asked_of(words, at_terminal)),
@@ -306,14 +292,17 @@ fn machines_asked(
     }
 }
 
-/// Does what the words say, and hands the source, the sink and the devices back: `live` runs machines by the script that it reads, and all else is done
-/// as by `run_offline`. `at_terminal`: the source is a terminal; a live script from there goes on behind a line that is refused, as with `--keep-going`.
+/// Does what the words say, and hands the source, the sink and the devices back: `live` runs machines by the script that it reads, all of them or one
+/// in a process of its own, and all else is done as by `run_offline`. `at_terminal`: the source is a terminal; a live script from there goes on
+/// behind a line that is refused, as with `--keep-going`.
 ///
 /// # Statuses
-/// Those of `run_offline`. `live` ends with `Done` where its script was read to its end, with `Refused` where a line of it is refused at which it ends, with
-/// `ReadFault` and `WriteFault` only where the source's or the sink's count of faults rose, with `AreaFault` only where the devices' did
-/// before its machines began, as where another program has the folder, or a disk stands there that is not made anew, with `Differs` only where a case holds of a machine, which is put out; `NoMemory` for want of memory: what
-/// was put out before stays. It returns once its machines have ended, which wait for their children.
+/// Those of `run_offline`. `live` ends with `Done` where its script was read to its end, with `Refused` where a line of it is refused at which it
+/// ends, with `ReadFault` and `WriteFault` only where the source's or the sink's count of faults rose, with `AreaFault` only where the devices'
+/// did before its machines began, as where another program has the folder, or a disk stands there that is not made anew, with `Differs` only
+/// where a case holds of a machine, which is put out; `NoMemory` for want of memory: what was put out before stays. One machine in a process of
+/// its own ends so too, with `AreaFault` also where a disk or an area that the header names does not stand in the folder as the header has it,
+/// which is put out. It returns once its machines have ended, which wait for their children.
 pub fn run<
     R: Threads + Wait + Clock + Eprint + Sync,
     S: Source + Send,
