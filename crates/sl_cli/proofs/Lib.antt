@@ -11,6 +11,7 @@ pub mod Letters
 pub mod LiveFlags
 pub mod LiveLaws
 pub mod OptionSteps
+pub mod OwnWordLaws
 pub mod ParseLaws
 pub mod SizeWords
 pub mod SpellingLaws
