@@ -8,18 +8,17 @@ use Rattle.sl_cell.specs.Seats.{SeatState}
 use Rattle.sl_cell.specs.Told.{Gave}
 use Rattle.sl_live.proofs.TurnLaws.{grows_none, grows_on}
 use Rattle.sl_live.specs.CarriedOut.{AreCarried, AreMarked, HasSignalled, IsLet, IsQueue, Kept, TookStart, acts_along, acts_at, after_all, after_moment, as_moment, entries_in, is_childless, is_named, kept_in, late_kill, no_children, start_of, starts_of, with_effects, with_told}
-use Rattle.sl_live.specs.Turns.{Carries, ChildrenState, Does, Guards, IsQuiet, TakesIn, TellsExit, TellsStart, MakesTurn, doomed, is_doomed, is_lapsed, kill_of, marked, names, number_of, ordered, sent_by, told_off, without}
+use Rattle.sl_live.specs.Turns.{Carries, ChildrenState, Does, Guards, IsQuiet, TellsExit, TellsStart, MakesTurn, doomed, is_lapsed, kill_of, marked, names, number_of, ordered, sent_by, told_off, without}
 use Rattle.sl_live.specs.declared.children.Awaited.{Awaited}
 use Rattle.sl_outside.specs.Acts.{Grows, Tells}
 use Rattle.sl_outside.specs.declared.act.Act.{Act}
 use Rattle.sl_trace.specs.Traces.{Setting}
 use Rattle.sl_trace.specs.declared.effects.Effects.{Effects}
 use Rattle.sl_trace.specs.declared.effects.Entry.{Entry}
-use Rattle.sl_trace.specs.declared.effects.Sent.{Sent}
 use Rattle.sl_trace.specs.declared.effects.Start.{Start}
 use Rattle.sl_trace.specs.declared.input.Input.TheVariants.{Answer as Told, Exit, Line, Number, Spawned, Wake}
 use Rattle.sl_trace.specs.declared.input.Input.{Input}
-use Rattle.std.proofs.Common.{append_assoc, append-nil, ap, arith, inl, inr, length-append, refl, rules, subst, suc, sym, zero, ◌∙◌}
+use Rattle.std.proofs.Common.{append_assoc, append-nil, ap, arith, inl, inr, length-append, refl, subst, suc, sym, zero, ◌∙◌}
 use Rattle.sl_words.proofs.Numbers.{number_itself}
 use Rattle.std.proofs.lemmas.Bool.Decides.{nat_tests}
 use Rattle.std.proofs.lemmas.List.{map-append}
@@ -102,12 +101,14 @@ or_cases : (a b : Bool) → (a || b) ≡ true → (a ≡ true) ⊎ (b ≡ true)
 or_cases true b is = inl refl
 or_cases false b is = inr is
 
+or_on : (a b c : Bool) → (b ≡ true → c ≡ true) → (a || b) ≡ true → (a || c) ≡ true
+or_on true b c f is = refl
+or_on false b c f is = f is
+
 pub named_more : (process : ℕ) (xs ys : List Entry) → is_named process xs ≡ true → is_named process (xs ++ ys) ≡ true
 named_more process [] ys is = absurd cc
-named_more process (x ∷ xs) ys is = named_by (or_cases (names x.effects.signals process) (is_named process xs) is) where
-  named_by : (names x.effects.signals process ≡ true) ⊎ (is_named process xs ≡ true) → (names x.effects.signals process || is_named process (xs ++ ys)) ≡ true
-  named_by (inl here) = or_left (names x.effects.signals process) (is_named process (xs ++ ys)) here
-  named_by (inr there) = or_right (names x.effects.signals process) (is_named process (xs ++ ys)) (named_more process xs ys there)
+named_more process (x ∷ xs) ys is =
+    or_on (names x.effects.signals process) (is_named process xs) (is_named process (xs ++ ys)) (λ so. named_more process xs ys so) is
 
 named_last : (process : ℕ) (h : List Entry) (e : Entry) → names e.effects.signals process ≡ true → is_named process (h ++ e ∷ []) ≡ true
 named_last process [] e is = or_left (names e.effects.signals process) false is
@@ -124,8 +125,8 @@ marks_more xs ys killed killed' (w ∷ ws) later so =
     ((λ is. let_more xs ys killed killed' w.start.process later (so.0 is)), marks_more xs ys killed killed' ws later so.1)
 
 marks_append : (h : List Entry) (killed : Bool) (ws vs : List Awaited) → AreMarked h killed ws → AreMarked h killed vs → AreMarked h killed (ws ++ vs)
-marks_append h killed [] vs first then = then
-marks_append h killed (w ∷ ws) vs first then = (first.0, marks_append h killed ws vs first.1 then)
+marks_append h killed [] vs first last = last
+marks_append h killed (w ∷ ws) vs first last = (first.0, marks_append h killed ws vs first.1 last)
 
 marks_ordered : (h : List Entry) (killed : Bool) (ss : List Start) → AreMarked h killed (map ordered ss)
 marks_ordered h killed [] = tt
@@ -249,12 +250,13 @@ module _ {P : Type 0} (told : P → Option (List Act)) (faults : P → ℕ) (run
   carried_turn : (h : List Entry) (taken taken' : ℕ) (killed : Bool) (c mid c' : ChildrenState P) (e : Entry) → AreCarried told h taken killed c
       → Grows (told c.spawner) (told mid.spawner) (late_kill (kept_in c) e.input) → kept_in mid ≡ with_told (kept_in c) e.input → IsQueue h taken' killed mid.awaited
       → Carries told faults running e.effects mid c' → AreCarried told (h ++ e ∷ []) taken' killed c'
+  unfolding signalled_entry
   carried_turn h taken taken' killed c mid c' e so grows tells queue carries =
       let s = so.signalled in
       let k : Kept = kept_in c in
       let now : kept_in c' ≡ after_moment k (Some e)
       = same_kept c'.numbers (mid.numbers ++ map number_of e.effects.starts) c'.awaited (map (marked e.effects.signals) mid.awaited ++ map ordered e.effects.starts) carries.numbers carries.awaited
-          ∙ ap (with_effects e.effects) tells in
+      ∙ ap (with_effects e.effects) tells in
       let all : Grows (told c.spawner) (told c'.spawner) (acts_at k (Some e))
       = grows_on (told c.spawner) (told mid.spawner) (told c'.spawner) (late_kill k e.input) (map sent_by e.effects.signals) grows carries.does.grows in
       record {
@@ -353,6 +355,7 @@ module _ {P : Type 0} (told : P → Option (List Act)) (faults : P → ℕ) (run
   -- all were killed
   pub carried_kill : (h : List Entry) (taken : ℕ) (killed : Bool) (c c' : ChildrenState P) → Does told faults running c.spawner c'.spawner (map kill_of c.numbers)
       → c'.numbers ≡ c.numbers → c'.awaited ≡ map doomed c.awaited → AreCarried told h taken killed c → AreCarried told h taken true c'
+  unfolding signalled_kill
   carried_kill h taken killed c c' does numbers awaited so =
       let s = so.signalled in record {
         signalled = signalled_kill h killed (told c.spawner) (told c'.spawner) (kept_in c) s so.kept does.grows;
@@ -369,9 +372,9 @@ module _ {P : Type 0} (told : P → Option (List Act)) (faults : P → ℕ) (run
       subst (λ b. AreCarried told h taken b c') (sym (or_right killed true refl)) (carried_kill h taken killed c c' does numbers awaited so)
   test_carried false h taken killed c c' does numbers awaited so =
       subst (λ b. AreCarried told h taken b c') (sym (or_false killed)) (carried_same h taken killed c c' does.grows numbers awaited so) where
-    or_false : (b : Bool) → (b || false) ≡ b
-    or_false true = refl
-    or_false false = refl
+        or_false : (b : Bool) → (b || false) ≡ b
+        or_false true = refl
+        or_false false = refl
 
   pub guard_carried : (now last last' fire : ℕ) (answer lapsed : Bool) (h : List Entry) (taken : ℕ) (killed : Bool) (c c' : ChildrenState P) → lapsed ≡ is_lapsed last' fire now
       → Guards told faults running now last last' fire c c' answer → AreCarried told h taken killed c → AreCarried told h taken (killed || lapsed) c'

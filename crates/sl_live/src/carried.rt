@@ -176,7 +176,11 @@ impl<P: Spawner, J: Station> Carried<P, J> {
             return Ok(None);
         };
         let before = seat.taken();
-        if !self.whole || before != self.taken || before == u64::MAX || !seat.is_behind(&self.front) {
+        if !self.whole
+            || before != self.taken
+            || before == u64::MAX
+            || !seat.is_behind(&self.front)
+        {
             return Err(Broken);
         }
         seat.see(&self.front, before + 1);

@@ -8,7 +8,7 @@ use Rattle.sl_cell.proofs.SeatLaws.{gave_before, mine_on}
 use Rattle.sl_cell.specs.Histories.{Signed}
 use Rattle.sl_cell.specs.Seats.{SeatState}
 use Rattle.sl_cell.specs.Told.{Gave, IsUnasked}
-use Rattle.sl_live.proofs.CarriedLaws.{let_more, starts_more, tells_on}
+use Rattle.sl_live.proofs.CarriedLaws.{let_more, starts_more}
 use Rattle.sl_live.proofs.TurnLaws.{grows_none, grows_on}
 use Rattle.sl_live.proofs.WorkLaws.{next_within, take_next, take_same}
 use Rattle.sl_live.specs.CarriedOut.{AreStarted, IsActed, IsLet, IsUntold, TookStart, starts_of}
@@ -16,7 +16,7 @@ use Rattle.sl_live.specs.Turns.{Starts}
 use Rattle.sl_live.specs.declared.children.Awaited.{Awaited}
 use Rattle.sl_live_machine.proofs.SeatLaws.{GaveTurn}
 use Rattle.sl_live_machine.specs.ServedActs.{StartsOn}
-use Rattle.sl_outside.specs.Acts.{Grows, Tells}
+use Rattle.sl_outside.specs.Acts.{Grows}
 use Rattle.sl_outside.specs.declared.act.Act.TheVariants.{Started}
 use Rattle.sl_outside.specs.declared.act.Act.{Act}
 use Rattle.sl_trace.specs.Traces.{Setting}

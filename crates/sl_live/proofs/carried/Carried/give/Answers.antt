@@ -5,8 +5,8 @@ use Rattle.sl_live.proofs.carried.Carried.give.Goals as goal
 use Rattle.sl_live.specs.CarriedOut.{AreCarried}
 use Rattle.std.proofs.Common.{List, subst, sym, ◌∙◌}
 
-pub invariant_of-self-in-Ok-Some : goal.invariant_of-self-in-Ok-Some
-invariant_of-self-in-Ok-Some g c = λ whole.
+pub invariant_of-self : goal.invariant_of-self
+invariant_of-self g c = λ whole.
     let k = c.self.inside in
     let last = both_true c.follow-next.result c.both-before.result (sym c.both-whole.ensures ∙ whole) in
     let first = both_true k.whole c.is_childless-childless.result (sym c.both-before.ensures ∙ last.1) in
