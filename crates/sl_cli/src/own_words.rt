@@ -48,7 +48,7 @@ impl<'a> Options<'a> {
 
     /// With the path of the watchdog device, which is waited for.
     fn with_path(self, word: &'a str) -> Option<Options<'a>>
-        ensures { result ≡ own.with_path self word.now }
+        ensures { result ≡ own.with_path self.entry word.now }
     {
         if is_rooted(word) {
             Some(Options {
@@ -65,7 +65,7 @@ impl<'a> Options<'a> {
 
     /// With the option of a watchdog device, whose path is waited for.
     fn with_watchdog(self) -> Option<Options<'a>>
-        ensures { result ≡ own.with_watchdog self }
+        ensures { result ≡ own.with_watchdog self.entry }
     {
         match self.watchdog {
             Some(_) => None,
@@ -81,7 +81,7 @@ impl<'a> Options<'a> {
 
     /// With this flag, if it is one, and was not given before.
     fn with_flag(self, word: &str) -> Option<Options<'a>>
-        ensures { result ≡ own.with_flag self word.now }
+        ensures { result ≡ own.with_flag self.entry word.now }
     {
         let Options {
             watchdog,
@@ -133,7 +133,7 @@ impl<'a> Options<'a> {
 
     /// With one more word.
     fn with_word(self, word: &'a str) -> Option<Options<'a>>
-        ensures { result ≡ own.with_word self word.now }
+        ensures { result ≡ own.with_word self.entry word.now }
     {
         if self.waits {
             self.with_path(word)
@@ -146,7 +146,7 @@ impl<'a> Options<'a> {
 
     /// All of them, if none is waited for.
     fn whole(self) -> Option<Options<'a>>
-        ensures { result ≡ own.options_from self [] }
+        ensures { result ≡ own.options_from self.entry [] }
     {
         if self.waits { None } else { Some(self) }
     }
@@ -183,6 +183,7 @@ fn is_folder(word: &str) -> bool
 }
 
 /// What all of these say.
+#[tactic(auto, using(crate::proofs::OwnWordLaws::one_more, crate::proofs::OwnWordLaws::none_more, crate::proofs::OwnWordLaws::none_left))]
 fn options_of<'a>(words: &'a [String]) -> Option<Options<'a>>
     ensures { result ≡ own.options_from own.no_options (map string_bytes words.entry.now) }
 {
