@@ -1,6 +1,5 @@
 -- What is owed of a play of one machine, from what came of its parts.
 use Rattle.sl_cell.specs.declared.part.Part.TheVariants.{Delta}
-use Rattle.sl_cell.specs.declared.part.Part.{Part}
 use Rattle.sl_io.specs.FaultCauses.{Rose}
 use Rattle.sl_live_lines.specs.LiveTexts.{count_replies}
 use Rattle.sl_live_play.specs.LiveOwed.{All, Puts, PutsEnded, PutsStop}
@@ -13,7 +12,8 @@ use Rattle.sl_live_run.specs.declared.compare.LiveStop.{LiveStop}
 use Rattle.sl_outside.specs.Disks.{Disks}
 use Rattle.sl_outside.specs.declared.act.Act.{Act}
 use Rattle.sl_output.specs.Pieces.{Piece, text_of}
-use Rattle.sl_own.specs.OwnGrounds.{Area_bars, Bars, Differs as LentDiffers, Folder_bars, Has_fault, IsOwnGround, Machine_bars, No_memory, NotLent, Size_bars}
+use Rattle.sl_own.proofs.LendLaws.{not_lent_on}
+use Rattle.sl_own.specs.OwnGrounds.{Area_bars, Bars, Folder_bars, IsOwnGround, Machine_bars, Size_bars}
 use Rattle.sl_own.specs.OwnOwed.{Breaks, Breaks_early, DifferingOwn, Ends, Is_barred, IsWovenOwn, Lacks, LivesOwn, MayRun, Of, OwesOwn, OwnBeginning, OwnDue, Parts, PutsNoPlace, ReadsOwn, Stops, Stops_early, Stops_header, header_refusal}
 use Rattle.sl_own.specs.OwnRuns.{HasToldOwn, IsOwnStop}
 use Rattle.sl_own.specs.declared.ground.OwnGround.{OwnGround}
@@ -195,18 +195,12 @@ owes_since stands commands disks folder w left after taken now first faults late
 owes_since stands commands disks folder w left after taken now first faults later sink_faults sink_later device_faults device_later s le (Lacks part nothing) = Lacks part nothing
 
 -- .. and of the devices.
-not_lent_since : (disks : Disks) (folder : List ℕ) (h : Header) (part : Part) (first faults later : ℕ) (why : NoPlace) → first ≤ faults → NotLent disks folder h part faults later why
-    → NotLent disks folder h part first later why
-not_lent_since disks folder h part first faults later why le (Has_fault rose) = Has_fault (rose_since first faults later le rose)
-not_lent_since disks folder h part first faults later why le No_memory = No_memory
-not_lent_since disks folder h part first faults later why le (LentDiffers d apart differs) = LentDiffers d apart differs
-
 pub bars_since : (disks : Disks) (folder : List ℕ) (h : Header) (machine first faults later : ℕ) (why : NoPlace) → first ≤ faults → Bars disks folder h machine faults later why
     → Bars disks folder h machine first later why
 bars_since disks folder h machine first faults later why le (Folder_bars rose) = Folder_bars (rose_since first faults later le rose)
 bars_since disks folder h machine first faults later why le (Machine_bars rose) = Machine_bars (rose_since first faults later le rose)
 bars_since disks folder h machine first faults later why le (Size_bars y differs) = Size_bars why differs
-bars_since disks folder h machine first faults later why le (Area_bars y not) = Area_bars why (not_lent_since disks folder h Delta first faults later why le not)
+bars_since disks folder h machine first faults later why le (Area_bars y not) = Area_bars why (not_lent_on disks folder h Delta faults later first later why (rose_since first faults later le) not)
 
 due_devices : {D : Type 0} (stands : D → Setting → Trace → Type 0) (commands : Header → List (Form Command)) (disks : Disks) (folder : List ℕ) (w : OwnManner) (left after : Option (List ℕ))
     (faults later first device_faults device_later : ℕ) (text : List ℕ) (whole : Lived) → first ≤ device_faults

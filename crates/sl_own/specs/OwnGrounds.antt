@@ -36,20 +36,18 @@ FindsNot h Delta path content faults later why = StandsNot h path content faults
 FindsNot h Resource path content faults later why = ⊥
 
 -- It was read of an area of the disk, which had what the disk has, where that is told.
-pub record AreaDiffers (disks : Disks) (folder : List ℕ) (h : Header) (part : Part) (why : NotStandingOf) : Type 0 where
+pub record AreaDiffers (disks : Disks) (folder : List ℕ) (h : Header) (part : Part) (faults later : ℕ) (why : NotStandingOf) : Type 0 where
   pub disk : DiskLine
   pub there : Contains h.disks disk
   pub content : Option (List ℕ)
   pub told : Keeps (disks (folder ++ disk.path)) content
-  pub faults : ℕ
-  pub later : ℕ
   pub not : FindsNot h part disk.path content faults later why
 
 -- Why areas can't be had: a fault of the devices, which was counted; a difference; or want of memory.
 pub data NotLent (disks : Disks) (folder : List ℕ) (h : Header) (part : Part) (faults later : ℕ) : NoPlace → Type 0 where
   Has_fault : Rose faults later → NotLent disks folder h part faults later (NotStanding AreaFault)
   No_memory : NotLent disks folder h part faults later (NotStanding NoMemory)
-  Differs : (why : NotStandingOf) → why ≢ AreaFault → AreaDiffers disks folder h part why → NotLent disks folder h part faults later (NotStanding why)
+  Differs : (why : NotStandingOf) → AreaDiffers disks folder h part faults later why → NotLent disks folder h part faults later (NotStanding why)
 
 -- Why a machine can't run there.
 pub data Bars (disks : Disks) (folder : List ℕ) (h : Header) (machine : ℕ) (faults later : ℕ) : NoPlace → Type 0 where

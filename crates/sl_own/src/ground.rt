@@ -58,7 +58,7 @@ struct Start<C: Clock> {
 }
 
 /// Reads a machine's clock, and finds its site. An `Err` is want of memory.
-fn start<V: StandingDevices>(
+fn start_of<V: StandingDevices>(
     alloc: Global,
     header: Header,
     machine: u32,
@@ -162,7 +162,7 @@ pub(crate) fn prepare_own<V: StandingDevices>(
     ensures later { V.Devices.faults devices.old ≤ V.Devices.faults devices.new }
 {
     let (delta, resource) = lend_both(alloc, &header, folder, machine, devices)?;
-    match start(alloc, header, machine, devices) {
+    match start_of(alloc, header, machine, devices) {
         Ok(start) => Ok(ground_of(machine, start, delta, resource, devices)),
         Err(_) => {
             give_back(delta, resource, devices);

@@ -1,5 +1,6 @@
 //! The play of a script for one machine in a process of its own.
 
+ghost use Rattle.sl_io.specs.FaultCauses.{HasCause};
 ghost use Rattle.sl_outside.specs.Acts.{Tells};
 ghost use Rattle.sl_outside.specs.Disks.{Disks};
 ghost use Rattle.sl_own.specs.OwnGrounds.{Bars, IsOwnGround, IsPlaceOf};
@@ -21,7 +22,7 @@ use crate::no_place::{NoPlace, push_no_place};
 use crate::place::take_place;
 use crate::run::run_own;
 use sl_cell::Teller;
-use sl_io::{Sink, Source};
+use sl_io::{Failed, Sink, Source};
 use sl_live_play::{Lived, put, put_refusal, put_run};
 use sl_live_run::{LiveRun, Remains, give_back};
 use sl_outside::StandingDevices;
@@ -172,6 +173,27 @@ where
     play_as::<D, Brand, S, K, V, R>(rt, alloc, ground, manner, source, reader, sink, devices)
 }
 
+/// Has writes answered once the storage has them, if that is wanted.
+fn sync_if<V: StandingDevices>(syncs: bool, devices: &mut V)
+    ensures same { V.Devices.disks devices.new ≡ V.Devices.disks devices.old }
+    ensures count { V.Devices.faults devices.new ≡ V.Devices.faults devices.old }
+{
+    if syncs {
+        devices.sync_writes();
+    }
+}
+
+/// Opens the watchdog device at this path, if one is given.
+fn watch_if<V: StandingDevices>(watchdog: Option<&str>, devices: &mut V) -> Result<(), Failed>
+    ensures cause { HasCause (V.Devices.faults devices.old) (V.Devices.faults devices.new) result }
+    ensures same { V.Devices.disks devices.new ≡ V.Devices.disks devices.old }
+{
+    match watchdog {
+        Some(path) => devices.watch(path),
+        None => Ok(()),
+    }
+}
+
 /// What the machine begins with, in this folder: the folder is claimed, what stands there is seen to, and the watchdog device is opened. After an
 /// `Err` no area is handed out.
 fn begin<V: StandingDevices>(
@@ -190,14 +212,8 @@ fn begin<V: StandingDevices>(
     ensures later { V.Devices.faults devices.old ≤ V.Devices.faults devices.new }
 {
     take_place(alloc, folder, &header, manner.machine, devices)?;
-    if manner.syncs {
-        devices.sync_writes();
-    }
-    if let Some(path) = watchdog {
-        if devices.watch(path).is_err() {
-            return Err(NoPlace::NotStanding(NotStanding::AreaFault));
-        }
-    }
+    sync_if(manner.syncs, devices);
+    watch_if(watchdog, devices)?;
     prepare_own(alloc, header, folder, manner.machine, devices)
 }
 
