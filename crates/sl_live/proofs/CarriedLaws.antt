@@ -1,29 +1,29 @@
 -- One moment more: what was signalled, and which starts are awaited.
 use Rattle.sl_book.proofs.Fronts.{prefix_shorter, prefix_whole}
 use Rattle.sl_book.proofs.Givens.{entries_last}
+use Rattle.sl_book.proofs.SeatLaws.{seen_told}
 use Rattle.sl_book.specs.Logs.{entries}
 use Rattle.sl_cell.specs.Histories.{Signed}
 use Rattle.sl_cell.specs.Seats.{SeatState}
 use Rattle.sl_cell.specs.Told.{Gave}
 use Rattle.sl_live.proofs.TurnLaws.{grows_none, grows_on}
-use Rattle.sl_live.specs.CarriedOut.{AreCarried, AreMarked, HasSignalled, IsLet, IsQueue, Kept, acts_along, acts_at, after_all, after_moment, as_moment, entries_in, is_childless, is_named, kept_in, late_kill, no_children, start_of, starts_of, with_effects, with_told}
-use Rattle.sl_live.specs.Turns.{Carries, ChildrenState, Does, Guards, IsQuiet, TakesIn, TellsExit, TellsStart, MakesTurn, doomed, is_doomed, is_lapsed, kill_of, marked, names, number_of, ordered, sent_by, told_off, without}
+use Rattle.sl_live.specs.CarriedOut.{AreCarried, AreMarked, HasSignalled, IsLet, IsQueue, Kept, TookStart, acts_along, acts_at, after_all, after_moment, as_moment, entries_in, is_childless, is_named, kept_in, late_kill, no_children, start_of, starts_of, with_effects, with_told}
+use Rattle.sl_live.specs.Turns.{Carries, ChildrenState, Does, Guards, IsQuiet, TellsExit, TellsStart, MakesTurn, doomed, is_lapsed, kill_of, marked, names, number_of, ordered, sent_by, told_off, without}
 use Rattle.sl_live.specs.declared.children.Awaited.{Awaited}
 use Rattle.sl_outside.specs.Acts.{Grows, Tells}
 use Rattle.sl_outside.specs.declared.act.Act.{Act}
 use Rattle.sl_trace.specs.Traces.{Setting}
 use Rattle.sl_trace.specs.declared.effects.Effects.{Effects}
 use Rattle.sl_trace.specs.declared.effects.Entry.{Entry}
-use Rattle.sl_trace.specs.declared.effects.Sent.{Sent}
 use Rattle.sl_trace.specs.declared.effects.Start.{Start}
 use Rattle.sl_trace.specs.declared.input.Input.TheVariants.{Answer as Told, Exit, Line, Number, Spawned, Wake}
 use Rattle.sl_trace.specs.declared.input.Input.{Input}
-use Rattle.std.proofs.Common.{append_assoc, append-nil, ap, arith, inl, inr, length-append, refl, rules, subst, suc, sym, zero, ◌∙◌}
+use Rattle.std.proofs.Common.{append_assoc, append-nil, ap, arith, inl, inr, length-append, refl, subst, suc, sym, zero, ◌∙◌}
 use Rattle.sl_words.proofs.Numbers.{number_itself}
 use Rattle.std.proofs.lemmas.Bool.Decides.{nat_tests}
 use Rattle.std.proofs.lemmas.List.{map-append}
 use Rattle.std.specs.List.{position, remove}
-use Rattle.std.specs.Prelude.{Bool, IsSomeAnd, List, None, Option, Some, cond, drop, false, if◌then◌else◌, length, map, nat_lt, not, slice_get, true, [], ℕ, ◌&&◌, ◌++◌, ◌+◌, ◌==◌, ◌||◌, ◌∷◌, ◌≡◌, ◌≤◌, ◌⊎◌}
+use Rattle.std.specs.Prelude.{Bool, IsSomeAnd, List, None, Option, Some, cond, drop, false, if◌then◌else◌, is_some, length, map, nat_lt, not, slice_get, true, [], ℕ, ◌&&◌, ◌++◌, ◌+◌, ◌==◌, ◌||◌, ◌∷◌, ◌≡◌, ◌≤◌, ◌⊎◌}
 use mathlib.Core.List.{IsPrefix}
 
 -- ---- what a spawner tells
@@ -54,7 +54,7 @@ after_more k (x ∷ ms) m = after_more (after_moment k x) ms m
 acts_more : (k : Kept) (ms : List (Option Entry)) (m : Option Entry) → acts_along k (ms ++ m ∷ []) ≡ acts_along k ms ++ acts_at (after_all k ms) m
 acts_more k [] m = append-nil (acts_at k m)
 acts_more k (x ∷ ms) m =
-    ap (λ as. acts_at k x ++ as) (acts_more (after_moment k x) ms m) ∙ sym (append_assoc (acts_at k x) (acts_along (after_moment k x) ms) (acts_at (after_all (after_moment k x) ms) m))
+    ap (λ more. acts_at k x ++ more) (acts_more (after_moment k x) ms m) ∙ sym (append_assoc (acts_at k x) (acts_along (after_moment k x) ms) (acts_at (after_all (after_moment k x) ms) m))
 
 -- an entry more
 signalled_entry : (h : List Entry) (killed : Bool) (told told' : Option (List Act)) (e : Entry) (k : Kept) (s : HasSignalled h killed told) → k ≡ after_all no_children s.moments
@@ -101,12 +101,14 @@ or_cases : (a b : Bool) → (a || b) ≡ true → (a ≡ true) ⊎ (b ≡ true)
 or_cases true b is = inl refl
 or_cases false b is = inr is
 
+or_on : (a b c : Bool) → (b ≡ true → c ≡ true) → (a || b) ≡ true → (a || c) ≡ true
+or_on true b c f is = refl
+or_on false b c f is = f is
+
 pub named_more : (process : ℕ) (xs ys : List Entry) → is_named process xs ≡ true → is_named process (xs ++ ys) ≡ true
 named_more process [] ys is = absurd cc
-named_more process (x ∷ xs) ys is = named_by (or_cases (names x.effects.signals process) (is_named process xs) is) where
-  named_by : (names x.effects.signals process ≡ true) ⊎ (is_named process xs ≡ true) → (names x.effects.signals process || is_named process (xs ++ ys)) ≡ true
-  named_by (inl here) = or_left (names x.effects.signals process) (is_named process (xs ++ ys)) here
-  named_by (inr there) = or_right (names x.effects.signals process) (is_named process (xs ++ ys)) (named_more process xs ys there)
+named_more process (x ∷ xs) ys is =
+    or_on (names x.effects.signals process) (is_named process xs) (is_named process (xs ++ ys)) (λ so. named_more process xs ys so) is
 
 named_last : (process : ℕ) (h : List Entry) (e : Entry) → names e.effects.signals process ≡ true → is_named process (h ++ e ∷ []) ≡ true
 named_last process [] e is = or_left (names e.effects.signals process) false is
@@ -123,8 +125,8 @@ marks_more xs ys killed killed' (w ∷ ws) later so =
     ((λ is. let_more xs ys killed killed' w.start.process later (so.0 is)), marks_more xs ys killed killed' ws later so.1)
 
 marks_append : (h : List Entry) (killed : Bool) (ws vs : List Awaited) → AreMarked h killed ws → AreMarked h killed vs → AreMarked h killed (ws ++ vs)
-marks_append h killed [] vs first then = then
-marks_append h killed (w ∷ ws) vs first then = (first.0, marks_append h killed ws vs first.1 then)
+marks_append h killed [] vs first last = last
+marks_append h killed (w ∷ ws) vs first last = (first.0, marks_append h killed ws vs first.1 last)
 
 marks_ordered : (h : List Entry) (killed : Bool) (ss : List Start) → AreMarked h killed (map ordered ss)
 marks_ordered h killed [] = tt
@@ -248,12 +250,13 @@ module _ {P : Type 0} (told : P → Option (List Act)) (faults : P → ℕ) (run
   carried_turn : (h : List Entry) (taken taken' : ℕ) (killed : Bool) (c mid c' : ChildrenState P) (e : Entry) → AreCarried told h taken killed c
       → Grows (told c.spawner) (told mid.spawner) (late_kill (kept_in c) e.input) → kept_in mid ≡ with_told (kept_in c) e.input → IsQueue h taken' killed mid.awaited
       → Carries told faults running e.effects mid c' → AreCarried told (h ++ e ∷ []) taken' killed c'
+  unfolding signalled_entry
   carried_turn h taken taken' killed c mid c' e so grows tells queue carries =
       let s = so.signalled in
       let k : Kept = kept_in c in
       let now : kept_in c' ≡ after_moment k (Some e)
       = same_kept c'.numbers (mid.numbers ++ map number_of e.effects.starts) c'.awaited (map (marked e.effects.signals) mid.awaited ++ map ordered e.effects.starts) carries.numbers carries.awaited
-          ∙ ap (with_effects e.effects) tells in
+      ∙ ap (with_effects e.effects) tells in
       let all : Grows (told c.spawner) (told c'.spawner) (acts_at k (Some e))
       = grows_on (told c.spawner) (told mid.spawner) (told c'.spawner) (late_kill k e.input) (map sent_by e.effects.signals) grows carries.does.grows in
       record {
@@ -315,6 +318,22 @@ module _ {P : Type 0} (told : P → Option (List Act)) (faults : P → ℕ) (run
       (subst (λ i. kept_in mid ≡ with_told k i) same kept) (subst (IsQueue (entries front) taken' killed) (sym takes.awaited) queue)
       (subst (λ f. Carries told faults running f mid c') (sym gave.told) tells.turn.1))
 
+  -- .. where a step was made
+  pub exit_made : (st : Setting) (now process : ℕ) (o : Option Effects) (front : List Signed) (taken : ℕ) (killed : Bool) (c c' : ChildrenState P) (s s' : SeatState)
+      → is_some o ≡ true → TellsExit told faults running process (MakesTurn told faults running st now o) c c' s s' → IsPrefix front s'.front
+      → length s'.front ≡ length front + 1 → AreCarried told (entries front) taken killed c → AreCarried told (entries s'.front) taken killed c'
+  exit_made st now process (Some fx) front taken killed c c' s s' made tells behind one so =
+      exit_carried st now process fx front taken killed c c' s s' tells behind one so
+  exit_made st now process None front taken killed c c' s s' made tells behind one so = absurd cc
+
+  pub start_made : {C : Type 0} (st : Setting) (now process : ℕ) (child : Option C) (ok : Bool) (o : Option Effects) (front : List Signed) (taken taken' : ℕ) (killed : Bool)
+      (c c' : ChildrenState P) (s s' : SeatState) → is_some o ≡ true → IsSomeAnd (slice_get c.awaited 0) (λ (w : Awaited). w.start.process ≡ process) → taken' ≡ taken + 1
+      → TellsStart told faults running process child ok (MakesTurn told faults running st now o) c c' s s' → IsPrefix front s'.front → length s'.front ≡ length front + 1
+      → AreCarried told (entries front) taken killed c → AreCarried told (entries s'.front) taken' killed c'
+  start_made st now process child ok (Some fx) front taken taken' killed c c' s s' made first next tells behind one so =
+      start_carried st now process child ok fx front taken taken' killed c c' s s' first next tells behind one so
+  start_made st now process child ok None front taken taken' killed c c' s s' made first next tells behind one so = absurd cc
+
   -- nothing was done
   pub carried_same : (h : List Entry) (taken : ℕ) (killed : Bool) (c c' : ChildrenState P) → Grows (told c.spawner) (told c'.spawner) [] → c'.numbers ≡ c.numbers
       → c'.awaited ≡ c.awaited → AreCarried told h taken killed c → AreCarried told h taken killed c'
@@ -336,6 +355,7 @@ module _ {P : Type 0} (told : P → Option (List Act)) (faults : P → ℕ) (run
   -- all were killed
   pub carried_kill : (h : List Entry) (taken : ℕ) (killed : Bool) (c c' : ChildrenState P) → Does told faults running c.spawner c'.spawner (map kill_of c.numbers)
       → c'.numbers ≡ c.numbers → c'.awaited ≡ map doomed c.awaited → AreCarried told h taken killed c → AreCarried told h taken true c'
+  unfolding signalled_kill
   carried_kill h taken killed c c' does numbers awaited so =
       let s = so.signalled in record {
         signalled = signalled_kill h killed (told c.spawner) (told c'.spawner) (kept_in c) s so.kept does.grows;
@@ -352,9 +372,9 @@ module _ {P : Type 0} (told : P → Option (List Act)) (faults : P → ℕ) (run
       subst (λ b. AreCarried told h taken b c') (sym (or_right killed true refl)) (carried_kill h taken killed c c' does numbers awaited so)
   test_carried false h taken killed c c' does numbers awaited so =
       subst (λ b. AreCarried told h taken b c') (sym (or_false killed)) (carried_same h taken killed c c' does.grows numbers awaited so) where
-    or_false : (b : Bool) → (b || false) ≡ b
-    or_false true = refl
-    or_false false = refl
+        or_false : (b : Bool) → (b || false) ≡ b
+        or_false true = refl
+        or_false false = refl
 
   pub guard_carried : (now last last' fire : ℕ) (answer lapsed : Bool) (h : List Entry) (taken : ℕ) (killed : Bool) (c c' : ChildrenState P) → lapsed ≡ is_lapsed last' fire now
       → Guards told faults running now last last' fire c c' answer → AreCarried told h taken killed c → AreCarried told h taken (killed || lapsed) c'
@@ -386,3 +406,20 @@ take_first h taken killed (v ∷ vs) w is q =
     let same : w ≡ v = cc is in
     subst (λ (x : Awaited). (slice_get (starts_of h) taken ≡ Some x.start) × (x.signalled ≡ true → IsLet h killed x.start.process)) (sym same)
     (get_drop taken (starts_of h) v.start (map start_of vs) q.left, q.marks.0)
+
+pub took_start : (s s' : SeatState) (h : List Signed) (n taken : ℕ) (killed : Bool) (ws : List Awaited) (w : Awaited) → IsPrefix s.front h
+    → s' ≡ record { by = s.by; count = s.count; taken = n + 1; front = h } → n ≡ s.taken → s.taken ≡ taken → Some w ≡ slice_get ws 0 → IsQueue (entries h) taken killed ws
+    → TookStart s s' w killed
+took_start s s' h n taken killed ws w before is same count at q =
+    let first = take_first (entries h) taken killed ws w at q in
+    let front : s'.front ≡ h = ap (λ (x : SeatState). x.front) is in record {
+      seen = seen_told s s' (n + 1) h before is;
+      there = subst (λ k. slice_get (starts_of (entries s'.front)) k ≡ Some w.start) (sym count)
+          (subst (λ (l : List Signed). slice_get (starts_of (entries l)) taken ≡ Some w.start) (sym front) first.0);
+      taken = ap (λ (x : SeatState). x.taken) is ∙ ap (λ k. k + 1) same;
+      let_ = subst (λ (l : List Signed). w.signalled ≡ true → IsLet (entries l) killed w.start.process) (sym front) first.1;
+    }
+
+pub both_true : (a b : Bool) → (a && b) ≡ true → (a ≡ true) × (b ≡ true)
+both_true true b is = (refl, is)
+both_true false b is = absurd cc

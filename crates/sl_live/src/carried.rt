@@ -14,7 +14,7 @@ ghost use Rattle.sl_live.specs.CarriedOut.{HasSignalled, IsTakenStart, is_childl
 ghost use Rattle.sl_live.specs.Turns.{Does, GivesUp, Guards, Looks, MakesTurn, TellsStart, doomed, is_lapsed, kill_of};
 ghost use Rattle.sl_outside.specs.Acts.{Tells};
 ghost use Rattle.sl_world_state.specs.Daemons.{read_of};
-ghost use Rattle.std.specs.Prelude.{Bool, IfOk, IfSome, IsSomeAnd, IsTrue, OnErr, OnOk, length, map, true, [], ℕ, ◌+◌, ◌==◌, ◌≡◌, ◌≤◌};
+ghost use Rattle.std.specs.Prelude.{Bool, IfOk, IfSome, IsSomeAnd, IsTrue, OnErr, OnOk, is_some, length, map, true, [], ℕ, ◌&&◌, ◌+◌, ◌==◌, ◌||◌, ◌≡◌, ◌≤◌};
 ghost use mathlib.Core.List.{IsPrefix};
 
 use crate::children::{Awaited, Children};
@@ -47,6 +47,27 @@ fn is_childless(input: &Input) -> bool
         Input::Exit { .. } => false,
         Input::Spawned { .. } => false,
     }
+}
+
+/// Whether both are so.
+fn both(one: bool, other: bool) -> bool
+    ensures { result ≡ (one && other) }
+{
+    one && other
+}
+
+/// Whether one of them is so.
+fn either(one: bool, other: bool) -> bool
+    ensures { result ≡ (one || other) }
+{
+    one || other
+}
+
+/// Whether a step was made.
+fn is_made(effects: &Option<Effects>) -> bool
+    ensures { result ≡ is_some effects.now }
+{
+    effects.is_some()
 }
 
 /// Whether the second count is the one behind the first.
@@ -155,7 +176,11 @@ impl<P: Spawner, J: Station> Carried<P, J> {
             return Ok(None);
         };
         let before = seat.taken();
-        if !self.whole || before != self.taken || before == u64::MAX || !seat.is_behind(&self.front) {
+        if !self.whole
+            || before != self.taken
+            || before == u64::MAX
+            || !seat.is_behind(&self.front)
+        {
             return Err(Broken);
         }
         seat.see(&self.front, before + 1);
@@ -180,10 +205,13 @@ impl<P: Spawner, J: Station> Carried<P, J> {
         ensures err { OnErr result (GivesUp (C.last clock.new) input self.old.children self.new.children seat.old seat.new) }
         ensures clock { C.last clock.old ≤ C.last clock.new }
     {
-        let whole = self.whole && is_childless(&input);
+        let childless = is_childless(&input);
+        let before = both(self.whole, childless);
         match give_step(rt, cell, seat, clock, &mut self.children, input, sectors) {
             Ok(Some(effects)) => {
-                self.whole = follow(&mut self.front, seat) && whole;
+                let next = follow(&mut self.front, seat);
+                let whole = both(next, before);
+                self.whole = whole;
                 Ok(Some(effects))
             }
             Ok(None) => Ok(None),
@@ -211,12 +239,17 @@ impl<P: Spawner, J: Station> Carried<P, J> {
         ensures clock { C.last clock.old ≤ C.last clock.new }
     {
         let taken = seat.taken();
-        let whole = self.whole
-            && is_of(self.children.next(), process)
-            && is_one_more(self.taken, taken);
+        let first = is_of(self.children.next(), process);
+        let counted = is_one_more(self.taken, taken);
+        let due = both(first, counted);
+        let before = both(self.whole, due);
         match spawned_step(rt, cell, seat, clock, &mut self.children, process, child) {
             Ok(told) => {
-                self.whole = follow(&mut self.front, seat) && whole && told.effects.is_some();
+                let next = follow(&mut self.front, seat);
+                let made = is_made(&told.effects);
+                let gave = both(next, made);
+                let whole = both(before, gave);
+                self.whole = whole;
                 self.taken = taken;
                 Ok(told)
             }
@@ -240,8 +273,11 @@ impl<P: Spawner, J: Station> Carried<P, J> {
     {
         match child_step(rt, cell, seat, clock, &mut self.children) {
             Ok(Some(gone)) => {
-                self.whole =
-                    follow(&mut self.front, seat) && self.whole && gone.effects.is_some();
+                let next = follow(&mut self.front, seat);
+                let made = is_made(&gone.effects);
+                let gave = both(next, made);
+                let whole = both(self.whole, gave);
+                self.whole = whole;
                 Ok(Some(gone))
             }
             Ok(None) => Ok(None),
@@ -269,7 +305,8 @@ impl<P: Spawner, J: Station> Carried<P, J> {
         ensures clock { C.last clock.old ≤ C.last clock.new }
     {
         let killed = device_step(rt, cell, seat, clock, device, &mut self.children)?;
-        self.killed = self.killed || killed;
+        let killed = either(self.killed, killed);
+        self.killed = killed;
         Ok(())
     }
 

@@ -26,14 +26,14 @@ use Rattle.sl_live_machine.specs.ThreadTurns.{AreMade, WorksOn}
 use Rattle.sl_live_machine.specs.declared.starter.Starter.{Starter}
 use Rattle.sl_outside.specs.Acts.{Tells}
 use Rattle.sl_outside.specs.declared.act.Act.{Act}
-use Rattle.sl_live_machine.specs.ThreadSeats.{AreSeats, AreSeatsOf, GaveOnly, IsCaseOfRun, IsRun, Worked, children_number, device_number, entries_by, lines_number, number_of, starter_number, thread_count, ticker_number}
+use Rattle.sl_live_machine.specs.ThreadSeats.{AreSeats, AreSeatsOf, GaveOnly, IsCaseOfRun, IsRun, Worked, children_number, device_number, entries_by, lines_number, number_of, starter_number, ticker_number}
 use Rattle.sl_trace.specs.Traces.{IsTrace, Setting}
 use Rattle.sl_trace.specs.declared.effects.Entry.{Entry}
 use Rattle.sl_trace.specs.declared.input.Input.{Input}
 use Rattle.sl_world_state.specs.Daemons.{Stood}
 use Rattle.sl_run.specs.Lawful.{IsSetting}
 use Rattle.std.proofs.Common.{ap, arith, refl, subst, sym, ◌∙◌}
-use Rattle.std.specs.Prelude.{All, Bool, Err, IfErr, IfOk, List, Ok, OnOk, Option, Result, length, reverse, take, true, [], ℕ, ◌++◌, ◌+◌, ◌<◌, ◌^◌, ◌∷◌, ◌≡◌, ◌≤◌}
+use Rattle.std.specs.Prelude.{All, Bool, Err, IfErr, IfOk, List, Ok, OnOk, Option, Result, length, reverse, take, true, [], ℕ, ◌<◌, ◌^◌, ◌∷◌, ◌≡◌}
 use mathlib.Core.List.{IsPrefix}
 
 are_seats : (st : Setting) (ticks delta resource exits starts tests lines : SeatState) → IsTicker ticks → Works st Delta delta → Works st Resource resource → IsChildThread exits

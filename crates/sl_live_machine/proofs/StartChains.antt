@@ -8,7 +8,7 @@ use Rattle.sl_cell.proofs.SeatLaws.{gave_before, mine_on}
 use Rattle.sl_cell.specs.Histories.{Signed}
 use Rattle.sl_cell.specs.Seats.{SeatState}
 use Rattle.sl_cell.specs.Told.{Gave, IsUnasked}
-use Rattle.sl_live.proofs.CarriedLaws.{let_more, starts_more, tells_on}
+use Rattle.sl_live.proofs.CarriedLaws.{let_more, starts_more}
 use Rattle.sl_live.proofs.TurnLaws.{grows_none, grows_on}
 use Rattle.sl_live.proofs.WorkLaws.{next_within, take_next, take_same}
 use Rattle.sl_live.specs.CarriedOut.{AreStarted, IsActed, IsLet, IsUntold, TookStart, starts_of}
@@ -16,7 +16,7 @@ use Rattle.sl_live.specs.Turns.{Starts}
 use Rattle.sl_live.specs.declared.children.Awaited.{Awaited}
 use Rattle.sl_live_machine.proofs.SeatLaws.{GaveTurn}
 use Rattle.sl_live_machine.specs.ServedActs.{StartsOn}
-use Rattle.sl_outside.specs.Acts.{Grows, Tells}
+use Rattle.sl_outside.specs.Acts.{Grows}
 use Rattle.sl_outside.specs.declared.act.Act.TheVariants.{Started}
 use Rattle.sl_outside.specs.declared.act.Act.{Act}
 use Rattle.sl_trace.specs.Traces.{Setting}
@@ -269,3 +269,19 @@ module _ (st : Setting) where
   starts_on told faults killed killed' seen_killed start w x y child ok s m s' later saw took starts came (inr passed) so =
       starts_passed killed killed' start (told x) (told y) s m s' w (is_some child) ok later took.seen
       (dealt_with told faults killed' seen_killed w x y child s m s' took passed.seen.before passed.taken saw starts) came passed so
+
+-- ---- what came of a start
+
+pub or_first : (k d k' : Bool) → k' ≡ (k || d) → k ≡ true → k' ≡ true
+or_first true d k' is so = is
+or_first false d k' is so = absurd cc
+
+pub or_second : (k d k' : Bool) → k' ≡ (k || d) → d ≡ true → k' ≡ true
+or_second true d k' is so = is
+or_second false d k' is so = is ∙ so
+
+-- a child is told only where there is one
+pub runs_so : {C : Type 0} (ok : Bool) (child : Option C) → (child ≡ None → ok ≡ false) → ok ≡ true → is_some child ≡ true
+runs_so ok (Some x) none is = refl
+runs_so true None none is = sym (none refl)
+runs_so false None none is = absurd cc

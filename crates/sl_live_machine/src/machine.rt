@@ -17,7 +17,7 @@ ghost use Rattle.sl_outside.specs.Acts.{Tells};
 ghost use Rattle.sl_run.specs.Headers.{IsHeader};
 ghost use Rattle.sl_run.specs.Lawful.{IsSetting};
 ghost use Rattle.sl_world_state.specs.Daemons.{Stood, begun_with};
-ghost use Rattle.std.specs.Prelude.{Err, IfErr, IfOk, IsOk, IsOkAnd, List, None, Ok, OnOk, [], true, ◌+◌, ◌≡◌, ◌⊎◌};
+ghost use Rattle.std.specs.Prelude.{Err, IfErr, IfOk, IsOk, IsOkAnd, IsTrue, List, None, Ok, OnOk, [], true, ◌&&◌, ◌+◌, ◌≡◌, ◌⊎◌};
 
 use crate::printer::{Desk, Printer};
 use crate::room::{Pace, Room};
@@ -189,6 +189,20 @@ struct ChildrenEnd<P: Spawner> {
     whole: bool,
 }
 
+/// Whether all children were killed, where one saw that they were.
+fn is_known(killed: bool, saw_killed: bool) -> bool
+    ensures { IsTrue result → saw_killed ≡ true → killed ≡ true }
+{
+    killed || !saw_killed
+}
+
+/// Whether both are so.
+fn both(one: bool, other: bool) -> bool
+    ensures { result ≡ (one && other) }
+{
+    one && other
+}
+
 /// What is left of the children, where this is the whole history, and the starter knows that all were killed, or does not. Where there was no memory, no
 /// child goes on: one may have been started behind the kill of the child thread.
 fn end_children<J: Station, P: Spawner>(
@@ -205,7 +219,9 @@ fn end_children<J: Station, P: Spawner>(
         children.kill();
     }
     let killed = children.has_killed();
-    let whole = children.is_whole(mine) && (killed || !saw_killed);
+    let follows = children.is_whole(mine);
+    let known = is_known(killed, saw_killed);
+    let whole = both(follows, known);
     ChildrenEnd {
         spawner: children.into_spawner(),
         killed,

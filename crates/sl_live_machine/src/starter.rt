@@ -7,7 +7,7 @@ ghost use Rattle.sl_live_machine.specs.ServedActs.{StartsOn};
 ghost use Rattle.sl_live_machine.specs.ThreadTurns.{OnChildren};
 ghost use Rattle.sl_live_machine.specs.declared.turn.Happened.TheVariants.{Started};
 ghost use Rattle.sl_outside.specs.declared.act.Act.{Act};
-ghost use Rattle.std.specs.Prelude.{Bool, IfOk, List, OnErr, OnOk, Option, false, ◌≡◌};
+ghost use Rattle.std.specs.Prelude.{Bool, IfOk, List, OnErr, OnOk, Option, false, ◌||◌, ◌≡◌};
 
 use crate::room::Room;
 use crate::script_waits::Post;
@@ -38,6 +38,14 @@ impl<P: Spawner> Starter<P> {
             spawner,
             killed: false,
         }
+    }
+
+    /// Notes whether all children were killed by now.
+    fn note(&mut self, killed: bool)
+        ensures killed { self.new.killed ≡ (self.old.killed || killed) }
+        ensures spawner { self.new.spawner ≡ self.old.spawner }
+    {
+        self.killed = self.killed || killed;
     }
 }
 
@@ -94,10 +102,11 @@ fn serve<D: Teller, J: Station, R: Wait, C: Clock, P: Spawner>(
     let Some(due) = take(rt, room, seat)? else {
         return Ok(None);
     };
-    starter.killed = starter.killed || due.killed;
+    starter.note(due.killed);
     let child = start_step(&mut starter.spawner, &due.awaited);
     let process = due.awaited.start.process;
-    Ok(Some(tell(rt, room, seat, clock, process, child)?))
+    let turn = tell(rt, room, seat, clock, process, child)?;
+    Ok(Some(turn))
 }
 
 /// A turn that has begun: whether there was a start to make. An `Err` is want of memory.

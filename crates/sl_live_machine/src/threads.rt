@@ -630,7 +630,11 @@ pub(crate) fn run_threads<
             requires clock { IsSend C.row }
             requires spawner { IsSend P.row }
             requires device { IsSend V.row }
-        { others(rt, room, stand, ticks, lines, exits, starts, tests, starter, device) },
+        {
+            others(
+                rt, room, stand, ticks, lines, exits, starts, tests, starter, device,
+            )
+        },
     );
     gather_threads(room.alloc, delta, resource, rest)
 }
@@ -681,7 +685,11 @@ pub(crate) fn run_beside<
             requires gate { IsSync G.row }
             ensures { IfOk result.seats (λ v. AreServing A.content A.faults P.acts room.entry.now.geometry.sector J.setting delta.items result.delta.items
                 resource.items result.resource.items starter.spawner result.starter v.items) }
-        { run_threads(rt, room, stand, gate, clocks, starter, device, delta, resource) },
+        {
+            run_threads(
+                rt, room, stand, gate, clocks, starter, device, delta, resource,
+            )
+        },
         ||
             ensures goes { (t : Telling) → (a : AlongState) → IsPrinting t a (entries printer.mine) printer
                 → OnOk result.end (IsPrinting t a (entries result.printer.mine) result.printer) }

@@ -23,10 +23,10 @@ returns-clause-right g c =
 
 pub returns-clause-signals : goal.returns-clause-signals
 returns-clause-signals g c =
-    let left = c.end_children.result in
-    whole_from c.end_with.result left.whole (HasSignalled (entries c.args.printer.now.mine) left.killed (g.P.Spawner.acts left.spawner)) c.end_with.ensures.whole c.end_children.ensures.signals
+    let left = c.end_children-spawner.result in
+    whole_from c.end_with.result left.whole (HasSignalled (entries c.args.printer.now.mine) left.killed (g.P.Spawner.acts left.spawner)) c.end_with.ensures.whole c.end_children-spawner.ensures.signals
 
 pub returns-clause-killed : goal.returns-clause-killed
 returns-clause-killed g c =
-    let left = c.end_children.result in
-    whole_from c.end_with.result left.whole (c.args.saw_killed ≡ true → left.killed ≡ true) c.end_with.ensures.whole c.end_children.ensures.killed
+    let left = c.end_children-spawner.result in
+    whole_from c.end_with.result left.whole (c.args.saw_killed ≡ true → left.killed ≡ true) c.end_with.ensures.whole c.end_children-spawner.ensures.killed

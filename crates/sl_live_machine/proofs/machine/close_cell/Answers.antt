@@ -15,6 +15,6 @@ pub returns-in-Ok-clause-counts : goal.returns-in-Ok-clause-counts
 returns-in-Ok-clause-counts g c =
     whole_of c.args.seats c.in-Ok.seats (λ v. AreOf g.J.Station.setting c.args.printer.now.mine v.items) c.close_whole.result c.in-Ok.is c.close_whole.ensures.counts
 
-pub returns-clause-counts : goal.returns-clause-counts
-returns-clause-counts g c =
+pub returns-in-Err-clause-counts : goal.returns-in-Err-clause-counts
+returns-in-Err-clause-counts g c =
     early_whole g.J.Station.setting c.close_early.result (IsOkAnd c.args.seats (λ v. AreOf g.J.Station.setting c.args.printer.now.mine v.items)) c.close_early.ensures
