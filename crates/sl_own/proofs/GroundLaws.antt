@@ -1,12 +1,22 @@
 -- A header with the reading of one machine's clock is a header.
+use Rattle.sl_cell.specs.declared.part.Part.TheVariants.{Delta, Resource}
+use Rattle.sl_live.specs.declared.disks.Disk.{Disk}
 use Rattle.sl_live_run.specs.Clocks.{as_first, with_readings}
+use Rattle.sl_live_run.specs.Grounds.{IsSiteOf}
+use Rattle.sl_outside.specs.Acts.{Tells}
+use Rattle.sl_outside.specs.Disks.{Disks}
+use Rattle.sl_outside.specs.declared.act.Act.{Act}
+use Rattle.sl_own.specs.OwnGrounds.{AreLeft, Finds, FindsOn, IsOwnGround}
+use Rattle.sl_own.specs.declared.ground.OwnGround.{OwnGround}
 use Rattle.sl_run.specs.Headers.{IsArea, IsHeader}
 use Rattle.sl_run.specs.declared.header.FirstReading.{FirstReading}
 use Rattle.sl_run.specs.declared.header.Header.{Header}
 use Rattle.sl_words.proofs.Lists.{contains_cases, contains_none}
+use Rattle.sl_world_state.specs.FirstKept.{session_of}
+use Rattle.sl_world_state.specs.declared.daemon.Site.{Site}
 use Rattle.std.proofs.Common.{arith, inl, inr, refl, subst, sym, ◌∙◌}
 use Rattle.std.proofs.lemmas.List.Kept.{AllPairs-cons}
-use Rattle.std.specs.Prelude.{AllPairs, Contains, List, length, [], ℕ, ◌+◌, ◌<◌, ◌^◌, ◌∷◌, ◌≡◌, ◌≢◌, ◌≤◌, ◌⊎◌}
+use Rattle.std.specs.Prelude.{AllPairs, Contains, List, Option, length, [], ℕ, ◌+◌, ◌<◌, ◌^◌, ◌∷◌, ◌≡◌, ◌≢◌, ◌≤◌, ◌⊎◌}
 
 -- The machine is one of the header's, and its reading below 10^12.
 abbrev IsOne : Header → FirstReading → Type 0
@@ -50,3 +60,22 @@ own_header h n m r last is of read same =
 
 pub own_same : (h n : Header) (rs : List FirstReading) → n ≡ with_readings rs h → n ≡ record h { clocks = n.clocks }
 own_same h n rs same = subst (λ (x : Header). x ≡ record h { clocks = x.clocks }) (sym same) refl
+
+-- What was made of all this is a ground.
+pub own_ground : {V C P D W G A : Type 0} (content : A → Option (List ℕ)) (spawned : P → Option (List Act)) (disks : Disks) (folder : List ℕ) (h : Header) (machine : ℕ) (g : OwnGround V C P D W G A)
+    (n : Header) (site : Site) (delta resource : List (Disk A)) → IsHeader h → machine ≤ h.machines → g.header ≡ n → IsHeader n → n ≡ record h { clocks = n.clocks } → machine ≡ g.place + 1
+    → g.ready.site ≡ site → IsSiteOf n machine (session_of n machine) site → Tells (spawned g.ready.parts.spawner) [] → g.ready.parts.delta.items ≡ delta
+    → AreLeft content (FindsOn disks folder h Delta) h.disks delta → g.ready.parts.resource.items ≡ resource → AreLeft content (Finds h Resource) h.disks resource
+    → IsOwnGround content spawned disks folder h machine g
+own_ground content spawned disks folder h machine g n site delta resource is few as_read lawful same numbered at begun unasked first found other plain =
+    let most = is.machines.1 in
+    record {
+      lawful = subst IsHeader (sym as_read) lawful;
+      same = subst (λ (x : Header). x ≡ record h { clocks = x.clocks }) (sym as_read) same;
+      numbered = numbered;
+      small = omega (arith, most, few);
+      site = subst (λ (x : Header). IsSiteOf x machine (session_of x machine) g.ready.site) (sym as_read) (subst (λ (s : Site). IsSiteOf n machine (session_of n machine) s) (sym at) begun);
+      unasked = unasked;
+      delta = subst (AreLeft content (FindsOn disks folder h Delta) h.disks) (sym first) found;
+      resource = subst (AreLeft content (Finds h Resource) h.disks) (sym other) plain;
+    }

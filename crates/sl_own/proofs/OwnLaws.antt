@@ -16,6 +16,7 @@ use Rattle.sl_live_machine.specs.MachineEnds.{EndsWith, HasRun, HasTold as HasTo
 use Rattle.sl_live_machine.specs.Printing.{lines_read}
 use Rattle.sl_live_machine.specs.ServedActs.{ServedStarts}
 use Rattle.sl_live_machine.specs.ServedDisks.{ServedDisks}
+use Rattle.sl_live_machine.specs.declared.machine.Parts.{Parts}
 use Rattle.sl_live_machine.specs.declared.machine.Ran.{Ran}
 use Rattle.sl_live_run.proofs.CaseLaws.{case_so, met}
 use Rattle.sl_live_run.proofs.RunLaws.{if_err_on, if_ok_on}
@@ -219,3 +220,13 @@ no_run_own {D} {K} {A} {P} content area_faults spawned events stands commands he
       × HasToldOwn content area_faults spawned events stands commands header place site disks before after put.0 n left)) (sym is) tt;
   stop = subst (λ (x : Result ℕ LiveStop). IfErr x (IsOwnStop stands commands header place site before after)) (sym is) tt;
 }
+
+-- The site and the disks are those of what was ready.
+pub run_as_ready : {D K C P V A O T : Type 0} (content : A → Option (List ℕ)) (area_faults : A → ℕ) (spawned : P → Option (List Act)) (events : Bool) (stands : D → Setting → Trace → Type 0)
+    (commands : Header → List (Form Command)) (header : Header) (place : ℕ) (w : Work C P V A O T) (site : Site) (parts : Parts C P V A) (before after : List LiveLine → Type 0)
+    (taken now : Option (List ℕ)) (faults later : ℕ) (r : LiveRun K A P) → w.site ≡ site → w.parts ≡ parts
+    → HasRunOwn content area_faults spawned events stands commands header place w.site (disks_in w.parts) before after taken now faults later r
+    → HasRunOwn content area_faults spawned events stands commands header place site (disks_in parts) before after taken now faults later r
+run_as_ready {D} {K} {C} {P} {V} {A} {O} {T} content area_faults spawned events stands commands header place w site parts before after taken now faults later r as_site as_parts so =
+    subst (λ (p : Parts C P V A). HasRunOwn content area_faults spawned events stands commands header place site (disks_in p) before after taken now faults later r) as_parts
+    (subst (λ (s : Site). HasRunOwn content area_faults spawned events stands commands header place s (disks_in w.parts) before after taken now faults later r) as_site so)

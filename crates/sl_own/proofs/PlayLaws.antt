@@ -1,4 +1,5 @@
 -- What is owed of a play of one machine, from what came of its parts.
+use Rattle.sl_cell.specs.declared.part.Part.TheVariants.{Delta}
 use Rattle.sl_io.specs.FaultCauses.{Rose}
 use Rattle.sl_live_lines.specs.LiveTexts.{count_replies}
 use Rattle.sl_live_play.specs.LiveOwed.{All, Puts, PutsEnded, PutsStop}
@@ -11,8 +12,9 @@ use Rattle.sl_live_run.specs.declared.compare.LiveStop.{LiveStop}
 use Rattle.sl_outside.specs.Disks.{Disks}
 use Rattle.sl_outside.specs.declared.act.Act.{Act}
 use Rattle.sl_output.specs.Pieces.{Piece, text_of}
-use Rattle.sl_own.specs.OwnGrounds.{Area_bars, Bars, Differs as LentDiffers, Folder_bars, Has_fault, IsOwnGround, Machine_bars, No_memory, NotLent, Size_bars}
-use Rattle.sl_own.specs.OwnOwed.{Breaks, Breaks_early, DifferingOwn, Ends, Is_barred, IsWovenOwn, Lacks, LivesOwn, Of, OwesOwn, OwnBeginning, OwnDue, Parts, PutsNoPlace, ReadsOwn, Stops, Stops_early, Stops_header, header_refusal}
+use Rattle.sl_own.proofs.LendLaws.{not_lent_on}
+use Rattle.sl_own.specs.OwnGrounds.{Area_bars, Bars, Folder_bars, IsOwnGround, Machine_bars, Size_bars}
+use Rattle.sl_own.specs.OwnOwed.{Breaks, Breaks_early, DifferingOwn, Ends, Is_barred, IsWovenOwn, Lacks, LivesOwn, MayRun, Of, OwesOwn, OwnBeginning, OwnDue, Parts, PutsNoPlace, ReadsOwn, Stops, Stops_early, Stops_header, header_refusal}
 use Rattle.sl_own.specs.OwnRuns.{HasToldOwn, IsOwnStop}
 use Rattle.sl_own.specs.declared.ground.OwnGround.{OwnGround}
 use Rattle.sl_own.specs.declared.no_place.NoPlace.{NoPlace}
@@ -51,19 +53,19 @@ lacks stands commands disks folder w left after taken now faults later sink_faul
 -- The history of the machine, by how its script ended.
 owes_ended : {D : Type 0} (stands : D → Setting → Trace → Type 0) (commands : Header → List (Form Command)) (disks : Disks) (folder : List ℕ) (w : OwnManner) (left after taken now : Option (List ℕ))
     (faults later sink_faults sink_later device_faults device_later : ℕ) (h : Header) (given : List LiveLine) (hist : List Entry) (pieces : List Piece) (end : Option ScriptEnd) (s : Lived)
-    → ReadsOwn w left after faults later h given end → (l : LivesOwn stands commands h w.machine given hist)
+    → ReadsOwn w left after faults later h given end → MayRun disks folder h w.machine → (l : LivesOwn stands commands h w.machine given hist)
     → IsWovenOwn w.events l.begun.header l.begun.place l.begun.site given hist pieces
     → PutsEnded taken now sink_faults sink_later pieces 1 (count_replies (begun_on l.begun.header l.begun.site) hist) end s
     → OwesOwn stands commands disks folder w left after taken now faults later sink_faults sink_later device_faults device_later s
-owes_ended stands commands disks folder w left after taken now faults later sink_faults sink_later device_faults device_later h given hist pieces (Some script.End) s reads lives woven puts =
-    Of _ Done s (Ends h given hist pieces reads lives woven) puts
-owes_ended stands commands disks folder w left after taken now faults later sink_faults sink_later device_faults device_later h given hist pieces (Some (script.Refused number why)) s reads lives woven puts =
-    Of _ Refused s (Stops h given hist pieces number why reads lives woven) puts
-owes_ended stands commands disks folder w left after taken now faults later sink_faults sink_later device_faults device_later h given hist pieces (Some script.ReadFault) s reads lives woven puts =
-    Of _ ReadFault s (Breaks h given hist pieces reads lives woven) puts
-owes_ended stands commands disks folder w left after taken now faults later sink_faults sink_later device_faults device_later h given hist pieces (Some script.NoMemory) s reads lives woven puts =
+owes_ended stands commands disks folder w left after taken now faults later sink_faults sink_later device_faults device_later h given hist pieces (Some script.End) s reads may lives woven puts =
+    Of _ Done s (Ends h given hist pieces reads may lives woven) puts
+owes_ended stands commands disks folder w left after taken now faults later sink_faults sink_later device_faults device_later h given hist pieces (Some (script.Refused number why)) s reads may lives woven puts =
+    Of _ Refused s (Stops h given hist pieces number why reads may lives woven) puts
+owes_ended stands commands disks folder w left after taken now faults later sink_faults sink_later device_faults device_later h given hist pieces (Some script.ReadFault) s reads may lives woven puts =
+    Of _ ReadFault s (Breaks h given hist pieces reads may lives woven) puts
+owes_ended stands commands disks folder w left after taken now faults later sink_faults sink_later device_faults device_later h given hist pieces (Some script.NoMemory) s reads may lives woven puts =
     lacks stands commands disks folder w left after taken now faults later sink_faults sink_later device_faults device_later s puts.0 puts.1.0 puts.1.1
-owes_ended stands commands disks folder w left after taken now faults later sink_faults sink_later device_faults device_later h given hist pieces None s reads lives woven puts =
+owes_ended stands commands disks folder w left after taken now faults later sink_faults sink_later device_faults device_later h given hist pieces None s reads may lives woven puts =
     lacks stands commands disks folder w left after taken now faults later sink_faults sink_later device_faults device_later s puts.0 puts.1.0 puts.1.1
 
 -- Its lines are those that the script gave it.
@@ -87,46 +89,47 @@ pub owes_run_own : {D A P : Type 0} (content : A → Option (List ℕ)) (area_fa
     (commands : Header → List (Form Command)) (disks : Disks) (folder : List ℕ) (w : OwnManner) (left after taken now : Option (List ℕ))
     (faults later sink_faults sink_later device_faults device_later : ℕ) (h : Header) (begun : OwnBeginning h w.machine) (areas : Both A) (was is : List LiveLine → Type 0) (pieces : List Piece)
     (machines : ℕ) (remains : List (Leavings A P)) (replies : Result ℕ LiveStop) (end : Option ScriptEnd) (s : Lived) → was []
-    → ((given : List LiveLine) → is given → ReadsOwn w left after faults later h given end)
+    → ((given : List LiveLine) → is given → ReadsOwn w left after faults later h given end) → MayRun disks folder h w.machine
     → IfOk replies (λ n. (machines ≡ 1) × (back : Leavings A P) × (remains ≡ back ∷ [])
     × HasToldOwn content area_faults spawned w.events stands commands begun.header begun.place begun.site areas was is pieces n back)
     → IfErr replies (IsOwnStop stands commands begun.header begun.place begun.site was is)
     → IfOk replies (λ n. PutsEnded taken now sink_faults sink_later pieces machines n end s)
     → IfErr replies (λ e. PutsStop taken now sink_faults sink_later pieces e s)
     → OwesOwn stands commands disks folder w left after taken now faults later sink_faults sink_later device_faults device_later s
-owes_run_own content area_faults spawned stands commands disks folder w left after taken now faults later sink_faults sink_later device_faults device_later h begun areas was is pieces machines remains (Ok n) end s none reads ok err puts stops =
+owes_run_own content area_faults spawned stands commands disks folder w left after taken now faults later sink_faults sink_later device_faults device_later h begun areas was is pieces machines remains (Ok n) end s none reads may ok err puts stops =
     let told = ok.1.1.1 in
     let one : PutsEnded taken now sink_faults sink_later pieces 1 n end s = subst (λ (k : ℕ). PutsEnded taken now sink_faults sink_later pieces k n end s) ok.0 puts in
-    owes_ended stands commands disks folder w left after taken now faults later sink_faults sink_later device_faults device_later h told.lines told.history pieces end s (reads told.lines (told.gave [] none))
+    owes_ended stands commands disks folder w left after taken now faults later sink_faults sink_later device_faults device_later h told.lines told.history pieces end s (reads told.lines (told.gave [] none)) may
     (lived content area_faults spawned w.events stands commands h w.machine begun areas was is pieces n ok.1.0 told)
     (woven content area_faults spawned w.events stands commands h w.machine begun areas was is pieces n ok.1.0 told)
     (subst (λ (k : ℕ). PutsEnded taken now sink_faults sink_later pieces 1 k end s) told.count one)
-owes_run_own content area_faults spawned stands commands disks folder w left after taken now faults later sink_faults sink_later device_faults device_later h begun areas was is pieces machines remains (Err (stop.Differ machine d)) end s none reads ok err puts stops =
+owes_run_own content area_faults spawned stands commands disks folder w left after taken now faults later sink_faults sink_later device_faults device_later h begun areas was is pieces machines remains (Err (stop.Differ machine d)) end s none reads may ok err puts stops =
     let same : machine ≡ w.machine = subst (λ (k : ℕ). machine ≡ k) (sym begun.numbered) err.numbered in
     Of _ Differs s
-    (Parts h err.lines end (text_of pieces) d (reads err.lines (err.gave [] none))
+    (Parts h err.lines end (text_of pieces) d (reads err.lines (err.gave [] none)) may
     (record {
       begun = begun;
       differs = subst (λ (k : ℕ). IsLiveCase stands (begun_with commands begun.header begun.site) (begun_on begun.header begun.site) (lines_for k err.lines) d) same err.case_of;
     }))
     (subst (λ (k : ℕ). PutsStop taken now sink_faults sink_later pieces (stop.Differ k d) s) same stops)
-owes_run_own content area_faults spawned stands commands disks folder w left after taken now faults later sink_faults sink_later device_faults device_later h begun areas was is pieces machines remains (Err stop.NoMemory) end s none reads ok err puts stops =
+owes_run_own content area_faults spawned stands commands disks folder w left after taken now faults later sink_faults sink_later device_faults device_later h begun areas was is pieces machines remains (Err stop.NoMemory) end s none reads may ok err puts stops =
     lacks stands commands disks folder w left after taken now faults later sink_faults sink_later device_faults device_later s stops.0 stops.1.0 stops.1.1
 
 -- ---- what the machine begins with
 
-unfoldable pub beginning : {V C P D W G A : Type 0} (content : A → Option (List ℕ)) (spawned : P → Option (List Act)) (h : Header) (m : ℕ) (g : OwnGround V C P D W G A)
-    → IsOwnGround content spawned h m g → OwnBeginning h m
-beginning content spawned h m g is =
+unfoldable pub beginning : {V C P D W G A : Type 0} (content : A → Option (List ℕ)) (spawned : P → Option (List Act)) (disks : Disks) (folder : List ℕ) (h : Header) (m : ℕ) (g : OwnGround V C P D W G A)
+    → IsOwnGround content spawned disks folder h m g → OwnBeginning h m
+beginning content spawned disks folder h m g is =
     record { header = g.header; lawful = is.lawful; same = is.same; place = g.place; numbered = is.numbered; site = g.ready.site; begun = is.site }
 
-pub small_place : {V C P D W G A : Type 0} (content : A → Option (List ℕ)) (spawned : P → Option (List Act)) (h : Header) (m : ℕ) (g : OwnGround V C P D W G A)
-    → IsOwnGround content spawned h m g → g.place + 1 < 2 ^ 32
-small_place content spawned h m g is = subst (λ (k : ℕ). k < 2 ^ 32) is.numbered is.small
+pub small_place : {V C P D W G A : Type 0} (content : A → Option (List ℕ)) (spawned : P → Option (List Act)) (disks : Disks) (folder : List ℕ) (h : Header) (m : ℕ) (g : OwnGround V C P D W G A)
+    → IsOwnGround content spawned disks folder h m g → g.place + 1 < 2 ^ 32
+small_place content spawned disks folder h m g is = subst (λ (k : ℕ). k < 2 ^ 32) is.numbered is.small
 
-pub own_setting : {V C P D W G A : Type 0} (content : A → Option (List ℕ)) (spawned : P → Option (List Act)) (commands : Header → List (Form Command)) (h : Header) (m : ℕ) (g : OwnGround V C P D W G A)
-    → SitesAreSettings → ((header : Header) → IsHeader header → ReadsCommands commands header) → IsOwnGround content spawned h m g → IsSetting (begun_with commands g.header g.ready.site)
-own_setting content spawned commands h m g sites reads is = sites commands g.header is.lawful (reads g.header is.lawful) m g.ready.site is.site
+pub own_setting : {V C P D W G A : Type 0} (content : A → Option (List ℕ)) (spawned : P → Option (List Act)) (commands : Header → List (Form Command)) (disks : Disks) (folder : List ℕ) (h : Header) (m : ℕ)
+    (g : OwnGround V C P D W G A) → SitesAreSettings → ((header : Header) → IsHeader header → ReadsCommands commands header) → IsOwnGround content spawned disks folder h m g
+    → IsSetting (begun_with commands g.header g.ready.site)
+own_setting content spawned commands disks folder h m g sites reads is = sites commands g.header is.lawful (reads g.header is.lawful) m g.ready.site is.site
 
 -- ---- a machine that can't run there
 
@@ -170,18 +173,18 @@ due_since : {D : Type 0} (stands : D → Setting → Trace → Type 0) (commands
     (first faults later device_faults device_later : ℕ) (text : List ℕ) (whole : Lived) → first ≤ faults
     → OwnDue stands commands disks folder w left after faults later device_faults device_later text whole
     → OwnDue stands commands disks folder w left after first later device_faults device_later text whole
-due_since stands commands disks folder w left after first faults later device_faults device_later text whole le (Ends h given hist pieces reads lives woven) =
-    Ends h given hist pieces (reads_since w left after first faults later h given _ le reads) lives woven
+due_since stands commands disks folder w left after first faults later device_faults device_later text whole le (Ends h given hist pieces reads may lives woven) =
+    Ends h given hist pieces (reads_since w left after first faults later h given _ le reads) may lives woven
 due_since stands commands disks folder w left after first faults later device_faults device_later text whole le (Stops_early r number why stops) = Stops_early r number why stops
 due_since stands commands disks folder w left after first faults later device_faults device_later text whole le (Stops_header r h why begins is) = Stops_header r h why begins is
-due_since stands commands disks folder w left after first faults later device_faults device_later text whole le (Stops h given hist pieces number why reads lives woven) =
-    Stops h given hist pieces number why (reads_since w left after first faults later h given _ le reads) lives woven
+due_since stands commands disks folder w left after first faults later device_faults device_later text whole le (Stops h given hist pieces number why reads may lives woven) =
+    Stops h given hist pieces number why (reads_since w left after first faults later h given _ le reads) may lives woven
 due_since stands commands disks folder w left after first faults later device_faults device_later text whole le (Breaks_early breaks rose) = Breaks_early breaks (rose_since first faults later le rose)
-due_since stands commands disks folder w left after first faults later device_faults device_later text whole le (Breaks h given hist pieces reads lives woven) =
-    Breaks h given hist pieces (reads_since w left after first faults later h given _ le reads) lives woven
+due_since stands commands disks folder w left after first faults later device_faults device_later text whole le (Breaks h given hist pieces reads may lives woven) =
+    Breaks h given hist pieces (reads_since w left after first faults later h given _ le reads) may lives woven
 due_since stands commands disks folder w left after first faults later device_faults device_later text whole le (Is_barred r h why begins bars) = Is_barred r h why begins bars
-due_since stands commands disks folder w left after first faults later device_faults device_later text whole le (Parts h given end before d reads case_of) =
-    Parts h given end before d (reads_since w left after first faults later h given end le reads) case_of
+due_since stands commands disks folder w left after first faults later device_faults device_later text whole le (Parts h given end before d reads may case_of) =
+    Parts h given end before d (reads_since w left after first faults later h given end le reads) may case_of
 
 pub owes_since : {D : Type 0} (stands : D → Setting → Trace → Type 0) (commands : Header → List (Form Command)) (disks : Disks) (folder : List ℕ) (w : OwnManner) (left after taken now : Option (List ℕ))
     (first faults later sink_faults sink_later device_faults device_later : ℕ) (s : Lived) → first ≤ faults
@@ -192,31 +195,26 @@ owes_since stands commands disks folder w left after taken now first faults late
 owes_since stands commands disks folder w left after taken now first faults later sink_faults sink_later device_faults device_later s le (Lacks part nothing) = Lacks part nothing
 
 -- .. and of the devices.
-not_lent_since : (h : Header) (first faults later : ℕ) (why : NoPlace) → first ≤ faults → NotLent h faults later why → NotLent h first later why
-not_lent_since h first faults later why le (Has_fault rose) = Has_fault (rose_since first faults later le rose)
-not_lent_since h first faults later why le No_memory = No_memory
-not_lent_since h first faults later why le (LentDiffers d differs) = LentDiffers d differs
-
 pub bars_since : (disks : Disks) (folder : List ℕ) (h : Header) (machine first faults later : ℕ) (why : NoPlace) → first ≤ faults → Bars disks folder h machine faults later why
     → Bars disks folder h machine first later why
 bars_since disks folder h machine first faults later why le (Folder_bars rose) = Folder_bars (rose_since first faults later le rose)
 bars_since disks folder h machine first faults later why le (Machine_bars rose) = Machine_bars (rose_since first faults later le rose)
 bars_since disks folder h machine first faults later why le (Size_bars y differs) = Size_bars why differs
-bars_since disks folder h machine first faults later why le (Area_bars y not) = Area_bars why (not_lent_since h first faults later why le not)
+bars_since disks folder h machine first faults later why le (Area_bars y not) = Area_bars why (not_lent_on disks folder h Delta faults later first later why (rose_since first faults later le) not)
 
 due_devices : {D : Type 0} (stands : D → Setting → Trace → Type 0) (commands : Header → List (Form Command)) (disks : Disks) (folder : List ℕ) (w : OwnManner) (left after : Option (List ℕ))
     (faults later first device_faults device_later : ℕ) (text : List ℕ) (whole : Lived) → first ≤ device_faults
     → OwnDue stands commands disks folder w left after faults later device_faults device_later text whole
     → OwnDue stands commands disks folder w left after faults later first device_later text whole
-due_devices stands commands disks folder w left after faults later first device_faults device_later text whole le (Ends h given hist pieces reads lives woven) = Ends h given hist pieces reads lives woven
+due_devices stands commands disks folder w left after faults later first device_faults device_later text whole le (Ends h given hist pieces reads may lives woven) = Ends h given hist pieces reads may lives woven
 due_devices stands commands disks folder w left after faults later first device_faults device_later text whole le (Stops_early r number why stops) = Stops_early r number why stops
 due_devices stands commands disks folder w left after faults later first device_faults device_later text whole le (Stops_header r h why begins is) = Stops_header r h why begins is
-due_devices stands commands disks folder w left after faults later first device_faults device_later text whole le (Stops h given hist pieces number why reads lives woven) = Stops h given hist pieces number why reads lives woven
+due_devices stands commands disks folder w left after faults later first device_faults device_later text whole le (Stops h given hist pieces number why reads may lives woven) = Stops h given hist pieces number why reads may lives woven
 due_devices stands commands disks folder w left after faults later first device_faults device_later text whole le (Breaks_early breaks rose) = Breaks_early breaks rose
-due_devices stands commands disks folder w left after faults later first device_faults device_later text whole le (Breaks h given hist pieces reads lives woven) = Breaks h given hist pieces reads lives woven
+due_devices stands commands disks folder w left after faults later first device_faults device_later text whole le (Breaks h given hist pieces reads may lives woven) = Breaks h given hist pieces reads may lives woven
 due_devices stands commands disks folder w left after faults later first device_faults device_later text whole le (Is_barred r h why begins bars) =
     Is_barred r h why begins (bars_since disks folder h w.machine first device_faults device_later why le bars)
-due_devices stands commands disks folder w left after faults later first device_faults device_later text whole le (Parts h given end before d reads case_of) = Parts h given end before d reads case_of
+due_devices stands commands disks folder w left after faults later first device_faults device_later text whole le (Parts h given end before d reads may case_of) = Parts h given end before d reads may case_of
 
 pub owes_devices : {D : Type 0} (stands : D → Setting → Trace → Type 0) (commands : Header → List (Form Command)) (disks : Disks) (folder : List ℕ) (w : OwnManner) (left after taken now : Option (List ℕ))
     (faults later sink_faults sink_later first device_faults device_later : ℕ) (s : Lived) → first ≤ device_faults

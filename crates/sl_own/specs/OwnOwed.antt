@@ -12,7 +12,7 @@ use Rattle.sl_live_run.specs.Runs.{IsLiveCase, IsLiveHistory, begun_on, begun_te
 use Rattle.sl_live_run.specs.declared.compare.LiveDiffer.{LiveDiffer}
 use Rattle.sl_outside.specs.Disks.{Disks}
 use Rattle.sl_output.specs.Pieces.{Piece, text_by, text_of}
-use Rattle.sl_own.specs.OwnGrounds.{Bars}
+use Rattle.sl_own.specs.OwnGrounds.{Bars, IsPlaceOf}
 use Rattle.sl_own.specs.OwnTexts.{no_place_text}
 use Rattle.sl_own.specs.declared.no_place.NoPlace.TheVariants.{NotStanding}
 use Rattle.sl_own.specs.declared.no_place.NoPlace.{NoPlace}
@@ -83,6 +83,11 @@ pub record DifferingOwn {D : Type 0} (stands : D → Setting → Trace → Type 
 
 -- ---- what is due
 
+-- The machine of this number may run: its header is not refused, and what the header says of disks and areas stood when the machine was to begin.
+pub record MayRun (disks : Disks) (folder : List ℕ) (h : Header) (m : ℕ) : Type 0 where
+  pub header : header_refusal h m ≡ None
+  pub place : IsPlaceOf disks folder h
+
 -- The script was read to where it ended so.
 abbrev pub ReadsOwn : OwnManner → Option (List ℕ) → Option (List ℕ) → ℕ → ℕ → Header → List LiveLine → Option ScriptEnd → Type 0
 ReadsOwn w left after faults later h given end = ReadsScriptBy (own_scope h w.machine) w.keeps left after faults later h given end
@@ -91,7 +96,7 @@ ReadsOwn w left after faults later h given end = ReadsScriptBy (own_scope h w.ma
 pub data OwnDue {D : Type 0} (stands : D → Setting → Trace → Type 0) (commands : Header → List (Form Command)) (disks : Disks) (folder : List ℕ) (w : OwnManner)
     (left after : Option (List ℕ)) (faults later device_faults device_later : ℕ) : List ℕ → Lived → Type 0 where
   -- the script was read to its end
-  Ends : (h : Header) (given : List LiveLine) (hist : List Entry) (pieces : List Piece) → ReadsOwn w left after faults later h given (Some script.End)
+  Ends : (h : Header) (given : List LiveLine) (hist : List Entry) (pieces : List Piece) → ReadsOwn w left after faults later h given (Some script.End) → MayRun disks folder h w.machine
       → (l : LivesOwn stands commands h w.machine given hist) → IsWovenOwn w.events l.begun.header l.begun.place l.begun.site given hist pieces
       → OwnDue stands commands disks folder w left after faults later device_faults device_later (own_text l.begun.header l.begun.site hist pieces ending.Whole) Done
   -- a line of its header is refused; or the last one, since the header is none for this machine
@@ -101,13 +106,14 @@ pub data OwnDue {D : Type 0} (stands : D → Setting → Trace → Type 0) (comm
       → OwnDue stands commands disks folder w left after faults later device_faults device_later (as_bytes (refusal_line r.number why ∷ [])) Refused
   -- .. or a line behind it, at which it ends
   Stops : (h : Header) (given : List LiveLine) (hist : List Entry) (pieces : List Piece) (number : ℕ) (why : Refusal)
-      → ReadsOwn w left after faults later h given (Some (script.Refused number why)) → (l : LivesOwn stands commands h w.machine given hist)
+      → ReadsOwn w left after faults later h given (Some (script.Refused number why)) → MayRun disks folder h w.machine
+      → (l : LivesOwn stands commands h w.machine given hist)
       → IsWovenOwn w.events l.begun.header l.begun.place l.begun.site given hist pieces
       → OwnDue stands commands disks folder w left after faults later device_faults device_later (own_text l.begun.header l.begun.site hist pieces (ending.Refused number why)) Refused
   -- a read failed within the header
   Breaks_early : HeaderBreaks left after → Rose faults later → OwnDue stands commands disks folder w left after faults later device_faults device_later [] ReadFault
   -- .. or behind it: what the machine did is put out
-  Breaks : (h : Header) (given : List LiveLine) (hist : List Entry) (pieces : List Piece) → ReadsOwn w left after faults later h given (Some script.ReadFault)
+  Breaks : (h : Header) (given : List LiveLine) (hist : List Entry) (pieces : List Piece) → ReadsOwn w left after faults later h given (Some script.ReadFault) → MayRun disks folder h w.machine
       → (l : LivesOwn stands commands h w.machine given hist) → IsWovenOwn w.events l.begun.header l.begun.place l.begun.site given hist pieces
       → OwnDue stands commands disks folder w left after faults later device_faults device_later (own_text l.begun.header l.begun.site hist pieces ending.Cut) ReadFault
   -- the machine can't run there
@@ -115,7 +121,7 @@ pub data OwnDue {D : Type 0} (stands : D → Setting → Trace → Type 0) (comm
       → OwnDue stands commands disks folder w left after faults later device_faults device_later (no_place_text why) AreaFault
   -- records of it differ, where the script gave these lines, however it ended: the case stands behind what was put out before
   Parts : (h : Header) (given : List LiveLine) (end : Option ScriptEnd) (before : List ℕ) (d : LiveDiffer) → ReadsOwn w left after faults later h given end
-      → DifferingOwn stands commands h w.machine given d
+      → MayRun disks folder h w.machine → DifferingOwn stands commands h w.machine given d
       → OwnDue stands commands disks folder w left after faults later device_faults device_later (before ++ differ_text w.machine d) Differs
 
 -- What is owed: of what is due what was put out; or want of memory, where what the machine replied before stays put out.

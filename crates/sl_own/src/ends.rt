@@ -8,7 +8,7 @@ ghost use Rattle.sl_live_run.specs.declared.compare.LiveStop.TheVariants.{NoMemo
 ghost use Rattle.sl_live_machine.specs.declared.machine.Ran.{Ran as RanOf};
 ghost use Rattle.sl_output.specs.Pieces.{SeatState};
 ghost use Rattle.sl_own.specs.OwnSettling.{ArePieces, HasLeftOwn, IsSettled, Stops, without_pieces};
-ghost use Rattle.std.specs.Prelude.{All, IfErr, IfOk, List, Some, [], length, map, true, ◌++◌, ◌+◌, ◌<◌, ◌^◌, ◌∷◌, ◌≡◌, ◌⊎◌};
+ghost use Rattle.std.specs.Prelude.{All, IfErr, IfOk, IfSome, List, Some, [], length, map, true, ◌++◌, ◌+◌, ◌<◌, ◌^◌, ◌∷◌, ◌≡◌, ◌⊎◌};
 
 use sl_area::Area;
 use sl_book::{Ledger, Reading, Shelf};
@@ -35,6 +35,13 @@ fn come_to(early: bool, reading: Reading, end: Result<(), CloseError>, next: u64
     }
 }
 
+/// The number behind so many entries, if it has not too many bits.
+fn number_behind(entries: u64) -> Option<u64>
+    ensures { IfSome result (λ number. number ≡ entries + 1) }
+{
+    entries.checked_add(1)
+}
+
 /// How many replies the machine of this number was given, or why it has no history: where threads ended too soon, a case goes before want of memory.
 fn settle<O: Press, T: Shelf, A: Area, P: Spawner>(
     early: bool,
@@ -45,7 +52,7 @@ fn settle<O: Press, T: Shelf, A: Area, P: Spawner>(
     ensures ok { IfOk result (IsSettled early ledger.now ran.now) }
     ensures stop { IfErr result (Stops early machine ledger.now ran.now) }
 {
-    let Some(next) = ran.entries.checked_add(1) else {
+    let Some(next) = number_behind(ran.entries) else {
         return Err(LiveStop::NoMemory);
     };
     match come_to(early, ledger.reading(&ran.reader), ran.end, next) {

@@ -1,7 +1,7 @@
 //! The areas of a machine's workers, on disks that stand: compared with the header before any of them is used.
 
 ghost use Rattle.sl_live_run.specs.Areas.{faults_in};
-ghost use Rattle.sl_own.specs.OwnGrounds.{AreLeft, AreaDiffers, NotLent, SeesTo};
+ghost use Rattle.sl_own.specs.OwnGrounds.{AreLeft, Finds, FindsNot, FindsOn, NotLent};
 ghost use Rattle.sl_own.specs.declared.no_place.NoPlace.TheVariants.{NotStanding as NotStandingPlace};
 ghost use Rattle.sl_own.specs.declared.no_place.NoPlace.{NoPlace as NoPlaceOf};
 ghost use Rattle.sl_run.specs.Headers.{IsHeader};
@@ -31,8 +31,8 @@ fn see_to<A: Area>(
 ) -> Result<(), NotStanding>
     requires { IsHeader header.now }
     ensures kept { Keeps (A.content area.old) (A.content area.new) }
-    ensures ok { OnOk result (SeesTo header.now part path (A.content area.old)) }
-    ensures not { IfErr result (StandsNot header.now path (A.content area.old) (A.faults area.old) (A.faults area.new)) }
+    ensures ok { OnOk result (Finds header.now part path (A.content area.old)) }
+    ensures not { IfErr result (FindsNot header.now part path (A.content area.old) (A.faults area.old) (A.faults area.new)) }
     ensures later { A.faults area.old ≤ A.faults area.new }
 {
     match part {
@@ -54,8 +54,8 @@ fn lend_each<V: StandingDevices>(
 ) -> Result<(), NoPlace>
     requires header { IsHeader header.now }
     requires first { disks.old.items ≡ [] }
-    ensures ok { OnOk result (AreLeft V.Area.content (SeesTo header.now part) header.now.disks disks.new.items) }
-    ensures not { IfErr result (NotLent header.now 0 (faults_in V.Area.faults disks.new.items)) }
+    ensures ok { OnOk result (AreLeft V.Area.content (FindsOn (V.Devices.disks devices.old) folder.now header.now part) header.now.disks disks.new.items) }
+    ensures not { IfErr result (NotLent (V.Devices.disks devices.old) folder.now header.now part 0 (faults_in V.Area.faults disks.new.items)) }
     ensures count { V.Devices.faults devices.new ≡ V.Devices.faults devices.old }
 {
     for disk in header.disks.as_slice() {
@@ -82,8 +82,8 @@ pub(crate) fn lend<V: StandingDevices>(
     devices: &mut V,
 ) -> Result<Vec<Disk<V::Area>>, NoPlace>
     requires { IsHeader header.now }
-    ensures ok { IfOk result (λ disks. AreLeft V.Area.content (SeesTo header.now part) header.now.disks disks.items) }
-    ensures not { IfErr result (NotLent header.now (V.Devices.faults devices.old) (V.Devices.faults devices.new)) }
+    ensures ok { IfOk result (λ disks. AreLeft V.Area.content (FindsOn (V.Devices.disks devices.old) folder.now header.now part) header.now.disks disks.items) }
+    ensures not { IfErr result (NotLent (V.Devices.disks devices.old) folder.now header.now part (V.Devices.faults devices.old) (V.Devices.faults devices.new)) }
     ensures later { V.Devices.faults devices.old ≤ V.Devices.faults devices.new }
 {
     let mut disks = Vec::new(alloc);

@@ -8,6 +8,7 @@ ghost use Rattle.sl_own.specs.declared.no_place.NoPlace.TheVariants.{OtherSize};
 ghost use Rattle.sl_run.specs.declared.header.Header.{Header as HeaderOf};
 ghost use Rattle.std.specs.Prelude.{List, OnErr, OnOk, [], ℕ, ◌++◌, ◌∷◌, ◌≡◌};
 
+use sl_io::Failed;
 use sl_outside::NotClaimed;
 use sl_standing::{NotStanding, push_not_standing};
 use sl_text::FilePath;
@@ -37,6 +38,18 @@ impl From<NotStanding> for NoPlace {
 
     fn from(why: NotStanding) -> NoPlace {
         NoPlace::NotStanding(why)
+    }
+}
+
+impl From<Failed> for NoPlace {
+    ghost use Rattle.sl_own.specs.declared.no_place.NoPlace.{NoPlace};
+    ghost use Rattle.sl_standing.specs.declared.not_standing.NotStanding.TheVariants.{AreaFault};
+    ghost use Rattle.std.specs.Prelude.{◌≡◌};
+
+    ghost from_gives = { λ _ e. e ≡ NoPlace.NotStanding AreaFault };
+
+    fn from(_: Failed) -> NoPlace {
+        NoPlace::NotStanding(NotStanding::AreaFault)
     }
 }
 

@@ -1,11 +1,11 @@
 //! The place of a machine: the folder, claimed for it, and the disks that stand there.
 
-ghost use Rattle.sl_own.specs.OwnGrounds.{Bars, SizeDiffers};
+ghost use Rattle.sl_own.specs.OwnGrounds.{Bars, HasSize, SizeDiffers};
 ghost use Rattle.sl_own.specs.declared.no_place.NoPlace.TheVariants.{NotStanding};
 ghost use Rattle.sl_run.specs.Headers.{IsHeader};
 ghost use Rattle.sl_run.specs.declared.header.Header.{Header as HeaderOf};
 ghost use Rattle.sl_standing.specs.declared.not_standing.NotStanding.TheVariants.{NoMemory};
-ghost use Rattle.std.specs.Prelude.{Contains, IfErr, ◌≡◌, ◌≤◌, ◌⊎◌};
+ghost use Rattle.std.specs.Prelude.{All, Contains, IfErr, OnOk, ◌≡◌, ◌≤◌, ◌⊎◌};
 
 use crate::no_place::NoPlace;
 use sl_outside::{StandingDevices, disk_path};
@@ -23,6 +23,7 @@ fn look_at<V: StandingDevices>(
     devices: &mut V,
 ) -> Result<(), NoPlace>
     requires { disk.now.mebibytes ≤ 64 }
+    ensures ok { OnOk result (HasSize (V.Devices.disks devices.old) folder.now disk.now) }
     ensures differs { (h : HeaderOf) → Contains h.disks disk.now → IfErr result (λ why. (why ≡ NotStanding NoMemory) ⊎ SizeDiffers (V.Devices.disks devices.old) folder.now h why) }
     ensures same { V.Devices.disks devices.new ≡ V.Devices.disks devices.old }
     ensures count { V.Devices.faults devices.new ≡ V.Devices.faults devices.old }
@@ -51,7 +52,9 @@ fn look_at_each<V: StandingDevices>(
     devices: &mut V,
 ) -> Result<(), NoPlace>
     requires { IsHeader header.now }
+    ensures ok { OnOk result (All (HasSize (V.Devices.disks devices.old) folder.now) header.now.disks) }
     ensures differs { IfErr result (λ why. (why ≡ NotStanding NoMemory) ⊎ SizeDiffers (V.Devices.disks devices.old) folder.now header.now why) }
+    ensures same { V.Devices.disks devices.new ≡ V.Devices.disks devices.old }
     ensures count { V.Devices.faults devices.new ≡ V.Devices.faults devices.old }
 {
     for disk in header.disks.as_slice() {
@@ -69,7 +72,9 @@ pub(crate) fn take_place<V: StandingDevices>(
     devices: &mut V,
 ) -> Result<(), NoPlace>
     requires { IsHeader header.now }
+    ensures ok { OnOk result (All (HasSize (V.Devices.disks devices.old) folder.now) header.now.disks) }
     ensures bars { IfErr result (Bars (V.Devices.disks devices.old) folder.now header.now machine (V.Devices.faults devices.old) (V.Devices.faults devices.new)) }
+    ensures same { V.Devices.disks devices.new ≡ V.Devices.disks devices.old }
     ensures later { V.Devices.faults devices.old ≤ V.Devices.faults devices.new }
 {
     match devices.claim(folder, machine) {

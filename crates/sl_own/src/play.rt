@@ -1,9 +1,10 @@
 //! The play of a script for one machine in a process of its own.
 
+ghost use Rattle.sl_io.specs.FaultCauses.{HasCause};
 ghost use Rattle.sl_outside.specs.Acts.{Tells};
 ghost use Rattle.sl_outside.specs.Disks.{Disks};
-ghost use Rattle.sl_own.specs.OwnGrounds.{Bars, IsOwnGround};
-ghost use Rattle.sl_own.specs.OwnOwed.{OwesOwn, PutsNoPlace, header_refusal};
+ghost use Rattle.sl_own.specs.OwnGrounds.{Bars, IsOwnGround, IsPlaceOf};
+ghost use Rattle.sl_own.specs.OwnOwed.{MayRun, OwesOwn, PutsNoPlace, header_refusal};
 ghost use Rattle.sl_reader.specs.HeaderBegins.{HeaderBegins};
 ghost use Rattle.sl_reader.specs.LineReads.{EndStands};
 ghost use Rattle.sl_reader.specs.Scopes.{own_scope};
@@ -14,14 +15,14 @@ ghost use Rattle.sl_run.specs.Lawful.{IsSetting};
 ghost use Rattle.sl_run.specs.declared.header.Header.{Header as HeaderOf};
 ghost use Rattle.sl_world_state.specs.Daemons.{begun_with};
 ghost use Rattle.sl_world_state.specs.SaneWorlds.{ReadsCommands};
-ghost use Rattle.std.specs.Prelude.{IfErr, IfOk, List, Option, [], ℕ, ◌+◌, ◌<◌, ◌^◌, ◌≡◌, ◌≤◌};
+ghost use Rattle.std.specs.Prelude.{IfErr, IfOk, List, OnOk, Option, [], ℕ, ◌+◌, ◌<◌, ◌^◌, ◌≡◌, ◌≤◌};
 
 use crate::ground::{OwnGround, prepare_own};
 use crate::no_place::{NoPlace, push_no_place};
 use crate::place::take_place;
 use crate::run::run_own;
 use sl_cell::Teller;
-use sl_io::{Sink, Source};
+use sl_io::{Failed, Sink, Source};
 use sl_live_play::{Lived, put, put_refusal, put_run};
 use sl_live_run::{LiveRun, Remains, give_back};
 use sl_outside::StandingDevices;
@@ -108,8 +109,8 @@ where
     requires began { reader ≡ J.began }
     requires scope { own_scope ground.header manner.machine ≡ J.scope }
     requires keeps { manner.keeps ≡ J.keeps }
-    ensures { (disks : Disks) (folder : List ℕ) (first : Option (List ℕ)) (h : HeaderOf) → IsOwnGround V.Area.content V.Spawner.acts h manner.machine ground
-        → HeaderBegins first (S.left source) reader h
+    ensures { (disks : Disks) (folder : List ℕ) (first : Option (List ℕ)) (h : HeaderOf) → IsOwnGround V.Area.content V.Spawner.acts disks folder h manner.machine ground
+        → MayRun disks folder h manner.machine → HeaderBegins first (S.left source) reader h
         → OwesOwn D.Daemon.stands D.Daemon.commands disks folder manner first (S.left result.1) (K.taken sink) (K.taken result.2) (S.faults source) (S.faults result.1)
         (K.faults sink) (K.faults result.2) (V.Devices.faults devices.old) (V.Devices.faults devices.new) result.0 }
 {
@@ -164,12 +165,33 @@ where
     requires header { IsHeader ground.header }
     requires setting { IsSetting (begun_with D.Daemon.commands ground.header ground.ready.site) }
     requires ends { EndStands (S.left source) reader }
-    ensures { (disks : Disks) (folder : List ℕ) (first : Option (List ℕ)) (h : HeaderOf) → IsOwnGround V.Area.content V.Spawner.acts h manner.machine ground
-        → HeaderBegins first (S.left source) reader h
+    ensures { (disks : Disks) (folder : List ℕ) (first : Option (List ℕ)) (h : HeaderOf) → IsOwnGround V.Area.content V.Spawner.acts disks folder h manner.machine ground
+        → MayRun disks folder h manner.machine → HeaderBegins first (S.left source) reader h
         → OwesOwn D.Daemon.stands D.Daemon.commands disks folder manner first (S.left result.1) (K.taken sink) (K.taken result.2) (S.faults source) (S.faults result.1)
         (K.faults sink) (K.faults result.2) (V.Devices.faults devices.old) (V.Devices.faults devices.new) result.0 }
 {
     play_as::<D, Brand, S, K, V, R>(rt, alloc, ground, manner, source, reader, sink, devices)
+}
+
+/// Has writes answered once the storage has them, if that is wanted.
+fn sync_if<V: StandingDevices>(syncs: bool, devices: &mut V)
+    ensures same { V.Devices.disks devices.new ≡ V.Devices.disks devices.old }
+    ensures count { V.Devices.faults devices.new ≡ V.Devices.faults devices.old }
+{
+    if syncs {
+        devices.sync_writes();
+    }
+}
+
+/// Opens the watchdog device at this path, if one is given.
+fn watch_if<V: StandingDevices>(watchdog: Option<&str>, devices: &mut V) -> Result<(), Failed>
+    ensures cause { HasCause (V.Devices.faults devices.old) (V.Devices.faults devices.new) result }
+    ensures same { V.Devices.disks devices.new ≡ V.Devices.disks devices.old }
+{
+    match watchdog {
+        Some(path) => devices.watch(path),
+        None => Ok(()),
+    }
 }
 
 /// What the machine begins with, in this folder: the folder is claimed, what stands there is seen to, and the watchdog device is opened. After an
@@ -184,19 +206,14 @@ fn begin<V: StandingDevices>(
 ) -> Result<OwnGround<V>, NoPlace>
     requires header { IsHeader header }
     requires machine { (1 ≤ manner.machine) × (manner.machine ≤ header.machines) }
-    ensures ok { IfOk result (IsOwnGround V.Area.content V.Spawner.acts header manner.machine) }
+    ensures ok { IfOk result (IsOwnGround V.Area.content V.Spawner.acts (V.Devices.disks devices.old) folder.now header manner.machine) }
+    ensures place { OnOk result (IsPlaceOf (V.Devices.disks devices.old) folder.now header) }
     ensures bars { IfErr result (Bars (V.Devices.disks devices.old) folder.now header manner.machine (V.Devices.faults devices.old) (V.Devices.faults devices.new)) }
     ensures later { V.Devices.faults devices.old ≤ V.Devices.faults devices.new }
 {
     take_place(alloc, folder, &header, manner.machine, devices)?;
-    if manner.syncs {
-        devices.sync_writes();
-    }
-    if let Some(path) = watchdog {
-        if devices.watch(path).is_err() {
-            return Err(NoPlace::NotStanding(NotStanding::AreaFault));
-        }
-    }
+    sync_if(manner.syncs, devices);
+    watch_if(watchdog, devices)?;
     prepare_own(alloc, header, folder, manner.machine, devices)
 }
 

@@ -1,22 +1,28 @@
 -- Areas of a header begin where one may, and what was read of a disk that stays is what it had.
-use Rattle.sl_area.specs.AreaLayout.{is_base}
+use Rattle.sha2.specs.Sha256.{sha256}
+use Rattle.sl_area.specs.AreaLayout.{is_base, leader_offset, value_offset}
 use Rattle.sl_area.specs.AreaSizes.{layout_of}
-use Rattle.sl_area.specs.Sectors.{IsReadAt}
+use Rattle.sl_area.specs.Sectors.{IsReadAt, SectorPlace}
 use Rattle.sl_io.specs.FaultCauses.{Rose}
+use Rattle.sl_label.specs.Labels.{label_in, label_text}
+use Rattle.sl_label.specs.declared.label.Label.{Label}
 use Rattle.sl_run.specs.Headers.{IsArea, IsHeader}
 use Rattle.sl_run.specs.Worlds.{mebibyte}
 use Rattle.sl_run.specs.declared.header.Header.{Header}
 use Rattle.sl_run.specs.declared.header.LockspaceLine.{LockspaceLine}
 use Rattle.sl_run.specs.declared.header.ResourceLine.{ResourceLine}
-use Rattle.sl_standing.specs.Standing.{AreStanding, Differs, Faults, HasLabelOn, HasLeaderOn, IsLabelled, IsLed, IsSectorOf, LabelLacks, LeaderLacks, Leader_differs, Leader_faults, Lockspace_lacks, Resource_lacks, StandsNot}
-use Rattle.sl_standing.specs.declared.not_standing.NotStanding.TheVariants.{AreaFault}
+use Rattle.sl_sector.specs.SectorLayouts.{decoded}
+use Rattle.sl_sector.specs.declared.sector.Bad.{Bad}
+use Rattle.sl_sector.specs.declared.sector.Rec.{Rec}
+use Rattle.sl_standing.specs.Standing.{AreStanding, Differs, Faults, HasLabelOn, HasLeaderOn, IsLabelled, IsLed, IsSectorOf, LabelDiffers, LabelLacks, LeaderLacks, Leader_differs, Leader_faults, Lockspace_lacks, No_memory, Resource_lacks, StandsNot, label_of, leader_found}
+use Rattle.sl_standing.specs.declared.not_standing.NotStanding.TheVariants.{AreaFault, NoMemory}
 use Rattle.sl_standing.specs.declared.not_standing.NotStanding.{NotStanding}
 use Rattle.std.proofs.Common.{ap, arith, refl, subst, sym, ◌∙◌}
 use Rattle.std.proofs.lemmas.Bool.{and_from, eq-eqb, lt-ltb}
 use Rattle.std.proofs.lemmas.List.Elements.{All-push, All-weaker, Contains-get_or}
 use Rattle.std.proofs.lemmas.List.{take_all, take_more}
 use Rattle.std.specs.Io.KnownBytes.{Keeps}
-use Rattle.std.specs.Prelude.{All, Contains, Err, IfErr, IsTrue, List, None, Ok, OnOk, Option, Result, Some, get_or, length, take, true, [], ℕ, ◌%◌, ◌*◌, ◌++◌, ◌+◌, ◌<◌, ◌^◌, ◌∷◌, ◌≡◌, ◌≤◌}
+use Rattle.std.specs.Prelude.{All, Contains, Err, IfErr, IsErrAnd, IsTrue, List, None, Ok, OnOk, Option, Result, Some, get_or, length, take, true, [], ℕ, ◌%◌, ◌*◌, ◌++◌, ◌+◌, ◌<◌, ◌^◌, ◌∷◌, ◌≡◌, ◌≤◌}
 
 -- ---- where areas begin
 
@@ -71,11 +77,11 @@ rose_between a b c d before rose later = omega arith
 
 label_lacks_before : (h : Header) (a b : Option (List ℕ)) (m n k : ℕ) (l : LockspaceLine) (d : NotStanding) → Keeps a b → m ≤ n → LabelLacks h b n k l d → LabelLacks h a m k l d
 label_lacks_before h a b m n k l d kept before (Faults rose) = Faults (rose_between m n k k before rose (omega arith))
-label_lacks_before h a b m n k l d kept before (Differs sector d s differs) = Differs sector d (sector_before h a b _ sector kept s) differs
+label_lacks_before h a b m n k l d kept before (Differs sector e s differs) = Differs sector d (sector_before h a b _ sector kept s) differs
 
 leader_lacks_before : (h : Header) (a b : Option (List ℕ)) (m n k : ℕ) (r : ResourceLine) (d : NotStanding) → Keeps a b → m ≤ n → LeaderLacks h b n k r d → LeaderLacks h a m k r d
 leader_lacks_before h a b m n k r d kept before (Leader_faults rose) = Leader_faults (rose_between m n k k before rose (omega arith))
-leader_lacks_before h a b m n k r d kept before (Leader_differs sector d s differs) = Leader_differs sector d (sector_before h a b _ sector kept s) differs
+leader_lacks_before h a b m n k r d kept before (Leader_differs sector e s differs) = Leader_differs sector d (sector_before h a b _ sector kept s) differs
 
 pub stands_not_before : (h : Header) (path : List ℕ) (a b : Option (List ℕ)) (m n k : ℕ) (d : NotStanding) → Keeps a b → m ≤ n → StandsNot h path b n k d → StandsNot h path a m k d
 stands_not_before h path a b m n k d kept before (Lockspace_lacks l has on lacks) = Lockspace_lacks l has on (label_lacks_before h a b m n k l d kept before lacks)
@@ -86,6 +92,63 @@ pub if_stands_not : {T : Type 0} (r : Result T NotStanding) (h : Header) (path :
     → IfErr r (StandsNot h path a m k)
 if_stands_not (Ok t) h path a b m n k kept before not = tt
 if_stands_not (Err d) h path a b m n k kept before not = stands_not_before h path a b m n k d kept before not
+
+-- ---- what was found
+
+-- A sector that was read at a place of the header's.
+pub sector_at : (h : Header) (content : Option (List ℕ)) (p q : SectorPlace) (sector : List ℕ) → p ≡ q → length sector ≡ h.geometry.sector → IsReadAt content p.offset sector
+    → IsSectorOf h content q.offset sector
+sector_at h content p q sector same long read = record { long = long; read = subst (λ (x : SectorPlace). IsReadAt content x.offset sector) same read }
+
+-- A lockspace's was not read, or was.
+pub label_faults : (r : Result (Unit {0}) NotStanding) (h : Header) (content : Option (List ℕ)) (faults later : ℕ) (l : LockspaceLine) → IsErrAnd r (λ x. x ≡ AreaFault) → Rose faults later
+    → IfErr r (LabelLacks h content faults later l)
+label_faults (Ok t) h content faults later l is rose = tt
+label_faults (Err e) h content faults later l is rose = subst (LabelLacks h content faults later l) (sym is) (Faults rose)
+
+pub label_lacks : (r : Result (Unit {0}) NotStanding) (h : Header) (content : Option (List ℕ)) (faults later : ℕ) (l : LockspaceLine) (due : Label) (sector : List ℕ) → due ≡ label_of h l
+    → IsSectorOf h content (value_offset (layout_of h.geometry) l.offset) sector → IfErr r (LabelDiffers due (decoded sha256 sector)) → IfErr r (LabelLacks h content faults later l)
+label_lacks (Ok t) h content faults later l due sector is at differs = tt
+label_lacks (Err d) h content faults later l due sector is at differs = Differs sector d at (subst (λ (x : Label). LabelDiffers x (decoded sha256 sector) d) is differs)
+
+pub labelled : (r : Result (Unit {0}) NotStanding) (h : Header) (content : Option (List ℕ)) (l : LockspaceLine) (due : Label) (sector : List ℕ) → due ≡ label_of h l
+    → IsSectorOf h content (value_offset (layout_of h.geometry) l.offset) sector → OnOk r (label_in (decoded sha256 sector) ≡ Some (label_text due)) → OnOk r (IsLabelled h content l)
+labelled (Ok t) h content l due sector is at has =
+    record { sector = sector; at = at; label = subst (λ (x : Label). label_in (decoded sha256 sector) ≡ Some (label_text x)) is has }
+labelled (Err d) h content l due sector is at has = tt
+
+-- There was no memory to compare it.
+pub no_memory : (r : Result (Unit {0}) NotStanding) (l : Label) (found : Result Rec Bad) → IsErrAnd r (λ x. x ≡ NoMemory) → IfErr r (LabelDiffers l found)
+no_memory (Ok t) l found is = tt
+no_memory (Err e) l found is = subst (LabelDiffers l found) (sym is) No_memory
+
+-- A resource's was not read, or was.
+pub leader_faults : (r : Result (Unit {0}) NotStanding) (h : Header) (content : Option (List ℕ)) (faults later : ℕ) (l : ResourceLine) → IsErrAnd r (λ x. x ≡ AreaFault) → Rose faults later
+    → IfErr r (LeaderLacks h content faults later l)
+leader_faults (Ok t) h content faults later l is rose = tt
+leader_faults (Err e) h content faults later l is rose = subst (LeaderLacks h content faults later l) (sym is) (Leader_faults rose)
+
+pub leader_lacks : (r : Result (Unit {0}) NotStanding) (h : Header) (content : Option (List ℕ)) (faults later : ℕ) (l : ResourceLine) (sector : List ℕ)
+    → IsSectorOf h content (leader_offset l.offset) sector → r ≡ leader_found h l (decoded sha256 sector) → IfErr r (LeaderLacks h content faults later l)
+leader_lacks (Ok t) h content faults later l sector at is = tt
+leader_lacks (Err d) h content faults later l sector at is = Leader_differs sector d at (sym is)
+
+-- A line's is one of the disk's.
+pub stands_not_label : (r : Result (Unit {0}) NotStanding) (h : Header) (path : List ℕ) (content : Option (List ℕ)) (faults later : ℕ) (l : LockspaceLine) → Contains h.lockspaces l
+    → l.path ≡ path → IfErr r (LabelLacks h content faults later l) → IfErr r (StandsNot h path content faults later)
+stands_not_label (Ok t) h path content faults later l has on lacks = tt
+stands_not_label (Err d) h path content faults later l has on lacks = Lockspace_lacks l has on lacks
+
+pub stands_not_leader : (r : Result (Unit {0}) NotStanding) (h : Header) (path : List ℕ) (content : Option (List ℕ)) (faults later : ℕ) (l : ResourceLine) → Contains h.resources l
+    → l.path ≡ path → IfErr r (LeaderLacks h content faults later l) → IfErr r (StandsNot h path content faults later)
+stands_not_leader (Ok t) h path content faults later l has on lacks = tt
+stands_not_leader (Err d) h path content faults later l has on lacks = Resource_lacks l has on lacks
+
+-- It is handed on.
+pub handed_on : (r : Result (Unit {0}) NotStanding) (why : NotStanding) (h : Header) (path : List ℕ) (content : Option (List ℕ)) (faults later : ℕ) → IsErrAnd r (λ x. x ≡ why)
+    → StandsNot h path content faults later why → IfErr r (StandsNot h path content faults later)
+handed_on (Ok t) why h path content faults later is not = tt
+handed_on (Err e) why h path content faults later is not = subst (StandsNot h path content faults later) (sym is) not
 
 -- ---- all of them
 

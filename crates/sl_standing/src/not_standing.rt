@@ -1,15 +1,15 @@
 //! Why areas are not those of a header, and the line that says so.
 
-ghost use Rattle.sl_standing.specs.StandingTexts.{difference_text};
+ghost use Rattle.sl_standing.specs.StandingTexts.{difference_text, resource_name};
 ghost use Rattle.sl_standing.specs.declared.not_standing.NotStanding.TheVariants.{OtherFormat, OtherLeader};
 ghost use Rattle.sl_text.specs.Forms.{spaced};
-ghost use Rattle.std.specs.Prelude.{OnErr, OnOk, [], ◌++◌, ◌∷◌, ◌≡◌};
+ghost use Rattle.std.specs.Prelude.{IfOk, OnErr, OnOk, decimal, if◌then◌else◌, string_bytes, [], ◌++◌, ◌∷◌, ◌≡◌};
 
 use sl_io::Failed;
 use sl_sector::Leader;
 use sl_text::write::push_line;
 use sl_text::{Data, Name};
-use std::alloc::AllocError;
+use std::alloc::{AllocError, Global};
 
 /// How an area that stands differs from what a header says of it.
 #[derive(Clone, Copy)]
@@ -19,13 +19,24 @@ pub enum NotStanding {
     /// There is no memory.
     NoMemory,
     /// The lockspace's area has no label, or one that is torn.
-    NoLabel { lockspace: Name },
+    NoLabel {
+        lockspace: Name,
+    },
     /// It has this label, of other times.
-    OtherTime { lockspace: Name, stands: Data },
+    OtherTime {
+        lockspace: Name,
+        stands: Data,
+    },
     /// It has this label, with other hosts, sizes or another name.
-    OtherLabel { lockspace: Name, stands: Data },
+    OtherLabel {
+        lockspace: Name,
+        stands: Data,
+    },
     /// Where the resource's leader stands there is a record of another kind.
-    NoLeader { lockspace: Name, resource: Name },
+    NoLeader {
+        lockspace: Name,
+        resource: Name,
+    },
     /// .. there is this leader, of other names or for other hosts.
     OtherLeader {
         lockspace: Name,
@@ -77,6 +88,23 @@ fn push_label_line(
     push_line(out, &line)
 }
 
+/// The name of a resource, behind that of its lockspace.
+fn name_text(alloc: Global, lockspace: Name, resource: Name) -> Result<String, AllocError>
+    ensures { IfOk result (λ text. string_bytes text ≡ resource_name lockspace resource) }
+{
+    format!(in alloc; "{lockspace}:{resource}")
+}
+
+/// Whose leader it is, and for how many hosts.
+fn leader_text(alloc: Global, stands: &Leader) -> Result<String, AllocError>
+    ensures { IfOk result (λ text. string_bytes text ≡ spaced (stands.now.lockspace ∷ stands.now.resource ∷ decimal stands.now.num_hosts ∷ [])) }
+{
+    format!(in alloc;
+        "{} {} {}",
+        stands.lockspace, stands.resource, stands.num_hosts
+    )
+}
+
 /// Adds the line of a resource where another leader stands.
 fn push_other_leader(
     out: &mut Vec<u8>,
@@ -87,11 +115,17 @@ fn push_other_leader(
     ensures ok { OnOk result (out.new.items ≡ out.old.items ++ difference_text (OtherLeader lockspace resource stands.now)) }
     ensures err { OnErr result (out.new.items ≡ out.old.items) }
 {
-    let line = format!(in *out.allocator();
-        "other leader {lockspace}:{resource} {} {} {}",
-        stands.lockspace, stands.resource, stands.num_hosts
-    )?;
+    let name = name_text(*out.allocator(), lockspace, resource)?;
+    let leader = leader_text(*out.allocator(), stands)?;
+    let line = format!(in *out.allocator(); "other leader {name} {leader}")?;
     push_line(out, line.as_bytes())
+}
+
+/// The number of an area's format: with pairs, or without.
+fn format_of(paired: bool) -> u32
+    ensures { result ≡ (if paired then 2 else 1) }
+{
+    if paired { 2 } else { 1 }
 }
 
 /// Adds the line of a resource where the leader of an area of another format stands.
@@ -104,8 +138,11 @@ fn push_other_format(
     ensures ok { OnOk result (out.new.items ≡ out.old.items ++ difference_text (OtherFormat lockspace resource paired)) }
     ensures err { OnErr result (out.new.items ≡ out.old.items) }
 {
-    let format: u32 = if paired { 2 } else { 1 };
-    let line = format!(in *out.allocator(); "other format {lockspace}:{resource} {format}")?;
+    let (name, format) = (
+        name_text(*out.allocator(), lockspace, resource)?,
+        format_of(paired),
+    );
+    let line = format!(in *out.allocator(); "other format {name} {format}")?;
     push_line(out, line.as_bytes())
 }
 

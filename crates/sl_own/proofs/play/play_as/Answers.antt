@@ -9,7 +9,7 @@ use Rattle.std.proofs.Common.{List, ap, subst, sym, ◌∙◌}
 
 pub returns : goal.returns
 unfolding beginning
-returns g c disks folder first h ground begins =
+returns g c disks folder first h ground may begins =
     let there : HeaderBegins first g.J.Origin.left g.J.Origin.began h =
     subst (λ r. HeaderBegins first g.J.Origin.left r h) c.requires.began
     (subst (λ l. HeaderBegins first l c.args.reader h) c.requires.left begins) in
@@ -24,7 +24,7 @@ returns g c disks folder first h ground begins =
     (sym c.requires.scope ∙ ap (λ x. own_scope x m) ground.same) (c.close-source.ensures.script first h given there so))) in
     let run = c.run_own-run.ensures in
     owes_run_own g.V.Area.Area.content g.V.Area.Area.faults g.V.Spawner.Spawner.acts g.D.Daemon.stands g.D.Daemon.commands disks folder c.args.manner first _ _ _ _ _ _ _ _ _ h
-    (beginning _ _ h m c.args.ground ground) _ (has c.new-lines.result) (has c.run_own-run.new.lines) run.pieces
-    c.run_own-run.result.machines _ c.run_own-run.result.replies c.close-source.result.1 c.put_run-lived.result c.new-lines.ensures.none reads run.ok run.stop
+    (beginning _ _ disks folder h m c.args.ground ground) _ (has c.new-lines.result) (has c.run_own-run.new.lines) run.pieces
+    c.run_own-run.result.machines _ c.run_own-run.result.replies c.close-source.result.1 c.put_run-lived.result c.new-lines.ensures.none reads may run.ok run.stop
     (c.put_run-lived.ensures.ok (g.K.Sink.taken c.args.sink) (g.K.Sink.faults c.args.sink) run.pieces run.put)
     (c.put_run-lived.ensures.stop (g.K.Sink.taken c.args.sink) (g.K.Sink.faults c.args.sink) run.pieces run.put)

@@ -1,5 +1,5 @@
 -- One line more stands, or one does not.
-use Rattle.sl_standing.proofs.AreaLaws.{all_more, all_whole, item_inside, kept_behind, label_on_before, stands_not_before}
+use Rattle.sl_standing.proofs.AreaLaws.{all_more, all_whole, handed_on, item_inside, kept_behind, label_on_before, stands_not_before}
 use Rattle.sl_standing.proofs.areas.check_lockspaces.Goals as goal
 use Rattle.sl_standing.specs.Standing.{HasLabelOn}
 use Rattle.std.proofs.Common.{rules}
@@ -20,7 +20,8 @@ loop-line-preserved g c =
 
 pub returns-in_err-check_lockspace_at-clause-lacks : goal.returns-in_err-check_lockspace_at-clause-lacks
 returns-in_err-check_lockspace_at-clause-lacks g c =
-    stands_not_before c.args.header.now c.args.path _ _ _ _ _ _ c.loop-line.invariant.kept c.loop-line.invariant.later c.in_err-check_lockspace_at.ensures.lacks
+    handed_on c.from_residual.result c.in_err-check_lockspace_at.field-0.0 c.args.header.now c.args.path _ _ _ c.from_residual.ensures.1
+    (stands_not_before c.args.header.now c.args.path _ _ _ _ _ _ c.loop-line.invariant.kept c.loop-line.invariant.later c.in_err-check_lockspace_at.ensures.lacks)
 
 pub returns-clause-ok : goal.returns-clause-ok
 returns-clause-ok g c =
