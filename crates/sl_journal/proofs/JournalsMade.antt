@@ -1,5 +1,5 @@
 -- Lines and asks: what they bring, and that what is left behind them is left before.
-use Rattle.sl_journal.proofs.Leads.{MayCome, ask_leads, event_leads, leads_joined, skip_leads, stays_there}
+use Rattle.sl_journal.proofs.Leads.{MayCome, ask_leads, event_leads, line_by, leads_joined, skip_leads, stays_there}
 use Rattle.sl_journal.specs.JournalPlays.{Begins, Brings, GoesOn, HasAsked, HasBrought, HaveAsked, IsAsking, IsBarred, IsPlaying, JournalState, LeadsOn, SaysEvent, StopsAt, TakesLine}
 use Rattle.sl_journal.specs.JournalRuns.{entries_of, event_news, event_steps, news_at, running_on, steps_at}
 use Rattle.sl_play.specs.PlayIsOwed.{EachStood}
@@ -179,7 +179,7 @@ event_taken {D} commands stands w p q n e l out since then now s says front h as
       steps = steps + a.steps;
       plays = a.plays;
       header = a.header ∙ header;
-      told = a.told ∙ ap (λ b. b ++ a.bytes) (x.text ∙ ap (λ b. b ++ as_bytes (event_news w (e, h.effects ∷ []))) front
+      told = a.told ∙ ap (λ b. b ++ a.bytes) (x.text ∙ ap (λ b. b ++ as_bytes (event_news w (e, h.effects ∷ []))) (front ∙ append_assoc out l.text (10 ∷ []))
           ∙ append_assoc out (l.text ++ 10 ∷ []) (as_bytes (event_news w (e, h.effects ∷ [])))) ∙ append_assoc out text a.bytes;
       entries = sums n.entries q.entries p.entries steps a.steps a.entries x.steps;
       leads = leads_joined (EachStood stands) (played_language commands) p.play.kept.header w v a.world (λ rest. l ∷ rest) (λ rest. rest) text a.bytes steps a.steps
@@ -206,8 +206,7 @@ event_stops commands stands w p n e l since then why s says b =
     }
 
 -- A line's event has the line's number.
-number_is : (o : Option Refusal) (skips : Bool) (n : ℕ) (read : Result Event Refusal) (x : EventLine)
-    → elim o [ Some r ↦ Some (n, Err r) | None ↦ elim skips [ true ↦ None | false ↦ Some (n, read) ] ] ≡ Some x → x.0 ≡ n
+number_is : (o : Option Refusal) (skips : Bool) (n : ℕ) (read : Result Event Refusal) (x : EventLine) → line_by o skips n read ≡ Some x → x.0 ≡ n
 number_is (Some r) skips n read x is = cc
 number_is None true n read x is = absurd cc
 number_is None false n read x is = cc
@@ -242,10 +241,17 @@ nothing_taken commands stands w p l out s is =
       leads = skip_leads (EachStood stands) (played_language commands) p.play.kept.header w l p.play.counts is;
     }
 
+-- Whether a line says an event.
+abbrev is_event : Option EventLine → Bool
+is_event None = false
+is_event (Some p) = elim p.1 [ Err r ↦ false | Ok e ↦ true ]
+
+clash : false ≡ true → ⊥
+clash is = absurd cc
+
 -- It says an event.
-says_so : (o : Option Refusal) (skips : Bool) (n : ℕ) (read : Result Event Refusal) (x : ℕ) (e : Event)
-    → elim o [ Some r ↦ Some (n, Err r) | None ↦ elim skips [ true ↦ None | false ↦ Some (n, read) ] ] ≡ Some (x, Ok e) → skips ≡ false
-says_so (Some r) skips n read x e is = absurd cc
+says_so : (o : Option Refusal) (skips : Bool) (n : ℕ) (read : Result Event Refusal) (x : ℕ) (e : Event) → line_by o skips n read ≡ Some (x, Ok e) → skips ≡ false
+says_so (Some r) skips n read x e is = absurd (clash (ap is_event is))
 says_so None true n read x e is = absurd cc
 says_so None false n read x e is = refl
 

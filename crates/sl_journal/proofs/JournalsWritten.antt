@@ -68,7 +68,7 @@ made_here commands stands h p x =
     }
 
 -- The last line.
-last_here : {D : Type 0} (commands : Header → List (Form Command)) (stands : D → Setting → Trace → Type 0) (h : Header) (p : JournalState D) (x : HasPlayed commands stands h p) (end : Ending)
+abbrev pub last_here : {D : Type 0} (commands : Header → List (Form Command)) (stands : D → Setting → Trace → Type 0) (h : Header) (p : JournalState D) (x : HasPlayed commands stands h p) (end : Ending)
     → List ℕ
 last_here commands stands h p x At_end = end_line p.entries
 last_here commands stands h p x (At_line number why) = refusal_line number why
@@ -117,7 +117,7 @@ never_ended after is = absurd (never is)
     never e = absurd cc
 
 -- One more line was read.
-pub taken_more : (commands : Header → List (Form Command)) (h : Header) (first before after : Option (List ℕ)) (r n : ReaderState) (lines : List NumberedLine → List NumberedLine)
+abbrev pub taken_more : (commands : Header → List (Form Command)) (h : Header) (first before after : Option (List ℕ)) (r n : ReaderState) (lines : List NumberedLine → List NumberedLine)
     → HasTaken commands h first before r lines → ReadsLine before after r n → HasTaken commands h first after n (λ rest. lines (line_of n ∷ rest))
 taken_more commands h first before after r n lines x l =
     record {
@@ -139,7 +139,7 @@ reads_on commands h first left r lines x bytes source more began is =
     ∙ x.reads (bytes ++ more) (open_follows r.ended (bytes ++ more) began)
 
 -- What was read with what is left of the last piece.
-moved_with : (first before after taken now : Option (List ℕ)) (commands : Header → List (Form Command)) (h : Header) (r : ReaderState) (lines : List NumberedLine → List NumberedLine)
+abbrev pub moved_with : (first before after taken now : Option (List ℕ)) (commands : Header → List (Form Command)) (h : Header) (r : ReaderState) (lines : List NumberedLine → List NumberedLine)
     (x : HasTaken commands h first before r lines) (bytes written : List ℕ) → Gives before after r.left bytes → Appends taken now written → Moved first after taken now
 moved_with first before after taken now commands h r lines x bytes written g writes =
     record {
@@ -228,6 +228,9 @@ breaks_off commands stands first after taken now faults later sink_faults sink_l
     never : false ≡ true → ⊥
     never e = absurd cc
 
+breaks_off commands stands first after taken now faults later sink_faults sink_later x Done by front = elim by [ ]
+breaks_off commands stands first after taken now faults later sink_faults sink_later x Refused by front = elim by [ ]
+
 pub puts_out : {D : Type 0} (commands : Header → List (Form Command)) (stands : D → Setting → Trace → Type 0) (first after taken since now : Option (List ℕ)) (faults later sink_faults sink_later : ℕ)
     (ended : Bool) (read written text : List ℕ) (status : ℕ) (whole s : Played) → WholeIs whole ended status → Consumes first after read → (IsTrue ended → IsAtEnd after) → Appends taken since written
     → ((source : List ℕ) → MayHaveBeen ended read source → journaled commands stands source (written ++ text) status) → Puts since now sink_faults sink_later text whole s
@@ -300,7 +303,7 @@ pub left_follows : (after : Option (List ℕ)) (n : ReaderState) (rest : List �
 left_follows after n rest ends follows = λ is. ap (λ b. b ++ rest) (ends.none is) ∙ follows is
 
 -- What was played with one line more.
-pub played_on : {D : Type 0} (commands : Header → List (Form Command)) (stands : D → Setting → Trace → Type 0) (h : Header) (p q : JournalState D) (l : NumberedLine) (out text : List ℕ)
+abbrev pub played_on : {D : Type 0} (commands : Header → List (Form Command)) (stands : D → Setting → Trace → Type 0) (h : Header) (p q : JournalState D) (l : NumberedLine) (out text : List ℕ)
     (x : HasPlayed commands stands h p) → GoesOn commands stands x.world p (λ rest. l ∷ rest) out q text → HasPlayed commands stands h q
 played_on {D} commands stands h p q l out text x g =
     record {
@@ -397,7 +400,7 @@ line_cut before after r n l = record { began = l.began; bytes = l.taken ++ n.lef
 
 -- ---- the header
 
-pub begun_play : {D : Type 0} (commands : Header → List (Form Command)) (stands : D → Setting → Trace → Type 0) (h : Header) (p : JournalState D) → Begins commands stands h p
+abbrev pub begun_play : {D : Type 0} (commands : Header → List (Form Command)) (stands : D → Setting → Trace → Type 0) (h : Header) (p : JournalState D) → Begins commands stands h p
     → HasPlayed commands stands h p
 begun_play {D} commands stands h p b =
     record {
@@ -414,7 +417,7 @@ begun_play {D} commands stands h p b =
     w : World
     w = world_with (program_of commands) h
 
-pub header_taken : (commands : Header → List (Form Command)) (h : Header) (first left : Option (List ℕ)) (r : ReaderState) → HeaderBegins first left r h
+abbrev pub header_taken : (commands : Header → List (Form Command)) (h : Header) (first left : Option (List ℕ)) (r : ReaderState) → HeaderBegins first left r h
     → HasTaken commands h first left r (λ rest. rest)
 header_taken commands h first left r b =
     record {
@@ -436,7 +439,7 @@ started commands stands h first left taken now r p text b begins appends is =
     }
 
 -- Nothing is written.
-nothing_moved : (first after taken : Option (List ℕ)) (all : List ℕ) → Gives first after [] all → Moved first after taken taken
+abbrev nothing_moved : (first after taken : Option (List ℕ)) (all : List ℕ) → Gives first after [] all → Moved first after taken taken
 nothing_moved first after taken all g = moves first after taken taken false all [] (reads_of first after all g) (never_ended after) (Appends-nil taken)
 
 pub nothing_written : {D : Type 0} (commands : Header → List (Form Command)) (stands : D → Setting → Trace → Type 0) (first after taken : Option (List ℕ)) (faults later sink_faults sink_later : ℕ)

@@ -21,7 +21,7 @@ use Rattle.sl_words.proofs.Lists.{head_is, tail_is}
 use Rattle.std.proofs.Common.{Bool, ap, arith, false, length, refl, subst, sym, ◌∙◌}
 use Rattle.std.proofs.lemmas.List.{append-nil, append_assoc}
 use Rattle.std.specs.List.{cons_option}
-use Rattle.std.specs.Prelude.{Err, IsSomeAnd, IsTrue, List, None, Ok, Option, Some, true, [], ℕ, ◌++◌, ◌+◌, ◌∷◌, ◌≡◌}
+use Rattle.std.specs.Prelude.{Err, IsSomeAnd, IsTrue, List, None, Ok, Option, Result, Some, true, [], ℕ, ◌++◌, ◌+◌, ◌∷◌, ◌≡◌}
 
 -- ---- fronts
 
@@ -152,6 +152,9 @@ ask_leads P lang h w m fxs k asks may =
 
 -- ---- none, and many
 
+none_plus : (n : ℕ) → n ≡ 0 + n
+none_plus n = omega arith
+
 pub stays_there : (P : World → Type 0) (lang : Language) (h : Header) (w : World) (k : Counts) → LeadsOn P lang h w w (λ rest. rest) [] 0 k k
 stays_there P lang h w k =
     record {
@@ -161,13 +164,15 @@ stays_there P lang h w k =
       is_run = λ ys r. r;
       fronts = λ ys f. f;
       text = λ rest ys. refl;
-      count = λ ys. refl;
+      count = λ ys. none_plus (run_steps w ys);
       counts = λ ys. refl;
     }
 
 -- A line that says nothing.
-skips_so : (o : Option Refusal) (skips : Bool) (n : ℕ) (read : Option Event) → elim o [ Some r ↦ Some (n, Err r) | None ↦ elim skips [ true ↦ None | false ↦ Some (n, event_or_syntax read) ] ] ≡ None
-    → skips ≡ true
+abbrev pub line_by : Option Refusal → Bool → ℕ → Result Event Refusal → Option EventLine
+line_by o skips n read = elim o [ Some r ↦ Some (n, Err r) | None ↦ elim skips [ true ↦ None | false ↦ Some (n, read) ] ]
+
+skips_so : (o : Option Refusal) (skips : Bool) (n : ℕ) (read : Result Event Refusal) → line_by o skips n read ≡ None → skips ≡ true
 skips_so (Some r) skips n read is = absurd cc
 skips_so None true n read is = refl
 skips_so None false n read is = absurd cc
@@ -182,8 +187,8 @@ skip_leads P lang h w l k reads =
       is_run = λ ys r. r;
       fronts = λ ys f. f;
       text = λ rest ys. ap (λ ts. as_bytes (run_news w ts ys))
-          (text_none lang l rest (skips_so (line_refusal l) (lang.skips l.text) l.number (event_in lang h.machines h.geometry.sector l.text) reads));
-      count = λ ys. refl;
+          (text_none lang l rest (skips_so (line_refusal l) (lang.skips l.text) l.number (event_or_syntax (event_in lang h.machines h.geometry.sector l.text)) reads));
+      count = λ ys. none_plus (run_steps w ys);
       counts = λ ys. refl;
     }
 
