@@ -136,8 +136,7 @@ last_there {D} commands stands h first before after r n c x l none last =
         made = made_here commands stands h c.journal x.played;
         text = ap as_bytes (texts_joined x.rows (line_of n)) ∙ bytes_joined (row_texts x.rows) (n.line ∷ [])
             ∙ ap (λ b. b ++ as_bytes (n.line ∷ [])) (sym (append-nil (as_bytes (row_texts x.rows))) ∙ ap (λ b. as_bytes (row_texts x.rows) ++ b) (sym none) ∙ text_seen commands stands h first before r c x [])
-            ∙ ap (λ b. as_bytes news ++ as_bytes (b ∷ [])) (last ∙ ap end_line (sym steps)) ∙ sym (bytes_joined news (end_line (run_steps w (x.played.leads.before [])) ∷ []))
-            ∙ ap as_bytes (append_assoc (first_news w) (run_news w (texts_of (played_language commands) (x.played.lines [])) (x.played.leads.before [])) (end_line (run_steps w (x.played.leads.before [])) ∷ []));
+            ∙ ap (λ b. as_bytes news ++ as_bytes (b ∷ [])) (last ∙ ap end_line (sym steps)) ∙ sym (bytes_joined news (end_line (run_steps w (x.played.leads.before [])) ∷ []));
         told = ap (λ k. as_bytes (ok_line k ∷ run_line c.journal.play.counts ∷ [])) (sym steps)
             ∙ ap (λ (k : Counts). as_bytes (ok_line (run_steps w (x.played.leads.before [])) ∷ run_line k ∷ [])) (sym (x.played.leads.counts []));
       };
