@@ -1,2 +1,4 @@
+pub mod Fronts
 pub mod Seen
+pub mod Owed
 pub mod ChecksGrow

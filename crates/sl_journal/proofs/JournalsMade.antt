@@ -189,6 +189,18 @@ event_taken {D} commands stands w p q n e l out since then now s says front h as
     sums : (a b c d e : ℕ) → a ≡ b + e → b ≡ c + d → a ≡ c + (d + e)
     sums a b c d e p q = omega (arith, p, q)
 
+-- What was added begins with the line.
+pub event_adds : {D : Type 0} (commands : Header → List (Form Command)) (stands : D → Setting → Trace → Type 0) (p q n : JournalState D) (e : Event) (text out since then now : List ℕ)
+    → IsPlaying commands stands p → since ≡ out ++ text ++ 10 ∷ [] → HasBrought commands stands p e since q then
+    → ((v : World) (m : ℕ) → AsksLeft commands stands q.play v m 10 → GoesOn commands stands v q (λ rest. rest) then n now) → (news : List ℕ) × (now ≡ out ++ text ++ 10 ∷ news)
+event_adds commands stands p q n e text out since then now s front h asks =
+    let x = h.in_each s.0 s.1.stands_for in
+    let left = asks_left commands stands p q s.0 e h.effects since then s.1 x in
+    let a = asks (happens s.0 e (h.effects ∷ [])) left.0 left.1 in
+    let news : List ℕ = as_bytes (event_news s.0 (e, h.effects ∷ [])) in
+    (news ++ a.bytes, a.told ∙ ap (λ b. b ++ a.bytes) (x.text ∙ ap (λ b. b ++ news) front) ∙ append_assoc (out ++ text ++ 10 ∷ []) news a.bytes
+    ∙ append_assoc out (text ++ 10 ∷ []) (news ++ a.bytes) ∙ ap (λ b. out ++ b) (append_assoc text (10 ∷ []) (news ++ a.bytes)))
+
 first_event : (commands : Header → List (Form Command)) (h : Header) (l : NumberedLine) (rest : List NumberedLine) (o : Option EventLine) → event_line whole_language h l ≡ o
     → event_lines_of (played_language commands) h (l ∷ rest) ≡ cons_option o (event_lines_of (played_language commands) h rest)
 first_event commands h l rest o is = ap (λ p. cons_option p (event_lines_of (played_language commands) h rest)) is

@@ -131,7 +131,7 @@ taken_more commands h first before after r n lines x l =
     }
 
 -- Whatever follows what was read, the header and the lines are in the source.
-reads_on : (commands : Header → List (Form Command)) (h : Header) (first left : Option (List ℕ)) (r : ReaderState) (lines : List NumberedLine → List NumberedLine)
+pub reads_on : (commands : Header → List (Form Command)) (h : Header) (first left : Option (List ℕ)) (r : ReaderState) (lines : List NumberedLine → List NumberedLine)
     (x : HasTaken commands h first left r lines) (bytes source more : List ℕ) → r.ended ≡ false → source ≡ (x.consumed ++ bytes) ++ more
     → read_header (played_language commands) [] 1 (numbered_lines source) ≡ Header_read h (lines (lines_left x.consumed (bytes ++ more) r))
 reads_on commands h first left r lines x bytes source more began is =
@@ -263,7 +263,7 @@ ended_out {D} commands stands h first before after taken since now faults later 
 
 -- ---- a line is refused before it is read
 
-total_at : (consumed rest : List ℕ) (behind : ℕ) → behind ≡ length consumed → length (consumed ++ rest) ≡ behind + length rest
+pub total_at : (consumed rest : List ℕ) (behind : ℕ) → behind ≡ length consumed → length (consumed ++ rest) ≡ behind + length rest
 total_at consumed rest behind is = length-append consumed rest ∙ ap (λ b. b + length rest) (sym is)
 
 abbrev unread : Option Refusal → ℕ → Option EventLine → Option EventLine
