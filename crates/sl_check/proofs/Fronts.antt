@@ -4,7 +4,7 @@ use Rattle.std.proofs.Common.{Bool, List, None, Option, Some, [], ap, arith, dro
 use Rattle.std.proofs.KnownBytes.{Consumes-trans}
 use Rattle.std.proofs.Math.ListN.{get_or}
 use Rattle.std.proofs.Math.Seq.{get_or-append_seam, take-append_seam}
-use Rattle.std.proofs.lemmas.Bool.{eqb-true}
+use Rattle.std.proofs.lemmas.Bool.{eq-eqb, eqb-true}
 use Rattle.std.proofs.lemmas.List.{append_assoc, drop_more, get_or-drop, get_or-take, get_or_append_left, length-take, take_more}
 use Rattle.std.proofs.lemmas.Slice.Eq.{bytes_eq-Decides}
 use Rattle.std.specs.Io.KnownBytes.{Consumes, IsAtEnd}
@@ -13,7 +13,7 @@ use Rattle.std.specs.Prelude.{IsTrue, bytes_eq, nat_eq}
 use Rattle.sl_words.proofs.CaseLaws.{false_is_true, true_is_false}
 
 clash : (b : Bool) → b ≡ true → b ≡ false → ⊥
-clash b yes no = false_is_true (sym no ∙ yes)
+clash b holds fails = false_is_true (sym fails ∙ holds)
 
 -- ---- a line
 
@@ -53,9 +53,9 @@ front_more a b c front at byte inside first second is =
     subst (Consumes a c) (ap (λ x. take at front ++ x ∷ []) is ∙ sym (take_more front at 0 inside)) (Consumes-trans a b c (take at front) (byte ∷ []) first second)
 
 -- It is another one.
-pub other_byte : (a b c : Option (List ℕ)) (front : List ℕ) (at byte : ℕ) → at < length front → Consumes a b (take at front) → Consumes b c (option_to_list (Some byte)) → (byte ≡ get_or front at 0 → ⊥)
+pub other_byte : (a b c : Option (List ℕ)) (front : List ℕ) (at byte : ℕ) → at < length front → Consumes a b (take at front) → Consumes b c (option_to_list (Some byte)) → nat_eq byte (get_or front at 0) ≡ false
     → BeginsOtherwise a c front
-other_byte a b c front at byte inside first second other =
+other_byte a b c front at byte inside first second test =
     record {
       read = take at front ++ byte ∷ [];
       ended = false;
@@ -64,6 +64,8 @@ other_byte a b c front at byte inside first second other =
       never = λ source may behind is. other (sym (stands may.0) ∙ ap (λ l. get_or l at 0) (sym may.1 ∙ is) ∙ get_or_append_left front behind 0 at inside);
     }
   where
+    other : byte ≡ get_or front at 0 → ⊥
+    other is = true_is_false (sym (eq-eqb byte (get_or front at 0) is) ∙ test)
     len : length (take at front) ≡ at
     len = length-take at front ∙ shorter at (length front) inside
       where

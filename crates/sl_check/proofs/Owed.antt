@@ -1,6 +1,6 @@
 -- What is owed of a check, by what it came to.
 use Rattle.sl_check.proofs.Seen.{front_there, front_told, long_row, long_there, misread_line, others_there, row_there, wrong_there}
-use Rattle.sl_check.specs.Checks.{All, BeginsOtherwise, CheckState, ChecksBehind, FrontJournal, HasSeen, In_first, In_header, In_rest, IsLast, IsMisread, IsWrong, MisreadsJournal, Nothing, Part, Puts, RightJournal, TellsFront, WrongJournal, counted, front_line, mark, ok_line, run_line, wrong_lines}
+use Rattle.sl_check.specs.Checks.{All, BeginsOtherwise, CheckState, ChecksBehind, HasSeen, In_first, In_header, In_rest, IsLast, IsMisread, IsWrong, MisreadsJournal, Nothing, Part, Puts, Tells, Tells_difference, Tells_front, Tells_refusal, Tells_right, Told, Told_all, Told_front, Told_nothing, Told_unread, WrongJournal, counted, front_line, mark, ok_line, run_line, wrong_lines}
 use Rattle.sl_check.specs.declared.check.Checked.{Checked}
 use Rattle.sl_check.specs.declared.check.Checked.TheVariants.{BreaksOff, Differs, NoMemory, ReadFault, Refused, Same, WriteFault}
 use Rattle.sl_io.specs.FaultCauses.{Rose}
@@ -14,7 +14,7 @@ use Rattle.sl_reader.proofs.HeaderSteps.{gives_then}
 use Rattle.sl_reader.specs.HeaderBegins.{HeaderStops}
 use Rattle.sl_reader.specs.LineReads.{EndStands, Gives, IsCutOff, ReaderState, ReadsEnd, ReadsLine, ReadsRefused, line_of}
 use Rattle.sl_report.specs.Languages.{Language}
-use Rattle.sl_report.specs.OwedReports.{MayHaveBeen, Promise}
+use Rattle.sl_report.specs.OwedReports.{IsFrontOf, MayHaveBeen, Promise}
 use Rattle.sl_report.specs.RefusalLines.{refusal_line}
 use Rattle.sl_report.specs.Schedules.{Header_read, NumberedLine, line_refusal, numbered_lines, read_header}
 use Rattle.sl_run.specs.Worlds.{world_with}
@@ -41,53 +41,44 @@ moves left after taken now ended read written reads at_end writes =
 
 -- There was no memory, ..
 pub lacks : {D : Type 0} (commands : Header → List (Form Command)) (stands : D → Setting → Trace → Type 0) (before : List ℕ) (left after taken now : Option (List ℕ)) (faults later sink_faults sink_later : ℕ)
-    → Moved left after taken now → ChecksBehind commands stands before left after taken now faults later sink_faults sink_later NoMemory
-lacks commands stands before left after taken now faults later sink_faults sink_later x =
-    record { moved = x; right = λ e. absurd cc; differs = λ e. absurd cc; tells = λ e. absurd cc; refused = λ e. absurd cc; front = λ e. absurd cc; front_tells = λ e. absurd cc; read_fault = λ e. absurd cc; write_fault = λ e. absurd cc }
+    (x : Moved left after taken now) → x.written ≡ [] → ChecksBehind commands stands before left after taken now faults later sink_faults sink_later NoMemory
+lacks commands stands before left after taken now faults later sink_faults sink_later x none =
+    record { moved = x; told = Told_nothing none; right = λ e. absurd cc; differs = λ e. absurd cc; front = λ e. absurd cc; read_fault = λ e. absurd cc; write_fault = λ e. absurd cc }
 
 -- .. a read failed, ..
 pub breaks : {D : Type 0} (commands : Header → List (Form Command)) (stands : D → Setting → Trace → Type 0) (before : List ℕ) (left after taken now : Option (List ℕ)) (faults later sink_faults sink_later : ℕ)
-    → Moved left after taken now → Rose faults later → ChecksBehind commands stands before left after taken now faults later sink_faults sink_later ReadFault
-breaks commands stands before left after taken now faults later sink_faults sink_later x rose =
-    record { moved = x; right = λ e. absurd cc; differs = λ e. absurd cc; tells = λ e. absurd cc; refused = λ e. absurd cc; front = λ e. absurd cc; front_tells = λ e. absurd cc; read_fault = λ e. rose; write_fault = λ e. absurd cc }
+    (x : Moved left after taken now) → x.written ≡ [] → Rose faults later → ChecksBehind commands stands before left after taken now faults later sink_faults sink_later ReadFault
+breaks commands stands before left after taken now faults later sink_faults sink_later x none rose =
+    record { moved = x; told = Told_unread none; right = λ e. absurd cc; differs = λ e. absurd cc; front = λ e. absurd cc; read_fault = λ e. rose; write_fault = λ e. absurd cc }
 
 -- .. or a write.
 chokes : {D : Type 0} (commands : Header → List (Form Command)) (stands : D → Setting → Trace → Type 0) (before : List ℕ) (left after taken now : Option (List ℕ)) (faults later sink_faults sink_later : ℕ)
-    → Moved left after taken now → Rose sink_faults sink_later → ChecksBehind commands stands before left after taken now faults later sink_faults sink_later WriteFault
-chokes commands stands before left after taken now faults later sink_faults sink_later x rose =
-    record { moved = x; right = λ e. absurd cc; differs = λ e. absurd cc; tells = λ e. absurd cc; refused = λ e. absurd cc; front = λ e. absurd cc; front_tells = λ e. absurd cc; read_fault = λ e. absurd cc; write_fault = λ e. rose }
+    (x : Moved left after taken now) (whole : Checked) (text : List ℕ) → Tells commands stands before x.ended x.read text whole → IsFrontOf x.written text → Rose sink_faults sink_later
+    → ChecksBehind commands stands before left after taken now faults later sink_faults sink_later WriteFault
+chokes commands stands before left after taken now faults later sink_faults sink_later x whole text owed front rose =
+    record { moved = x; told = Told_front whole text owed front; right = λ e. absurd cc; differs = λ e. absurd cc; front = λ e. absurd cc; read_fault = λ e. absurd cc; write_fault = λ e. rose }
 
 -- ---- what is put out whole
 
--- What this text is owed for, by what the check came to.
-pub data Owed {D : Type 0} (commands : Header → List (Form Command)) (stands : D → Setting → Trace → Type 0) (before : List ℕ) (ended : Bool) (read text : List ℕ) : Checked → Type 0 where
-  Owes_right : ended ≡ true → RightJournal (λ p h xs. MadeRun stands p h xs) (played_language commands) (before ++ read) text → Owed commands stands before ended read text Same
-  Owes_difference : (differs : (source : List ℕ) → MayHaveBeen ended read source → WrongJournal (λ p h xs. MadeRun stands p h xs) (played_language commands) (before ++ source))
-      → ((source : List ℕ) → (may : MayHaveBeen ended read source) → text ≡ as_bytes (wrong_lines (differs source may).due (differs source may).next (differs source may).wrong))
-      → Owed commands stands before ended read text Differs
-  Owes_refusal : ((source : List ℕ) → MayHaveBeen ended read source → MisreadsJournal (λ p h xs. MadeRun stands p h xs) (played_language commands) (before ++ source) text)
-      → Owed commands stands before ended read text Refused
-  Owes_front : (front : FrontJournal (λ p h xs. MadeRun stands p h xs) (played_language commands) (before ++ read)) → ended ≡ true → TellsFront front text → Owed commands stands before ended read text BreaksOff
-
 all_out : {D : Type 0} (commands : Header → List (Form Command)) (stands : D → Setting → Trace → Type 0) (before : List ℕ) (left after taken now : Option (List ℕ)) (faults later sink_faults sink_later : ℕ)
-    (x : Moved left after taken now) (whole : Checked) → Owed commands stands before x.ended x.read x.written whole
+    (x : Moved left after taken now) (whole : Checked) → Tells commands stands before x.ended x.read x.written whole
     → ChecksBehind commands stands before left after taken now faults later sink_faults sink_later whole
-all_out commands stands before left after taken now faults later sink_faults sink_later x Same (Owes_right ends right) =
-    record { moved = x; right = λ e. (ends, right); differs = λ e. absurd cc; tells = λ e. absurd cc; refused = λ e. absurd cc; front = λ e. absurd cc; front_tells = λ e. absurd cc; read_fault = λ e. absurd cc; write_fault = λ e. absurd cc }
-all_out commands stands before left after taken now faults later sink_faults sink_later x Differs (Owes_difference differs tells) =
-    record { moved = x; right = λ e. absurd cc; differs = λ e. differs; tells = λ e. tells; refused = λ e. absurd cc; front = λ e. absurd cc; front_tells = λ e. absurd cc; read_fault = λ e. absurd cc; write_fault = λ e. absurd cc }
-all_out commands stands before left after taken now faults later sink_faults sink_later x Refused (Owes_refusal refused) =
-    record { moved = x; right = λ e. absurd cc; differs = λ e. absurd cc; tells = λ e. absurd cc; refused = λ e. refused; front = λ e. absurd cc; front_tells = λ e. absurd cc; read_fault = λ e. absurd cc; write_fault = λ e. absurd cc }
-all_out commands stands before left after taken now faults later sink_faults sink_later x BreaksOff (Owes_front front ends tells) =
-    record { moved = x; right = λ e. absurd cc; differs = λ e. absurd cc; tells = λ e. absurd cc; refused = λ e. absurd cc; front = λ e. front; front_tells = λ e. (ends, tells); read_fault = λ e. absurd cc; write_fault = λ e. absurd cc }
+all_out commands stands before left after taken now faults later sink_faults sink_later x whole (Tells_right ends right) =
+    record { moved = x; told = Told_all (Tells_right ends right); right = λ e. (ends, right); differs = λ e. absurd cc; front = λ e. absurd cc; read_fault = λ e. absurd cc; write_fault = λ e. absurd cc }
+all_out commands stands before left after taken now faults later sink_faults sink_later x whole (Tells_difference differs tells) =
+    record { moved = x; told = Told_all (Tells_difference differs tells); right = λ e. absurd cc; differs = λ e. differs; front = λ e. absurd cc; read_fault = λ e. absurd cc; write_fault = λ e. absurd cc }
+all_out commands stands before left after taken now faults later sink_faults sink_later x whole (Tells_refusal refused) =
+    record { moved = x; told = Told_all (Tells_refusal refused); right = λ e. absurd cc; differs = λ e. absurd cc; front = λ e. absurd cc; read_fault = λ e. absurd cc; write_fault = λ e. absurd cc }
+all_out commands stands before left after taken now faults later sink_faults sink_later x whole (Tells_front front ends tells) =
+    record { moved = x; told = Told_all (Tells_front front ends tells); right = λ e. absurd cc; differs = λ e. absurd cc; front = λ e. front; read_fault = λ e. absurd cc; write_fault = λ e. absurd cc }
 
 puts_out : {D : Type 0} (commands : Header → List (Form Command)) (stands : D → Setting → Trace → Type 0) (before : List ℕ) (left after taken now : Option (List ℕ)) (faults later sink_faults sink_later : ℕ)
-    (ended : Bool) (read text : List ℕ) (whole s : Checked) → Consumes left after read → (IsTrue ended → IsAtEnd after) → Owed commands stands before ended read text whole
+    (ended : Bool) (read text : List ℕ) (whole s : Checked) → Consumes left after read → (IsTrue ended → IsAtEnd after) → Tells commands stands before ended read text whole
     → Puts taken now sink_faults sink_later text whole s → ChecksBehind commands stands before left after taken now faults later sink_faults sink_later s
-puts_out commands stands before left after taken now faults later sink_faults sink_later ended read text whole s reads at_end owed (Part front appends rose) =
-    chokes commands stands before left after taken now faults later sink_faults sink_later (moves left after taken now ended read front reads at_end appends) rose
+puts_out commands stands before left after taken now faults later sink_faults sink_later ended read text whole s reads at_end owed (Part front appends begins rose) =
+    chokes commands stands before left after taken now faults later sink_faults sink_later (moves left after taken now ended read front reads at_end appends) whole text owed begins rose
 puts_out commands stands before left after taken now faults later sink_faults sink_later ended read text whole s reads at_end owed (Nothing appends) =
-    lacks commands stands before left after taken now faults later sink_faults sink_later (moves left after taken now ended read [] reads at_end appends)
+    lacks commands stands before left after taken now faults later sink_faults sink_later (moves left after taken now ended read [] reads at_end appends) refl
 puts_out commands stands before left after taken now faults later sink_faults sink_later ended read text whole s reads at_end owed (All appends) =
     all_out commands stands before left after taken now faults later sink_faults sink_later (moves left after taken now ended read text reads at_end appends) whole owed
 
@@ -116,7 +107,7 @@ front_ended commands stands h first before after taken now faults later sink_fau
     let reads = x.read.reads [] (λ i. refl) in
     puts_out commands stands mark first after taken now faults later sink_faults sink_later true body (as_bytes (front_line c.seen ∷ [])) BreaksOff s
     (reads_of first after body (gives_then first before after [] x.read.consumed r.left [] x.read.gives e.gives)) (λ i. ends.at_end e.ended)
-    (Owes_front (front_there commands stands h first before r c x body [] reads zero_few) refl (front_told commands stands h first before r c x body [] reads zero_few)) puts
+    (Tells_front (front_there commands stands h first before r c x body [] reads zero_few) refl (front_told commands stands h first before r c x body [] reads zero_few)) puts
 
 -- .. or in a line without its line feed.
 pub front_cut : {D : Type 0} (commands : Header → List (Form Command)) (stands : D → Setting → Trace → Type 0) (h : Header) (first before after taken now : Option (List ℕ))
@@ -126,7 +117,7 @@ pub front_cut : {D : Type 0} (commands : Header → List (Form Command)) (stands
 front_cut {D} commands stands h first before after taken now faults later sink_faults sink_later r n c s x l ends ended puts =
     puts_out commands stands mark first after taken now faults later sink_faults sink_later true (y.consumed ++ []) (as_bytes (front_line c.seen ∷ [])) BreaksOff s
     (subst (λ b. Consumes first after (y.consumed ++ b)) (ends.none ended) (reads_of first after (y.consumed ++ n.left) y.gives)) (λ i. ends.at_end ended)
-    (Owes_front (front_there commands stands h first before r c x (y.consumed ++ []) (line_of n ∷ []) reads one_few) refl
+    (Tells_front (front_there commands stands h first before r c x (y.consumed ++ []) (line_of n ∷ []) reads one_few) refl
     (front_told commands stands h first before r c x (y.consumed ++ []) (line_of n ∷ []) reads one_few)) puts
   where
     y : HasTaken commands h first after n (λ rest. x.rows ++ line_of n ∷ rest)
@@ -152,7 +143,7 @@ pub wrong_out : {D : Type 0} (commands : Header → List (Form Command)) (stands
 wrong_out commands stands h first before after taken now faults later sink_faults sink_later r n c s x l ends wrong puts =
     puts_out commands stands mark first after taken now faults later sink_faults sink_later n.ended ((x.read.consumed ++ l.taken) ++ n.left) (as_bytes (wrong_lines c.due (line_of n) wrong)) Differs s
     (line_reads commands h first before after r n x.rows x.read l) ends.at_end
-    (Owes_difference (wrong_there commands stands h first before after r n c x l ends wrong) (λ source may. refl)) puts
+    (Tells_difference (wrong_there commands stands h first before after r n c x l ends wrong) (λ source may. refl)) puts
 
 -- A row is none of a journal, ..
 pub misread_out : {D : Type 0} (commands : Header → List (Form Command)) (stands : D → Setting → Trace → Type 0) (h : Header) (first before after taken now : Option (List ℕ))
@@ -164,7 +155,7 @@ pub misread_out : {D : Type 0} (commands : Header → List (Form Command)) (stan
 misread_out commands stands h first before after taken now faults later sink_faults sink_later r n c number why s x l ends misread counts puts =
     puts_out commands stands mark first after taken now faults later sink_faults sink_later n.ended ((x.read.consumed ++ l.taken) ++ n.left) (as_bytes (refusal_line number why ∷ [])) Refused s
     (line_reads commands h first before after r n x.rows x.read l) ends.at_end
-    (Owes_refusal (λ source may. misread_line commands stands h first before after r n c x l ends number why misread counts source may)) puts
+    (Tells_refusal (λ source may. misread_line commands stands h first before after r n c x l ends number why misread counts source may)) puts
 
 -- .. or is refused before it is read.
 pub long_out : {D : Type 0} (commands : Header → List (Form Command)) (stands : D → Setting → Trace → Type 0) (h : Header) (first before after taken now : Option (List ℕ))
@@ -174,7 +165,7 @@ pub long_out : {D : Type 0} (commands : Header → List (Form Command)) (stands 
 long_out commands stands h first before after taken now faults later sink_faults sink_later r n c number why s x e counts puts =
     puts_out commands stands mark first after taken now faults later sink_faults sink_later false (x.read.consumed ++ e.bytes) (as_bytes (refusal_line number why ∷ [])) Refused s
     (reads_of first after (x.read.consumed ++ e.bytes) (gives_then first before after [] x.read.consumed r.left e.bytes x.read.gives e.gives)) (never_ended after)
-    (Owes_refusal (λ source may. long_there commands stands h first before after r n c why x e number counts source may)) puts
+    (Tells_refusal (λ source may. long_there commands stands h first before after r n c why x e number counts source may)) puts
 
 -- ---- behind the last line
 
@@ -195,7 +186,7 @@ pub last_ended : {D : Type 0} (commands : Header → List (Form Command)) (stand
 last_ended commands stands first before after taken now faults later sink_faults sink_later r n c s x e ends puts =
     puts_out commands stands mark first after taken now faults later sink_faults sink_later true (x.read.consumed ++ [])
     (as_bytes (ok_line c.journal.entries ∷ run_line c.journal.play.counts ∷ [])) Same s (last_read commands stands first before after r c [] x e.gives) (λ i. ends.at_end e.ended)
-    (Owes_right refl x.right) puts
+    (Tells_right refl x.right) puts
 
 -- A row stands there.
 behind_there : {D : Type 0} (commands : Header → List (Form Command)) (stands : D → Setting → Trace → Type 0) (first before : Option (List ℕ)) (r : ReaderState) (c : CheckState D) (x : IsLast commands stands first before r c)
@@ -229,7 +220,7 @@ pub last_line_out : {D : Type 0} (commands : Header → List (Form Command)) (st
 last_line_out commands stands first before after taken now faults later sink_faults sink_later r n c number s x l ends counts puts =
     puts_out commands stands mark first after taken now faults later sink_faults sink_later n.ended ((x.read.consumed ++ l.taken) ++ n.left) (as_bytes (refusal_line number Syntax ∷ [])) Refused s
     (line_reads commands x.header first before after r n x.rows x.read l) ends.at_end
-    (Owes_refusal (λ source may. behind_there commands stands first before r c x source (line_of n)
+    (Tells_refusal (λ source may. behind_there commands stands first before r c x source (line_of n)
     (others_there commands x.header first before after r n x.rows x.read l source may) number Syntax
     (row_there commands x.header first before after r n x.rows x.read l ends source may) (inr refl) counts)) puts
 
@@ -240,7 +231,7 @@ pub last_long_out : {D : Type 0} (commands : Header → List (Form Command)) (st
 last_long_out commands stands first before after taken now faults later sink_faults sink_later r n c number why s x e counts puts =
     puts_out commands stands mark first after taken now faults later sink_faults sink_later false (x.read.consumed ++ e.bytes) (as_bytes (refusal_line number why ∷ [])) Refused s
     (last_read commands stands first before after r c e.bytes x e.gives) (never_ended after)
-    (Owes_refusal (λ source may.
+    (Tells_refusal (λ source may.
         let l = long_row commands x.header first before after r n x.rows x.read e source may.0 may.1 in
         behind_there commands stands first before r c x source l.next l.others number why l.read (inl l.refused) (counts ∙ ap counted (sym l.counts)))) puts
 
@@ -252,7 +243,7 @@ pub header_out : {D : Type 0} (commands : Header → List (Form Command)) (stand
     → ChecksBehind commands stands mark first after taken now faults later sink_faults sink_later s
 header_out commands stands first after taken now faults later sink_faults sink_later n number why s b ends puts =
     puts_out commands stands mark first after taken now faults later sink_faults sink_later n.ended b.bytes (as_bytes (refusal_line (counted number) why ∷ [])) Refused s
-    (reads_of first after b.bytes b.gives) ends.at_end (Owes_refusal there) puts
+    (reads_of first after b.bytes b.gives) ends.at_end (Tells_refusal there) puts
   where
     there : (source : List ℕ) → MayHaveBeen n.ended b.bytes source → MisreadsJournal (λ p h xs. MadeRun stands p h xs) (played_language commands) (mark ++ source) (as_bytes (refusal_line (counted number) why ∷ []))
     there source may =
@@ -279,12 +270,10 @@ pub check_later : {D : Type 0} (commands : Header → List (Form Command)) (stan
 check_later commands stands before first after taken now f g later j k sink_later s h i x =
     record {
       moved = x.moved;
+      told = x.told;
       right = x.right;
       differs = x.differs;
-      tells = x.tells;
-      refused = x.refused;
       front = x.front;
-      front_tells = x.front_tells;
       read_fault = λ is. rose_later f g later h (x.read_fault is);
       write_fault = λ is. rose_later j k sink_later i (x.write_fault is);
     }
@@ -297,7 +286,7 @@ pub first_out : {D : Type 0} (commands : Header → List (Form Command)) (stands
     → ChecksBehind commands stands [] left after taken now faults later sink_faults sink_later s
 first_out commands stands left after taken now faults later sink_faults sink_later s x puts =
     puts_out commands stands [] left after taken now faults later sink_faults sink_later x.ended x.read (as_bytes (refusal_line (counted 0) Syntax ∷ [])) Refused s x.reads x.at_end
-    (Owes_refusal (λ source may. record {
+    (Tells_refusal (λ source may. record {
       number = counted 0;
       why = Syntax;
       misread = In_first (λ body is. x.never source may body (is ∙ sym (append_assoc first_line (10 ∷ []) body)));
@@ -328,22 +317,41 @@ wrong_as promised lang source other is x =
       wrong = x.wrong;
     }
 
--- What was read behind the first line was read of the whole.
+-- What is told of what was read behind the first line is told of the whole.
+abbrev differs_behind : {D : Type 0} (commands : Header → List (Form Command)) (stands : D → Setting → Trace → Type 0) (ended : Bool) (read : List ℕ)
+    → ((source : List ℕ) → MayHaveBeen ended read source → WrongJournal (λ p h xs. MadeRun stands p h xs) (played_language commands) (mark ++ source))
+    → (source : List ℕ) → MayHaveBeen ended (mark ++ read) source → WrongJournal (λ p h xs. MadeRun stands p h xs) (played_language commands) source
+differs_behind commands stands ended read differs source may =
+    let b = behind_source ended read source may in wrong_as (λ p h xs. MadeRun stands p h xs) (played_language commands) (mark ++ b.0) source b.1 (differs b.0 b.2)
+
+tells_behind : {D : Type 0} (commands : Header → List (Form Command)) (stands : D → Setting → Trace → Type 0) (ended : Bool) (read text : List ℕ) (s : Checked) → Tells commands stands mark ended read text s
+    → Tells commands stands [] ended (mark ++ read) text s
+tells_behind commands stands ended read text s (Tells_right ends right) = Tells_right ends right
+tells_behind commands stands ended read text s (Tells_difference differs tells) =
+    Tells_difference (λ source may. differs_behind commands stands ended read differs source may)
+    (λ source may. let b = behind_source ended read source may in tells b.0 b.2)
+tells_behind commands stands ended read text s (Tells_refusal refused) =
+    Tells_refusal (λ source may. let b = behind_source ended read source may in
+    subst (λ t. MisreadsJournal (λ p h xs. MadeRun stands p h xs) (played_language commands) t text) (sym b.1) (refused b.0 b.2))
+tells_behind commands stands ended read text s (Tells_front front ends tells) = Tells_front front ends tells
+
+told_behind : {D : Type 0} (commands : Header → List (Form Command)) (stands : D → Setting → Trace → Type 0) (ended : Bool) (read written : List ℕ) (s : Checked) → Told commands stands mark ended read written s
+    → Told commands stands [] ended (mark ++ read) written s
+told_behind commands stands ended read written s (Told_all tells) = Told_all (tells_behind commands stands ended read written s tells)
+told_behind commands stands ended read written s (Told_front whole text tells front) = Told_front whole text (tells_behind commands stands ended read text whole tells) front
+told_behind commands stands ended read written s (Told_unread none) = Told_unread none
+told_behind commands stands ended read written s (Told_nothing none) = Told_nothing none
+
 pub behind_mark : {D : Type 0} (commands : Header → List (Form Command)) (stands : D → Setting → Trace → Type 0) (left behind after taken now : Option (List ℕ))
     (faults later sink_faults sink_later : ℕ) (s : Checked) → Consumes left behind mark → ChecksBehind commands stands mark behind after taken now faults later sink_faults sink_later s
     → ChecksBehind commands stands [] left after taken now faults later sink_faults sink_later s
 behind_mark commands stands left behind after taken now faults later sink_faults sink_later s c x =
     record {
       moved = moves left after taken now x.moved.ended (mark ++ x.moved.read) x.moved.written (Consumes-trans left behind after mark x.moved.read c x.moved.reads) x.moved.at_end x.moved.writes;
+      told = told_behind commands stands x.moved.ended x.moved.read x.moved.written s x.told;
       right = x.right;
-      differs = λ e source may.
-          let b = behind_source x.moved.ended x.moved.read source may in wrong_as (λ p h xs. MadeRun stands p h xs) (played_language commands) (mark ++ b.0) source b.1 (x.differs e b.0 b.2);
-      tells = λ e source may. let b = behind_source x.moved.ended x.moved.read source may in x.tells e b.0 b.2;
-      refused = λ e source may.
-          let b = behind_source x.moved.ended x.moved.read source may in
-          subst (λ t. MisreadsJournal (λ p h xs. MadeRun stands p h xs) (played_language commands) t x.moved.written) (sym b.1) (x.refused e b.0 b.2);
+      differs = λ e source may. differs_behind commands stands x.moved.ended x.moved.read (x.differs e) source may;
       front = x.front;
-      front_tells = x.front_tells;
       read_fault = x.read_fault;
       write_fault = x.write_fault;
     }

@@ -274,24 +274,36 @@ Finds commands stands l c n (Misread why) = (c.due ≡ []) × (l.text ≡ end_li
 -- A text is put out whole, or a front of it, or there was no memory for it.
 pub data Puts (taken now : Option (List ℕ)) (faults later : ℕ) (text : List ℕ) (whole : Checked) : Checked → Type 0 where
   All : Appends taken now text → Puts taken now faults later text whole whole
-  Part : (front : List ℕ) → Appends taken now front → Rose faults later → Puts taken now faults later text whole WriteFault
+  Part : (front : List ℕ) → Appends taken now front → IsFrontOf front text → Rose faults later → Puts taken now faults later text whole WriteFault
   Nothing : Appends taken now [] → Puts taken now faults later text whole NoMemory
+
+-- What a text tells of the bytes read, by what the check comes to.
+pub data Tells {D : Type 0} (commands : Header → List (Form Command)) (stands : D → Setting → Trace → Type 0) (before : List ℕ) (ended : Bool) (read text : List ℕ) : Checked → Type 0 where
+  Tells_right : ended ≡ true → RightJournal (λ p h xs. MadeRun stands p h xs) (played_language commands) (before ++ read) text → Tells commands stands before ended read text Same
+  Tells_difference : (differs : (source : List ℕ) → MayHaveBeen ended read source → WrongJournal (λ p h xs. MadeRun stands p h xs) (played_language commands) (before ++ source))
+      → ((source : List ℕ) → (may : MayHaveBeen ended read source) → text ≡ as_bytes (wrong_lines (differs source may).due (differs source may).next (differs source may).wrong))
+      → Tells commands stands before ended read text Differs
+  Tells_refusal : ((source : List ℕ) → MayHaveBeen ended read source → MisreadsJournal (λ p h xs. MadeRun stands p h xs) (played_language commands) (before ++ source) text)
+      → Tells commands stands before ended read text Refused
+  Tells_front : (front : FrontJournal (λ p h xs. MadeRun stands p h xs) (played_language commands) (before ++ read)) → ended ≡ true → TellsFront front text
+      → Tells commands stands before ended read text BreaksOff
+
+-- What is written, by what the check came to: what there was to tell; a front of that, where a write failed; nothing, where a read failed, or memory.
+pub data Told {D : Type 0} (commands : Header → List (Form Command)) (stands : D → Setting → Trace → Type 0) (before : List ℕ) (ended : Bool) (read written : List ℕ) : Checked → Type 0 where
+  Told_all : {whole : Checked} → Tells commands stands before ended read written whole → Told commands stands before ended read written whole
+  Told_front : (whole : Checked) → (text : List ℕ) → Tells commands stands before ended read text whole → IsFrontOf written text → Told commands stands before ended read written WriteFault
+  Told_unread : written ≡ [] → Told commands stands before ended read written ReadFault
+  Told_nothing : written ≡ [] → Told commands stands before ended read written NoMemory
 
 -- What was read, behind these bytes of a journal, and told, by what the check came to.
 pub record ChecksBehind {D : Type 0} (commands : Header → List (Form Command)) (stands : D → Setting → Trace → Type 0) (before : List ℕ) (left after taken now : Option (List ℕ))
     (faults later sink_faults sink_later : ℕ) (s : Checked) : Type 0 where
   pub moved : Moved left after taken now
+  pub told : Told commands stands before moved.ended moved.read moved.written s
   pub right : s ≡ Same → (moved.ended ≡ true) × RightJournal (λ p h xs. MadeRun stands p h xs) (played_language commands) (before ++ moved.read) moved.written
   pub differs : s ≡ Differs → (source : List ℕ) → MayHaveBeen moved.ended moved.read source
       → WrongJournal (λ p h xs. MadeRun stands p h xs) (played_language commands) (before ++ source)
-  -- .. and so it is told
-  pub tells : (is : s ≡ Differs) → (source : List ℕ) → (may : MayHaveBeen moved.ended moved.read source)
-      → moved.written ≡ as_bytes (wrong_lines (differs is source may).due (differs is source may).next (differs is source may).wrong)
-  pub refused : s ≡ Refused → (source : List ℕ) → MayHaveBeen moved.ended moved.read source
-      → MisreadsJournal (λ p h xs. MadeRun stands p h xs) (played_language commands) (before ++ source) moved.written
   pub front : s ≡ BreaksOff → FrontJournal (λ p h xs. MadeRun stands p h xs) (played_language commands) (before ++ moved.read)
-  -- the source ends there, and so many entries are told as were seen whole
-  pub front_tells : (is : s ≡ BreaksOff) → (moved.ended ≡ true) × TellsFront (front is) moved.written
   pub read_fault : s ≡ ReadFault → Rose faults later
   pub write_fault : s ≡ WriteFault → Rose sink_faults sink_later
 

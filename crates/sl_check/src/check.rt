@@ -346,12 +346,13 @@ fn begins_with<S: Source>(source: &mut S, front: &[u8]) -> Result<bool, Failed>
         match next_byte(source)? {
             None => return Ok(false),
             Some(byte) => {
-                if byte != front[at] {
+                if byte == front[at] {
+                    at += 1;
+                } else {
                     return Ok(false);
                 }
             }
         }
-        at += 1;
     }
     Ok(true)
 }

@@ -1,19 +1,18 @@
 -- Lines and asks: what they bring, and that what is left behind them is left before.
-use Rattle.sl_journal.proofs.Leads.{MayCome, ask_leads, event_leads, line_by, leads_joined, skip_leads, stays_there}
-use Rattle.sl_journal.specs.JournalPlays.{Begins, Brings, GoesOn, HasAsked, HasBrought, HaveAsked, IsAsking, IsBarred, IsPlaying, JournalState, LeadsOn, SaysEvent, StopsAt, TakesLine}
+use Rattle.sl_journal.proofs.Leads.{MayCome, ask_leads, event_leads, leads_joined, line_by, skip_leads, stays_there}
+use Rattle.sl_journal.specs.JournalPlays.{Brings, GoesOn, HasAsked, HasBrought, HaveAsked, IsAsking, IsBarred, IsPlaying, JournalState, LeadsOn, SaysEvent, StopsAt}
 use Rattle.sl_journal.specs.JournalRuns.{entries_of, event_news, event_steps, news_at, running_on, steps_at}
 use Rattle.sl_play.specs.PlayIsOwed.{EachStood}
-use Rattle.sl_play.specs.Plays.{AsksLeft, HasHappened, PlayState, PlaysOn, StandsFor, StaysAs}
+use Rattle.sl_play.specs.Plays.{AsksLeft, HasHappened, PlayState, PlaysOn}
 use Rattle.sl_play.specs.Replays.{played_language}
 use Rattle.sl_report.specs.Languages.{is_skipped, whole_language}
 use Rattle.sl_report.specs.ReadLines.{event_in}
-use Rattle.sl_report.specs.Schedules.{At_line, EventLine, Follows, NoAsk, NumberedLine, event_line, event_lines_of, event_or_syntax, line_refusal}
+use Rattle.sl_report.specs.Schedules.{At_line, EventLine, Follows, NumberedLine, event_line, event_lines_of, event_or_syntax, line_refusal}
 use Rattle.sl_run.specs.EventChanges.{happens}
 use Rattle.sl_run.specs.Inputs.{asking, machine_of}
-use Rattle.sl_run.specs.Refusals.{refusal_of}
 use Rattle.sl_run.specs.Worlds.{World}
-use Rattle.sl_run.specs.declared.event.Event.TheVariants.{GiveAsk}
 use Rattle.sl_run.specs.declared.event.Event.{Event}
+use Rattle.sl_run.specs.declared.event.Event.TheVariants.{GiveAsk}
 use Rattle.sl_run.specs.declared.event.Refusal.{Refusal}
 use Rattle.sl_run.specs.declared.header.Header.{Header}
 use Rattle.sl_run_law.proofs.WorldsGoOn.{event_goes}
@@ -27,10 +26,10 @@ use Rattle.sl_world_law.proofs.FirstStanding.{each_stood}
 use Rattle.sl_world_law.proofs.TellingIsKept.{asks_are_kept}
 use Rattle.sl_world_law.specs.ToldEvents.{asking_in}
 use Rattle.sl_world_state.specs.SaneWorlds.{WorldStands}
-use Rattle.std.proofs.Common.{Bool, ap, arith, false, refl, subst, suc, sym, zero, ◌-◌, ◌<◌, ◌∙◌, ◌≤◌}
+use Rattle.std.proofs.Common.{Bool, ap, arith, false, refl, subst, suc, sym, zero, ◌-◌, ◌∙◌, ◌≤◌}
 use Rattle.std.proofs.lemmas.List.{append-nil, append_assoc}
 use Rattle.std.specs.List.{cons_option}
-use Rattle.std.specs.Prelude.{Err, List, None, Ok, Option, Result, Some, is_none, true, [], ℕ, ◌++◌, ◌+◌, ◌∷◌, ◌≡◌}
+use Rattle.std.specs.Prelude.{Err, List, None, Ok, Option, Result, Some, [], true, ℕ, ◌++◌, ◌+◌, ◌∷◌, ◌≡◌}
 
 -- ---- an event
 

@@ -1,27 +1,27 @@
 -- From behind to before: what follows a moment of a run follows it with one event more in front, and so with many.
 use Rattle.sl_journal.specs.JournalPlays.{LeadsOn}
-use Rattle.sl_journal.specs.JournalRuns.{event_news, event_steps, first_text, other_texts, run_news, run_steps, text_of_line, texts_of}
+use Rattle.sl_journal.specs.JournalRuns.{event_news, event_steps, first_text, other_texts, run_news, run_steps, texts_of}
 use Rattle.sl_play.proofs.EndsFinish.{bytes_joined}
 use Rattle.sl_report.specs.Languages.{Language}
 use Rattle.sl_report.specs.ReadLines.{event_in}
-use Rattle.sl_report.specs.Reports.{Counts, count_event, run_counts}
+use Rattle.sl_report.specs.Reports.{Counts, count_event}
 use Rattle.sl_report.specs.Schedules.{Ending, EventLine, Follows, FollowsSoFar, IsAskOf, NoAsk, NumberedLine, event_line, event_lines_of, event_or_syntax, line_refusal}
 use Rattle.sl_run.specs.EventChanges.{happens}
 use Rattle.sl_run.specs.Inputs.{asking}
 use Rattle.sl_run.specs.Refusals.{may_happen}
-use Rattle.sl_run.specs.Runs.{AfterEachFront, Happening, HasSteps, IsRun, world_after}
+use Rattle.sl_run.specs.Runs.{AfterEachFront, Happening, HasSteps, world_after}
 use Rattle.sl_run.specs.Worlds.{World}
-use Rattle.sl_run.specs.declared.event.Event.TheVariants.{GiveAsk}
 use Rattle.sl_run.specs.declared.event.Event.{Event}
+use Rattle.sl_run.specs.declared.event.Event.TheVariants.{GiveAsk}
 use Rattle.sl_run.specs.declared.event.Refusal.{Refusal}
 use Rattle.sl_run.specs.declared.header.Header.{Header}
 use Rattle.sl_text.specs.Forms.{as_bytes}
 use Rattle.sl_trace.specs.declared.effects.Effects.{Effects}
 use Rattle.sl_words.proofs.Lists.{head_is, tail_is}
-use Rattle.std.proofs.Common.{Bool, ap, arith, false, length, refl, subst, sym, ◌∙◌}
-use Rattle.std.proofs.lemmas.List.{append-nil, append_assoc}
+use Rattle.std.proofs.Common.{Bool, ap, arith, false, refl, subst, sym, ◌∙◌}
+use Rattle.std.proofs.lemmas.List.{append_assoc}
 use Rattle.std.specs.List.{cons_option}
-use Rattle.std.specs.Prelude.{Err, IsSomeAnd, IsTrue, List, None, Ok, Option, Result, Some, true, [], ℕ, ◌++◌, ◌+◌, ◌∷◌, ◌≡◌}
+use Rattle.std.specs.Prelude.{Err, IsSomeAnd, IsTrue, List, None, Ok, Option, Result, Some, [], true, ℕ, ◌++◌, ◌+◌, ◌∷◌, ◌≡◌}
 
 -- ---- fronts
 

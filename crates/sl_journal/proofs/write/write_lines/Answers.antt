@@ -1,5 +1,5 @@
 -- Lines are read and played one after another, and what each brought is written.
-use Rattle.sl_journal.proofs.JournalsWritten.{Fails_to_read, Fails_to_write, Lacks_memory, chokes_there, ended_out, journal_later, line_cut, plays_then, puts_end, refused_out, stopped_out, stops_here, takes_so, taken_on}
+use Rattle.sl_journal.proofs.JournalsWritten.{Fails_to_read, Lacks_memory, chokes_there, complete_here, ended_out, journal_later, line_cut, plays_then, puts_end, refused_out, stopped_out, stops_here, takes_so, taken_on}
 use Rattle.sl_journal.proofs.write.write_lines.Goals as goal
 use Rattle.sl_journal.specs.JournalPlays.{journal_state}
 use Rattle.sl_play.proofs.LinesPlayed.{front_of, puts_refusal}
@@ -15,7 +15,8 @@ pub returns-in-Err-Failed : goal.returns-in-Err-Failed
 returns-in-Err-Failed g c h first taken x =
     let f = c.in-Err-Failed.ensures.failed (ap (λ e. Err e) c.in-Err-Failed.field-0-is) in
     journal_later g.D.Daemon.commands g.D.Daemon.stands first (g.S.Source.left c.read_line.new.source) taken (g.K.Sink.taken c.loop-sink.sink) (g.S.Source.faults c.args.source.now) (g.S.Source.faults c.loop-sink.source) (g.S.Source.faults c.read_line.new.source) (g.K.Sink.faults c.args.sink.now) (g.K.Sink.faults c.loop-sink.sink) (g.K.Sink.faults c.loop-sink.sink) ReadFault c.loop-sink.invariant.faults c.loop-sink.invariant.sink_faults
-    (stops_here g.D.Daemon.commands g.D.Daemon.stands h first (g.S.Source.left c.loop-sink.source) (g.S.Source.left c.read_line.new.source) taken (g.K.Sink.taken c.loop-sink.sink) (g.S.Source.faults c.loop-sink.source) (g.S.Source.faults c.read_line.new.source) (g.K.Sink.faults c.loop-sink.sink) (g.K.Sink.faults c.loop-sink.sink) c.loop-sink.reader (journal_state g.L.LockTable.locks c.loop-sink.journal) f.0.bytes ReadFault (c.loop-sink.invariant.runs h first taken x) f.0.open_still f.0.gives (Fails_to_read f.1))
+    (stops_here g.D.Daemon.commands g.D.Daemon.stands h first (g.S.Source.left c.loop-sink.source) (g.S.Source.left c.read_line.new.source) taken (g.K.Sink.taken c.loop-sink.sink) (g.S.Source.faults c.loop-sink.source) (g.S.Source.faults c.read_line.new.source) (g.K.Sink.faults c.loop-sink.sink) (g.K.Sink.faults c.loop-sink.sink) c.loop-sink.reader (journal_state g.L.LockTable.locks c.loop-sink.journal) f.0.bytes ReadFault (c.loop-sink.invariant.runs h first taken x) f.0.open_still f.0.gives
+    (Fails_to_read f.1 (complete_here g.D.Daemon.commands g.D.Daemon.stands h first (g.S.Source.left c.loop-sink.source) (g.S.Source.left c.read_line.new.source) taken (g.K.Sink.taken c.loop-sink.sink) c.loop-sink.reader (journal_state g.L.LockTable.locks c.loop-sink.journal) (c.loop-sink.invariant.runs h first taken x) f.0)))
 
 pub returns-in-Err-NoMemory : goal.returns-in-Err-NoMemory
 returns-in-Err-NoMemory g c h first taken x =
