@@ -8,7 +8,7 @@ use Rattle.sl_journal.proofs.JournalsWritten.{never_ended, reads_of, taken_more}
 use Rattle.sl_journal.specs.JournalLines.{first_line}
 use Rattle.sl_journal.specs.JournalRuns.{run_steps}
 use Rattle.sl_journal.specs.JournalWrites.{HasTaken}
-use Rattle.sl_play.proofs.LinesPlayed.{been, read_same}
+use Rattle.sl_play.proofs.LinesPlayed.{been, front_of, read_same}
 use Rattle.sl_play.specs.Replays.{Moved, played_language}
 use Rattle.sl_reader.proofs.HeaderSteps.{gives_then}
 use Rattle.sl_reader.specs.HeaderBegins.{HeaderStops}
@@ -26,11 +26,11 @@ use Rattle.sl_text.specs.Forms.{Form, as_bytes}
 use Rattle.sl_trace.specs.Traces.{Setting, Trace}
 use Rattle.sl_trace.specs.declared.command.Command.{Command}
 use Rattle.sl_world_state.specs.Daemons.{program_of}
-use Rattle.std.proofs.Common.{Bool, ap, arith, false, inl, inr, refl, subst, sym, true, ◌∙◌, ◌≤◌}
+use Rattle.std.proofs.Common.{Bool, ap, arith, false, inl, inr, length, refl, subst, sym, take, true, ◌∙◌, ◌≤◌}
 use Rattle.std.proofs.KnownBytes.{Appends-nil, Consumes-trans}
 use Rattle.std.proofs.lemmas.List.{append_assoc}
 use Rattle.std.specs.Io.KnownBytes.{Appends, Consumes, IsAtEnd}
-use Rattle.std.specs.Prelude.{IsTrue, List, Option, Some, [], ℕ, ◌++◌, ◌+◌, ◌∷◌, ◌≡◌, ◌⊎◌}
+use Rattle.std.specs.Prelude.{Err, IsTrue, List, Ok, OnOk, Option, Result, Some, [], ℕ, ◌++◌, ◌+◌, ◌∷◌, ◌≡◌, ◌⊎◌}
 
 abbrev pub moves : (left after taken now : Option (List ℕ)) (ended : Bool) (read written : List ℕ) → Consumes left after read → (IsTrue ended → IsAtEnd after) → Appends taken now written
     → Moved left after taken now
@@ -260,7 +260,14 @@ header_out commands stands first after taken now faults later sink_faults sink_l
 pub header_moved : (first after taken : Option (List ℕ)) → (all : List ℕ) × Gives first after [] all → Moved first after taken taken
 header_moved first after taken g = moves first after taken taken false g.0 [] (reads_of first after g.0 g.1) (never_ended after) (Appends-nil taken)
 
+-- .. or in the first line.
+pub unread_moved : (left after taken : Option (List ℕ)) → (bytes : List ℕ) × Consumes left after bytes → Moved left after taken taken
+unread_moved left after taken some = moves left after taken taken false some.0 [] some.1 (never_ended after) (Appends-nil taken)
+
 -- ---- faults are counted from an earlier moment on
+
+pub same_count : (n : ℕ) → n ≤ n
+same_count n = omega arith
 
 rose_later : (a b c : ℕ) → a ≤ b → Rose b c → Rose a c
 rose_later a b c h rose = omega (arith, h, rose)
@@ -360,3 +367,19 @@ behind_mark commands stands left behind after taken now faults later sink_faults
 
 pub puts_text : (taken now : Option (List ℕ)) (faults later : ℕ) (text other : List ℕ) (whole s : Checked) → text ≡ other → Puts taken now faults later text whole s → Puts taken now faults later other whole s
 puts_text taken now faults later text other whole s is puts = subst (λ t. Puts taken now faults later t whole s) is puts
+
+on_ok : {A E : Type 0} (r : Result A E) (x : A) (P : Type 0) → r ≡ Ok x → OnOk r P → P
+on_ok (Ok y) x P is p = p
+on_ok (Err e) x P is p = absurd cc
+
+pub put_all : {A E : Type 0} (pushed : Result A E) (u : A) (a b : Option (List ℕ)) (f g : ℕ) (text all : List ℕ) (whole : Checked) → pushed ≡ Ok u → OnOk pushed (text ≡ all) → Appends a b text
+    → Puts a b f g all whole whole
+put_all pushed u a b f g text all whole is told appends = All (subst (Appends a b) (on_ok pushed u (text ≡ all) is told) appends)
+
+pub put_part : {A E : Type 0} (pushed : Result A E) (u : A) (a b : Option (List ℕ)) (f g : ℕ) (text all : List ℕ) (whole : Checked) → pushed ≡ Ok u → OnOk pushed (text ≡ all)
+    → ((n : ℕ) × (n ≤ length text) × Appends a b (take n text)) → Rose f g → Puts a b f g all whole WriteFault
+put_part pushed u a b f g text all whole is told front rose =
+    Part (take front.0 text) front.2 (front_of text all front.0 (on_ok pushed u (text ≡ all) is told)) rose
+
+pub put_none : (a : Option (List ℕ)) (f g : ℕ) (all : List ℕ) (whole : Checked) → Puts a a f g all whole NoMemory
+put_none a f g all whole = Nothing (Appends-nil a)

@@ -1,5 +1,6 @@
 -- Rows that are read one after another, each the one that is due.
-use Rattle.sl_check.specs.Checks.{CheckState, FrontJournal, HasSeen, In_rows, IsLast, IsMisread, IsSeen, IsWrong, Is_long, Is_silent, Is_unread, MisreadsJournal, Passes, SaysNone, Says_nothing, Says_wrong, Starts, TellsFront, WrongJournal, counted, front_line, mark, ok_line, row_texts, run_line}
+use Rattle.sl_check.specs.Checks.{CheckState, Finds, FrontJournal, HasSeen, In_rows, IsLast, IsMisread, IsSeen, IsWrong, Is_long, Is_silent, Is_unread, MisreadsJournal, Passes, SaysNone, Says_nothing, Says_wrong, Starts, TellsFront, WrongJournal, counted, front_line, mark, ok_line, row_texts, run_line}
+use Rattle.sl_check.specs.declared.check.Found.TheVariants.{Due}
 use Rattle.sl_journal.proofs.JournalsWritten.{begun_play, header_taken, left_follows, made_here, played_on, reads_on, steps_here, taken_more, total_at}
 use Rattle.sl_journal.specs.JournalLines.{end_line, first_line}
 use Rattle.sl_journal.specs.JournalPlays.{Begins, JournalState, StopsAt}
@@ -24,7 +25,7 @@ use Rattle.sl_text.specs.Forms.{Form, as_bytes, lines_of}
 use Rattle.sl_trace.specs.Traces.{Setting, Trace}
 use Rattle.sl_trace.specs.declared.command.Command.{Command}
 use Rattle.sl_world_state.specs.Daemons.{program_of}
-use Rattle.std.proofs.Common.{ap, arith, false, length, refl, subst, sym, ◌∙◌, ◌≤◌}
+use Rattle.std.proofs.Common.{ap, arith, false, inl, inr, length, refl, subst, sym, ◌∙◌, ◌≤◌}
 use Rattle.std.proofs.lemmas.List.{append-nil, append_assoc}
 use Rattle.std.specs.Prelude.{List, None, Option, Some, [], ℕ, ◌++◌, ◌+◌, ◌∷◌, ◌≡◌}
 
@@ -58,13 +59,13 @@ cut_of : (text rest : List ℕ) → text ++ 10 ∷ rest ≡ (text ++ 10 ∷ []) 
 cut_of text rest = sym (append_assoc text (10 ∷ []) rest)
 
 -- Whatever follows what was read, the row is in the source.
-abbrev others_there : (commands : Header → List (Form Command)) (h : Header) (first before after : Option (List ℕ)) (r n : ReaderState) (rows : List NumberedLine)
+abbrev pub others_there : (commands : Header → List (Form Command)) (h : Header) (first before after : Option (List ℕ)) (r n : ReaderState) (rows : List NumberedLine)
     (x : HasTaken commands h first before r (λ rest. rows ++ rest)) (l : ReadsLine before after r n) (source : List ℕ) → MayHaveBeen n.ended ((x.consumed ++ l.taken) ++ n.left) source
     → List NumberedLine
 others_there commands h first before after r n rows x l source may =
     lines_left (x.consumed ++ l.taken) (n.left ++ (been n.ended ((x.consumed ++ l.taken) ++ n.left) source may).0) n
 
-row_there : (commands : Header → List (Form Command)) (h : Header) (first before after : Option (List ℕ)) (r n : ReaderState) (rows : List NumberedLine)
+pub row_there : (commands : Header → List (Form Command)) (h : Header) (first before after : Option (List ℕ)) (r n : ReaderState) (rows : List NumberedLine)
     (x : HasTaken commands h first before r (λ rest. rows ++ rest)) (l : ReadsLine before after r n) → EndStands after n → (source : List ℕ)
     (may : MayHaveBeen n.ended ((x.consumed ++ l.taken) ++ n.left) source)
     → read_header (played_language commands) [] 1 (numbered_lines source) ≡ Header_read h (rows ++ line_of n ∷ others_there commands h first before after r n rows x l source may)
@@ -105,6 +106,12 @@ starts_on {D} commands stands h first before after r n c d x l s =
     seen = as_bytes (row_texts x.rows)
     still : (a b s e : ℕ) → a ≤ b → e ≡ b + s → a ≤ e
     still a b s e few is = omega (arith, few, is)
+
+-- The row that was due, or that of an event.
+pub due_on : {D : Type 0} (commands : Header → List (Form Command)) (stands : D → Setting → Trace → Type 0) (h : Header) (first before after : Option (List ℕ)) (r n : ReaderState)
+    (c d : CheckState D) → HasSeen commands stands h first before r c → ReadsLine before after r n → Finds commands stands (line_of n) c d Due → HasSeen commands stands h first after n d
+due_on commands stands h first before after r n c d x l (inl p) = passes_on commands stands h first before after r n c d x l p
+due_on commands stands h first before after r n c d x l (inr s) = starts_on commands stands h first before after r n c d x l (s x.played.world x.played.plays)
 
 -- ---- the beginning
 
@@ -199,7 +206,7 @@ front_there commands stands h first left r c x body cut reads few =
     }
 
 -- So many entries are told as were seen whole.
-front_told : {D : Type 0} (commands : Header → List (Form Command)) (stands : D → Setting → Trace → Type 0) (h : Header) (first left : Option (List ℕ)) (r : ReaderState) (c : CheckState D)
+pub front_told : {D : Type 0} (commands : Header → List (Form Command)) (stands : D → Setting → Trace → Type 0) (h : Header) (first left : Option (List ℕ)) (r : ReaderState) (c : CheckState D)
     (x : HasSeen commands stands h first left r c) (body : List ℕ) (cut : List NumberedLine)
     (reads : read_header (played_language commands) [] 1 (numbered_lines body) ≡ Header_read h (x.rows ++ cut)) (few : length cut ≤ 1)
     → TellsFront (front_there commands stands h first left r c x body cut reads few) (as_bytes (front_line c.seen ∷ []))
