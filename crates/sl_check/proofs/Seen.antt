@@ -1,36 +1,33 @@
 -- Rows that are read one after another, each the one that is due.
-use Rattle.sl_check.specs.Checks.{All, CheckState, ChecksBehind, FrontJournal, HasSeen, IsLast, Nothing, Part, IsWrong, Is_barred, Passes, Puts, RightJournal, Starts, WrongJournal, mark, ok_line, row_texts, run_line}
-use Rattle.sl_check.specs.declared.check.Checked.TheVariants.{BreaksOff, Differs, NoMemory, ReadFault, Refused, Same, WriteFault}
-use Rattle.sl_check.specs.declared.check.Checked.{Checked}
-use Rattle.sl_io.specs.FaultCauses.{Rose}
-use Rattle.sl_journal.proofs.JournalsWritten.{begun_play, header_taken, left_follows, made_here, never_ended, played_on, reads_of, steps_here, taken_more}
+use Rattle.sl_check.specs.Checks.{CheckState, Finds, FrontJournal, HasSeen, In_rows, IsLast, IsMisread, IsSeen, IsWrong, Is_long, Is_silent, Is_unread, MisreadsJournal, Passes, SaysNone, Says_nothing, Says_wrong, Starts, TellsFront, WrongJournal, counted, front_line, mark, ok_line, row_texts, run_line}
+use Rattle.sl_check.specs.declared.check.Found.TheVariants.{Due}
+use Rattle.sl_journal.proofs.JournalsWritten.{begun_play, header_taken, left_follows, made_here, played_on, reads_on, steps_here, taken_more, total_at}
 use Rattle.sl_journal.specs.JournalLines.{end_line, first_line}
-use Rattle.sl_journal.specs.JournalPlays.{Begins, GoesOn, IsPlaying, JournalState, StopsAt}
+use Rattle.sl_journal.specs.JournalPlays.{Begins, JournalState, StopsAt}
 use Rattle.sl_journal.specs.JournalRuns.{first_news, run_news, run_steps, texts_of}
-use Rattle.sl_journal.specs.JournalWrites.{HasPlayed, HasTaken}
+use Rattle.sl_journal.specs.JournalWrites.{HasTaken}
 use Rattle.sl_play.proofs.EndsFinish.{bytes_joined}
 use Rattle.sl_play.proofs.LinesPlayed.{been}
 use Rattle.sl_play.specs.Plays.{PlaysOn}
-use Rattle.sl_play.specs.Replays.{Moved, played_language}
-use Rattle.sl_reader.proofs.HeaderSteps.{gives_then}
+use Rattle.sl_play.specs.Replays.{played_language}
 use Rattle.sl_reader.specs.HeaderBegins.{HeaderBegins, lines_left}
-use Rattle.sl_reader.specs.LineReads.{EndStands, Gives, IsCutOff, MayFollow, ReaderState, ReadsEnd, ReadsLine, line_of}
-use Rattle.sl_report.specs.Reports.{Counts, no_counts, run_counts}
-use Rattle.sl_report.specs.Schedules.{At_end, At_line, EventLine, Follows, FollowsSoFar, Header_read, NumberedLine, event_lines_of, numbered_lines, read_header}
+use Rattle.sl_reader.specs.LineReads.{EndStands, ReaderState, ReadsLine, ReadsRefused, line_of}
 use Rattle.sl_report.specs.OwedReports.{MayHaveBeen}
+use Rattle.sl_report.specs.RefusalLines.{refusal_line}
+use Rattle.sl_report.specs.Reports.{Counts}
+use Rattle.sl_report.specs.Schedules.{At_end, At_line, EventLine, Follows, FollowsSoFar, Header_read, NumberedLine, event_line, event_lines_of, line_refusal, numbered_from, numbered_lines, read_header}
 use Rattle.sl_run.specs.Worlds.{World, world_with}
 use Rattle.sl_run.specs.declared.event.Refusal.{Refusal}
+use Rattle.sl_run.specs.declared.event.Refusal.TheVariants.{Syntax}
 use Rattle.sl_run.specs.declared.header.Header.{Header}
 use Rattle.sl_sound.specs.MadeRuns.{MadeRun}
-use Rattle.sl_text.specs.Forms.{Form, as_bytes}
+use Rattle.sl_text.specs.Forms.{Form, as_bytes, lines_of}
 use Rattle.sl_trace.specs.Traces.{Setting, Trace}
 use Rattle.sl_trace.specs.declared.command.Command.{Command}
 use Rattle.sl_world_state.specs.Daemons.{program_of}
-use Rattle.std.proofs.Common.{Bool, ap, arith, false, length, refl, subst, sym, ◌∙◌, ◌≤◌}
-use Rattle.std.proofs.KnownBytes.{Appends-nil, Consumes-trans}
+use Rattle.std.proofs.Common.{ap, arith, false, inl, inr, length, refl, subst, sym, ◌∙◌, ◌≤◌}
 use Rattle.std.proofs.lemmas.List.{append-nil, append_assoc}
-use Rattle.std.specs.Io.KnownBytes.{Appends, Consumes, IsAtEnd}
-use Rattle.std.specs.Prelude.{IsTrue, List, None, Option, Some, true, [], ℕ, ◌++◌, ◌+◌, ◌∷◌, ◌≡◌}
+use Rattle.std.specs.Prelude.{List, None, Option, Some, [], ℕ, ◌++◌, ◌+◌, ◌∷◌, ◌≡◌}
 
 -- ---- one row more
 
@@ -61,17 +58,34 @@ row_taken commands h first before after r n rows x l =
 cut_of : (text rest : List ℕ) → text ++ 10 ∷ rest ≡ (text ++ 10 ∷ []) ++ rest
 cut_of text rest = sym (append_assoc text (10 ∷ []) rest)
 
+-- Whatever follows what was read, the row is in the source.
+abbrev pub others_there : (commands : Header → List (Form Command)) (h : Header) (first before after : Option (List ℕ)) (r n : ReaderState) (rows : List NumberedLine)
+    (x : HasTaken commands h first before r (λ rest. rows ++ rest)) (l : ReadsLine before after r n) (source : List ℕ) → MayHaveBeen n.ended ((x.consumed ++ l.taken) ++ n.left) source
+    → List NumberedLine
+others_there commands h first before after r n rows x l source may =
+    lines_left (x.consumed ++ l.taken) (n.left ++ (been n.ended ((x.consumed ++ l.taken) ++ n.left) source may).0) n
+
+pub row_there : (commands : Header → List (Form Command)) (h : Header) (first before after : Option (List ℕ)) (r n : ReaderState) (rows : List NumberedLine)
+    (x : HasTaken commands h first before r (λ rest. rows ++ rest)) (l : ReadsLine before after r n) → EndStands after n → (source : List ℕ)
+    (may : MayHaveBeen n.ended ((x.consumed ++ l.taken) ++ n.left) source)
+    → read_header (played_language commands) [] 1 (numbered_lines source) ≡ Header_read h (rows ++ line_of n ∷ others_there commands h first before after r n rows x l source may)
+row_there commands h first before after r n rows x l ends source may =
+    let b = been n.ended ((x.consumed ++ l.taken) ++ n.left) source may in
+    let y : HasTaken commands h first after n (λ rest. rows ++ line_of n ∷ rest) = taken_more commands h first before after r n (λ rest. rows ++ rest) x l in
+    ap (λ d. read_header (played_language commands) [] 1 (numbered_lines d)) (b.1 ∙ append_assoc (x.consumed ++ l.taken) n.left b.0) ∙ y.reads (n.left ++ b.0) (left_follows after n b.0 ends b.2)
+
 -- The row that is due.
 pub passes_on : {D : Type 0} (commands : Header → List (Form Command)) (stands : D → Setting → Trace → Type 0) (h : Header) (first before after : Option (List ℕ)) (r n : ReaderState)
     (c d : CheckState D) → HasSeen commands stands h first before r c → ReadsLine before after r n → Passes n.line c d → HasSeen commands stands h first after n d
 passes_on {D} commands stands h first before after r n c d x l p =
-    subst (λ (j : JournalState D). HasSeen commands stands h first after n (record { journal = j; due = d.due })) (sym p.same)
+    subst (λ (j : JournalState D). HasSeen commands stands h first after n (record { journal = j; due = d.due; seen = d.seen })) (sym p.same)
     (record {
       played = x.played;
       rows = x.rows ++ line_of n ∷ [];
       read = row_taken commands h first before after r n x.rows x.read l;
       due = ap (λ b. b ++ d.due) (bytes_more x.rows (line_of n)) ∙ append_assoc (as_bytes (row_texts x.rows)) (n.line ++ 10 ∷ []) d.due
           ∙ ap (λ b. as_bytes (row_texts x.rows) ++ b) (sym (cut_of n.line d.due) ∙ sym p.due) ∙ x.due;
+      seen = subst (λ (j : JournalState D). IsSeen d.due j.entries d.seen) p.same (p.seen x.seen.few);
     })
 
 -- The row of an event.
@@ -85,22 +99,35 @@ starts_on {D} commands stands h first before after r n c d x l s =
       due = ap (λ b. b ++ d.due) (bytes_more x.rows (line_of n)) ∙ append_assoc seen (n.line ++ 10 ∷ []) d.due ∙ ap (λ b. seen ++ b) (sym (cut_of n.line d.due) ∙ s.goes.told)
           ∙ ap (λ b. b ++ s.goes.bytes) (sym (append-nil seen) ∙ ap (λ b. seen ++ b) (sym s.none) ∙ x.due)
           ∙ append_assoc (as_bytes (first_news (world_with (program_of commands) h))) x.played.bytes s.goes.bytes;
+      seen = s.seen (still c.seen c.journal.entries s.goes.steps d.journal.entries x.seen.few s.goes.entries);
     }
   where
     seen : List ℕ
     seen = as_bytes (row_texts x.rows)
+    still : (a b s e : ℕ) → a ≤ b → e ≡ b + s → a ≤ e
+    still a b s e few is = omega (arith, few, is)
+
+-- The row that was due, or that of an event.
+pub due_on : {D : Type 0} (commands : Header → List (Form Command)) (stands : D → Setting → Trace → Type 0) (h : Header) (first before after : Option (List ℕ)) (r n : ReaderState)
+    (c d : CheckState D) → HasSeen commands stands h first before r c → ReadsLine before after r n → Finds commands stands (line_of n) c d Due → HasSeen commands stands h first after n d
+due_on commands stands h first before after r n c d x l (inl p) = passes_on commands stands h first before after r n c d x l p
+due_on commands stands h first before after r n c d x l (inr s) = starts_on commands stands h first before after r n c d x l (s x.played.world x.played.plays)
 
 -- ---- the beginning
 
 pub begins_seen : {D : Type 0} (commands : Header → List (Form Command)) (stands : D → Setting → Trace → Type 0) (h : Header) (first left : Option (List ℕ)) (r : ReaderState) (c : CheckState D)
-    → HeaderBegins first left r h → Begins commands stands h c.journal → c.due ≡ as_bytes (first_news (world_with (program_of commands) h)) → HasSeen commands stands h first left r c
-begins_seen commands stands h first left r c b begins due =
+    → HeaderBegins first left r h → Begins commands stands h c.journal → c.due ≡ as_bytes (first_news (world_with (program_of commands) h)) → c.seen ≡ 0 → HasSeen commands stands h first left r c
+begins_seen commands stands h first left r c b begins due none =
     record {
       played = begun_play commands stands h c.journal begins;
       rows = [];
       read = header_taken commands h first left r b;
       due = due ∙ sym (append-nil (as_bytes (first_news (world_with (program_of commands) h))));
+      seen = record { few = few c.seen c.journal.entries none begins.entries; all = λ e. none ∙ sym begins.entries };
     }
+  where
+    few : (a b : ℕ) → a ≡ 0 → b ≡ 0 → a ≤ b
+    few a b p q = omega (arith, p, q)
 
 -- ---- the end
 
@@ -122,8 +149,9 @@ pub last_there : {D : Type 0} (commands : Header → List (Form Command)) (stand
     (c : CheckState D) → HasSeen commands stands h first before r c → ReadsLine before after r n → c.due ≡ [] → n.line ≡ end_line c.journal.entries → IsLast commands stands first after n c
 last_there {D} commands stands h first before after r n c x l none last =
     record {
-      consumed = y.consumed;
-      gives = y.gives;
+      header = h;
+      rows = x.rows ++ line_of n ∷ [];
+      read = y;
       right = record {
         body = y.consumed ++ [];
         first = marked (y.consumed ++ []);
@@ -136,11 +164,11 @@ last_there {D} commands stands h first before after r n c x l none last =
         made = made_here commands stands h c.journal x.played;
         text = ap as_bytes (texts_joined x.rows (line_of n)) ∙ bytes_joined (row_texts x.rows) (n.line ∷ [])
             ∙ ap (λ b. b ++ as_bytes (n.line ∷ [])) (sym (append-nil (as_bytes (row_texts x.rows))) ∙ ap (λ b. as_bytes (row_texts x.rows) ++ b) (sym none) ∙ text_seen commands stands h first before r c x [])
-            ∙ ap (λ b. as_bytes news ++ as_bytes (b ∷ [])) (last ∙ ap end_line (sym steps)) ∙ sym (bytes_joined news (end_line (run_steps w (x.played.leads.before [])) ∷ []))
-            ∙ ap as_bytes (append_assoc (first_news w) (run_news w (texts_of (played_language commands) (x.played.lines [])) (x.played.leads.before [])) (end_line (run_steps w (x.played.leads.before [])) ∷ []));
+            ∙ ap (λ b. as_bytes news ++ as_bytes (b ∷ [])) (last ∙ ap end_line (sym steps)) ∙ sym (bytes_joined news (end_line (run_steps w (x.played.leads.before [])) ∷ []));
         told = ap (λ k. as_bytes (ok_line k ∷ run_line c.journal.play.counts ∷ [])) (sym steps)
             ∙ ap (λ (k : Counts). as_bytes (ok_line (run_steps w (x.played.leads.before [])) ∷ run_line k ∷ [])) (sym (x.played.leads.counts []));
       };
+      same = (refl, refl);
     }
   where
     y : HasTaken commands h first after n (λ rest. (x.rows ++ line_of n ∷ []) ++ rest)
@@ -157,7 +185,7 @@ far w [] = tt
 far w (l ∷ ls) = tt
 
 -- It breaks off.
-front_there : {D : Type 0} (commands : Header → List (Form Command)) (stands : D → Setting → Trace → Type 0) (h : Header) (first left : Option (List ℕ)) (r : ReaderState) (c : CheckState D)
+abbrev pub front_there : {D : Type 0} (commands : Header → List (Form Command)) (stands : D → Setting → Trace → Type 0) (h : Header) (first left : Option (List ℕ)) (r : ReaderState) (c : CheckState D)
     (x : HasSeen commands stands h first left r c) (body : List ℕ) (cut : List NumberedLine)
     → read_header (played_language commands) [] 1 (numbered_lines body) ≡ Header_read h (x.rows ++ cut) → length cut ≤ 1
     → FrontJournal (λ p g xs. MadeRun stands p g xs) (played_language commands) (mark ++ body)
@@ -177,209 +205,121 @@ front_there commands stands h first left r c x body cut reads few =
       text = (c.due, sym (text_seen commands stands h first left r c x []));
     }
 
--- ---- what is owed
-
-abbrev mv : (left after taken now : Option (List ℕ)) (ended : Bool) (read written : List ℕ) → Consumes left after read → (IsTrue ended → IsAtEnd after) → Appends taken now written
-    → Moved left after taken now
-mv left after taken now ended read written reads at_end writes =
-    record { read = read; ended = ended; written = written; reads = reads; at_end = at_end; writes = writes }
-
--- A line is none of a journal.
-refused_is : {D : Type 0} (commands : Header → List (Form Command)) (stands : D → Setting → Trace → Type 0) (before : List ℕ) (left after taken now : Option (List ℕ))
-    (faults later sink_faults sink_later : ℕ) → Moved left after taken now → ChecksBehind commands stands before left after taken now faults later sink_faults sink_later Refused
-refused_is commands stands before left after taken now faults later sink_faults sink_later x =
-    record { moved = x; right = λ e. absurd cc; differs = λ e. absurd cc; front = λ e. absurd cc; read_fault = λ e. absurd cc; write_fault = λ e. absurd cc }
-
-pub lacks : {D : Type 0} (commands : Header → List (Form Command)) (stands : D → Setting → Trace → Type 0) (before : List ℕ) (left after taken now : Option (List ℕ))
-    (faults later sink_faults sink_later : ℕ) → Moved left after taken now → ChecksBehind commands stands before left after taken now faults later sink_faults sink_later NoMemory
-lacks commands stands before left after taken now faults later sink_faults sink_later x =
-    record { moved = x; right = λ e. absurd cc; differs = λ e. absurd cc; front = λ e. absurd cc; read_fault = λ e. absurd cc; write_fault = λ e. absurd cc }
-
-chokes : {D : Type 0} (commands : Header → List (Form Command)) (stands : D → Setting → Trace → Type 0) (before : List ℕ) (left after taken now : Option (List ℕ))
-    (faults later sink_faults sink_later : ℕ) → Moved left after taken now → Rose sink_faults sink_later
-    → ChecksBehind commands stands before left after taken now faults later sink_faults sink_later WriteFault
-chokes commands stands before left after taken now faults later sink_faults sink_later x rose =
-    record { moved = x; right = λ e. absurd cc; differs = λ e. absurd cc; front = λ e. absurd cc; read_fault = λ e. absurd cc; write_fault = λ e. rose }
-
-pub breaks : {D : Type 0} (commands : Header → List (Form Command)) (stands : D → Setting → Trace → Type 0) (before : List ℕ) (left after taken now : Option (List ℕ))
-    (faults later sink_faults sink_later : ℕ) → Moved left after taken now → Rose faults later
-    → ChecksBehind commands stands before left after taken now faults later sink_faults sink_later ReadFault
-breaks commands stands before left after taken now faults later sink_faults sink_later x rose =
-    record { moved = x; right = λ e. absurd cc; differs = λ e. absurd cc; front = λ e. absurd cc; read_fault = λ e. rose; write_fault = λ e. absurd cc }
-
--- What is put out of it.
-pub refused_out : {D : Type 0} (commands : Header → List (Form Command)) (stands : D → Setting → Trace → Type 0) (before : List ℕ) (left after taken now : Option (List ℕ))
-    (faults later sink_faults sink_later : ℕ) (ended : Bool) (read text : List ℕ) (s : Checked) → Consumes left after read → (IsTrue ended → IsAtEnd after)
-    → Puts taken now sink_faults sink_later text Refused s → ChecksBehind commands stands before left after taken now faults later sink_faults sink_later s
-refused_out commands stands before left after taken now faults later sink_faults sink_later ended read text s reads at_end (All appends) =
-    refused_is commands stands before left after taken now faults later sink_faults sink_later (mv left after taken now ended read text reads at_end appends)
-refused_out commands stands before left after taken now faults later sink_faults sink_later ended read text s reads at_end (Part front appends rose) =
-    chokes commands stands before left after taken now faults later sink_faults sink_later (mv left after taken now ended read front reads at_end appends) rose
-refused_out commands stands before left after taken now faults later sink_faults sink_later ended read text s reads at_end (Nothing appends) =
-    lacks commands stands before left after taken now faults later sink_faults sink_later (mv left after taken now ended read [] reads at_end appends)
-
-differs_out : {D : Type 0} (commands : Header → List (Form Command)) (stands : D → Setting → Trace → Type 0) (before : List ℕ) (left after taken now : Option (List ℕ))
-    (faults later sink_faults sink_later : ℕ) (ended : Bool) (read text : List ℕ) (s : Checked) → Consumes left after read → (IsTrue ended → IsAtEnd after)
-    → ((source : List ℕ) → MayHaveBeen ended read source → WrongJournal (λ p h xs. MadeRun stands p h xs) (played_language commands) (before ++ source))
-    → Puts taken now sink_faults sink_later text Differs s → ChecksBehind commands stands before left after taken now faults later sink_faults sink_later s
-differs_out commands stands before left after taken now faults later sink_faults sink_later ended read text s reads at_end wrong (All appends) =
-    record { moved = mv left after taken now ended read text reads at_end appends; right = λ e. absurd cc; differs = λ e. wrong; front = λ e. absurd cc; read_fault = λ e. absurd cc; write_fault = λ e. absurd cc }
-differs_out commands stands before left after taken now faults later sink_faults sink_later ended read text s reads at_end wrong (Part front appends rose) =
-    chokes commands stands before left after taken now faults later sink_faults sink_later (mv left after taken now ended read front reads at_end appends) rose
-differs_out commands stands before left after taken now faults later sink_faults sink_later ended read text s reads at_end wrong (Nothing appends) =
-    lacks commands stands before left after taken now faults later sink_faults sink_later (mv left after taken now ended read [] reads at_end appends)
-
-pub right_out : {D : Type 0} (commands : Header → List (Form Command)) (stands : D → Setting → Trace → Type 0) (before : List ℕ) (left after taken now : Option (List ℕ))
-    (faults later sink_faults sink_later : ℕ) (read text : List ℕ) (s : Checked) → Consumes left after read → IsAtEnd after
-    → RightJournal (λ p h xs. MadeRun stands p h xs) (played_language commands) (before ++ read) text
-    → Puts taken now sink_faults sink_later text Same s → ChecksBehind commands stands before left after taken now faults later sink_faults sink_later s
-right_out commands stands before left after taken now faults later sink_faults sink_later read text s reads at_end right (All appends) =
-    record { moved = mv left after taken now true read text reads (λ e. at_end) appends; right = λ e. (refl, right); differs = λ e. absurd cc; front = λ e. absurd cc; read_fault = λ e. absurd cc; write_fault = λ e. absurd cc }
-right_out commands stands before left after taken now faults later sink_faults sink_later read text s reads at_end right (Part front appends rose) =
-    chokes commands stands before left after taken now faults later sink_faults sink_later (mv left after taken now true read front reads (λ e. at_end) appends) rose
-right_out commands stands before left after taken now faults later sink_faults sink_later read text s reads at_end right (Nothing appends) =
-    lacks commands stands before left after taken now faults later sink_faults sink_later (mv left after taken now true read [] reads (λ e. at_end) appends)
-
-pub front_out : {D : Type 0} (commands : Header → List (Form Command)) (stands : D → Setting → Trace → Type 0) (before : List ℕ) (left after taken now : Option (List ℕ))
-    (faults later sink_faults sink_later : ℕ) (read text : List ℕ) (s : Checked) → Consumes left after read → IsAtEnd after
-    → FrontJournal (λ p h xs. MadeRun stands p h xs) (played_language commands) (before ++ read)
-    → Puts taken now sink_faults sink_later text BreaksOff s → ChecksBehind commands stands before left after taken now faults later sink_faults sink_later s
-front_out commands stands before left after taken now faults later sink_faults sink_later read text s reads at_end front (All appends) =
-    record { moved = mv left after taken now true read text reads (λ e. at_end) appends; right = λ e. absurd cc; differs = λ e. absurd cc; front = λ e. front; read_fault = λ e. absurd cc; write_fault = λ e. absurd cc }
-front_out commands stands before left after taken now faults later sink_faults sink_later read text s reads at_end front (Part part appends rose) =
-    chokes commands stands before left after taken now faults later sink_faults sink_later (mv left after taken now true read part reads (λ e. at_end) appends) rose
-front_out commands stands before left after taken now faults later sink_faults sink_later read text s reads at_end front (Nothing appends) =
-    lacks commands stands before left after taken now faults later sink_faults sink_later (mv left after taken now true read [] reads (λ e. at_end) appends)
-
--- ---- within the lines
-
--- So much was read, and no more is told of it.
-pub cut_here : {D : Type 0} (commands : Header → List (Form Command)) (stands : D → Setting → Trace → Type 0) (h : Header) (first before after taken : Option (List ℕ)) (r : ReaderState) (c : CheckState D)
-    (bytes : List ℕ) → HasSeen commands stands h first before r c → Gives before after r.left bytes → Moved first after taken taken
-cut_here commands stands h first before after taken r c bytes x g =
-    mv first after taken taken false (x.read.consumed ++ bytes) [] (reads_of first after (x.read.consumed ++ bytes) (gives_then first before after [] x.read.consumed r.left bytes x.read.gives g))
-    (never_ended after) (Appends-nil taken)
-
-pub read_here : {D : Type 0} (commands : Header → List (Form Command)) (stands : D → Setting → Trace → Type 0) (h : Header) (first before after : Option (List ℕ)) (r : ReaderState) (c : CheckState D)
-    (bytes : List ℕ) (x : HasSeen commands stands h first before r c) → Gives before after r.left bytes → Consumes first after (x.read.consumed ++ bytes)
-read_here commands stands h first before after r c bytes x g = reads_of first after (x.read.consumed ++ bytes) (gives_then first before after [] x.read.consumed r.left bytes x.read.gives g)
-
-zero_few : 0 ≤ 1
-zero_few = omega arith
-
-one_few : 1 ≤ 1
-one_few = omega arith
-
--- The source ends, ..
-pub front_ended : {D : Type 0} (commands : Header → List (Form Command)) (stands : D → Setting → Trace → Type 0) (h : Header) (first before after taken now : Option (List ℕ))
-    (faults later sink_faults sink_later : ℕ) (r n : ReaderState) (c : CheckState D) (text : List ℕ) (s : Checked) → HasSeen commands stands h first before r c → ReadsEnd before after r n
-    → EndStands after n → Puts taken now sink_faults sink_later text BreaksOff s → ChecksBehind commands stands mark first after taken now faults later sink_faults sink_later s
-front_ended commands stands h first before after taken now faults later sink_faults sink_later r n c text s x e ends puts =
-    front_out commands stands mark first after taken now faults later sink_faults sink_later (x.read.consumed ++ []) text s (read_here commands stands h first before after r c [] x e.gives)
-    (ends.at_end e.ended)
-    (front_there commands stands h first before r c x (x.read.consumed ++ []) [] (x.read.reads [] (λ i. refl)) zero_few) puts
-
--- .. or in a line without its line feed.
-pub front_cut : {D : Type 0} (commands : Header → List (Form Command)) (stands : D → Setting → Trace → Type 0) (h : Header) (first before after taken now : Option (List ℕ))
-    (faults later sink_faults sink_later : ℕ) (r n : ReaderState) (c : CheckState D) (text : List ℕ) (s : Checked) → HasSeen commands stands h first before r c → ReadsLine before after r n
-    → EndStands after n → n.ended ≡ true → Puts taken now sink_faults sink_later text BreaksOff s → ChecksBehind commands stands mark first after taken now faults later sink_faults sink_later s
-front_cut {D} commands stands h first before after taken now faults later sink_faults sink_later r n c text s x l ends ended puts =
-    front_out commands stands mark first after taken now faults later sink_faults sink_later (y.consumed ++ []) text s
-    (subst (λ b. Consumes first after (y.consumed ++ b)) (ends.none ended) (reads_of first after (y.consumed ++ n.left) y.gives))
-    (ends.at_end ended)
-    (front_there commands stands h first before r c x (y.consumed ++ []) (line_of n ∷ []) (y.reads [] (λ i. refl)) one_few) puts
-  where
-    y : HasTaken commands h first after n (λ rest. x.rows ++ line_of n ∷ rest)
-    y = taken_more commands h first before after r n (λ rest. x.rows ++ rest) x.read l
-
-pub line_cut : (before after : Option (List ℕ)) (r n : ReaderState) → ReadsLine before after r n → IsCutOff before after r
-line_cut before after r n l = record { began = l.began; bytes = l.taken ++ n.left; gives = l.gives }
+-- So many entries are told as were seen whole.
+pub front_told : {D : Type 0} (commands : Header → List (Form Command)) (stands : D → Setting → Trace → Type 0) (h : Header) (first left : Option (List ℕ)) (r : ReaderState) (c : CheckState D)
+    (x : HasSeen commands stands h first left r c) (body : List ℕ) (cut : List NumberedLine)
+    (reads : read_header (played_language commands) [] 1 (numbered_lines body) ≡ Header_read h (x.rows ++ cut)) (few : length cut ≤ 1)
+    → TellsFront (front_there commands stands h first left r c x body cut reads few) (as_bytes (front_line c.seen ∷ []))
+front_told commands stands h first left r c x body cut reads few =
+    record { entries = c.seen; seen = subst (λ k. IsSeen c.due k c.seen) (sym (steps_here commands stands h c.journal x.played)) x.seen; told = refl }
 
 -- A row is wrong.
-pub wrong_out : {D : Type 0} (commands : Header → List (Form Command)) (stands : D → Setting → Trace → Type 0) (h : Header) (first before after taken now : Option (List ℕ))
-    (faults later sink_faults sink_later : ℕ) (r n : ReaderState) (c : CheckState D) (text : List ℕ) (s : Checked) (x : HasSeen commands stands h first before r c) → ReadsLine before after r n
-    → EndStands after n → IsWrong (played_language commands) h x.played.lines (x.played.leads.before []) c.due (line_of n)
-    → Puts taken now sink_faults sink_later text Differs s → ChecksBehind commands stands mark first after taken now faults later sink_faults sink_later s
-wrong_out {D} commands stands h first before after taken now faults later sink_faults sink_later r n c text s x l ends wrong puts =
-    differs_out commands stands mark first after taken now faults later sink_faults sink_later n.ended (y.consumed ++ n.left) text s (reads_of first after (y.consumed ++ n.left) y.gives) ends.at_end there puts
-  where
-    y : HasTaken commands h first after n (λ rest. x.rows ++ line_of n ∷ rest)
-    y = taken_more commands h first before after r n (λ rest. x.rows ++ rest) x.read l
-    there : (source : List ℕ) → MayHaveBeen n.ended (y.consumed ++ n.left) source → WrongJournal (λ p g xs. MadeRun stands p g xs) (played_language commands) (mark ++ source)
-    there source may =
-        let b = been n.ended (y.consumed ++ n.left) source may in
-        let rest : List ℕ = n.left ++ b.0 in
-        record {
-          body = source;
-          first = marked source;
-          header = h;
-          rows = x.rows;
-          next = line_of n;
-          others = lines_left y.consumed rest n;
-          read = ap (λ d. read_header (played_language commands) [] 1 (numbered_lines d)) (b.1 ∙ append_assoc y.consumed n.left b.0) ∙ y.reads rest (left_follows after n b.0 ends b.2);
-          own = x.played.lines;
-          xs = x.played.leads.before [];
-          follows = x.played.leads.so_far [] [] (far x.played.world (event_lines_of (played_language commands) h []));
-          made = made_here commands stands h c.journal x.played;
-          due = c.due;
-          text = sym (text_seen commands stands h first before r c x []);
-          wrong = wrong;
-        }
+abbrev pub wrong_there : {D : Type 0} (commands : Header → List (Form Command)) (stands : D → Setting → Trace → Type 0) (h : Header) (first before after : Option (List ℕ)) (r n : ReaderState) (c : CheckState D)
+    (x : HasSeen commands stands h first before r c) (l : ReadsLine before after r n) → EndStands after n
+    → IsWrong (played_language commands) h x.played.lines (x.played.leads.before []) c.due (line_of n) → (source : List ℕ) → MayHaveBeen n.ended ((x.read.consumed ++ l.taken) ++ n.left) source
+    → WrongJournal (λ p g xs. MadeRun stands p g xs) (played_language commands) (mark ++ source)
+wrong_there commands stands h first before after r n c x l ends wrong source may =
+    record {
+      body = source;
+      first = marked source;
+      header = h;
+      rows = x.rows;
+      next = line_of n;
+      others = others_there commands h first before after r n x.rows x.read l source may;
+      read = row_there commands h first before after r n x.rows x.read l ends source may;
+      own = x.played.lines;
+      xs = x.played.leads.before [];
+      follows = x.played.leads.so_far [] [] (far x.played.world (event_lines_of (played_language commands) h []));
+      made = made_here commands stands h c.journal x.played;
+      due = c.due;
+      text = sym (text_seen commands stands h first before r c x []);
+      wrong = wrong;
+    }
 
 -- Its event may not happen.
 pub barred_so : {D : Type 0} (commands : Header → List (Form Command)) (stands : D → Setting → Trace → Type 0) (h : Header) (first before : Option (List ℕ)) (r n : ReaderState)
     (c d : CheckState D) (why : Refusal) (x : HasSeen commands stands h first before r c) → ((w : World) → PlaysOn commands stands c.journal.play w → StopsAt commands w c.journal (line_of n) d.journal why)
-    → IsWrong (played_language commands) h x.played.lines (x.played.leads.before []) c.due (line_of n)
-barred_so commands stands h first before r n c d why x stops =
-    Is_barred why (λ rest. x.played.leads.follows (line_of n ∷ rest) [] (At_line n.number why)
+    → (rest : List NumberedLine) → Follows (world_with (program_of commands) h) (event_lines_of (played_language commands) h (x.played.lines (line_of n ∷ rest))) (x.played.leads.before []) (At_line n.number why)
+barred_so commands stands h first before r n c d why x stops rest =
+    x.played.leads.follows (line_of n ∷ rest) [] (At_line n.number why)
     (subst (λ (k : Header). Follows x.played.world (event_lines_of (played_language commands) k (line_of n ∷ rest)) [] (At_line n.number why)) x.played.header
-    ((stops x.played.world x.played.plays).ends rest)))
+    ((stops x.played.world x.played.plays).ends rest))
 
--- ---- behind the last line
+-- A row is none of a journal.
+pub misread_so : {D : Type 0} (commands : Header → List (Form Command)) (stands : D → Setting → Trace → Type 0) (h : Header) (first before : Option (List ℕ)) (r n : ReaderState) (c d : CheckState D) (why : Refusal)
+    (x : HasSeen commands stands h first before r c) → c.due ≡ [] → (n.line ≡ end_line c.journal.entries → ⊥) → SaysNone commands stands c (line_of n) d why
+    → IsMisread (played_language commands) h x.played.lines (x.played.leads.before []) c.due (run_steps (world_with (program_of commands) h) (x.played.leads.before [])) (line_of n) why
+misread_so commands stands h first before r n c d why x none other (Says_wrong stops) =
+    Is_unread none (λ e. other (e ∙ ap end_line (steps_here commands stands h c.journal x.played))) (barred_so commands stands h first before r n c d Syntax x stops)
+misread_so commands stands h first before r n c d why x none other (Says_nothing is) =
+    Is_silent none (λ e. other (e ∙ ap end_line (steps_here commands stands h c.journal x.played)))
+    (subst (λ (k : Header). event_line (played_language commands) k (line_of n) ≡ None) x.played.header is)
 
-pub last_read : {D : Type 0} (commands : Header → List (Form Command)) (stands : D → Setting → Trace → Type 0) (first before after : Option (List ℕ)) (r : ReaderState) (c : CheckState D)
-    (bytes : List ℕ) (x : IsLast commands stands first before r c) → Gives before after r.left bytes → Consumes first after (x.consumed ++ bytes)
-last_read commands stands first before after r c bytes x g = reads_of first after (x.consumed ++ bytes) (gives_then first before after [] x.consumed r.left bytes x.gives g)
-
-pub last_moved : {D : Type 0} (commands : Header → List (Form Command)) (stands : D → Setting → Trace → Type 0) (first before after taken : Option (List ℕ)) (r : ReaderState) (c : CheckState D)
-    (bytes : List ℕ) → IsLast commands stands first before r c → Gives before after r.left bytes → Moved first after taken taken
-last_moved commands stands first before after taken r c bytes x g =
-    mv first after taken taken false (x.consumed ++ bytes) [] (last_read commands stands first before after r c bytes x g) (never_ended after) (Appends-nil taken)
-
--- ---- faults
-
-pub rose_later : (a b c : ℕ) → a ≤ b → Rose b c → Rose a c
-rose_later a b c h rose = omega (arith, h, rose)
-
-pub check_later : {D : Type 0} (commands : Header → List (Form Command)) (stands : D → Setting → Trace → Type 0) (before : List ℕ) (first after taken now : Option (List ℕ)) (f g later j k sink_later : ℕ)
-    (s : Checked) → f ≤ g → j ≤ k → ChecksBehind commands stands before first after taken now g later k sink_later s → ChecksBehind commands stands before first after taken now f later j sink_later s
-check_later commands stands before first after taken now f g later j k sink_later s h i x =
+misread_here : {D : Type 0} (commands : Header → List (Form Command)) (stands : D → Setting → Trace → Type 0) (h : Header) (first before : Option (List ℕ)) (r : ReaderState) (c : CheckState D) (x : HasSeen commands stands h first before r c)
+    (source : List ℕ) (next : NumberedLine) (others : List NumberedLine) (number : ℕ) (why : Refusal)
+    → read_header (played_language commands) [] 1 (numbered_lines source) ≡ Header_read h (x.rows ++ next ∷ others)
+    → IsMisread (played_language commands) h x.played.lines (x.played.leads.before []) c.due (run_steps (world_with (program_of commands) h) (x.played.leads.before [])) next why
+    → number ≡ counted next.number → MisreadsJournal (λ p g xs. MadeRun stands p g xs) (played_language commands) (mark ++ source) (as_bytes (refusal_line number why ∷ []))
+misread_here commands stands h first before r c x source next others number why read misread counts =
     record {
-      moved = x.moved;
-      right = x.right;
-      differs = x.differs;
-      front = x.front;
-      read_fault = λ is. rose_later f g later h (x.read_fault is);
-      write_fault = λ is. rose_later j k sink_later i (x.write_fault is);
+      number = number;
+      why = why;
+      misread = In_rows (record {
+        body = source;
+        first = marked source;
+        header = h;
+        rows = x.rows;
+        next = next;
+        others = others;
+        read = read;
+        own = x.played.lines;
+        xs = x.played.leads.before [];
+        follows = x.played.leads.so_far [] [] (far x.played.world (event_lines_of (played_language commands) h []));
+        made = made_here commands stands h c.journal x.played;
+        due = c.due;
+        text = sym (text_seen commands stands h first before r c x []);
+        misread = misread;
+        counts = counts;
+      });
+      told = refl;
     }
 
--- ---- the first line
+pub misread_line : {D : Type 0} (commands : Header → List (Form Command)) (stands : D → Setting → Trace → Type 0) (h : Header) (first before after : Option (List ℕ)) (r n : ReaderState) (c : CheckState D)
+    (x : HasSeen commands stands h first before r c) (l : ReadsLine before after r n) → EndStands after n → (number : ℕ) (why : Refusal)
+    → IsMisread (played_language commands) h x.played.lines (x.played.leads.before []) c.due (run_steps (world_with (program_of commands) h) (x.played.leads.before [])) (line_of n) why
+    → number ≡ counted n.number → (source : List ℕ) → MayHaveBeen n.ended ((x.read.consumed ++ l.taken) ++ n.left) source
+    → MisreadsJournal (λ p h xs. MadeRun stands p h xs) (played_language commands) (mark ++ source) (as_bytes (refusal_line number why ∷ []))
+misread_line commands stands h first before after r n c x l ends number why misread counts source may =
+    misread_here commands stands h first before r c x source (line_of n) (others_there commands h first before after r n x.rows x.read l source may) number why
+    (row_there commands h first before after r n x.rows x.read l ends source may) misread counts
 
--- A source that goes on with what was read, behind the first line.
-behind_source : (ended : Bool) (read source : List ℕ) → MayHaveBeen ended (mark ++ read) source → (body : List ℕ) × (source ≡ mark ++ body) × MayHaveBeen ended read body
-behind_source true read source may = (read, may, refl)
-behind_source false read source may = (read ++ may.0, may.1 ∙ append_assoc mark read may.0, (may.0, refl))
+-- A row that is refused before it is read.
+pub record LongRow (commands : Header → List (Form Command)) (h : Header) (source : List ℕ) (rows : List NumberedLine) (n : ReaderState) (why : Refusal) : Type 0 where
+  pub next : NumberedLine
+  pub others : List NumberedLine
+  pub read : read_header (played_language commands) [] 1 (numbered_lines source) ≡ Header_read h (rows ++ next ∷ others)
+  pub refused : line_refusal next ≡ Some why
+  pub counts : next.number ≡ n.number + 1
 
--- What was read behind the first line was read of the whole.
-pub behind_mark : {D : Type 0} (commands : Header → List (Form Command)) (stands : D → Setting → Trace → Type 0) (left behind after taken now : Option (List ℕ))
-    (faults later sink_faults sink_later : ℕ) (s : Checked) → Consumes left behind mark → ChecksBehind commands stands mark behind after taken now faults later sink_faults sink_later s
-    → ChecksBehind commands stands [] left after taken now faults later sink_faults sink_later s
-behind_mark commands stands left behind after taken now faults later sink_faults sink_later s c x =
+pub long_row : (commands : Header → List (Form Command)) (h : Header) (first before after : Option (List ℕ)) (r n : ReaderState) (rows : List NumberedLine) {why : Refusal}
+    (x : HasTaken commands h first before r (λ rest. rows ++ rest)) (e : ReadsRefused before after r n why) (source rest : List ℕ) → source ≡ (x.consumed ++ e.bytes) ++ rest
+    → LongRow commands h source rows n why
+long_row commands h first before after r n rows {why} x e source rest is =
+    let f = e.refuses.first rest (r.number + 1) in
+    let l : NumberedLine = e.refuses.line rest (r.number + 1) in
+    let total : length (x.consumed ++ (e.bytes ++ rest)) ≡ r.behind + length (e.bytes ++ rest) = total_at x.consumed (e.bytes ++ rest) r.behind x.has_read.behind in
+    let lines : lines_left x.consumed (e.bytes ++ rest) r ≡ l ∷ f.others = ap (λ t. numbered_from t r.behind (r.number + 1) (lines_of (e.bytes ++ rest))) total ∙ f.lines in
     record {
-      moved = mv left after taken now x.moved.ended (mark ++ x.moved.read) x.moved.written (Consumes-trans left behind after mark x.moved.read c x.moved.reads) x.moved.at_end x.moved.writes;
-      right = x.right;
-      differs = λ e source may. let b = behind_source x.moved.ended x.moved.read source may in subst (WrongJournal (λ p h xs. MadeRun stands p h xs) (played_language commands)) (sym b.1) (x.differs e b.0 b.2);
-      front = x.front;
-      read_fault = x.read_fault;
-      write_fault = x.write_fault;
+      next = l;
+      others = f.others;
+      read = reads_on commands h first before r (λ ls. rows ++ ls) x e.bytes source rest e.began is ∙ ap (λ ls. Header_read h (rows ++ ls)) lines;
+      refused = e.refuses.refused rest (r.number + 1);
+      counts = e.refuses.numbered rest (r.number + 1) ∙ ap (λ k. k + 1) (sym e.same);
     }
+
+pub long_there : {D : Type 0} (commands : Header → List (Form Command)) (stands : D → Setting → Trace → Type 0) (h : Header) (first before after : Option (List ℕ)) (r n : ReaderState) (c : CheckState D)
+    (why : Refusal) (x : HasSeen commands stands h first before r c) (e : ReadsRefused before after r n why) (number : ℕ) → number ≡ counted (n.number + 1)
+    → (source : List ℕ) → MayHaveBeen false (x.read.consumed ++ e.bytes) source → MisreadsJournal (λ p h xs. MadeRun stands p h xs) (played_language commands) (mark ++ source) (as_bytes (refusal_line number why ∷ []))
+long_there commands stands h first before after r n c why x e number counts source may =
+    let l = long_row commands h first before after r n x.rows x.read e source may.0 may.1 in
+    misread_here commands stands h first before r c x source l.next l.others number why l.read (Is_long l.refused) (counts ∙ ap counted (sym l.counts))

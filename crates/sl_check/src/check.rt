@@ -1,6 +1,6 @@
 //! A journal is checked.
 
-ghost use Rattle.sl_check.specs.Checks.{ChecksBehind, ChecksJournal, Finds, HasSeen, IsLast, Passes, Puts, check_state, mark, ok_line, run_line};
+ghost use Rattle.sl_check.specs.Checks.{BeginsOtherwise, ChecksBehind, ChecksJournal, Finds, HasSeen, IsLast, IsSeen, Passes, Puts, check_state, counted, difference_lines, due_line, found_of, front_line, mark, ok_line, run_line};
 ghost use Rattle.sl_check.specs.declared.check.Checked.TheVariants as checked;
 ghost use Rattle.sl_io.specs.FaultCauses.{HasCause};
 ghost use Rattle.sl_journal.specs.JournalPlays.{IsPlaying};
@@ -13,9 +13,9 @@ ghost use Rattle.sl_schedule.specs.Lines.{line_seen};
 ghost use Rattle.sl_text.specs.Forms.{as_bytes};
 ghost use Rattle.sl_world_state.specs.SaneWorlds.{ReadsCommands};
 ghost use Rattle.sl_journal.specs.JournalLines.{end_line};
-ghost use Rattle.std.specs.Io.KnownBytes.{Consumes, Keeps};
+ghost use Rattle.std.specs.Io.KnownBytes.{Consumes, IsAtEnd, Keeps};
 ghost use Rattle.std.specs.Option.{option_to_list};
-ghost use Rattle.std.specs.Prelude.{IfOk, List, OnErr, Option, [], drop, false, length, true, ℕ, ◌++◌, ◌+◌, ◌<◌, ◌∷◌, ◌≡◌};
+ghost use Rattle.std.specs.Prelude.{IfOk, List, None, OnErr, Option, [], bytes_eq, drop, false, length, true, ℕ, ◌++◌, ◌+◌, ◌<◌, ◌∷◌, ◌≡◌, ◌≤◌};
 
 use crate::told::{put, push_difference, push_front, push_right, refuse};
 use sl_io::{Failed, Sink, Source};
@@ -63,6 +63,16 @@ enum Found {
     Misread(Refusal),
 }
 
+/// What a line is found to be that is refused for this where none is due.
+fn found_of(why: Refusal) -> Found
+    ensures { result ≡ found_of why }
+{
+    match why {
+        Refusal::Syntax => Found::Misread(Refusal::Syntax),
+        _ => Found::Barred(why),
+    }
+}
+
 /// Whether what is due begins with this line.
 fn passes(rest: &[u8], text: &[u8]) -> bool
     ensures cut { result ≡ true → rest.now ≡ text.now ++ 10 ∷ drop (length text.now + 1) rest.now }
@@ -82,7 +92,7 @@ struct Check<D: Recorded, L: LockTable> {
     journal: Journal<D, L>,
     due: Vec<u8>,
     at: usize,
-    /// How many entries were seen whole.
+    /// How many entries there were when nothing was due last.
     seen: u64,
 }
 
@@ -95,10 +105,25 @@ impl<D: Recorded, L: LockTable> Check<D, L> {
         self.at < self.due.len()
     }
 
+    /// So many bytes of what is due were seen.
+    fn pass(&mut self, count: usize)
+        requires { count ≤ length (check_state L.locks self.old).due }
+        ensures due { (check_state L.locks self.new).due ≡ drop count (check_state L.locks self.old).due }
+        ensures same { (check_state L.locks self.new).journal ≡ (check_state L.locks self.old).journal }
+        ensures seen { (check_state L.locks self.old).seen ≤ (check_state L.locks self.old).journal.entries
+            → IsSeen (check_state L.locks self.new).due (check_state L.locks self.new).journal.entries (check_state L.locks self.new).seen }
+    {
+        self.at += count;
+        if self.due.len() <= self.at {
+            self.seen = self.journal.entries();
+        }
+    }
+
     /// The line that is due must be this one.
     fn compare(&mut self, text: &[u8]) -> bool
         ensures passes { result ≡ true → Passes text.now (check_state L.locks self.old) (check_state L.locks self.new) }
         ensures other { result ≡ false → (behind : List ℕ) → (check_state L.locks self.old).due ≡ text.now ++ 10 ∷ behind → ⊥ }
+        ensures stays { result ≡ false → check_state L.locks self.new ≡ check_state L.locks self.old }
     {
         if self.due.len() <= self.at {
             return false;
@@ -107,16 +132,13 @@ impl<D: Recorded, L: LockTable> Check<D, L> {
         if !passes(rest, text) {
             return false;
         }
-        self.at = self.at + text.len() + 1;
-        if self.at == self.due.len() {
-            self.seen = self.journal.entries();
-        }
+        self.pass(text.len() + 1);
         true
     }
 
     /// Whether the line is the last one.
     fn is_last(&self, text: &[u8]) -> Result<bool, AllocError>
-        ensures { IfOk result (λ last. last ≡ true → text.now ≡ end_line (check_state L.locks self.now).journal.entries) }
+        ensures { IfOk result (λ last. last ≡ bytes_eq (end_line (check_state L.locks self.now).journal.entries) text.now) }
     {
         let line = format!(in *self.due.allocator(); "end {}", self.journal.entries())?;
         Ok(is_same(line.as_bytes(), text))
@@ -134,8 +156,7 @@ impl<D: Recorded, L: LockTable> Check<D, L> {
         self.due.clear();
         self.at = 0;
         match self.journal.take_line(&mut self.due, line)? {
-            Some(Refusal::Syntax) => Ok(Found::Misread(Refusal::Syntax)),
-            Some(why) => Ok(Found::Barred(why)),
+            Some(why) => Ok(found_of(why)),
             None => {
                 if self.compare(line.text) {
                     Ok(Found::Due)
@@ -161,8 +182,10 @@ impl<D: Recorded, L: LockTable> Check<D, L> {
         }
     }
 
-    /// The line that is due, if one is.
-    fn due_line(&self) -> &[u8] {
+    /// The line that is due, or a dash.
+    fn due_line(&self) -> &[u8]
+        ensures { result.now ≡ due_line (check_state L.locks self.now).due }
+    {
         if self.due.len() <= self.at {
             return b"-";
         }
@@ -194,7 +217,7 @@ fn tell_front<K: Sink, D: Recorded, L: LockTable>(
     sink: &mut K,
     check: &Check<D, L>,
 ) -> Checked
-    ensures { (text : List ℕ) × Puts (K.taken sink.old) (K.taken sink.new) (K.faults sink.old) (K.faults sink.new) text checked.BreaksOff result }
+    ensures { Puts (K.taken sink.old) (K.taken sink.new) (K.faults sink.old) (K.faults sink.new) (as_bytes (front_line (check_state L.locks check.now).seen ∷ [])) checked.BreaksOff result }
 {
     let mut out = Vec::new(alloc);
     let pushed = push_front(&mut out, check.seen);
@@ -203,7 +226,8 @@ fn tell_front<K: Sink, D: Recorded, L: LockTable>(
 
 /// Puts out how a line differs.
 fn tell_difference<K: Sink>(alloc: Global, sink: &mut K, line: &Line, due: &[u8]) -> Checked
-    ensures { (text : List ℕ) × Puts (K.taken sink.old) (K.taken sink.new) (K.faults sink.old) (K.faults sink.new) text checked.Differs result }
+    ensures { Puts (K.taken sink.old) (K.taken sink.new) (K.faults sink.old) (K.faults sink.new)
+        (as_bytes (difference_lines (counted (line_seen line.now).number) (line_seen line.now).text due.now)) checked.Differs result }
 {
     let mut out = Vec::new(alloc);
     let pushed = push_difference(&mut out, line.number.saturating_add(1), line.text, due);
@@ -301,6 +325,7 @@ fn check_header<S: Source, K: Sink, D: Recorded, L: LockTable>(
 /// The source's next byte, if there is one.
 fn next_byte<S: Source>(source: &mut S) -> Result<Option<u8>, Failed>
     ensures byte { IfOk result (λ b. Consumes (S.left source.old) (S.left source.new) (option_to_list b)) }
+    ensures ended { IfOk result (λ b. b ≡ None → IsAtEnd (S.left source.new)) }
     ensures err { OnErr result (Keeps (S.left source.old) (S.left source.new)) }
     ensures cause { HasCause (S.faults source.old) (S.faults source.new) result }
 {
@@ -312,15 +337,22 @@ fn next_byte<S: Source>(source: &mut S) -> Result<Option<u8>, Failed>
 /// Whether the source begins with these bytes; they are read, and no more of it.
 fn begins_with<S: Source>(source: &mut S, front: &[u8]) -> Result<bool, Failed>
     ensures whole { IfOk result (λ is. is ≡ true → Consumes (S.left source.old) (S.left source.new) front.now) }
+    ensures other { IfOk result (λ is. is ≡ false → BeginsOtherwise (S.left source.old) (S.left source.new) front.now) }
     ensures some { (bytes : List ℕ) × Consumes (S.left source.old) (S.left source.new) bytes }
     ensures cause { HasCause (S.faults source.old) (S.faults source.new) result }
 {
     let mut at = 0;
     while at < front.len() {
-        if next_byte(source)? != Some(front[at]) {
-            return Ok(false);
+        match next_byte(source)? {
+            None => return Ok(false),
+            Some(byte) => {
+                if byte == front[at] {
+                    at += 1;
+                } else {
+                    return Ok(false);
+                }
+            }
         }
-        at += 1;
     }
     Ok(true)
 }

@@ -1,6 +1,7 @@
 //! What a check tells.
 
-ghost use Rattle.sl_check.specs.Checks.{Puts, difference_lines, front_line, ok_line, run_line};
+ghost use Rattle.sl_check.specs.Checks.{Puts, counted, difference_lines, front_line, ok_line, run_line};
+ghost use Rattle.sl_report.specs.RefusalLines.{refusal_line};
 ghost use Rattle.sl_text.specs.Forms.{as_bytes};
 ghost use Rattle.std.specs.Prelude.{List, OnOk, [], ℕ, ◌++◌, ◌∷◌, ◌≡◌};
 
@@ -26,7 +27,7 @@ pub(crate) fn put<K: Sink>(sink: &mut K, pushed: Result<(), AllocError>, text: &
 
 /// Puts out the line of a refusal: the journal's first line stands before those that were counted.
 pub(crate) fn refuse<K: Sink>(alloc: Global, sink: &mut K, number: u64, why: Refusal, whole: Checked) -> Checked
-    ensures { (text : List ℕ) × Puts (K.taken sink.old) (K.taken sink.new) (K.faults sink.old) (K.faults sink.new) text whole result }
+    ensures { Puts (K.taken sink.old) (K.taken sink.new) (K.faults sink.old) (K.faults sink.new) (as_bytes (refusal_line (counted number) why ∷ [])) whole result }
 {
     let mut out = Vec::new(alloc);
     let pushed = push_refusal_line(&mut out, number.saturating_add(1), why);

@@ -1,19 +1,18 @@
 -- Lines and asks: what they bring, and that what is left behind them is left before.
-use Rattle.sl_journal.proofs.Leads.{MayCome, ask_leads, event_leads, leads_joined, skip_leads, stays_there}
-use Rattle.sl_journal.specs.JournalPlays.{Begins, Brings, GoesOn, HasAsked, HasBrought, HaveAsked, IsAsking, IsBarred, IsPlaying, JournalState, LeadsOn, SaysEvent, StopsAt, TakesLine}
+use Rattle.sl_journal.proofs.Leads.{MayCome, ask_leads, event_leads, leads_joined, line_by, skip_leads, stays_there}
+use Rattle.sl_journal.specs.JournalPlays.{Brings, GoesOn, HasAsked, HasBrought, HaveAsked, IsAsking, IsBarred, IsPlaying, JournalState, LeadsOn, SaysEvent, StopsAt}
 use Rattle.sl_journal.specs.JournalRuns.{entries_of, event_news, event_steps, news_at, running_on, steps_at}
 use Rattle.sl_play.specs.PlayIsOwed.{EachStood}
-use Rattle.sl_play.specs.Plays.{AsksLeft, HasHappened, PlayState, PlaysOn, StandsFor, StaysAs}
+use Rattle.sl_play.specs.Plays.{AsksLeft, HasHappened, PlayState, PlaysOn}
 use Rattle.sl_play.specs.Replays.{played_language}
 use Rattle.sl_report.specs.Languages.{is_skipped, whole_language}
 use Rattle.sl_report.specs.ReadLines.{event_in}
-use Rattle.sl_report.specs.Schedules.{At_line, EventLine, Follows, NoAsk, NumberedLine, event_line, event_lines_of, event_or_syntax, line_refusal}
+use Rattle.sl_report.specs.Schedules.{At_line, EventLine, Follows, NumberedLine, event_line, event_lines_of, event_or_syntax, line_refusal}
 use Rattle.sl_run.specs.EventChanges.{happens}
 use Rattle.sl_run.specs.Inputs.{asking, machine_of}
-use Rattle.sl_run.specs.Refusals.{refusal_of}
 use Rattle.sl_run.specs.Worlds.{World}
-use Rattle.sl_run.specs.declared.event.Event.TheVariants.{GiveAsk}
 use Rattle.sl_run.specs.declared.event.Event.{Event}
+use Rattle.sl_run.specs.declared.event.Event.TheVariants.{GiveAsk}
 use Rattle.sl_run.specs.declared.event.Refusal.{Refusal}
 use Rattle.sl_run.specs.declared.header.Header.{Header}
 use Rattle.sl_run_law.proofs.WorldsGoOn.{event_goes}
@@ -27,10 +26,10 @@ use Rattle.sl_world_law.proofs.FirstStanding.{each_stood}
 use Rattle.sl_world_law.proofs.TellingIsKept.{asks_are_kept}
 use Rattle.sl_world_law.specs.ToldEvents.{asking_in}
 use Rattle.sl_world_state.specs.SaneWorlds.{WorldStands}
-use Rattle.std.proofs.Common.{Bool, ap, arith, false, refl, subst, suc, sym, zero, ◌-◌, ◌<◌, ◌∙◌, ◌≤◌}
+use Rattle.std.proofs.Common.{Bool, ap, arith, false, refl, subst, suc, sym, zero, ◌-◌, ◌∙◌, ◌≤◌}
 use Rattle.std.proofs.lemmas.List.{append-nil, append_assoc}
 use Rattle.std.specs.List.{cons_option}
-use Rattle.std.specs.Prelude.{Err, List, None, Ok, Option, Result, Some, is_none, true, [], ℕ, ◌++◌, ◌+◌, ◌∷◌, ◌≡◌}
+use Rattle.std.specs.Prelude.{Err, List, None, Ok, Option, Result, Some, [], true, ℕ, ◌++◌, ◌+◌, ◌∷◌, ◌≡◌}
 
 -- ---- an event
 
@@ -179,7 +178,7 @@ event_taken {D} commands stands w p q n e l out since then now s says front h as
       steps = steps + a.steps;
       plays = a.plays;
       header = a.header ∙ header;
-      told = a.told ∙ ap (λ b. b ++ a.bytes) (x.text ∙ ap (λ b. b ++ as_bytes (event_news w (e, h.effects ∷ []))) front
+      told = a.told ∙ ap (λ b. b ++ a.bytes) (x.text ∙ ap (λ b. b ++ as_bytes (event_news w (e, h.effects ∷ []))) (front ∙ append_assoc out l.text (10 ∷ []))
           ∙ append_assoc out (l.text ++ 10 ∷ []) (as_bytes (event_news w (e, h.effects ∷ [])))) ∙ append_assoc out text a.bytes;
       entries = sums n.entries q.entries p.entries steps a.steps a.entries x.steps;
       leads = leads_joined (EachStood stands) (played_language commands) p.play.kept.header w v a.world (λ rest. l ∷ rest) (λ rest. rest) text a.bytes steps a.steps
@@ -188,6 +187,18 @@ event_taken {D} commands stands w p q n e l out since then now s says front h as
   where
     sums : (a b c d e : ℕ) → a ≡ b + e → b ≡ c + d → a ≡ c + (d + e)
     sums a b c d e p q = omega (arith, p, q)
+
+-- What was added begins with the line.
+pub event_adds : {D : Type 0} (commands : Header → List (Form Command)) (stands : D → Setting → Trace → Type 0) (p q n : JournalState D) (e : Event) (text out since then now : List ℕ)
+    → IsPlaying commands stands p → since ≡ out ++ text ++ 10 ∷ [] → HasBrought commands stands p e since q then
+    → ((v : World) (m : ℕ) → AsksLeft commands stands q.play v m 10 → GoesOn commands stands v q (λ rest. rest) then n now) → (news : List ℕ) × (now ≡ out ++ text ++ 10 ∷ news)
+event_adds commands stands p q n e text out since then now s front h asks =
+    let x = h.in_each s.0 s.1.stands_for in
+    let left = asks_left commands stands p q s.0 e h.effects since then s.1 x in
+    let a = asks (happens s.0 e (h.effects ∷ [])) left.0 left.1 in
+    let news : List ℕ = as_bytes (event_news s.0 (e, h.effects ∷ [])) in
+    (news ++ a.bytes, a.told ∙ ap (λ b. b ++ a.bytes) (x.text ∙ ap (λ b. b ++ news) front) ∙ append_assoc (out ++ text ++ 10 ∷ []) news a.bytes
+    ∙ append_assoc out (text ++ 10 ∷ []) (news ++ a.bytes) ∙ ap (λ b. out ++ b) (append_assoc text (10 ∷ []) (news ++ a.bytes)))
 
 first_event : (commands : Header → List (Form Command)) (h : Header) (l : NumberedLine) (rest : List NumberedLine) (o : Option EventLine) → event_line whole_language h l ≡ o
     → event_lines_of (played_language commands) h (l ∷ rest) ≡ cons_option o (event_lines_of (played_language commands) h rest)
@@ -206,8 +217,7 @@ event_stops commands stands w p n e l since then why s says b =
     }
 
 -- A line's event has the line's number.
-number_is : (o : Option Refusal) (skips : Bool) (n : ℕ) (read : Result Event Refusal) (x : EventLine)
-    → elim o [ Some r ↦ Some (n, Err r) | None ↦ elim skips [ true ↦ None | false ↦ Some (n, read) ] ] ≡ Some x → x.0 ≡ n
+number_is : (o : Option Refusal) (skips : Bool) (n : ℕ) (read : Result Event Refusal) (x : EventLine) → line_by o skips n read ≡ Some x → x.0 ≡ n
 number_is (Some r) skips n read x is = cc
 number_is None true n read x is = absurd cc
 number_is None false n read x is = cc
@@ -242,10 +252,17 @@ nothing_taken commands stands w p l out s is =
       leads = skip_leads (EachStood stands) (played_language commands) p.play.kept.header w l p.play.counts is;
     }
 
+-- Whether a line says an event.
+abbrev is_event : Option EventLine → Bool
+is_event None = false
+is_event (Some p) = elim p.1 [ Err r ↦ false | Ok e ↦ true ]
+
+clash : false ≡ true → ⊥
+clash is = absurd cc
+
 -- It says an event.
-says_so : (o : Option Refusal) (skips : Bool) (n : ℕ) (read : Result Event Refusal) (x : ℕ) (e : Event)
-    → elim o [ Some r ↦ Some (n, Err r) | None ↦ elim skips [ true ↦ None | false ↦ Some (n, read) ] ] ≡ Some (x, Ok e) → skips ≡ false
-says_so (Some r) skips n read x e is = absurd cc
+says_so : (o : Option Refusal) (skips : Bool) (n : ℕ) (read : Result Event Refusal) (x : ℕ) (e : Event) → line_by o skips n read ≡ Some (x, Ok e) → skips ≡ false
+says_so (Some r) skips n read x e is = absurd (clash (ap is_event is))
 says_so None true n read x e is = absurd cc
 says_so None false n read x e is = refl
 

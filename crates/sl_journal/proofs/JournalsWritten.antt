@@ -1,29 +1,26 @@
 -- Lines that are read and played one after another, and what is written of them.
 use Rattle.sl_io.specs.FaultCauses.{Rose}
-use Rattle.sl_journal.proofs.Leads.{alone, stays_there}
+use Rattle.sl_journal.proofs.Leads.{alone, leads_joined, stays_there}
 use Rattle.sl_journal.specs.JournalLines.{end_line}
 use Rattle.sl_journal.specs.JournalPlays.{Begins, GoesOn, IsPlaying, JournalState, LeadsOn, StopsAt, TakesLine}
-use Rattle.sl_journal.proofs.Leads.{leads_joined}
 use Rattle.sl_journal.specs.JournalRuns.{run_news, run_steps, texts_of}
-use Rattle.sl_journal.specs.JournalWrites.{HasPlayed, HasTaken, Running, WritesJournal}
+use Rattle.sl_journal.specs.JournalWrites.{CompleteJournal, HasPlayed, HasTaken, Of_header, Of_lines, Running, WritesJournal}
 use Rattle.sl_journal.specs.Journals.{In_events, In_header, JournalFront, JournalOf, Of_events, Of_journal, Of_nothing, first_lines, journal_lines, last_line}
 use Rattle.sl_play.proofs.EndsFinish.{bytes_joined}
 use Rattle.sl_play.proofs.LinesPlayed.{been, read_same, rose_later}
 use Rattle.sl_play.specs.PlayIsOwed.{EachStood}
 use Rattle.sl_play.specs.Plays.{PlaysOn}
-use Rattle.sl_play.specs.Replays.{All, MayPlay, Moved, Nothing, Part, Puts, code, played_language}
-use Rattle.sl_play.specs.declared.replay.Played.TheVariants.{Done, NoMemory, ReadFault, Refused, WriteFault}
+use Rattle.sl_play.specs.Replays.{All, MayPlay, Moved, Nothing, Part, Puts, played_language}
 use Rattle.sl_play.specs.declared.replay.Played.{Played}
+use Rattle.sl_play.specs.declared.replay.Played.TheVariants.{Done, NoMemory, ReadFault, Refused, WriteFault}
 use Rattle.sl_reader.proofs.HeaderSteps.{gives_so, gives_then, has_read_more, next_line, open_follows}
 use Rattle.sl_reader.specs.HeaderBegins.{HeaderBegins, HeaderBreaks, HeaderStops, lines_left}
 use Rattle.sl_reader.specs.LineReads.{EndStands, Fails, Gives, IsCutOff, MayFollow, ReaderState, ReadsEnd, ReadsLine, ReadsRefused, line_of}
-use Rattle.sl_report.specs.Languages.{whole_language}
-use Rattle.sl_report.specs.OwedReports.{IsFrontOf, MayHaveBeen, is_whole_status}
+use Rattle.sl_report.specs.OwedReports.{IsFrontOf, MayHaveBeen}
 use Rattle.sl_report.specs.RefusalLines.{refusal_line}
 use Rattle.sl_report.specs.Reports.{no_counts}
-use Rattle.sl_report.specs.Schedules.{At_end, At_line, Ending, EventLine, Follows, FollowsSoFar, Header_read, Header_refused, NumberedLine, event_line, event_lines_of, line_refusal, numbered_from, numbered_lines, read_header, status_of}
+use Rattle.sl_report.specs.Schedules.{At_end, At_line, Ending, EventLine, Follows, FollowsSoFar, Header_read, NumberedLine, event_lines_of, line_refusal, numbered_from, numbered_lines, read_header, status_of}
 use Rattle.sl_run.specs.Headers.{IsHeader}
-use Rattle.sl_run.specs.Runs.{Happening}
 use Rattle.sl_run.specs.Worlds.{World, world_with}
 use Rattle.sl_run.specs.declared.event.Refusal.{Refusal}
 use Rattle.sl_run.specs.declared.header.Header.{Header}
@@ -38,7 +35,7 @@ use Rattle.std.proofs.KnownBytes.{Appends-nil, Appends-trans, Consumes-nil}
 use Rattle.std.proofs.lemmas.List.{append-nil, append_assoc}
 use Rattle.std.specs.Io.KnownBytes.{Appends, Consumes, IsAtEnd}
 use Rattle.std.specs.List.{cons_option}
-use Rattle.std.specs.Prelude.{Err, IsTrue, List, None, Option, Some, true, [], ℕ, ◌++◌, ◌+◌, ◌∷◌, ◌≡◌}
+use Rattle.std.specs.Prelude.{Err, IsTrue, List, None, Option, Some, [], true, ℕ, ◌++◌, ◌+◌, ◌∷◌, ◌≡◌}
 
 -- ---- the text of what was played
 
@@ -68,7 +65,7 @@ made_here commands stands h p x =
     }
 
 -- The last line.
-last_here : {D : Type 0} (commands : Header → List (Form Command)) (stands : D → Setting → Trace → Type 0) (h : Header) (p : JournalState D) (x : HasPlayed commands stands h p) (end : Ending)
+abbrev pub last_here : {D : Type 0} (commands : Header → List (Form Command)) (stands : D → Setting → Trace → Type 0) (h : Header) (p : JournalState D) (x : HasPlayed commands stands h p) (end : Ending)
     → List ℕ
 last_here commands stands h p x At_end = end_line p.entries
 last_here commands stands h p x (At_line number why) = refusal_line number why
@@ -117,7 +114,7 @@ never_ended after is = absurd (never is)
     never e = absurd cc
 
 -- One more line was read.
-pub taken_more : (commands : Header → List (Form Command)) (h : Header) (first before after : Option (List ℕ)) (r n : ReaderState) (lines : List NumberedLine → List NumberedLine)
+abbrev pub taken_more : (commands : Header → List (Form Command)) (h : Header) (first before after : Option (List ℕ)) (r n : ReaderState) (lines : List NumberedLine → List NumberedLine)
     → HasTaken commands h first before r lines → ReadsLine before after r n → HasTaken commands h first after n (λ rest. lines (line_of n ∷ rest))
 taken_more commands h first before after r n lines x l =
     record {
@@ -131,7 +128,7 @@ taken_more commands h first before after r n lines x l =
     }
 
 -- Whatever follows what was read, the header and the lines are in the source.
-reads_on : (commands : Header → List (Form Command)) (h : Header) (first left : Option (List ℕ)) (r : ReaderState) (lines : List NumberedLine → List NumberedLine)
+pub reads_on : (commands : Header → List (Form Command)) (h : Header) (first left : Option (List ℕ)) (r : ReaderState) (lines : List NumberedLine → List NumberedLine)
     (x : HasTaken commands h first left r lines) (bytes source more : List ℕ) → r.ended ≡ false → source ≡ (x.consumed ++ bytes) ++ more
     → read_header (played_language commands) [] 1 (numbered_lines source) ≡ Header_read h (lines (lines_left x.consumed (bytes ++ more) r))
 reads_on commands h first left r lines x bytes source more began is =
@@ -139,7 +136,7 @@ reads_on commands h first left r lines x bytes source more began is =
     ∙ x.reads (bytes ++ more) (open_follows r.ended (bytes ++ more) began)
 
 -- What was read with what is left of the last piece.
-moved_with : (first before after taken now : Option (List ℕ)) (commands : Header → List (Form Command)) (h : Header) (r : ReaderState) (lines : List NumberedLine → List NumberedLine)
+abbrev pub moved_with : (first before after taken now : Option (List ℕ)) (commands : Header → List (Form Command)) (h : Header) (r : ReaderState) (lines : List NumberedLine → List NumberedLine)
     (x : HasTaken commands h first before r lines) (bytes written : List ℕ) → Gives before after r.left bytes → Appends taken now written → Moved first after taken now
 moved_with first before after taken now commands h r lines x bytes written g writes =
     record {
@@ -186,6 +183,7 @@ all_out commands stands first after taken now faults later sink_faults sink_late
       whole = λ w source may. subst (λ k. journaled commands stands source x.written k) is.1 (all source may);
       front = λ source may. Of_journal x.written status (all source may) ([], sym (append-nil x.written));
       to_end = λ e. is.0;
+      complete = λ e. absurd cc;
       read_fault = λ e. absurd cc;
       write_fault = λ e. absurd cc;
     }
@@ -195,6 +193,7 @@ all_out commands stands first after taken now faults later sink_faults sink_late
       whole = λ w source may. subst (λ k. journaled commands stands source x.written k) is (all source may);
       front = λ source may. Of_journal x.written status (all source may) ([], sym (append-nil x.written));
       to_end = λ e. absurd cc;
+      complete = λ e. absurd cc;
       read_fault = λ e. absurd cc;
       write_fault = λ e. absurd cc;
     }
@@ -203,30 +202,35 @@ all_out commands stands first after taken now faults later sink_faults sink_late
 all_out commands stands first after taken now faults later sink_faults sink_later x status NoMemory is all = absurd is
 
 -- What breaks off.
-pub data BreaksBy (faults later sink_faults sink_later : ℕ) : Played → Type 0 where
-  Fails_to_read : Rose faults later → BreaksBy faults later sink_faults sink_later ReadFault
-  Fails_to_write : Rose sink_faults sink_later → BreaksBy faults later sink_faults sink_later WriteFault
-  Lacks_memory : BreaksBy faults later sink_faults sink_later NoMemory
+pub data BreaksBy {D : Type 0} (commands : Header → List (Form Command)) (stands : D → Setting → Trace → Type 0) (read written : List ℕ) (faults later sink_faults sink_later : ℕ)
+    : Played → Type 0 where
+  Fails_to_read : Rose faults later → CompleteJournal (λ q g xs. MadeRun stands q g xs) (played_language commands) read written
+      → BreaksBy commands stands read written faults later sink_faults sink_later ReadFault
+  Fails_to_write : Rose sink_faults sink_later → BreaksBy commands stands read written faults later sink_faults sink_later WriteFault
+  Lacks_memory : BreaksBy commands stands read written faults later sink_faults sink_later NoMemory
 
 pub breaks_off : {D : Type 0} (commands : Header → List (Form Command)) (stands : D → Setting → Trace → Type 0) (first after taken now : Option (List ℕ)) (faults later sink_faults sink_later : ℕ)
-    (x : Moved first after taken now) (s : Played) → BreaksBy faults later sink_faults sink_later s
+    (x : Moved first after taken now) (s : Played) → BreaksBy commands stands x.read x.written faults later sink_faults sink_later s
     → ((source : List ℕ) → MayHaveBeen x.ended x.read source → begun commands stands source x.written)
     → WritesJournal commands stands first after taken now faults later sink_faults sink_later s
-breaks_off commands stands first after taken now faults later sink_faults sink_later x ReadFault (Fails_to_read rose) front =
-    record { moved = x; whole = λ w. absurd (never w); front = front; to_end = λ e. absurd cc; read_fault = λ e. rose; write_fault = λ e. absurd cc }
+breaks_off commands stands first after taken now faults later sink_faults sink_later x ReadFault (Fails_to_read rose complete) front =
+    record { moved = x; whole = λ w. absurd (never w); front = front; to_end = λ e. absurd cc; complete = λ e. complete; read_fault = λ e. rose; write_fault = λ e. absurd cc }
   where
     never : false ≡ true → ⊥
     never e = absurd cc
 breaks_off commands stands first after taken now faults later sink_faults sink_later x WriteFault (Fails_to_write rose) front =
-    record { moved = x; whole = λ w. absurd (never w); front = front; to_end = λ e. absurd cc; read_fault = λ e. absurd cc; write_fault = λ e. rose }
+    record { moved = x; whole = λ w. absurd (never w); front = front; to_end = λ e. absurd cc; complete = λ e. absurd cc; read_fault = λ e. absurd cc; write_fault = λ e. rose }
   where
     never : false ≡ true → ⊥
     never e = absurd cc
 breaks_off commands stands first after taken now faults later sink_faults sink_later x NoMemory Lacks_memory front =
-    record { moved = x; whole = λ w. absurd (never w); front = front; to_end = λ e. absurd cc; read_fault = λ e. absurd cc; write_fault = λ e. absurd cc }
+    record { moved = x; whole = λ w. absurd (never w); front = front; to_end = λ e. absurd cc; complete = λ e. absurd cc; read_fault = λ e. absurd cc; write_fault = λ e. absurd cc }
   where
     never : false ≡ true → ⊥
     never e = absurd cc
+
+breaks_off commands stands first after taken now faults later sink_faults sink_later x Done by front = elim by [ ]
+breaks_off commands stands first after taken now faults later sink_faults sink_later x Refused by front = elim by [ ]
 
 pub puts_out : {D : Type 0} (commands : Header → List (Form Command)) (stands : D → Setting → Trace → Type 0) (first after taken since now : Option (List ℕ)) (faults later sink_faults sink_later : ℕ)
     (ended : Bool) (read written text : List ℕ) (status : ℕ) (whole s : Played) → WholeIs whole ended status → Consumes first after read → (IsTrue ended → IsAtEnd after) → Appends taken since written
@@ -260,7 +264,7 @@ ended_out {D} commands stands h first before after taken since now faults later 
 
 -- ---- a line is refused before it is read
 
-total_at : (consumed rest : List ℕ) (behind : ℕ) → behind ≡ length consumed → length (consumed ++ rest) ≡ behind + length rest
+pub total_at : (consumed rest : List ℕ) (behind : ℕ) → behind ≡ length consumed → length (consumed ++ rest) ≡ behind + length rest
 total_at consumed rest behind is = length-append consumed rest ∙ ap (λ b. b + length rest) (sym is)
 
 abbrev unread : Option Refusal → ℕ → Option EventLine → Option EventLine
@@ -300,7 +304,7 @@ pub left_follows : (after : Option (List ℕ)) (n : ReaderState) (rest : List �
 left_follows after n rest ends follows = λ is. ap (λ b. b ++ rest) (ends.none is) ∙ follows is
 
 -- What was played with one line more.
-pub played_on : {D : Type 0} (commands : Header → List (Form Command)) (stands : D → Setting → Trace → Type 0) (h : Header) (p q : JournalState D) (l : NumberedLine) (out text : List ℕ)
+abbrev pub played_on : {D : Type 0} (commands : Header → List (Form Command)) (stands : D → Setting → Trace → Type 0) (h : Header) (p q : JournalState D) (l : NumberedLine) (out text : List ℕ)
     (x : HasPlayed commands stands h p) → GoesOn commands stands x.world p (λ rest. l ∷ rest) out q text → HasPlayed commands stands h q
 played_on {D} commands stands h p q l out text x g =
     record {
@@ -383,8 +387,8 @@ chokes_there {D} commands stands h first before after taken since now faults lat
 -- ---- it is broken off
 
 pub stops_here : {D : Type 0} (commands : Header → List (Form Command)) (stands : D → Setting → Trace → Type 0) (h : Header) (first before after taken now : Option (List ℕ))
-    (faults later sink_faults sink_later : ℕ) (r : ReaderState) (p : JournalState D) (bytes : List ℕ) (s : Played) → Running commands stands h first before taken now r p
-    → r.ended ≡ false → Gives before after r.left bytes → BreaksBy faults later sink_faults sink_later s
+    (faults later sink_faults sink_later : ℕ) (r : ReaderState) (p : JournalState D) (bytes : List ℕ) (s : Played) (x : Running commands stands h first before taken now r p)
+    → r.ended ≡ false → Gives before after r.left bytes → BreaksBy commands stands (x.read.consumed ++ bytes) (written_of commands stands h p x.played) faults later sink_faults sink_later s
     → WritesJournal commands stands first after taken now faults later sink_faults sink_later s
 stops_here {D} commands stands h first before after taken now faults later sink_faults sink_later r p bytes s x began g by =
     breaks_off commands stands first after taken now faults later sink_faults sink_later
@@ -392,12 +396,27 @@ stops_here {D} commands stands h first before after taken now faults later sink_
     (λ source may. front_here commands stands h p x.played source (written_of commands stands h p x.played) (lines_left x.read.consumed (bytes ++ may.0) r)
     (reads_on commands h first before r x.played.lines x.read bytes source may.0 began may.1) ([], sym (append-nil (written_of commands stands h p x.played))))
 
+-- A read failed: the journal of the complete lines is written.
+pub complete_here : {D : Type 0} (commands : Header → List (Form Command)) (stands : D → Setting → Trace → Type 0) (h : Header) (first before after taken now : Option (List ℕ)) (r : ReaderState)
+    (p : JournalState D) (x : Running commands stands h first before taken now r p) (f : Fails before after r)
+    → CompleteJournal (λ q g xs. MadeRun stands q g xs) (played_language commands) (x.read.consumed ++ f.bytes) (written_of commands stands h p x.played)
+complete_here commands stands h first before after taken now r p x f =
+    record {
+      complete = x.read.consumed;
+      partial = f.bytes;
+      cut = refl;
+      whole = x.read.has_read.whole f.open_still;
+      free = f.free;
+      journal = Of_lines p.entries (whole_here commands stands h p x.played x.read.consumed (lines_left x.read.consumed [] r) At_end
+          (ap (λ b. read_header (played_language commands) [] 1 (numbered_lines b)) (sym (append-nil x.read.consumed)) ∙ x.read.reads [] (λ is. refl)) x.played.plays.unasked);
+    }
+
 pub line_cut : (before after : Option (List ℕ)) (r n : ReaderState) → ReadsLine before after r n → IsCutOff before after r
 line_cut before after r n l = record { began = l.began; bytes = l.taken ++ n.left; gives = l.gives }
 
 -- ---- the header
 
-pub begun_play : {D : Type 0} (commands : Header → List (Form Command)) (stands : D → Setting → Trace → Type 0) (h : Header) (p : JournalState D) → Begins commands stands h p
+abbrev pub begun_play : {D : Type 0} (commands : Header → List (Form Command)) (stands : D → Setting → Trace → Type 0) (h : Header) (p : JournalState D) → Begins commands stands h p
     → HasPlayed commands stands h p
 begun_play {D} commands stands h p b =
     record {
@@ -414,7 +433,7 @@ begun_play {D} commands stands h p b =
     w : World
     w = world_with (program_of commands) h
 
-pub header_taken : (commands : Header → List (Form Command)) (h : Header) (first left : Option (List ℕ)) (r : ReaderState) → HeaderBegins first left r h
+abbrev pub header_taken : (commands : Header → List (Form Command)) (h : Header) (first left : Option (List ℕ)) (r : ReaderState) → HeaderBegins first left r h
     → HasTaken commands h first left r (λ rest. rest)
 header_taken commands h first left r b =
     record {
@@ -436,14 +455,21 @@ started commands stands h first left taken now r p text b begins appends is =
     }
 
 -- Nothing is written.
-nothing_moved : (first after taken : Option (List ℕ)) (all : List ℕ) → Gives first after [] all → Moved first after taken taken
+abbrev nothing_moved : (first after taken : Option (List ℕ)) (all : List ℕ) → Gives first after [] all → Moved first after taken taken
 nothing_moved first after taken all g = moves first after taken taken false all [] (reads_of first after all g) (never_ended after) (Appends-nil taken)
 
 pub nothing_written : {D : Type 0} (commands : Header → List (Form Command)) (stands : D → Setting → Trace → Type 0) (first after taken : Option (List ℕ)) (faults later sink_faults sink_later : ℕ)
-    (s : Played) → BreaksBy faults later sink_faults sink_later s → ((all : List ℕ) × Gives first after [] all)
+    (s : Played) (g : (all : List ℕ) × Gives first after [] all) → BreaksBy commands stands g.0 [] faults later sink_faults sink_later s
     → WritesJournal commands stands first after taken taken faults later sink_faults sink_later s
-nothing_written commands stands first after taken faults later sink_faults sink_later s by g =
+nothing_written commands stands first after taken faults later sink_faults sink_later s g by =
     breaks_off commands stands first after taken taken faults later sink_faults sink_later (nothing_moved first after taken g.0 g.1) s by (λ source may. Of_nothing refl)
+
+-- A read failed in the header.
+pub header_breaks : {D : Type 0} (commands : Header → List (Form Command)) (stands : D → Setting → Trace → Type 0) (first after taken : Option (List ℕ)) (faults later sink_faults sink_later : ℕ)
+    → HeaderBreaks first after → Rose faults later → WritesJournal commands stands first after taken taken faults later sink_faults sink_later ReadFault
+header_breaks commands stands first after taken faults later sink_faults sink_later b rose =
+    nothing_written commands stands first after taken faults later sink_faults sink_later ReadFault (b.complete ++ b.partial, b.gives)
+    (Fails_to_read rose (record { complete = b.complete; partial = b.partial; cut = refl; whole = b.whole; free = b.free; journal = Of_header b.ls b.reader b.goes refl }))
 
 -- A write failed in the lines before the first event.
 pub chokes_first : {D : Type 0} (commands : Header → List (Form Command)) (stands : D → Setting → Trace → Type 0) (h : Header) (first left taken now : Option (List ℕ))
@@ -489,6 +515,7 @@ journal_later commands stands first after taken now f g later j k sink_later s h
       whole = x.whole;
       front = x.front;
       to_end = x.to_end;
+      complete = x.complete;
       read_fault = λ is. rose_later f g later h (x.read_fault is);
       write_fault = λ is. rose_later j k sink_later i (x.write_fault is);
     }

@@ -1,27 +1,27 @@
 -- From behind to before: what follows a moment of a run follows it with one event more in front, and so with many.
 use Rattle.sl_journal.specs.JournalPlays.{LeadsOn}
-use Rattle.sl_journal.specs.JournalRuns.{event_news, event_steps, first_text, other_texts, run_news, run_steps, text_of_line, texts_of}
+use Rattle.sl_journal.specs.JournalRuns.{event_news, event_steps, first_text, other_texts, run_news, run_steps, texts_of}
 use Rattle.sl_play.proofs.EndsFinish.{bytes_joined}
 use Rattle.sl_report.specs.Languages.{Language}
 use Rattle.sl_report.specs.ReadLines.{event_in}
-use Rattle.sl_report.specs.Reports.{Counts, count_event, run_counts}
+use Rattle.sl_report.specs.Reports.{Counts, count_event}
 use Rattle.sl_report.specs.Schedules.{Ending, EventLine, Follows, FollowsSoFar, IsAskOf, NoAsk, NumberedLine, event_line, event_lines_of, event_or_syntax, line_refusal}
 use Rattle.sl_run.specs.EventChanges.{happens}
 use Rattle.sl_run.specs.Inputs.{asking}
 use Rattle.sl_run.specs.Refusals.{may_happen}
-use Rattle.sl_run.specs.Runs.{AfterEachFront, Happening, HasSteps, IsRun, world_after}
+use Rattle.sl_run.specs.Runs.{AfterEachFront, Happening, HasSteps, world_after}
 use Rattle.sl_run.specs.Worlds.{World}
-use Rattle.sl_run.specs.declared.event.Event.TheVariants.{GiveAsk}
 use Rattle.sl_run.specs.declared.event.Event.{Event}
+use Rattle.sl_run.specs.declared.event.Event.TheVariants.{GiveAsk}
 use Rattle.sl_run.specs.declared.event.Refusal.{Refusal}
 use Rattle.sl_run.specs.declared.header.Header.{Header}
 use Rattle.sl_text.specs.Forms.{as_bytes}
 use Rattle.sl_trace.specs.declared.effects.Effects.{Effects}
 use Rattle.sl_words.proofs.Lists.{head_is, tail_is}
-use Rattle.std.proofs.Common.{Bool, ap, arith, false, length, refl, subst, sym, ◌∙◌}
-use Rattle.std.proofs.lemmas.List.{append-nil, append_assoc}
+use Rattle.std.proofs.Common.{Bool, ap, arith, false, refl, subst, sym, ◌∙◌}
+use Rattle.std.proofs.lemmas.List.{append_assoc}
 use Rattle.std.specs.List.{cons_option}
-use Rattle.std.specs.Prelude.{Err, IsSomeAnd, IsTrue, List, None, Ok, Option, Some, true, [], ℕ, ◌++◌, ◌+◌, ◌∷◌, ◌≡◌}
+use Rattle.std.specs.Prelude.{Err, IsSomeAnd, IsTrue, List, None, Ok, Option, Result, Some, [], true, ℕ, ◌++◌, ◌+◌, ◌∷◌, ◌≡◌}
 
 -- ---- fronts
 
@@ -152,6 +152,9 @@ ask_leads P lang h w m fxs k asks may =
 
 -- ---- none, and many
 
+none_plus : (n : ℕ) → n ≡ 0 + n
+none_plus n = omega arith
+
 pub stays_there : (P : World → Type 0) (lang : Language) (h : Header) (w : World) (k : Counts) → LeadsOn P lang h w w (λ rest. rest) [] 0 k k
 stays_there P lang h w k =
     record {
@@ -161,13 +164,15 @@ stays_there P lang h w k =
       is_run = λ ys r. r;
       fronts = λ ys f. f;
       text = λ rest ys. refl;
-      count = λ ys. refl;
+      count = λ ys. none_plus (run_steps w ys);
       counts = λ ys. refl;
     }
 
 -- A line that says nothing.
-skips_so : (o : Option Refusal) (skips : Bool) (n : ℕ) (read : Option Event) → elim o [ Some r ↦ Some (n, Err r) | None ↦ elim skips [ true ↦ None | false ↦ Some (n, event_or_syntax read) ] ] ≡ None
-    → skips ≡ true
+abbrev pub line_by : Option Refusal → Bool → ℕ → Result Event Refusal → Option EventLine
+line_by o skips n read = elim o [ Some r ↦ Some (n, Err r) | None ↦ elim skips [ true ↦ None | false ↦ Some (n, read) ] ]
+
+skips_so : (o : Option Refusal) (skips : Bool) (n : ℕ) (read : Result Event Refusal) → line_by o skips n read ≡ None → skips ≡ true
 skips_so (Some r) skips n read is = absurd cc
 skips_so None true n read is = refl
 skips_so None false n read is = absurd cc
@@ -182,8 +187,8 @@ skip_leads P lang h w l k reads =
       is_run = λ ys r. r;
       fronts = λ ys f. f;
       text = λ rest ys. ap (λ ts. as_bytes (run_news w ts ys))
-          (text_none lang l rest (skips_so (line_refusal l) (lang.skips l.text) l.number (event_in lang h.machines h.geometry.sector l.text) reads));
-      count = λ ys. refl;
+          (text_none lang l rest (skips_so (line_refusal l) (lang.skips l.text) l.number (event_or_syntax (event_in lang h.machines h.geometry.sector l.text)) reads));
+      count = λ ys. none_plus (run_steps w ys);
       counts = λ ys. refl;
     }
 

@@ -1,5 +1,6 @@
 -- What the daemons that run tell of the world that they stand for.
-use Rattle.sl_journal.specs.JournalRuns.{entries_of, news_at, news_since, running_on, steps_at, steps_since}
+use Rattle.sl_journal.specs.JournalRuns.{entries_of, first_news_to, news_at, news_since, running_on, steps_at, steps_since}
+use Rattle.sl_play.proofs.EndsFinish.{bytes_joined}
 use Rattle.sl_run.specs.Worlds.{Daemon, Machine, World, machine_at}
 use Rattle.sl_run.specs.declared.header.Header.{Header}
 use Rattle.sl_text.specs.Forms.{Form, as_bytes}
@@ -9,8 +10,8 @@ use Rattle.sl_world.specs.RunningDaemons.{daemon_in}
 use Rattle.sl_world_state.specs.KeptWorld.{KeptState}
 use Rattle.sl_world_state.specs.SaneWorlds.{RunsOn, WorldStands}
 use Rattle.std.proofs.Common.{Bool, ap, arith, false, length, refl, subst, suc, sym, zero, ◌-◌, ◌==◌, ◌∙◌}
-use Rattle.std.proofs.lemmas.List.{append-nil}
-use Rattle.std.specs.Prelude.{IfOk, IfSome, List, None, Ok, Option, Result, Some, slice_get, true, [], if◌then◌else◌, option_and_then, ℕ, ◌++◌, ◌∷◌, ◌≡◌, ◌<◌}
+use Rattle.std.proofs.lemmas.List.{append-nil, append_assoc}
+use Rattle.std.specs.Prelude.{IfOk, IfSome, List, None, Ok, Option, Result, Some, slice_get, true, [], if◌then◌else◌, option_and_then, ℕ, ◌++◌, ◌+◌, ◌∷◌, ◌≡◌, ◌<◌}
 
 -- Of two lists of one length, neither ends before the other.
 shorter : {A B : Type 0} (xs : List A) (ys : List B) (i : ℕ) (y : B) → length xs ≡ length ys → slice_get xs i ≡ None → slice_get ys i ≡ Some y → ⊥
@@ -64,3 +65,16 @@ pub some_news : {D : Type 0} (stands : D → Setting → Trace → Type 0) (x : 
     → (now ≡ out ++ as_bytes (news_at before d)) × (n ≡ steps_at before d)
 some_news stands x before None out now n r told = absurd r
 some_news stands x before (Some d) out now n r told = told d.setting d.trace r
+
+-- ---- at first
+
+-- One machine more.
+pub first_more : (w : World) (m : ℕ) (old a new : List ℕ) → a ≡ old ++ as_bytes (first_news_to w m) → new ≡ a ++ as_bytes (news_at None (running_on w (m + 1)))
+    → new ≡ old ++ as_bytes (first_news_to w (m + 1))
+first_more w m old a new is then =
+    subst (λ k. new ≡ old ++ as_bytes (first_news_to w k)) (one m)
+    (then ∙ ap (λ b. b ++ as_bytes (news_at None (running_on w (m + 1)))) is ∙ append_assoc old (as_bytes (first_news_to w m)) (as_bytes (news_at None (running_on w (m + 1))))
+    ∙ ap (λ b. old ++ b) (sym (bytes_joined (first_news_to w m) (news_at None (running_on w (m + 1))))))
+  where
+    one : (m : ℕ) → suc m ≡ m + 1
+    one m = omega arith

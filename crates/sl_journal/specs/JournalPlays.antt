@@ -103,6 +103,11 @@ abbrev pub TakesLine : {D : Type 0} → (Header → List (Form Command)) → (D 
 TakesLine commands stands w p l out n now None = GoesOn commands stands w p (λ rest. l ∷ rest) out n now
 TakesLine commands stands w p l out n now (Some why) = StopsAt commands w p l n why
 
+-- What is added where it is taken: nothing, where it says nothing; else the line, and then what it brought.
+pub data Adds (h : Header) (l : NumberedLine) (out now : List ℕ) : Type 0 where
+  Adds_nothing : event_line whole_language h l ≡ None → now ≡ out → Adds h l out now
+  Adds_line : (news : List ℕ) → now ≡ out ++ l.text ++ 10 ∷ news → Adds h l out now
+
 -- The line says this event.
 pub record SaysEvent (h : Header) (l : NumberedLine) (e : Event) : Type 0 where
   pub read : event_line whole_language h l ≡ Some (l.number, Ok e)

@@ -4,7 +4,7 @@
 //! what is new of the daemon that each of these events concerns: its entry, or that it has begun. What the report of the event would be is made as well, and
 //! left unused.
 
-ghost use Rattle.sl_journal.specs.JournalPlays.{Answers, Begins, GoesOn, IsAsking, IsPlaying, SaysEvent, TakesLine, journal_state};
+ghost use Rattle.sl_journal.specs.JournalPlays.{Adds, Answers, Begins, GoesOn, IsAsking, IsPlaying, SaysEvent, TakesLine, journal_state};
 ghost use Rattle.sl_play.specs.Plays.{AsksLeft, PlaysOn, StandsFor};
 ghost use Rattle.sl_journal.specs.JournalRuns.{entries_of, first_news, news_at, running_on, steps_at};
 ghost use Rattle.sl_machine.specs.KeptParts.{kept_state};
@@ -14,7 +14,7 @@ ghost use Rattle.sl_run.specs.Worlds as worlds;
 ghost use Rattle.sl_schedule.specs.Lines.{line_seen};
 ghost use Rattle.sl_text.specs.Forms.{as_bytes};
 ghost use Rattle.sl_world_state.specs.SaneWorlds.{ReadsCommands, WorldStands};
-ghost use Rattle.std.specs.Prelude.{IfOk, OnOk, ℕ, ◌++◌, ◌≡◌};
+ghost use Rattle.std.specs.Prelude.{IfOk, List, None, OnOk, [], ℕ, ◌++◌, ◌∷◌, ◌≡◌};
 
 use crate::recording::Recorded;
 use sl_machine::{LockTable, machine_of};
@@ -165,9 +165,10 @@ impl<D: Recorded, L: LockTable> Journal<D, L> {
         event: Event,
     ) -> Result<Option<Refusal>, PlayError>
         requires { IsPlaying D.commands D.stands (journal_state L.locks self.old) }
-        ensures { IfOk result (λ why. (w : worlds.World) → PlaysOn D.commands D.stands (journal_state L.locks self.old).play w → (l : NumberedLine) → l.text ≡ text.now
+        ensures takes { IfOk result (λ why. (w : worlds.World) → PlaysOn D.commands D.stands (journal_state L.locks self.old).play w → (l : NumberedLine) → l.text ≡ text.now
             → SaysEvent (journal_state L.locks self.old).play.kept.header l event
             → TakesLine D.commands D.stands w (journal_state L.locks self.old) l out.old.items (journal_state L.locks self.new) out.new.items why) }
+        ensures adds { IfOk result (λ why. why ≡ None → (news : List ℕ) × (out.new.items ≡ out.old.items ++ text.now ++ 10 ∷ news)) }
     {
         push_line(out, text)?;
         if let Some(why) = self.bring(out, event)? {
@@ -185,8 +186,9 @@ impl<D: Recorded, L: LockTable> Journal<D, L> {
         line: &Line,
     ) -> Result<Option<Refusal>, PlayError>
         requires { IsPlaying D.commands D.stands (journal_state L.locks self.old) }
-        ensures { IfOk result (λ why. (w : worlds.World) → PlaysOn D.commands D.stands (journal_state L.locks self.old).play w
+        ensures takes { IfOk result (λ why. (w : worlds.World) → PlaysOn D.commands D.stands (journal_state L.locks self.old).play w
             → TakesLine D.commands D.stands w (journal_state L.locks self.old) (line_seen line.now) out.old.items (journal_state L.locks self.new) out.new.items why) }
+        ensures adds { IfOk result (λ why. why ≡ None → Adds (journal_state L.locks self.old).play.kept.header (line_seen line.now) out.old.items out.new.items) }
     {
         match event_line(*out.allocator(), self.play.world().header(), line)? {
             None => Ok(None),

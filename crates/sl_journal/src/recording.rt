@@ -42,12 +42,12 @@ pub trait Recorded: Daemon {
 
     /// How many entries it has, unless that isn't known for want of memory.
     fn entries(&self) -> Option<u64>
-        ensures { (st : Setting) → (es : Trace) → stands self.now st es → IfSome result (λ n. n ≡ length es) };
+        ensures { (st : Setting) → (es : Trace) → Self.stands self.now st es → IfSome result (λ n. n ≡ length es) };
 
     /// Adds what is new since it had so many entries, or since it had not begun, and tells how many entries that is. An `Err` is want of memory,
     /// now or at some entry.
     fn push_news(&self, out: &mut Vec<u8>, before: Option<u64>) -> Result<u64, AllocError>
-        ensures { (st : Setting) → (es : Trace) → stands self.now st es
+        ensures { (st : Setting) → (es : Trace) → Self.stands self.now st es
             → IfOk result (λ n. (out.new.items ≡ out.old.items ++ as_bytes (news_since before st es)) × (n ≡ steps_since before es)) };
 }
 
