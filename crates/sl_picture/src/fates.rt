@@ -51,7 +51,7 @@ pub(crate) struct Act {
 pub(crate) const NO_TEXT: Text = Text { start: 0, len: 0 };
 
 /// Something that happens on a machine to what has this number.
-pub(crate) fn act(deed: Deed, machine: u64, number: u64) -> Act
+pub(crate) fn deed_on(deed: Deed, machine: u64, number: u64) -> Act
     ensures { result ≡ fates.act deed machine number }
 {
     Act {
@@ -327,7 +327,7 @@ fn changed(act: Act, now: Instant, bar: Bar) -> Fate
 }
 
 /// What becomes of an open bar now: of it is known whether it is of the thing that is named, and what its machine's clock shows, in milliseconds.
-pub(crate) fn fate(act: Act, same: bool, reading: u64, now: Instant, bar: Bar) -> Fate
+pub(crate) fn becomes(act: Act, same: bool, reading: u64, now: Instant, bar: Bar) -> Fate
     ensures { result ≡ fates.fate act same reading now bar }
 {
     if concerns(act, same, reading, bar) {
