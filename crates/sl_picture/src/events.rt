@@ -29,6 +29,7 @@ pub(crate) enum Verb {
 }
 
 /// The verb of a line.
+#[tactic(auto, unfolding(crate::specs::Events::verb_of))]
 fn verb_of(word: &[u8]) -> Verb
     ensures { result ≡ events.verb_of word.now }
 {
@@ -232,6 +233,7 @@ impl Picture {
     }
 
     /// What a line does to a call, which is named behind the machine.
+    #[tactic(auto, unfolding(crate::specs::Events::call_seen))]
     fn see_call(&mut self, verb: Verb, line: &[u8]) -> Result<(), AllocError>
         ensures { OnOk result (self.new ≡ events.call_seen verb line.now self.old) }
     {
@@ -248,6 +250,7 @@ impl Picture {
     }
 
     /// What it does to a machine.
+    #[tactic(auto, unfolding(crate::specs::Events::machine_seen))]
     fn see_machine(&mut self, verb: Verb, machine: u64) -> Result<(), AllocError>
         ensures { OnOk result (self.new ≡ events.machine_seen verb machine self.old) }
     {
@@ -261,6 +264,7 @@ impl Picture {
     }
 
     /// What a line of the schedule means.
+    #[tactic(auto, unfolding(crate::specs::Events::seen))]
     pub(crate) fn see(&mut self, line: &[u8]) -> Result<(), AllocError>
         ensures { OnOk result (self.new ≡ events.seen line.now self.old) }
     {

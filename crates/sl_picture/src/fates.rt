@@ -149,6 +149,7 @@ fn is_of_daemon(shape: Shape) -> bool
 }
 
 /// Whether what happens on the bar's machine concerns the bar, of which it is known whether it is of the thing that is named.
+#[tactic(auto, unfolding(crate::specs::Fates::concerns_there))]
 fn concerns_there(act: Act, same: bool, bar: Bar) -> bool
     ensures { result ≡ fates.concerns_there act same bar }
 {
@@ -168,6 +169,7 @@ fn concerns_there(act: Act, same: bool, bar: Bar) -> bool
 }
 
 /// Whether what happens concerns the bar, whose machine's clock shows this reading.
+#[tactic(auto, unfolding(crate::specs::Fates::concerns))]
 fn concerns(act: Act, same: bool, reading: u64, bar: Bar) -> bool
     ensures { result ≡ fates.concerns act same reading bar }
 {
@@ -291,6 +293,7 @@ fn hidden(bar: Bar) -> Bar
 }
 
 /// What becomes of a bar that what happens concerns.
+#[tactic(auto, unfolding(crate::specs::Fates::changed))]
 fn changed(act: Act, now: Instant, bar: Bar) -> Fate
     ensures { result ≡ fates.changed act now bar }
 {
