@@ -54,8 +54,8 @@ clocks_grown line time (suc n) k = clock_grown (n + 1) (growth_of time (word_at 
 
 abbrev pub time_passed : ℕ → Kept → Kept
 time_passed time k =
-    let n : Kept = record k { now = record { events = k.now.events; moment = plus k.now.moment time } } in
-    if nat_lt 0 time then record n { done = k.done ++ record (bar 0 shape.Passing n) { from = k.now } ∷ [] } else n
+    let n : Kept = record k { here = record { events = k.here.events; moment = plus k.here.moment time } } in
+    if nat_lt 0 time then record n { done = k.done ++ record (bar 0 shape.Passing n) { from = k.here } ∷ [] } else n
 
 abbrev pub passed : List ℕ → Kept → Kept
 passed line k =
@@ -128,14 +128,14 @@ seen line k =
     elim v [
       | verb.Command ↦ command line n
       | verb.Pass ↦ passed line n
-      | verb.Do ↦ call_seen v line n
-      | verb.Land ↦ call_seen v line n
-      | verb.Tear ↦ call_seen v line n
-      | verb.Answer ↦ call_seen v line n
-      | verb.Drop ↦ call_seen v line n
-      | verb.Start ↦ machine_seen v (number_at line 1) n
-      | verb.Crash ↦ machine_seen v (number_at line 1) n
-      | verb.Reset ↦ machine_seen v (number_at line 1) n
-      | verb.Restart ↦ machine_seen v (number_at line 1) n
+      | verb.Do ↦ call_seen verb.Do line n
+      | verb.Land ↦ call_seen verb.Land line n
+      | verb.Tear ↦ call_seen verb.Tear line n
+      | verb.Answer ↦ call_seen verb.Answer line n
+      | verb.Drop ↦ call_seen verb.Drop line n
+      | verb.Start ↦ machine_seen verb.Start (number_at line 1) n
+      | verb.Crash ↦ machine_seen verb.Crash (number_at line 1) n
+      | verb.Reset ↦ machine_seen verb.Reset (number_at line 1) n
+      | verb.Restart ↦ machine_seen verb.Restart (number_at line 1) n
       | verb.Other ↦ n
     ]

@@ -3,6 +3,7 @@ use Rattle.sl_drawing.specs.Sums.{plus, times}
 use Rattle.sl_picture.specs.Fates.{act, fate, hidden, is_holding, is_link, is_waiting, no_text}
 use Rattle.sl_picture.specs.declared.fates.Act.{Act}
 use Rattle.sl_picture.specs.declared.fates.Deed.TheVariants.{Answered, Denied, Granted, Hidden, Released}
+use Rattle.sl_picture.specs.declared.fates.Fate.{Fate}
 use Rattle.sl_picture.specs.declared.kept.Part.{Part}
 use Rattle.sl_picture.specs.declared.shapes.Bar.{Bar}
 use Rattle.sl_picture.specs.declared.shapes.Column.{Column}
@@ -21,13 +22,13 @@ use Rattle.sl_run.specs.declared.header.SessionLine.{SessionLine}
 use Rattle.sl_time.specs.Times.{dead, fail}
 use Rattle.std.specs.List.{flat_map, list_any, position}
 use Rattle.std.specs.Option.{option_map_or, option_to_list}
-use Rattle.std.specs.Prelude.{Bool, List, None, Option, Some, bytes_eq, codes, count_by, drop, false, find, fold, if◌then◌else◌, length, min, nat_le, nat_lt, not, replicate, slice_index_or, slice_set, suc, take, zero, [], ℕ, ◌&&◌, ◌++◌, ◌+◌, ◌-◌, ◌/◌, ◌==◌, ◌%◌, ◌∷◌, ◌||◌}
+use Rattle.std.specs.Prelude.{Bool, List, None, Option, Some, bytes_eq, codes, count_by, drop, false, find, fold, if◌then◌else◌, length, min, nat_le, nat_lt, not, replicate, slice_index_or, slice_set, suc, take, true, zero, [], ℕ, ◌&&◌, ◌++◌, ◌+◌, ◌-◌, ◌/◌, ◌==◌, ◌%◌, ◌∷◌, ◌||◌}
 
 -- What is kept: which lines are drawn, the place on the axis and the moment at which the picture begins, whether the line that is taken is a
 -- reset; texts, open bars and ended ones, marks, columns, comments, machines; the header's resources, and two of its times.
 pub record Kept : Type 0 where
   pub part : Part
-  pub now : Instant
+  pub here : Instant
   pub begun : ℕ
   pub resetting : Bool
   pub texts : List ℕ
@@ -79,17 +80,17 @@ keeping text k = record k { texts = k.texts ++ text }
 
 abbrev pub bar : ℕ → Shape → Kept → Bar
 bar m s k =
-    record { machine = m; shape = s; number = 0; until = 0; colour = 0; row = 0; from = k.now; to = k.now; name = no_text; text = no_text; reply = no_text }
+    record { machine = m; shape = s; number = 0; until = 0; colour = 0; row = 0; from = k.here; to = k.here; name = no_text; text = no_text; reply = no_text }
 
 abbrev pub begun_with : Bar → Kept → Kept
 begun_with b k = record k { opened = k.opened ++ b ∷ [] }
 
 abbrev pub marked : ℕ → Sign → Kept → Kept
-marked m s k = record k { marks = k.marks ++ record { machine = m; sign = s; at = k.now } ∷ [] }
+marked m s k = record k { marks = k.marks ++ record { machine = m; sign = s; at = k.here } ∷ [] }
 
 -- What becomes of a bar where something happens to what has this name.
-abbrev pub fate_of : Act → List ℕ → Kept → Bar → _
-fate_of a name k b = fate a (is_text k.texts b.name name) (reading_at k.lanes b.machine) k.now b
+abbrev pub fate_of : Act → List ℕ → Kept → Bar → Fate
+fate_of a name k b = fate a (is_text k.texts b.name name) (reading_at k.lanes b.machine) k.here b
 
 unfoldable pub happened : Act → List ℕ → Kept → Kept
 happened a name k =
@@ -192,7 +193,7 @@ answered m number ok reply k =
 abbrev pub hiding : Kept → Kept
 hiding k =
     happened (act Hidden 0 0) []
-    (record k { now = record { events = 0; moment = k.now.moment }; begun = k.now.moment; done = []; marks = []; columns = []; notes = [] })
+    (record k { here = record { events = 0; moment = k.here.moment }; begun = k.here.moment; done = []; marks = []; columns = []; notes = [] })
 
 -- ---- at first
 
@@ -223,7 +224,7 @@ abbrev pub empty : Part → Header → Kept
 empty part h =
     record {
       part = part;
-      now = record { events = 0; moment = 0 };
+      here = record { events = 0; moment = 0 };
       begun = 0;
       resetting = false;
       texts = [];

@@ -91,17 +91,17 @@ abbrev pub width_of : List Note → ℕ → ℕ
 width_of ns least = fold wider least ns
 
 abbrev pub all_bars : Kept → List Bar
-all_bars k = k.done ++ map (ended k.now) (filter (λ b. not (is_gap b.shape)) k.opened)
+all_bars k = k.done ++ map (ended k.here) (filter (λ b. not (is_gap b.shape)) k.opened)
 
 unfoldable pub plan_of : List Bar → Kept → Plan
 plan_of bs k =
-    let scale : Scale = scale_of k.begun k.now in
+    let scale : Scale = scale_of k.begun k.here in
     let places : List Place = places_of bs (length k.lanes) in
     let bottom : ℕ = bottom_of (place_of places (length places)) in
     record {
       scale = scale;
       places = places;
       bottom = bottom;
-      width = width_of k.notes (max (plus (x_of scale k.now) 180) 900);
+      width = width_of k.notes (max (plus (x_of scale k.here) 180) 900);
       height = plus (plus bottom 40) (times (length k.notes) 13);
     }

@@ -93,15 +93,15 @@ is_silent [] = true
 is_silent (b ∷ bs) = b == 35
 
 abbrev pub noted : List ℕ → Kept → Kept
-noted text k = let n : Note = record { at = k.now; text = place_of text k } in record (keeping text k) { notes = k.notes ++ n ∷ [] }
+noted text k = let n : Note = record { at = k.here; text = place_of text k } in record (keeping text k) { notes = k.notes ++ n ∷ [] }
 
 abbrev pub stepped : Kept → Kept
-stepped k = record k { now = record { events = plus k.now.events 1; moment = k.now.moment } }
+stepped k = record k { here = record { events = plus k.here.events 1; moment = k.here.moment } }
 
 abbrev pub with_column : ℕ → List ℕ → List ℕ → Kept → Kept
 with_column number line report k =
     let n : Kept = keeping line k in
-    let c : Column = record { machine = number_at line 1; at = k.now; number = number; line = place_of line k; report = place_of report n } in
+    let c : Column = record { machine = number_at line 1; at = k.here; number = number; line = place_of line k; report = place_of report n } in
     stepped (record (keeping report n) { columns = k.columns ++ c ∷ [] })
 
 abbrev pub happening : ℕ → List ℕ → List ℕ → Kept → Kept

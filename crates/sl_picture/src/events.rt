@@ -4,7 +4,7 @@ ghost use Rattle.sl_picture.specs.Events as events;
 ghost use Rattle.std.specs.Option.{option_map_or};
 ghost use Rattle.std.specs.Prelude.{OnOk, [], length, ◌≡◌};
 
-use crate::fates::{Deed, act};
+use crate::fates::{Deed, deed_on};
 use crate::kept::{Picture, lane_at};
 use crate::said::{is, number_at, number_in, push_two_parts, text_behind, word_at, words_behind};
 use crate::shapes::{Bar, Instant, Lane, Shape, Sign};
@@ -29,6 +29,7 @@ pub(crate) enum Verb {
 }
 
 /// The verb of a line.
+#[tactic(auto, unfolding(crate::specs::Events::verb_of))]
 fn verb_of(word: &[u8]) -> Verb
     ensures { result ≡ events.verb_of word.now }
 {
@@ -123,8 +124,8 @@ impl Picture {
     fn pass_time(&mut self, time: u64) -> Result<(), AllocError>
         ensures { OnOk result (self.new ≡ events.time_passed time self.old) }
     {
-        let from = self.now;
-        self.now = Instant {
+        let from = self.here;
+        self.here = Instant {
             events: from.events,
             moment: plus(from.moment, time),
         };
@@ -142,7 +143,7 @@ impl Picture {
         let time = number_at(line, 1);
         self.pass_time(time)?;
         self.grow_clocks(line, time);
-        self.happen(act(Deed::Ticked, 0, 0), b"")
+        self.happen(deed_on(Deed::Ticked, 0, 0), b"")
     }
 
     /// A line is given to lvmlockd.
@@ -179,7 +180,7 @@ impl Picture {
         ensures { OnOk result (self.new ≡ events.torn machine call self.old) }
     {
         self.mark(machine, Sign::Torn)?;
-        self.happen(act(Deed::Landed, machine, call), b"")
+        self.happen(deed_on(Deed::Landed, machine, call), b"")
     }
 
     /// A call is answered so.
@@ -189,7 +190,7 @@ impl Picture {
         if !ok {
             self.mark(machine, Sign::CallFailed)?;
         }
-        self.happen(act(Deed::CallOver, machine, call), b"")
+        self.happen(deed_on(Deed::CallOver, machine, call), b"")
     }
 
     /// A write never lands.
@@ -197,7 +198,7 @@ impl Picture {
         ensures { OnOk result (self.new ≡ events.call_dropped machine call self.old) }
     {
         self.mark(machine, Sign::Dropped)?;
-        self.happen(act(Deed::CallOver, machine, call), b"")
+        self.happen(deed_on(Deed::CallOver, machine, call), b"")
     }
 
     /// Something happens to a whole machine: this to what is open there, and it has this sign.
@@ -205,7 +206,7 @@ impl Picture {
         ensures { OnOk result (self.new ≡ events.turned machine deed sign self.old) }
     {
         self.mark(machine, sign)?;
-        self.happen(act(deed, machine, 0), b"")
+        self.happen(deed_on(deed, machine, 0), b"")
     }
 
     /// Something happens to a whole machine, and it is down or without a daemon then.
@@ -232,6 +233,7 @@ impl Picture {
     }
 
     /// What a line does to a call, which is named behind the machine.
+    #[tactic(auto, unfolding(crate::specs::Events::call_seen))]
     fn see_call(&mut self, verb: Verb, line: &[u8]) -> Result<(), AllocError>
         ensures { OnOk result (self.new ≡ events.call_seen verb line.now self.old) }
     {
@@ -239,7 +241,7 @@ impl Picture {
         let call = number_at(line, 2);
         match verb {
             Verb::Do => self.answer_call(machine, call, true),
-            Verb::Land => self.happen(act(Deed::Landed, machine, call), b""),
+            Verb::Land => self.happen(deed_on(Deed::Landed, machine, call), b""),
             Verb::Tear => self.tear(machine, call),
             Verb::Answer => self.answer_call(machine, call, is(word_at(line, 3), b"ok")),
             Verb::Drop => self.drop_call(machine, call),
@@ -248,6 +250,7 @@ impl Picture {
     }
 
     /// What it does to a machine.
+    #[tactic(auto, unfolding(crate::specs::Events::machine_seen))]
     fn see_machine(&mut self, verb: Verb, machine: u64) -> Result<(), AllocError>
         ensures { OnOk result (self.new ≡ events.machine_seen verb machine self.old) }
     {
@@ -261,6 +264,7 @@ impl Picture {
     }
 
     /// What a line of the schedule means.
+    #[tactic(auto, unfolding(crate::specs::Events::seen))]
     pub(crate) fn see(&mut self, line: &[u8]) -> Result<(), AllocError>
         ensures { OnOk result (self.new ≡ events.seen line.now self.old) }
     {

@@ -51,7 +51,7 @@ pub(crate) struct Act {
 pub(crate) const NO_TEXT: Text = Text { start: 0, len: 0 };
 
 /// Something that happens on a machine to what has this number.
-pub(crate) fn act(deed: Deed, machine: u64, number: u64) -> Act
+pub(crate) fn deed_on(deed: Deed, machine: u64, number: u64) -> Act
     ensures { result ≡ fates.act deed machine number }
 {
     Act {
@@ -149,6 +149,7 @@ fn is_of_daemon(shape: Shape) -> bool
 }
 
 /// Whether what happens on the bar's machine concerns the bar, of which it is known whether it is of the thing that is named.
+#[tactic(auto, unfolding(crate::specs::Fates::concerns_there))]
 fn concerns_there(act: Act, same: bool, bar: Bar) -> bool
     ensures { result ≡ fates.concerns_there act same bar }
 {
@@ -168,6 +169,7 @@ fn concerns_there(act: Act, same: bool, bar: Bar) -> bool
 }
 
 /// Whether what happens concerns the bar, whose machine's clock shows this reading.
+#[tactic(auto, unfolding(crate::specs::Fates::concerns))]
 fn concerns(act: Act, same: bool, reading: u64, bar: Bar) -> bool
     ensures { result ≡ fates.concerns act same reading bar }
 {
@@ -291,6 +293,7 @@ fn hidden(bar: Bar) -> Bar
 }
 
 /// What becomes of a bar that what happens concerns.
+#[tactic(auto, unfolding(crate::specs::Fates::changed))]
 fn changed(act: Act, now: Instant, bar: Bar) -> Fate
     ensures { result ≡ fates.changed act now bar }
 {
@@ -327,7 +330,7 @@ fn changed(act: Act, now: Instant, bar: Bar) -> Fate
 }
 
 /// What becomes of an open bar now: of it is known whether it is of the thing that is named, and what its machine's clock shows, in milliseconds.
-pub(crate) fn fate(act: Act, same: bool, reading: u64, now: Instant, bar: Bar) -> Fate
+pub(crate) fn becomes(act: Act, same: bool, reading: u64, now: Instant, bar: Bar) -> Fate
     ensures { result ≡ fates.fate act same reading now bar }
 {
     if concerns(act, same, reading, bar) {

@@ -5,7 +5,7 @@ ghost use Rattle.std.specs.List.{flat_map};
 ghost use Rattle.std.specs.Option.{option_to_list};
 ghost use Rattle.std.specs.Prelude.{IfOk, OnOk, fold, length, replicate, ◌++◌, ◌≡◌};
 
-use crate::fates::{Act, Deed, Fate, NO_TEXT, act, fate, is_holding, is_link, is_waiting};
+use crate::fates::{Act, Deed, Fate, NO_TEXT, becomes, deed_on, is_holding, is_link, is_waiting};
 use crate::shapes::{Bar, Column, Instant, Lane, Mark, Note, Shape, Sign, Text};
 use sl_drawing::{plus, times};
 use sl_run::{FirstReading, Header, ResourceLine, SessionLine};
@@ -24,7 +24,7 @@ pub struct Part {
 pub struct Picture {
     pub(crate) part: Part,
     /// The place on the axis, and the moment at which the picture begins.
-    pub(crate) now: Instant,
+    pub(crate) here: Instant,
     pub(crate) begun: u64,
     /// Whether the line that is taken is a reset.
     pub(crate) resetting: bool,
@@ -49,7 +49,7 @@ impl Model for Picture {
 
     ghost view = { λ p. record {
       part = p.part;
-      now = p.now;
+      here = p.here;
       begun = p.begun;
       resetting = p.resetting;
       texts = p.texts.items;
@@ -228,7 +228,7 @@ impl Picture {
     {
         Ok(Picture {
             part,
-            now: Instant {
+            here: Instant {
                 events: 0,
                 moment: 0,
             },
@@ -310,7 +310,8 @@ impl Picture {
         if is_taken(&self.opened, machine, false, 0) {
             return Ok(());
         }
-        self.begin(self.bar(machine, Shape::Idle))
+        let bar = self.bar(machine, Shape::Idle);
+        self.begin(bar)
     }
 
     /// The machines on which no daemon runs at first.
@@ -374,8 +375,8 @@ impl Picture {
             until: 0,
             colour: 0,
             row: 0,
-            from: self.now,
-            to: self.now,
+            from: self.here,
+            to: self.here,
             name: NO_TEXT,
             text: NO_TEXT,
             reply: NO_TEXT,
@@ -397,7 +398,7 @@ impl Picture {
         self.marks.push(Mark {
             machine,
             sign,
-            at: self.now,
+            at: self.here,
         })?;
         Ok(())
     }
@@ -408,7 +409,7 @@ impl Picture {
     {
         let same = is_text(&self.texts, bar.name, name);
         let reading = reading_at(&self.lanes, bar.machine);
-        fate(act, same, reading, self.now, bar)
+        becomes(act, same, reading, self.here, bar)
     }
 
     /// The open bars to which something happens, as they stay, and as they end.
@@ -462,7 +463,7 @@ impl Picture {
     fn bridge(&mut self, machine: u64, row: u64, resource: &[u8]) -> Result<(), AllocError>
         ensures { OnOk result (self.new ≡ kept.bridging machine row resource.now self.old) }
     {
-        let granted = act(Deed::Granted, machine, 0);
+        let granted = deed_on(Deed::Granted, machine, 0);
         self.happen(Act { row, ..granted }, resource)
     }
 
@@ -524,7 +525,7 @@ impl Picture {
     ) -> Result<(), AllocError>
         ensures { OnOk result (self.new ≡ kept.without_holding machine process resource.now self.old) }
     {
-        self.happen(act(Deed::Released, machine, process), resource)?;
+        self.happen(deed_on(Deed::Released, machine, process), resource)?;
         self.free(machine, resource)
     }
 
@@ -565,7 +566,7 @@ impl Picture {
         ensures { OnOk result (self.new ≡ kept.denied about self.old) }
     {
         let name = Vec::from_slice(self.alloc(), text_at(&self.texts, about))?;
-        self.happen(act(Deed::Denied, 0, 0), &name)
+        self.happen(deed_on(Deed::Denied, 0, 0), &name)
     }
 
     /// The command of this number, or each that waits where it is 0, ends as this.
@@ -579,7 +580,7 @@ impl Picture {
         ensures { OnOk result (self.new ≡ kept.command_ended machine number shape reply.now self.old) }
     {
         let reply = self.keep(reply)?;
-        let answered = act(Deed::Answered, machine, number);
+        let answered = deed_on(Deed::Answered, machine, number);
         self.happen(
             Act {
                 shape,
@@ -603,7 +604,8 @@ impl Picture {
         if ok {
             return self.end_command(machine, number, Shape::Accepted, reply);
         }
-        self.deny(asked(&self.opened, machine, number))?;
+        let about = asked(&self.opened, machine, number);
+        self.deny(about)?;
         self.end_command(machine, number, Shape::Refused, reply)
     }
 
@@ -631,8 +633,8 @@ impl Picture {
     pub(crate) fn hide(&mut self) -> Result<(), AllocError>
         ensures { OnOk result (self.new ≡ kept.hiding self.old) }
     {
-        self.begun = self.now.moment;
-        self.now = Instant {
+        self.begun = self.here.moment;
+        self.here = Instant {
             events: 0,
             moment: self.begun,
         };
@@ -640,6 +642,6 @@ impl Picture {
         self.marks.clear();
         self.columns.clear();
         self.notes.clear();
-        self.happen(act(Deed::Hidden, 0, 0), b"")
+        self.happen(deed_on(Deed::Hidden, 0, 0), b"")
     }
 }

@@ -261,7 +261,7 @@ impl Picture {
         let mut bars = Vec::from_slice(self.alloc(), &self.done)?;
         for bar in &self.opened {
             if !is_gap(bar.shape) {
-                bars.push(ended(self.now, *bar))?;
+                bars.push(ended(self.here, *bar))?;
             }
         }
         Ok(bars)
@@ -272,10 +272,10 @@ impl Picture {
     pub(crate) fn lay_out(&self, bars: &[Bar]) -> Result<Layout, AllocError>
         ensures { IfOk result (λ l. l ≡ layout.plan_of bars.now self.now) }
     {
-        let scale = scale_of(self.begun, self.now);
+        let scale = scale_of(self.begun, self.here);
         let places = places_of(self.alloc(), bars, self.lanes.len())?;
         let bottom = bottom_of(place_of(&places, places.len() as u64));
-        let least = plus(x_of(scale, self.now), RIGHT).max(LEAST_WIDTH);
+        let least = plus(x_of(scale, self.here), RIGHT).max(LEAST_WIDTH);
         Ok(Layout {
             scale,
             bottom,

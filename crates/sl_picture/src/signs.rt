@@ -1,7 +1,7 @@
 //! The signs, the events and the comments of a picture.
 
 ghost use Rattle.sl_picture.specs.Signs as signs;
-ghost use Rattle.std.specs.Prelude.{IfOk, OnOk, length, ◌++◌, ◌≡◌};
+ghost use Rattle.std.specs.Prelude.{IfOk, OnOk, length, ◌++◌, ◌<◌, ◌≡◌};
 
 use crate::bars::push_numbered;
 use crate::kept::{Picture, text_at};

@@ -3,7 +3,7 @@
 ghost use Rattle.sl_picture.specs.Tells as tells;
 ghost use Rattle.std.specs.Prelude.{OnOk, ◌≡◌};
 
-use crate::fates::{Act, Deed, act};
+use crate::fates::{Act, Deed, deed_on};
 use crate::kept::Picture;
 use crate::said::{is, number_at, text_behind, word_at};
 use crate::shapes::{Bar, Column, Instant, Note, Shape, Sign};
@@ -107,7 +107,7 @@ impl Picture {
     fn renew(&mut self, machine: u64, lockspace: &[u8], until: u64) -> Result<(), AllocError>
         ensures { OnOk result (self.new ≡ tells.renewed machine lockspace.now until self.old) }
     {
-        let renewed = act(Deed::Renewed, machine, 0);
+        let renewed = deed_on(Deed::Renewed, machine, 0);
         self.happen(Act { until, ..renewed }, lockspace)
     }
 
@@ -123,7 +123,7 @@ impl Picture {
         } else if is(word_at(line, 2), b"renew") {
             self.renew(machine, lockspace, until)
         } else {
-            self.happen(act(Deed::Removed, machine, 0), lockspace)
+            self.happen(deed_on(Deed::Removed, machine, 0), lockspace)
         }
     }
 
@@ -200,7 +200,10 @@ impl Picture {
         ensures { OnOk result (self.new ≡ tells.noted text.now self.old) }
     {
         let text = self.keep(text)?;
-        let note = Note { at: self.now, text };
+        let note = Note {
+            at: self.here,
+            text,
+        };
         self.notes.push(note)?;
         Ok(())
     }
@@ -209,9 +212,9 @@ impl Picture {
     fn step(&mut self)
         ensures { self.new ≡ tells.stepped self.old }
     {
-        self.now = Instant {
-            events: plus(self.now.events, 1),
-            moment: self.now.moment,
+        self.here = Instant {
+            events: plus(self.here.events, 1),
+            moment: self.here.moment,
         };
     }
 
@@ -223,7 +226,7 @@ impl Picture {
         let report = self.keep(report)?;
         let column = Column {
             machine: number_at(line, 1),
-            at: self.now,
+            at: self.here,
             number,
             line: text,
             report,
