@@ -1,6 +1,6 @@
 -- What journals of hosts owe: the run that was made is as promised.
 use Rattle.sl_check.proofs.ChecksGrow.{front_right_grows, right_grows, wrong_grows}
-use Rattle.sl_check.specs.Checks.{ChecksJournal as ChecksMade, FrontJournal, RightJournal, WrongJournal}
+use Rattle.sl_check.specs.Checks.{ChecksJournal as ChecksMade, In_first, In_header, In_rest, In_rows, MisreadJournal, MisreadRow, RightJournal, RowBehind, Tells, Tells_difference, Tells_front, Tells_refusal, Tells_right, Told, Told_all, Told_front, Told_nothing, Told_unread, mark}
 use Rattle.sl_check.specs.declared.check.Checked.TheVariants as checked
 use Rattle.sl_check.specs.declared.check.Checked.{Checked}
 use Rattle.sl_due_law.proofs.DueIsLawful.{due_is_lawful}
@@ -9,23 +9,24 @@ use Rattle.sl_headline.specs.PromisedRuns.{PromisedRun}
 use Rattle.sl_host_step.specs.HostServes.{whole_commands}
 use Rattle.sl_io.specs.FaultCauses.{Rose}
 use Rattle.sl_journal.proofs.JournalsGrow.{Grows, front_grows, journal_grows}
-use Rattle.sl_journal.specs.JournalWrites.{WritesJournal as WritesMade}
+use Rattle.sl_journal.specs.JournalWrites.{CompleteJournal, JournalOfLines, Of_header, Of_lines, WritesJournal as WritesMade}
 use Rattle.sl_journal.specs.Journals.{JournalFront, JournalOf, Of_nothing}
 use Rattle.sl_play.specs.Replays.{code as played_code, played_language}
 use Rattle.sl_play.specs.declared.replay.Played.TheVariants as played
 use Rattle.sl_play.specs.declared.replay.Played.{Played}
 use Rattle.sl_report.specs.Languages.{Language, whole_language}
-use Rattle.sl_report.specs.OwedReports.{IsFrontOf, MayHaveBeen, is_whole_status}
+use Rattle.sl_report.specs.OwedReports.{MayHaveBeen, Promise, is_whole_status}
+use Rattle.sl_run.specs.declared.event.Refusal.{Refusal}
 use Rattle.sl_sound.specs.MadeRuns.{MadeRun}
 use Rattle.sl_sound.specs.SoundLaws.{DaemonsDoWhatIsDue}
 use Rattle.sl_top.proofs.RunLaws.{asks_read, digest_of, done_is, good_headers, nothing_put, read_fault_is, same_code, same_language, write_fault_is}
-use Rattle.sl_top.specs.JournalsOwed.{ChecksJournal, Moves, WritesJournal}
+use Rattle.sl_top.specs.JournalsOwed.{ChecksJournal, Moves, TellsMisread, TellsOf, TellsSoFar, TellsWrong, ToldOf, WritesJournal}
 use Rattle.sl_top.specs.Statuses.{code, status_of, status_of_check}
 use Rattle.sl_top.specs.declared.status.Status.TheVariants.{AreaFault, BadWords, BreaksOff, Differs, Done, JournalDiffers, NoMemory, NotTheLeader, ReadFault, WriteFault}
 use Rattle.sl_top.specs.declared.status.Status.{Status}
 use Rattle.sl_trace.specs.Traces.{Setting, Trace}
 use Rattle.std.proofs.KnownBytes.{Consumes-nil}
-use Rattle.std.proofs.Common.{List, Option, [], ap, inl, inr, refl, subst, sym, true, ℕ, ◌∙◌}
+use Rattle.std.proofs.Common.{List, Option, [], ap, inl, inr, refl, subst, sym, true, ℕ, ◌++◌, ◌∙◌, ◌∷◌}
 use Rattle.std.specs.Io.KnownBytes.{Appends, Consumes, IsAtEnd}
 use Rattle.std.specs.Prelude.{Bool, IsTrue, false, ◌≡◌, ◌⊎◌}
 
@@ -89,33 +90,6 @@ played_not_broken played.ReadFault e = absurd cc
 played_not_broken played.WriteFault e = absurd cc
 played_not_broken played.NoMemory e = absurd cc
 
-same_is : (c : Checked) → status_of_check c ≡ Done → c ≡ checked.Same
-same_is checked.Same e = refl
-same_is checked.Differs e = absurd cc
-same_is checked.Refused e = absurd cc
-same_is checked.BreaksOff e = absurd cc
-same_is checked.ReadFault e = absurd cc
-same_is checked.WriteFault e = absurd cc
-same_is checked.NoMemory e = absurd cc
-
-differs_is : (c : Checked) → status_of_check c ≡ JournalDiffers → c ≡ checked.Differs
-differs_is checked.Same e = absurd cc
-differs_is checked.Differs e = refl
-differs_is checked.Refused e = absurd cc
-differs_is checked.BreaksOff e = absurd cc
-differs_is checked.ReadFault e = absurd cc
-differs_is checked.WriteFault e = absurd cc
-differs_is checked.NoMemory e = absurd cc
-
-breaks_is : (c : Checked) → status_of_check c ≡ BreaksOff → c ≡ checked.BreaksOff
-breaks_is checked.Same e = absurd cc
-breaks_is checked.Differs e = absurd cc
-breaks_is checked.Refused e = absurd cc
-breaks_is checked.BreaksOff e = refl
-breaks_is checked.ReadFault e = absurd cc
-breaks_is checked.WriteFault e = absurd cc
-breaks_is checked.NoMemory e = absurd cc
-
 read_is : (c : Checked) → status_of_check c ≡ ReadFault → c ≡ checked.ReadFault
 read_is checked.Same e = absurd cc
 read_is checked.Differs e = absurd cc
@@ -141,6 +115,72 @@ grows : {D : Type 0} (stands : D → Setting → Trace → Type 0) → DaemonsDo
 grows stands due source h rest xs reads made =
     made_runs_are_promised stands due due_is_lawful (played_language whole_commands).program asks_read h xs (good_headers source h rest reads) digest_of made
 
+-- ---- what is promised grows
+
+complete_grows : (P Q : Promise) (lang : Language) (read written : List ℕ) → Grows P Q lang → CompleteJournal P lang read written → CompleteJournal Q lang read written
+complete_grows P Q lang read written grows x =
+    record { complete = x.complete; partial = x.partial; cut = x.cut; whole = x.whole; free = x.free; journal = of_lines x.complete x.journal }
+  where
+    of_lines : (lines : List ℕ) → JournalOfLines P lang lines written → JournalOfLines Q lang lines written
+    of_lines lines (Of_lines entries journal) = Of_lines entries (journal_grows P Q lang lines _ 0 grows journal)
+    of_lines lines (Of_header ls r goes none) = Of_header ls r goes none
+
+module _ (P Q : Promise) (lang : Language) (grows : Grows P Q lang) where
+  tells_wrong_grows : (ended : Bool) (read written : List ℕ) → TellsWrong P lang ended read written → TellsWrong Q lang ended read written
+  unfolding wrong_grows
+  tells_wrong_grows ended read written x = record { wrong = λ source may. wrong_grows P Q lang source grows (x.wrong source may); told = x.told }
+
+  so_far_grows : (read written : List ℕ) → TellsSoFar P lang read written → TellsSoFar Q lang read written
+  unfolding front_right_grows
+  so_far_grows read written x =
+      record { front = front_right_grows P Q lang read grows x.front; told = record { entries = x.told.entries; seen = x.told.seen; told = x.told.told } }
+
+  row_grows : (source : List ℕ) (number : ℕ) (why : Refusal) → MisreadRow P lang source number why → MisreadRow Q lang source number why
+  row_grows source number why x =
+      record {
+        body = x.body;
+        first = x.first;
+        header = x.header;
+        rows = x.rows;
+        next = x.next;
+        others = x.others;
+        read = x.read;
+        own = x.own;
+        xs = x.xs;
+        follows = x.follows;
+        made = grows x.body x.header (x.rows ++ x.next ∷ x.others) x.xs x.read x.made;
+        due = x.due;
+        text = x.text;
+        misread = x.misread;
+        counts = x.counts;
+      }
+
+  behind_grows : (source : List ℕ) (number : ℕ) (why : Refusal) → RowBehind P lang source number why → RowBehind Q lang source number why
+  unfolding right_grows
+  behind_grows source number why x =
+      record {
+        body = x.body;
+        front = x.front;
+        first = x.first;
+        written = x.written;
+        right = right_grows P Q lang (mark ++ x.front) x.written grows x.right;
+        next = x.next;
+        others = x.others;
+        read = x.read;
+        refused = x.refused;
+        counts = x.counts;
+      }
+
+  misread_grows : (source : List ℕ) (number : ℕ) (why : Refusal) → MisreadJournal P lang source number why → MisreadJournal Q lang source number why
+  misread_grows source number why (In_first other) = In_first other
+  misread_grows source number why (In_header body first refused) = In_header body first refused
+  misread_grows source number why (In_rows row) = In_rows (row_grows source number why row)
+  misread_grows source number why (In_rest row) = In_rest (behind_grows source number why row)
+
+  misreads_grow : (ended : Bool) (read written : List ℕ) → TellsMisread P lang ended read written → TellsMisread Q lang ended read written
+  misreads_grow ended read written x = λ source may.
+      (let m = x source may in record { number = m.number; why = m.why; misread = misread_grows source m.number m.why m.misread; told = m.told })
+
 -- ---- what is owed
 
 pub journal_by : {D : Type 0} (stands : D → Setting → Trace → Type 0) (left after : Option (List ℕ)) (faults later : ℕ) (taken now : Option (List ℕ)) (sink_faults sink_later : ℕ) (p : Played)
@@ -159,9 +199,37 @@ journal_by stands left after faults later taken now sink_faults sink_later p due
       front = λ source may. subst (λ (l : Language). JournalFront PromisedRun l source x.moved.written) same_language
           (front_grows (λ q h xs. MadeRun stands q h xs) PromisedRun (played_language whole_commands) source x.moved.written (grows stands due) (x.front source may));
       to_end = λ e. x.to_end (done_is p e);
+      complete = λ e. subst (λ (l : Language). CompleteJournal PromisedRun l x.moved.read x.moved.written) same_language
+          (complete_grows (λ q h xs. MadeRun stands q h xs) PromisedRun (played_language whole_commands) x.moved.read x.moved.written (grows stands due) (x.complete (read_fault_is p e)));
       read_fault = λ e. x.read_fault (read_fault_is p e);
       write_fault = λ e. x.write_fault (write_fault_is p e);
     })
+
+module _ {D : Type 0} (stands : D → Setting → Trace → Type 0) (due : DaemonsDoWhatIsDue stands) (ended : Bool) (read : List ℕ) where
+  abbrev made : Promise
+  made = λ q h xs. MadeRun stands q h xs
+
+  tells_by : (text : List ℕ) (c : Checked) → Tells whole_commands stands [] ended read text c → TellsOf ended read text (status_of_check c)
+  tells_by text c (Tells_right is_end right) =
+      (is_end, subst (λ (l : Language). RightJournal PromisedRun l read text) same_language (right_grows made PromisedRun (played_language whole_commands) read text (grows stands due) right))
+  tells_by text c (Tells_difference wrong told) =
+      subst (λ (l : Language). TellsWrong PromisedRun l ended read text) same_language
+      (tells_wrong_grows made PromisedRun (played_language whole_commands) (grows stands due) ended read text (record { wrong = wrong; told = told }))
+  tells_by text c (Tells_refusal misread) =
+      subst (λ (l : Language). TellsMisread PromisedRun l ended read text) same_language
+      (misreads_grow made PromisedRun (played_language whole_commands) (grows stands due) ended read text misread)
+  tells_by text c (Tells_front front is_end told) =
+      (is_end, subst (λ (l : Language). TellsSoFar PromisedRun l read text) same_language
+      (so_far_grows made PromisedRun (played_language whole_commands) (grows stands due) read text (record { front = front; told = told })))
+
+  told_by : (written : List ℕ) (c : Checked) → Told whole_commands stands [] ended read written c → ToldOf ended read written (status_of_check c)
+  told_by written c (Told_all (Tells_right is_end right)) = tells_by written checked.Same (Tells_right is_end right)
+  told_by written c (Told_all (Tells_difference wrong told)) = tells_by written checked.Differs (Tells_difference wrong told)
+  told_by written c (Told_all (Tells_refusal misread)) = tells_by written checked.Refused (Tells_refusal misread)
+  told_by written c (Told_all (Tells_front front is_end told)) = tells_by written checked.BreaksOff (Tells_front front is_end told)
+  told_by written c (Told_front whole text tells front) = (status_of_check whole, text, tells_by text whole tells, front)
+  told_by written c (Told_unread none) = none
+  told_by written c (Told_nothing none) = none
 
 pub check_by : {D : Type 0} (stands : D → Setting → Trace → Type 0) (left after : Option (List ℕ)) (faults later : ℕ) (taken now : Option (List ℕ)) (sink_faults sink_later : ℕ) (c : Checked)
     → DaemonsDoWhatIsDue stands → ChecksMade whole_commands stands left after taken now faults later sink_faults sink_later c → (s : Status) → s ≡ status_of_check c
@@ -172,13 +240,7 @@ check_by stands left after faults later taken now sink_faults sink_later c due x
       ended = c;
       status = refl;
       moved = record { read = x.moved.read; ended = x.moved.ended; written = x.moved.written; reads = x.moved.reads; at_end = x.moved.at_end; writes = x.moved.writes };
-      to_end = λ e. (x.right (same_is c e)).0;
-      right = λ e. subst (λ (l : Language). RightJournal PromisedRun l x.moved.read x.moved.written) same_language
-          (right_grows (λ q h xs. MadeRun stands q h xs) PromisedRun (played_language whole_commands) x.moved.read x.moved.written (grows stands due) (x.right (same_is c e)).1);
-      differs = λ e source may. subst (λ (l : Language). WrongJournal PromisedRun l source) same_language
-          (wrong_grows (λ q h xs. MadeRun stands q h xs) PromisedRun (played_language whole_commands) source (grows stands due) (x.differs (differs_is c e) source may));
-      front = λ e. subst (λ (l : Language). FrontJournal PromisedRun l x.moved.read) same_language
-          (front_right_grows (λ q h xs. MadeRun stands q h xs) PromisedRun (played_language whole_commands) x.moved.read (grows stands due) (x.front (breaks_is c e)));
+      told = told_by stands due x.moved.ended x.moved.read x.moved.written c x.told;
       read_fault = λ e. x.read_fault (read_is c e);
       write_fault = λ e. x.write_fault (write_is c e);
     })
@@ -197,6 +259,7 @@ unwritten left faults taken sink_faults =
       whole = λ w. absurd (clash false refl w);
       front = λ source may. Of_nothing refl;
       to_end = λ e. absurd cc;
+      complete = λ e. absurd cc;
       read_fault = λ e. absurd cc;
       write_fault = λ e. absurd cc;
     }
@@ -207,10 +270,7 @@ unchecked left faults taken sink_faults =
       ended = checked.NoMemory;
       status = refl;
       moved = nothing_moved left taken;
-      to_end = λ e. absurd cc;
-      right = λ e. absurd cc;
-      differs = λ e. absurd cc;
-      front = λ e. absurd cc;
+      told = refl;
       read_fault = λ e. absurd cc;
       write_fault = λ e. absurd cc;
     }

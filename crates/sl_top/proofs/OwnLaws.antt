@@ -68,17 +68,17 @@ record Caused (disks : Disks) (folder : List ℕ) (w : OwnManner) (left after ta
 
 module _ (disks : Disks) (folder : List ℕ) (w : OwnManner) (left after : Option (List ℕ)) (faults later device_faults device_later : ℕ) where
   due_tells : (text : List ℕ) (whole : Lived) → OwnDue Serves whole_commands disks folder w left after faults later device_faults device_later text whole → Tells disks folder w left after faults later device_faults device_later text whole
-  due_tells text whole (Ends h given hist pieces reads lives woven) =
+  due_tells text whole (Ends h given hist pieces reads may lives woven) =
       record { read = λ e. absurd cc; area = λ e. absurd cc; written = λ e. absurd cc; differs = λ e. absurd cc }
   due_tells text whole (Stops_early r number why stops) =
       record { read = λ e. absurd cc; area = λ e. absurd cc; written = λ e. absurd cc; differs = λ e. absurd cc }
   due_tells text whole (Stops_header r h why begins refused) =
       record { read = λ e. absurd cc; area = λ e. absurd cc; written = λ e. absurd cc; differs = λ e. absurd cc }
-  due_tells text whole (Stops h given hist pieces number why reads lives woven) =
+  due_tells text whole (Stops h given hist pieces number why reads may lives woven) =
       record { read = λ e. absurd cc; area = λ e. absurd cc; written = λ e. absurd cc; differs = λ e. absurd cc }
   due_tells text whole (Breaks_early breaks rose) =
       record { read = λ e. rose; area = λ e. absurd cc; written = λ e. absurd cc; differs = λ e. absurd cc }
-  due_tells text whole (Breaks h given hist pieces reads lives woven) =
+  due_tells text whole (Breaks h given hist pieces reads may lives woven) =
       record { read = λ e. (reads.fault refl).0; area = λ e. absurd cc; written = λ e. absurd cc; differs = λ e. absurd cc }
   due_tells text whole (Is_barred r h why begins bars) =
       record {
@@ -87,7 +87,7 @@ module _ (disks : Disks) (folder : List ℕ) (w : OwnManner) (left after : Optio
         written = λ e. absurd cc;
         differs = λ e. absurd cc;
       }
-  due_tells text whole (Parts h given end before d reads case_of) =
+  due_tells text whole (Parts h given end before d reads may case_of) =
       record {
         read = λ e. absurd cc;
         area = λ e. absurd cc;

@@ -4,52 +4,29 @@ use Rattle.sl_draw.specs.Drawings.{AreTold, BeginsPicture, In_events, In_header,
 use Rattle.sl_draw.specs.Draws as draw
 use Rattle.sl_due_law.proofs.DueIsLawful.{due_is_lawful}
 use Rattle.sl_headline.proofs.RunsArePromised.{made_reports_are_promised}
-use Rattle.sl_headline.proofs.Volumes.WholeProgramReads.{whole_program_reads}
-use Rattle.sl_headline.specs.PromisedRuns.{AsksAreRead, PromisedRun}
+use Rattle.sl_headline.specs.PromisedRuns.{PromisedRun}
 use Rattle.sl_host_step.specs.HostServes.{Serves, whole_commands}
 use Rattle.sl_picture.specs.declared.kept.Part.{Part}
-use Rattle.sl_play.proofs.Headers.CommandsAreRead.{whole_language_may_play}
 use Rattle.sl_play.specs.Replays as play
 use Rattle.sl_play.specs.Replays.{played_language}
-use Rattle.sl_play.specs.declared.replay.Played.TheVariants as played
 use Rattle.sl_play.specs.declared.replay.Played.{Played}
-use Rattle.sl_report.specs.Languages.{Language, whole_language}
-use Rattle.sl_report.specs.OwedReports.{HeadersAreGood, In_header as Header_report, MayHaveBeen, Promise, ReplayOf, SoundRun, is_whole_status}
+use Rattle.sl_report.specs.Languages.{whole_language}
+use Rattle.sl_report.specs.OwedReports.{In_header as Header_report, MayHaveBeen, Promise, ReplayOf, SoundRun, is_whole_status}
 use Rattle.sl_run.specs.declared.header.Header.{Header}
-use Rattle.sl_sector.proofs.WrittenBytes.{sha256_is_digest}
-use Rattle.sl_sector.specs.SectorLayouts.{IsDigest}
 use Rattle.sl_sound.proofs.OwedGrows.{replay_grows}
 use Rattle.sl_sound.proofs.Reports.OneReport.{runs_have_one_report}
 use Rattle.sl_sound.specs.MadeRuns.{MadeRun}
 use Rattle.sl_sound.specs.Reports.ReportLaws.{replay_status}
-use Rattle.sl_sound.specs.SoundLaws.{DaemonsDoWhatIsDue}
-use Rattle.sl_top.proofs.RunLaws.{nothing_put, nothing_read, whole_headers}
+use Rattle.sl_top.proofs.RunLaws.{asks_read, digest_of, done_is, good_headers, hosts_do, nothing_put, nothing_read, read_fault_is, same_code, same_language, whole_headers, write_fault_is}
 use Rattle.sl_top.specs.Pictures.{Draws}
 use Rattle.sl_top.specs.Statuses.{code, status_of}
-use Rattle.sl_top.specs.declared.status.Status.TheVariants.{Done, NoMemory, ReadFault, WriteFault}
+use Rattle.sl_top.specs.declared.status.Status.TheVariants.{NoMemory}
 use Rattle.sl_top.specs.declared.status.Status.{Status}
 use Rattle.std.proofs.Common.{Bool, List, None, Option, Some, [], append-nil, false, refl, subst, sym, true, ℕ, ◌++◌, ◌==◌, ◌∷◌, ◌≡◌}
 use Rattle.std.specs.Int.{is_in_range}
 use Rattle.std.specs.Prelude.{IsTrue, MatchBool}
 
--- ---- the language, and its hosts
-
--- A host does what is due.
-hosts_do : DaemonsDoWhatIsDue Serves
-hosts_do d st es s = s.stands.past
-
-same_language : played_language whole_commands ≡ whole_language
-same_language = whole_language_may_play.whole
-
-good_headers : HeadersAreGood (played_language whole_commands)
-good_headers = whole_language_may_play.plays.headers
-
-asks_read : AsksAreRead (played_language whole_commands).program
-asks_read = subst (λ (l : Language). AsksAreRead l.program) (sym same_language) whole_program_reads
-
-digest_of : IsDigest (played_language whole_commands).program.digest
-digest_of = sha256_is_digest
-
+-- Runs that hosts make.
 abbrev made : Promise
 made = λ p h xs. MadeRun Serves p h xs
 
@@ -117,34 +94,6 @@ own_by part ended read written status true owed tells source may =
     let report = report_of_picture part source written status (owed source may) in
     runs_have_one_report.status whole_language whole_headers source report.0 status (sound_report source report.0 status report.1)
 own_by part ended read written status false owed tells source may = absurd cc
-
-same_code : (p : Played) → play.code p ≡ code (status_of p)
-same_code played.Done = refl
-same_code played.Refused = refl
-same_code played.ReadFault = refl
-same_code played.WriteFault = refl
-same_code played.NoMemory = refl
-
-done_is : (p : Played) → status_of p ≡ Done → p ≡ played.Done
-done_is played.Done e = refl
-done_is played.Refused e = absurd cc
-done_is played.ReadFault e = absurd cc
-done_is played.WriteFault e = absurd cc
-done_is played.NoMemory e = absurd cc
-
-read_fault_is : (p : Played) → status_of p ≡ ReadFault → p ≡ played.ReadFault
-read_fault_is played.Done e = absurd cc
-read_fault_is played.Refused e = absurd cc
-read_fault_is played.ReadFault e = refl
-read_fault_is played.WriteFault e = absurd cc
-read_fault_is played.NoMemory e = absurd cc
-
-write_fault_is : (p : Played) → status_of p ≡ WriteFault → p ≡ played.WriteFault
-write_fault_is played.Done e = absurd cc
-write_fault_is played.Refused e = absurd cc
-write_fault_is played.ReadFault e = absurd cc
-write_fault_is played.WriteFault e = refl
-write_fault_is played.NoMemory e = absurd cc
 
 -- ---- a drawing
 
