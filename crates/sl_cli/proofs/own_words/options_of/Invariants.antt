@@ -5,4 +5,4 @@ use Rattle.std.proofs.Common.{drop, map, ◌≡◌}
 use Rattle.std.specs.Prelude.{string_bytes}
 
 abbrev pub invariant-loop-word : goal.invariant-loop-word
-invariant-loop-word l = options_from no_options (map string_bytes l.word-items) ≡ options_from l.options (map string_bytes (drop l.word-index l.word-items))
+invariant-loop-word l = options_from no_options (map string_bytes l.words) ≡ options_from l.options (map string_bytes (drop l.word-index l.words))

@@ -4,4 +4,4 @@ use Rattle.std.proofs.Common.{map, take, ◌++◌, ◌≡◌}
 use Rattle.std.specs.Prelude.{string_bytes}
 
 abbrev pub invariant-loop-word : goal.invariant-loop-word
-invariant-loop-word g l = map string_bytes l.copies.items ≡ map string_bytes l.fn.copies.items ++ map string_bytes (take l.word-index l.word-items)
+invariant-loop-word l = map string_bytes l.copies.items ≡ map string_bytes l.fn.copies.items ++ map string_bytes (take l.word-index l.words)
