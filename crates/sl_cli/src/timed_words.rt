@@ -5,7 +5,9 @@
 ghost use Rattle.sl_cli.specs.CommandWords as words_of;
 ghost use Rattle.sl_cli.specs.CommandWords.{command_in, labelled, timed_in};
 ghost use Rattle.sl_cli.specs.Spellings.{CanBeDone};
+ghost use Rattle.sl_cli.specs.declared.command_words.Words.TheVariants.{Direct};
 ghost use Rattle.sl_cli.specs.declared.command_words.WordsError.TheVariants.{Bad};
+ghost use Rattle.sl_direct.specs.Actions.{IsAction};
 ghost use Rattle.std.specs.Prelude.{Err, IfOk, IfSome, None, OnOk, Some, map, string_bytes, ◌++◌, ◌∷◌, ◌≡◌};
 
 use crate::command_words::{Words, WordsError, plain_words};
@@ -51,19 +53,17 @@ fn untimed(
     Ok(words)
 }
 
-/// What words say that were read, with a label of these times.
-fn with_label(words: Words, times: &str) -> Option<Words>
-    requires { CanBeDone words }
-    ensures exact { result ≡ labelled times.now (Some words) }
+/// What an action that was read says with a label of these times: a lockspace is made with one, and nothing else.
+fn label_of(action: Action, times: &str) -> Option<Words>
+    requires { IsAction action }
+    ensures exact { result ≡ labelled times.now (Some (Direct action)) }
     ensures can { IfSome result CanBeDone }
 {
-    match words {
-        Words::Direct(
-            Action::InitLockspace {
-                lockspace,
-                geometry,
-            },
-        ) => {
+    match action {
+        Action::InitLockspace {
+            lockspace,
+            geometry,
+        } => {
             let times = times_of(times)?;
             Some(Words::Label {
                 lockspace,
@@ -72,7 +72,32 @@ fn with_label(words: Words, times: &str) -> Option<Words>
                 grace: times.grace,
             })
         }
-        _ => None,
+        Action::InitLabelled { .. } => None,
+        Action::InitResource { .. } => None,
+        Action::ReadLeader { .. } => None,
+        Action::Upgrade { .. } => None,
+        Action::Dump { .. } => None,
+    }
+}
+
+/// What words say that were read, with a label of these times.
+fn with_label(words: Words, times: &str) -> Option<Words>
+    requires { CanBeDone words }
+    ensures exact { result ≡ labelled times.now (Some words) }
+    ensures can { IfSome result CanBeDone }
+{
+    match words {
+        Words::Direct(action) => label_of(action, times),
+        Words::Replay => None,
+        Words::Draw { .. } => None,
+        Words::Journal => None,
+        Words::Check => None,
+        Words::Generate { .. } => None,
+        Words::Label { .. } => None,
+        Words::Live { .. } => None,
+        Words::Own { .. } => None,
+        Words::Help => None,
+        Words::Version => None,
     }
 }
 

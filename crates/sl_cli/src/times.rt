@@ -3,6 +3,7 @@
 ghost use Rattle.sl_cli.specs.PartReadings.{times_read, within_part};
 ghost use Rattle.sl_cli.specs.TimesWords.{is_times, times_said};
 ghost use Rattle.sl_text.specs.Walks.{left_after, next_part};
+ghost use Rattle.sl_time.specs.Times.{IsTiming};
 ghost use Rattle.sl_words.specs.Words.{choose};
 ghost use Rattle.std.specs.Prelude.{IfOk, IfSome, ◌≡◌, ◌≤◌};
 
@@ -42,7 +43,8 @@ fn timing_with(io: u64, fire: u64, land: u64, rho: u64) -> Timing
     requires fire { fire ≤ 600000 }
     requires land { land ≤ 600000 }
     requires rho { rho ≤ 100 }
-    ensures { result ≡ record { io = io; fire = fire; land = land; rho = rho } }
+    ensures value { result ≡ record { io = io; fire = fire; land = land; rho = rho } }
+    ensures rules { IsTiming result }
 {
     match Timing::new(io, fire, land, rho) {
         Ok(timing) => timing,
@@ -53,7 +55,7 @@ fn timing_with(io: u64, fire: u64, land: u64, rho: u64) -> Timing
 /// Reads the parts of a word of times.
 fn times_parts(parts: &mut Parts<'_>) -> Result<Times, usize>
     ensures exact { result ≡ times_read parts.old }
-    ensures within { IfOk result (λ t. t.grace ≤ 600000) }
+    ensures within { IfOk result (λ t. IsTiming t.timing × (t.grace ≤ 600000)) }
 {
     let io = number_part(parts, 1, LONGEST)?;
     let fire = number_part(parts, 0, LONGEST)?;
@@ -70,7 +72,7 @@ fn times_parts(parts: &mut Parts<'_>) -> Result<Times, usize>
 /// The times that a word says, if it says some.
 pub(crate) fn times_of(word: &str) -> Option<Times>
     ensures exact { result ≡ choose (is_times word.now) (times_said word.now) }
-    ensures within { IfSome result (λ t. t.grace ≤ 600000) }
+    ensures within { IfSome result (λ t. IsTiming t.timing × (t.grace ≤ 600000)) }
 {
     times_parts(&mut Parts::new(word.as_bytes())).ok()
 }
