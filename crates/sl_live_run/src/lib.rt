@@ -37,7 +37,7 @@ mod run;
 mod script;
 mod script_lines;
 
-pub use beside::beside;
+pub use beside::beside_script;
 pub use clocks::{TICKS, read_once, with_readings};
 pub use compare::{LiveDiffer, LiveStop, Settled, are_pieces, settle_early, settle_one};
 pub use disks::{give_back, take_back, worker_of};

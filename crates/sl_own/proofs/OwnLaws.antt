@@ -187,9 +187,9 @@ has_run_own {D} {K} {C} {P} {V} {A} {O} {T} content area_faults spawned events s
       let run = ran_here content area_faults spawned events stands commands header work old new so.0 begun runs so.1 in (
         left.one,
         remains_after so.0,
-        so.2.1.1,
+        so.4,
         own_told content area_faults spawned events stands commands header place work.site (disks_in work.parts) before after early l w told left.pieces n so.0 run.0 (run.1 ∙ by) tells in_time
-            so.2.0 so.2.1.0,
+            so.2 so.3,
       )) left.ok;
   stop = if_err_on r.replies (λ s. (s ≡ NoMemory) ⊎ ((ran : Ran O T A P) × (new.ran ≡ Some ran) × Stops early (place + 1) l ran s)) (IsOwnStop stands commands header place work.site before after)
       (stops_own content area_faults spawned events stands commands header place work old new before after early l w told begun by runs tells in_time) left.stop;

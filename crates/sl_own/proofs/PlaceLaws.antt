@@ -9,7 +9,7 @@ use Rattle.sl_run.specs.declared.header.Disk.{Disk as DiskLine}
 use Rattle.sl_run.specs.declared.header.Header.{Header}
 use Rattle.sl_standing.specs.declared.not_standing.NotStanding.TheVariants.{NoMemory}
 use Rattle.std.proofs.Common.{ap, inl, inr, subst, sym, ◌∙◌}
-use Rattle.std.specs.Prelude.{Contains, Err, IfErr, List, None, Ok, OnOk, Option, Result, Some, ℕ, ◌*◌, ◌++◌, ◌≡◌, ◌≢◌, ◌⊎◌}
+use Rattle.std.specs.Prelude.{Contains, Err, IfErr, IsErrAnd, List, None, Ok, Option, Result, Some, ℕ, ◌*◌, ◌++◌, ◌≡◌, ◌≢◌, ◌⊎◌}
 
 -- ---- one disk
 
@@ -38,3 +38,11 @@ pub bars_size : {T : Type 0} (r : Result T NoPlace) (disks now : Disks) (folder 
 bars_size (Ok t) disks now folder h machine faults later same why = tt
 bars_size (Err e) disks now folder h machine faults later same (inl is) = subst (Bars disks folder h machine faults later) (sym is) (Area_bars (NotStanding NoMemory) No_memory)
 bars_size (Err e) disks now folder h machine faults later same (inr differs) = Size_bars e (subst (λ (x : Disks). SizeDiffers x folder h e) same differs)
+
+-- A disk that was looked at behind others, which changed nothing.
+pub differs_before : {T : Type 0} (r : Result T NoPlace) (why : NoPlace) (disks now : Disks) (folder : List ℕ) (h : Header) → now ≡ disks → IsErrAnd r (λ x. x ≡ why)
+    → (why ≡ NotStanding NoMemory) ⊎ SizeDiffers now folder h why → IfErr r (λ e. (e ≡ NotStanding NoMemory) ⊎ SizeDiffers disks folder h e)
+differs_before (Ok t) why disks now folder h same is so = tt
+differs_before (Err e) why disks now folder h same is (inl none) = inl (is ∙ none)
+differs_before (Err e) why disks now folder h same is (inr differs) =
+    inr (subst (λ (x : Disks). SizeDiffers x folder h e) same (subst (SizeDiffers now folder h) (sym is) differs))

@@ -97,11 +97,11 @@ pub owes_run_own : {D A P : Type 0} (content : A → Option (List ℕ)) (area_fa
     → IfErr replies (λ e. PutsStop taken now sink_faults sink_later pieces e s)
     → OwesOwn stands commands disks folder w left after taken now faults later sink_faults sink_later device_faults device_later s
 owes_run_own content area_faults spawned stands commands disks folder w left after taken now faults later sink_faults sink_later device_faults device_later h begun areas was is pieces machines remains (Ok n) end s none reads may ok err puts stops =
-    let told = ok.1.1.1 in
+    let told = ok.3 in
     let one : PutsEnded taken now sink_faults sink_later pieces 1 n end s = subst (λ (k : ℕ). PutsEnded taken now sink_faults sink_later pieces k n end s) ok.0 puts in
     owes_ended stands commands disks folder w left after taken now faults later sink_faults sink_later device_faults device_later h told.lines told.history pieces end s (reads told.lines (told.gave [] none)) may
-    (lived content area_faults spawned w.events stands commands h w.machine begun areas was is pieces n ok.1.0 told)
-    (woven content area_faults spawned w.events stands commands h w.machine begun areas was is pieces n ok.1.0 told)
+    (lived content area_faults spawned w.events stands commands h w.machine begun areas was is pieces n ok.1 told)
+    (woven content area_faults spawned w.events stands commands h w.machine begun areas was is pieces n ok.1 told)
     (subst (λ (k : ℕ). PutsEnded taken now sink_faults sink_later pieces 1 k end s) told.count one)
 owes_run_own content area_faults spawned stands commands disks folder w left after taken now faults later sink_faults sink_later device_faults device_later h begun areas was is pieces machines remains (Err (stop.Differ machine d)) end s none reads may ok err puts stops =
     let same : machine ≡ w.machine = subst (λ (k : ℕ). machine ≡ k) (sym begun.numbered) err.numbered in

@@ -53,7 +53,7 @@ pub own_settled : {O T A P : Type 0} (early : Bool) (l : LedgerState GivenLine) 
     → s ≡ come_to early how r.end next → s ≡ Whole → IsSettled early l r r.replies
 own_settled early l r how s next read come whole =
     let three = whole_only early how r.end next (sym come ∙ whole) in
-    record { in_time = three.0; ended = three.1.1; read = all_read how r.reader l three.1.0 read; count = refl }
+    record { in_time = three.0; ended = three.2; read = all_read how r.reader l three.1 read; count = refl }
 
 -- It has a case.
 pub own_case : {O T A P : Type 0} (early : Bool) (l : LedgerState GivenLine) (r : Ran O T A P) (how : Reading) (s : Settled) (next : ℕ) (d : LiveDiffer) → IsReading how r.reader l
@@ -78,9 +78,9 @@ pub own_pieces : (place : ℕ) (ws : List (SeatState (List ℕ))) (own script : 
 own_pieces place ws own script pieces so exact below = (
   so.0,
   so.1,
-  so.2.0,
-  subst (λ (xs : List (SeatState (List ℕ))). AreExact 0 xs pieces) so.2.1 exact,
-  subst (λ (n : ℕ). AreBelow n pieces) (two_behind place so.0 ws own script so.1 so.2.1) below,
+  so.2,
+  subst (λ (xs : List (SeatState (List ℕ))). AreExact 0 xs pieces) so.3 exact,
+  subst (λ (n : ℕ). AreBelow n pieces) (two_behind place so.0 ws own script so.1 so.3) below,
 )
 
 pub are_pieces_of : {O T A P : Type 0} (w : SeatState (List ℕ)) (place : ℕ) (r : Ran O T A P) (writer : SeatState (List ℕ)) (pieces : List Piece) → writer ≡ r.writer
@@ -89,9 +89,9 @@ pub are_pieces_of : {O T A P : Type 0} (w : SeatState (List ℕ)) (place : ℕ) 
 are_pieces_of w place r writer pieces same so = record {
   before = so.0;
   counted = so.1;
-  none = so.2.0;
-  exact = subst (λ (x : SeatState (List ℕ)). AreExact 0 (so.0 ++ x ∷ w ∷ []) pieces) same so.2.1.0;
-  below = so.2.1.1;
+  none = so.2;
+  exact = subst (λ (x : SeatState (List ℕ)). AreExact 0 (so.0 ++ x ∷ w ∷ []) pieces) same so.3;
+  below = so.4;
 }
 
 -- ---- what a machine came to

@@ -21,7 +21,7 @@ use sl_cell::Teller;
 use sl_io::Sink;
 use sl_live_lines::GivenLine;
 use sl_live_machine::{Mail, Post, Roll};
-use sl_live_run::{LiveRun, LiveStop, Machine, Prepared, Shared, Ways, Work, beside, ended_early};
+use sl_live_run::{LiveRun, LiveStop, Machine, Prepared, Shared, Ways, Work, beside_script, ended_early};
 use sl_output::{Front as Pieces, Output, Press, Put, Seat as Writer};
 use sl_outside::{Device, Gate, Spawner, StandingDevices};
 use sl_reader::{LiveLines, NoLine};
@@ -93,7 +93,7 @@ fn run_beside<
         book,
         output: shared.output,
     };
-    beside(
+    beside_script(
         rt,
         alloc,
         shared.roll,

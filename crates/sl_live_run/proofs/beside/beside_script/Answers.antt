@@ -1,5 +1,5 @@
 use Rattle.sl_live_run.proofs.RunLaws.{told_on}
-use Rattle.sl_live_run.proofs.beside.beside.Goals as goal
+use Rattle.sl_live_run.proofs.beside.beside_script.Goals as goal
 use Rattle.std.proofs.Common.{rules}
 
 pub returns-clause-told : goal.returns-clause-told
