@@ -1,7 +1,7 @@
 -- What the daemons that run tell of the world that they stand for.
-use Rattle.sl_journal.specs.JournalRuns.{entries_of, first_news_to, news_at, news_since, running_on, steps_at, steps_since}
+use Rattle.sl_journal.specs.JournalRuns.{entries_of, first_news, first_news_to, news_at, news_since, running_on, steps_at, steps_since}
 use Rattle.sl_play.proofs.EndsFinish.{bytes_joined}
-use Rattle.sl_run.specs.Worlds.{Daemon, Machine, World, machine_at}
+use Rattle.sl_run.specs.Worlds.{Daemon, Machine, World}
 use Rattle.sl_run.specs.declared.header.Header.{Header}
 use Rattle.sl_text.specs.Forms.{Form, as_bytes}
 use Rattle.sl_trace.specs.Traces.{Setting, Trace}
@@ -11,7 +11,7 @@ use Rattle.sl_world_state.specs.KeptWorld.{KeptState}
 use Rattle.sl_world_state.specs.SaneWorlds.{RunsOn, WorldStands}
 use Rattle.std.proofs.Common.{Bool, ap, arith, false, length, refl, subst, suc, sym, zero, ◌-◌, ◌==◌, ◌∙◌}
 use Rattle.std.proofs.lemmas.List.{append-nil, append_assoc}
-use Rattle.std.specs.Prelude.{IfOk, IfSome, List, None, Ok, Option, Result, Some, slice_get, true, [], if◌then◌else◌, option_and_then, ℕ, ◌++◌, ◌+◌, ◌∷◌, ◌≡◌, ◌<◌}
+use Rattle.std.specs.Prelude.{IfOk, List, None, Option, Result, Some, [], if◌then◌else◌, option_and_then, slice_get, true, ℕ, ◌++◌, ◌+◌, ◌∷◌, ◌≡◌}
 
 -- Of two lists of one length, neither ends before the other.
 shorter : {A B : Type 0} (xs : List A) (ys : List B) (i : ℕ) (y : B) → length xs ≡ length ys → slice_get xs i ≡ None → slice_get ys i ≡ Some y → ⊥
@@ -60,11 +60,11 @@ pub none_news : {D : Type 0} (stands : D → Setting → Trace → Type 0) (befo
 none_news stands before None out r = (sym (append-nil out), refl)
 none_news stands before (Some d) out r = absurd r
 
-pub some_news : {D : Type 0} (stands : D → Setting → Trace → Type 0) (x : D) (before : Option ℕ) (d : Option Daemon) (out now : List ℕ) (n : ℕ) → RunsOn stands (Some x) d
-    → ((st : Setting) (es : Trace) → stands x st es → (now ≡ out ++ as_bytes (news_since before st es)) × (n ≡ steps_since before es))
-    → (now ≡ out ++ as_bytes (news_at before d)) × (n ≡ steps_at before d)
-some_news stands x before None out now n r told = absurd r
-some_news stands x before (Some d) out now n r told = told d.setting d.trace r
+pub some_news : {D E : Type 0} (stands : D → Setting → Trace → Type 0) (x : D) (before : Option ℕ) (d : Option Daemon) (out now : List ℕ) (r : Result ℕ E) → RunsOn stands (Some x) d
+    → ((st : Setting) (es : Trace) → stands x st es → IfOk r (λ n. (now ≡ out ++ as_bytes (news_since before st es)) × (n ≡ steps_since before es)))
+    → IfOk r (λ n. (now ≡ out ++ as_bytes (news_at before d)) × (n ≡ steps_at before d))
+some_news stands x before None out now r runs told = absurd runs
+some_news stands x before (Some d) out now r runs told = told d.setting d.trace runs
 
 -- ---- at first
 
@@ -78,3 +78,7 @@ first_more w m old a new is then =
   where
     one : (m : ℕ) → suc m ≡ m + 1
     one m = omega arith
+
+-- All of them.
+pub first_all : (w : World) (m : ℕ) (old a : List ℕ) → m ≡ w.header.machines → a ≡ old ++ as_bytes (first_news_to w m) → a ≡ old ++ as_bytes (first_news w)
+first_all w m old a all is = subst (λ k. a ≡ old ++ as_bytes (first_news_to w k)) all is

@@ -24,19 +24,19 @@ pub returns-in-Err-Failed : goal.returns-in-Err-Failed
 returns-in-Err-Failed g c =
     let f = c.in-Err-Failed.ensures.failed (ap (λ e. Err e) c.in-Err-Failed.field-0-is) in
     check_later g.D.Daemon.commands g.D.Daemon.stands [] (g.S.Source.left c.args.source.now) (g.S.Source.left c.read_header.new.source) (g.K.Sink.taken c.args.sink.now) (g.K.Sink.taken c.args.sink.now) (g.S.Source.faults c.args.source.now) (g.S.Source.faults c.begins_with.new.source) (g.S.Source.faults c.read_header.new.source) (g.K.Sink.faults c.args.sink.now) (g.K.Sink.faults c.args.sink.now) (g.K.Sink.faults c.args.sink.now) ReadFault c.begins_with.ensures.cause.later (same_count (g.K.Sink.faults c.args.sink.now))
-    (behind_mark g.D.Daemon.commands g.D.Daemon.stands (g.S.Source.left c.args.source.now) (g.S.Source.left c.begins_with.new.source) (g.S.Source.left c.read_header.new.source) (g.K.Sink.taken c.args.sink.now) (g.K.Sink.taken c.args.sink.now) (g.S.Source.faults c.begins_with.new.source) (g.S.Source.faults c.read_header.new.source) (g.K.Sink.faults c.args.sink.now) (g.K.Sink.faults c.args.sink.now) ReadFault (c.in-Ok-true.ensures.whole refl)
+    (behind_mark g.D.Daemon.commands g.D.Daemon.stands (g.S.Source.left c.args.source.now) (g.S.Source.left c.begins_with.new.source) (g.S.Source.left c.read_header.new.source) (g.K.Sink.taken c.args.sink.now) (g.K.Sink.taken c.args.sink.now) (g.S.Source.faults c.begins_with.new.source) (g.S.Source.faults c.read_header.new.source) (g.K.Sink.faults c.args.sink.now) (g.K.Sink.faults c.args.sink.now) ReadFault (c.in-Ok-true.ensures.whole c.in-Ok-true.field-0-is)
     (breaks g.D.Daemon.commands g.D.Daemon.stands mark (g.S.Source.left c.begins_with.new.source) (g.S.Source.left c.read_header.new.source) (g.K.Sink.taken c.args.sink.now) (g.K.Sink.taken c.args.sink.now) (g.S.Source.faults c.begins_with.new.source) (g.S.Source.faults c.read_header.new.source) (g.K.Sink.faults c.args.sink.now) (g.K.Sink.faults c.args.sink.now) (header_moved (g.S.Source.left c.begins_with.new.source) (g.S.Source.left c.read_header.new.source) (g.K.Sink.taken c.args.sink.now) (f.0.complete ++ f.0.partial, f.0.gives)) refl f.1))
 
 pub returns-in-Err-NoMemory : goal.returns-in-Err-NoMemory
 returns-in-Err-NoMemory g c =
     check_later g.D.Daemon.commands g.D.Daemon.stands [] (g.S.Source.left c.args.source.now) (g.S.Source.left c.read_header.new.source) (g.K.Sink.taken c.args.sink.now) (g.K.Sink.taken c.args.sink.now) (g.S.Source.faults c.args.source.now) (g.S.Source.faults c.begins_with.new.source) (g.S.Source.faults c.read_header.new.source) (g.K.Sink.faults c.args.sink.now) (g.K.Sink.faults c.args.sink.now) (g.K.Sink.faults c.args.sink.now) NoMemory c.begins_with.ensures.cause.later (same_count (g.K.Sink.faults c.args.sink.now))
-    (behind_mark g.D.Daemon.commands g.D.Daemon.stands (g.S.Source.left c.args.source.now) (g.S.Source.left c.begins_with.new.source) (g.S.Source.left c.read_header.new.source) (g.K.Sink.taken c.args.sink.now) (g.K.Sink.taken c.args.sink.now) (g.S.Source.faults c.begins_with.new.source) (g.S.Source.faults c.read_header.new.source) (g.K.Sink.faults c.args.sink.now) (g.K.Sink.faults c.args.sink.now) NoMemory (c.in-Ok-true.ensures.whole refl)
+    (behind_mark g.D.Daemon.commands g.D.Daemon.stands (g.S.Source.left c.args.source.now) (g.S.Source.left c.begins_with.new.source) (g.S.Source.left c.read_header.new.source) (g.K.Sink.taken c.args.sink.now) (g.K.Sink.taken c.args.sink.now) (g.S.Source.faults c.begins_with.new.source) (g.S.Source.faults c.read_header.new.source) (g.K.Sink.faults c.args.sink.now) (g.K.Sink.faults c.args.sink.now) NoMemory (c.in-Ok-true.ensures.whole c.in-Ok-true.field-0-is)
     (lacks g.D.Daemon.commands g.D.Daemon.stands mark (g.S.Source.left c.begins_with.new.source) (g.S.Source.left c.read_header.new.source) (g.K.Sink.taken c.args.sink.now) (g.K.Sink.taken c.args.sink.now) (g.S.Source.faults c.begins_with.new.source) (g.S.Source.faults c.read_header.new.source) (g.K.Sink.faults c.args.sink.now) (g.K.Sink.faults c.args.sink.now) (header_moved (g.S.Source.left c.begins_with.new.source) (g.S.Source.left c.read_header.new.source) (g.K.Sink.taken c.args.sink.now) c.in-Err-NoMemory.ensures.err) refl))
 
 pub returns-in-Ok-Err : goal.returns-in-Ok-Err
 returns-in-Ok-Err g c =
     check_later g.D.Daemon.commands g.D.Daemon.stands [] (g.S.Source.left c.args.source.now) (g.S.Source.left c.read_header.new.source) (g.K.Sink.taken c.args.sink.now) (g.K.Sink.taken c.refuse-in-Ok-Err.new.sink) (g.S.Source.faults c.args.source.now) (g.S.Source.faults c.begins_with.new.source) (g.S.Source.faults c.read_header.new.source) (g.K.Sink.faults c.args.sink.now) (g.K.Sink.faults c.args.sink.now) (g.K.Sink.faults c.refuse-in-Ok-Err.new.sink) c.refuse-in-Ok-Err.result c.begins_with.ensures.cause.later (same_count (g.K.Sink.faults c.args.sink.now))
-    (behind_mark g.D.Daemon.commands g.D.Daemon.stands (g.S.Source.left c.args.source.now) (g.S.Source.left c.begins_with.new.source) (g.S.Source.left c.read_header.new.source) (g.K.Sink.taken c.args.sink.now) (g.K.Sink.taken c.refuse-in-Ok-Err.new.sink) (g.S.Source.faults c.begins_with.new.source) (g.S.Source.faults c.read_header.new.source) (g.K.Sink.faults c.args.sink.now) (g.K.Sink.faults c.refuse-in-Ok-Err.new.sink) c.refuse-in-Ok-Err.result (c.in-Ok-true.ensures.whole refl)
+    (behind_mark g.D.Daemon.commands g.D.Daemon.stands (g.S.Source.left c.args.source.now) (g.S.Source.left c.begins_with.new.source) (g.S.Source.left c.read_header.new.source) (g.K.Sink.taken c.args.sink.now) (g.K.Sink.taken c.refuse-in-Ok-Err.new.sink) (g.S.Source.faults c.begins_with.new.source) (g.S.Source.faults c.read_header.new.source) (g.K.Sink.faults c.args.sink.now) (g.K.Sink.faults c.refuse-in-Ok-Err.new.sink) c.refuse-in-Ok-Err.result (c.in-Ok-true.ensures.whole c.in-Ok-true.field-0-is)
     (header_out g.D.Daemon.commands g.D.Daemon.stands (g.S.Source.left c.begins_with.new.source) (g.S.Source.left c.read_header.new.source) (g.K.Sink.taken c.args.sink.now) (g.K.Sink.taken c.refuse-in-Ok-Err.new.sink) (g.S.Source.faults c.begins_with.new.source) (g.S.Source.faults c.read_header.new.source) (g.K.Sink.faults c.args.sink.now) (g.K.Sink.faults c.refuse-in-Ok-Err.new.sink) c.read_header.new.reader c.in-Ok-Err.number c.in-Ok-Err.why c.refuse-in-Ok-Err.result (subst (HeaderIsRead (g.S.Source.left c.begins_with.new.source) (g.S.Source.left c.read_header.new.source) c.read_header.new.reader) c.in-Ok-Err.field-0-is c.in-Ok-Err.ensures.ok) c.read_header.ensures.stands c.refuse-in-Ok-Err.ensures))
 
 pub check_header-requires-clause-header : goal.check_header-requires-clause-header
@@ -49,6 +49,6 @@ pub returns : goal.returns
 returns g c =
     let b = (subst (HeaderIsRead (g.S.Source.left c.begins_with.new.source) (g.S.Source.left c.read_header.new.source) c.read_header.new.reader) c.in-Ok-Ok.field-0-is c.in-Ok-Ok.ensures.ok) in
     check_later g.D.Daemon.commands g.D.Daemon.stands [] (g.S.Source.left c.args.source.now) (g.S.Source.left c.check_header.new.source) (g.K.Sink.taken c.args.sink.now) (g.K.Sink.taken c.check_header.new.sink) (g.S.Source.faults c.args.source.now) (g.S.Source.faults c.begins_with.new.source) (g.S.Source.faults c.check_header.new.source) (g.K.Sink.faults c.args.sink.now) (g.K.Sink.faults c.args.sink.now) (g.K.Sink.faults c.check_header.new.sink) c.check_header.result c.begins_with.ensures.cause.later (same_count (g.K.Sink.faults c.args.sink.now))
-    (behind_mark g.D.Daemon.commands g.D.Daemon.stands (g.S.Source.left c.args.source.now) (g.S.Source.left c.begins_with.new.source) (g.S.Source.left c.check_header.new.source) (g.K.Sink.taken c.args.sink.now) (g.K.Sink.taken c.check_header.new.sink) (g.S.Source.faults c.begins_with.new.source) (g.S.Source.faults c.check_header.new.source) (g.K.Sink.faults c.args.sink.now) (g.K.Sink.faults c.check_header.new.sink) c.check_header.result (c.in-Ok-true.ensures.whole refl)
+    (behind_mark g.D.Daemon.commands g.D.Daemon.stands (g.S.Source.left c.args.source.now) (g.S.Source.left c.begins_with.new.source) (g.S.Source.left c.check_header.new.source) (g.K.Sink.taken c.args.sink.now) (g.K.Sink.taken c.check_header.new.sink) (g.S.Source.faults c.begins_with.new.source) (g.S.Source.faults c.check_header.new.source) (g.K.Sink.faults c.args.sink.now) (g.K.Sink.faults c.check_header.new.sink) c.check_header.result (c.in-Ok-true.ensures.whole c.in-Ok-true.field-0-is)
     (check_later g.D.Daemon.commands g.D.Daemon.stands mark (g.S.Source.left c.begins_with.new.source) (g.S.Source.left c.check_header.new.source) (g.K.Sink.taken c.args.sink.now) (g.K.Sink.taken c.check_header.new.sink) (g.S.Source.faults c.begins_with.new.source) (g.S.Source.faults c.read_header.new.source) (g.S.Source.faults c.check_header.new.source) (g.K.Sink.faults c.args.sink.now) (g.K.Sink.faults c.args.sink.now) (g.K.Sink.faults c.check_header.new.sink) c.check_header.result c.read_header.ensures.later (same_count (g.K.Sink.faults c.args.sink.now))
     (c.check_header.ensures (g.S.Source.left c.begins_with.new.source) b)))
