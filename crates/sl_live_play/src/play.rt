@@ -68,16 +68,12 @@ pub enum Lived {
 }
 
 /// Gives the disks of all machines back.
-fn give_all_back<V: LiveDevices>(
-    remains: Vec<Remains<V::Area, V::Spawner>>,
-    devices: &mut V,
-) {
+fn give_all_back<V: LiveDevices>(remains: Vec<Remains<V::Area, V::Spawner>>, devices: &mut V) {
     for Remains {
         delta,
         resource,
         spawners: _,
-    } in remains
-    {
+    } in remains {
         give_back(delta, resource, devices);
     }
 }
