@@ -1,6 +1,5 @@
 //! A case, as its line tells it.
 
-use crate::journals::changed_journal;
 use sl_text::line::split_line;
 use std::alloc::{AllocError, Global};
 use std::rt::Files;
@@ -86,7 +85,7 @@ fn front(text: &[u8], count: u64) -> &[u8] {
 }
 
 /// What stands in the file of this name and this kind.
-pub fn file<R: Files + AllocGlobal>(rt: &R, name: &str, kind: &str) -> io::Result<Vec<u8>> {
+fn file<R: Files + AllocGlobal>(rt: &R, name: &str, kind: &str) -> io::Result<Vec<u8>> {
     let path = format!(in rt.alloc(); "{name}.{kind}")?;
     fs::read(rt, path.as_str())
 }
@@ -119,20 +118,6 @@ fn parts<R: Files + AllocGlobal>(
             file(rt, name, "schedule")?,
             Some(due),
         ));
-    }
-    if let Some(name) = line.strip_prefix("journal ") {
-        let due = file(rt, name, "journal")?;
-        return Ok((
-            words(alloc, "journal")?,
-            file(rt, name, "schedule")?,
-            Some(due),
-        ));
-    }
-    if let Some(name) = line.strip_prefix("check ") {
-        return Ok((words(alloc, "check")?, file(rt, name, "journal")?, None));
-    }
-    if let Some(journal) = changed_journal(rt, line)? {
-        return Ok((words(alloc, "check")?, journal, None));
     }
     if let Some(rest) = line.strip_prefix("lives ") {
         let (name, folder) = rest.split_once(' ').unwrap_or((rest, ""));

@@ -4,9 +4,6 @@
 //!
 //! - `schedule NAME` has the schedule `NAME.schedule` for its source; where it puts out what stands in `NAME.report`, `as due` is printed in
 //!   place of it;
-//! - `journal NAME` writes the journal of that schedule, which is to be `NAME.journal`; `check NAME` checks that journal;
-//! - `altered N NAME TEXT` checks it with `TEXT` for its line N, `without N NAME` without that line, `twice N NAME` with that line twice,
-//!   `swapped N NAME` with that line behind the one that follows it;
 //! - `behind COUNT NAME TEXT` replays so many lines of that schedule, and behind them the line `TEXT`;
 //! - `lives NAME WORDS` runs live machines by the script `NAME.script`, with these words behind `live`: the folder below which their disks are
 //!   files, and the flags, as `--anew` where those that stand there are made anew.
@@ -19,7 +16,6 @@
 #![tactic(auto)]
 
 mod case;
-mod journals;
 mod outcome;
 mod scripted;
 

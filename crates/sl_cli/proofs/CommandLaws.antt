@@ -18,7 +18,7 @@ use Rattle.sl_cli.specs.ParserShape.{command_line}
 use Rattle.sl_cli.specs.CommandWords.{Use, command_in, ends_here, given_by, nothing_taken, uses_from}
 use Rattle.sl_cli.specs.ParserMeets.{IsRefused, TakenAs, given_in, met_in, said_by}
 use Rattle.sl_cli.specs.declared.parsed_command.Met.{Met}
-use Rattle.sl_cli.specs.declared.command_words.Words.TheVariants.{Check, Direct, Journal, Replay}
+use Rattle.sl_cli.specs.declared.command_words.Words.TheVariants.{Direct, Replay}
 use Rattle.sl_cli.specs.declared.command_words.Words.{Words}
 use Rattle.sl_words.specs.Words.{choose}
 use Rattle.std.proofs.Common.{Bool, List, None, Option, Some, [], ap, false, inl, inr, map, refl, subst, sym, true, ◌≡◌, ◌∙◌, ◌∷◌, ◌⊎◌}
@@ -72,18 +72,12 @@ named_at name s ws met found =
 -- A name of one, and what it says.
 data Bare : Type 0 where
   replay : Bare
-  journal : Bare
-  check : Bare
 
 abbrev bare_name : Bare → Text
 bare_name replay = codes "replay"
-bare_name journal = codes "journal"
-bare_name check = codes "check"
 
 abbrev bare_words : Bare → Words
 bare_words replay = Replay
-bare_words journal = Journal
-bare_words check = Check
 
 abbrev bare : Bare → Shape
 bare b = bare_command (bare_name b)
@@ -91,31 +85,21 @@ bare b = bare_command (bare_name b)
 bare_fault : (b : Bare) (ws : List Text) → fault (bare_name b ∷ ws) ≡ level (bare b) ws
 unfolding clap_on_literals
 bare_fault replay ws = fault_at (codes "replay") (bare replay) ws refl (stopped_fault program.top names (walk_from nothing_held) (codes "replay", []) ws) refl
-bare_fault journal ws = fault_at (codes "journal") (bare journal) ws refl (stopped_fault program.top names (walk_from nothing_held) (codes "journal", []) ws) refl
-bare_fault check ws = fault_at (codes "check") (bare check) ws refl (stopped_fault program.top names (walk_from nothing_held) (codes "check", []) ws) refl
 
 bare_says : (b : Bare) (ws : List Text) → option_and_then said_by (met_in (named (bare_name b ∷ ws))) ≡ Some (bare_words b)
 bare_says replay ws = ap (λ o. option_and_then said_by (met_in o)) (named_at (codes "replay") (bare replay) ws refl refl)
-bare_says journal ws = ap (λ o. option_and_then said_by (met_in o)) (named_at (codes "journal") (bare journal) ws refl refl)
-bare_says check ws = ap (λ o. option_and_then said_by (met_in o)) (named_at (codes "check") (bare check) ws refl refl)
 
 bare_read : (b : Bare) (ws : List Text) → command_in (bare_name b ∷ ws) ≡ choose (ends_here ws) (bare_words b)
 bare_read replay ws = refl
-bare_read journal ws = refl
-bare_read check ws = refl
 
 -- Its words end at once, or behind `--`.
 bare_ends : (b : Bare) → level (bare b) [] ≡ []
 unfolding clap_on_literals
 bare_ends replay = refl
-bare_ends journal = refl
-bare_ends check = refl
 
 bare_ends_behind : (b : Bare) → level (bare b) (codes "--" ∷ []) ≡ []
 unfolding clap_on_literals
 bare_ends_behind replay = refl
-bare_ends_behind journal = refl
-bare_ends_behind check = refl
 
 bare_agrees_by : (b : Bare) (ws : List Text) → level (bare b) ws ≡ [] → ends_here ws ≡ true → Agrees (bare_name b ∷ ws)
 bare_agrees_by b ws none ends = inl (bare_fault b ws ∙ none, bare_says b ws ∙ sym (bare_read b ws ∙ ap (λ t. choose t (bare_words b)) ends))
@@ -235,13 +219,12 @@ abbrev IsOther : Text → Type 0
 IsOther w =
     (bytes_eq (codes "replay") w ≡ false) × (bytes_eq (codes "draw") w ≡ false) × (bytes_eq (codes "gen") w ≡ false)
     × (bytes_eq (codes "direct") w ≡ false) × (bytes_eq (codes "live") w ≡ false)
-    × (bytes_eq (codes "journal") w ≡ false) × (bytes_eq (codes "check") w ≡ false)
 
 other_agrees : (w : Text) (ws : List Text) → IsOther w → Agrees (w ∷ ws)
-other_agrees w ws (no_replay, no_draw, no_gen, no_direct, no_live, no_journal, no_check) =
+other_agrees w ws (no_replay, no_draw, no_gen, no_direct, no_live) =
     inr (
-      other_fails w ws (bytes_eq w (codes "--")) (rw (no_replay, no_draw, no_gen, no_direct, no_live, no_journal, no_check) refl) refl,
-      rw (no_replay, no_draw, no_gen, no_direct, no_live, no_journal, no_check) refl,
+      other_fails w ws (bytes_eq w (codes "--")) (rw (no_replay, no_draw, no_gen, no_direct, no_live) refl) refl,
+      rw (no_replay, no_draw, no_gen, no_direct, no_live) refl,
     )
 
 -- ---- all words
@@ -260,10 +243,7 @@ agrees (w ∷ ws) texts =
     named_or (codes "draw") w ws (draw_agrees ws texts.1) (λ no_draw.
     named_or (codes "gen") w ws (gen_agrees ws texts.1) (λ no_gen.
     named_or (codes "direct") w ws (direct_agrees ws texts.1) (λ no_direct.
-    named_or (codes "live") w ws (live_agrees ws texts.1) (λ no_live.
-    named_or (codes "journal") w ws (bare_agrees journal ws) (λ no_journal.
-    named_or (codes "check") w ws (bare_agrees check ws) (λ no_check.
-    other_agrees w ws (no_replay, no_draw, no_gen, no_direct, no_live, no_journal, no_check))))))))
+    named_or (codes "live") w ws (live_agrees ws texts.1) (λ no_live. other_agrees w ws (no_replay, no_draw, no_gen, no_direct, no_live))))))
 
 -- The same of the command as the parser is told it.
 fault_is : (ws : List Text) → fault_of command_line ws ≡ fault ws

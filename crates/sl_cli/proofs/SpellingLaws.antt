@@ -1,7 +1,7 @@
 -- Words in any order are read, and no others are.
 use Rattle.sl_cli.proofs.ActionTexts.{actions_have_one_text}
 use Rattle.sl_cli.specs.Actions.{action_in}
-use Rattle.sl_cli.specs.CommandWords.{Placing, Seed, Taken, Use, command_in, direct_in, draw_in, ends_here, generated, given_by, is_given, is_line, is_only, is_plain, journals_in, live_in, nothing_placed, nothing_taken, option_named, placed_from, placed_in, gen_in, is_timed, labelled, said_in, seeded_in, spanned_in, timed_in, use_of, uses_from, with_use, without_dashes}
+use Rattle.sl_cli.specs.CommandWords.{Placing, Seed, Taken, Use, command_in, direct_in, draw_in, ends_here, generated, given_by, is_given, is_line, is_only, is_plain, live_in, nothing_placed, nothing_taken, option_named, placed_from, placed_in, gen_in, is_timed, labelled, said_in, seeded_in, spanned_in, timed_in, use_of, uses_from, with_use, without_dashes}
 use Rattle.sl_area.specs.AreaSizes.{Sizes}
 use Rattle.sl_cli.specs.OwnWords.{Options, is_folder, is_machine, is_own, no_options, options_from, own_in}
 use Rattle.sl_cli.specs.TimesWords.{grace_of, is_times, timing_of}
@@ -10,7 +10,7 @@ use Rattle.sl_text.specs.Numbers.{number_of}
 use Rattle.sl_time.specs.Times.{TimingNumbers}
 use Rattle.sl_trace.specs.declared.command.LockspaceArg.{LockspaceArg}
 use Rattle.sl_cli.specs.Spellings.{AsksFor, IsAsked, OnlyItsWordsAskForAnAction, OptionsComeInAnyOrder, are_apart, is_use, letter_named, option_words, spelled, use_words}
-use Rattle.sl_cli.specs.declared.command_words.Words.TheVariants.{Check, Direct, Draw, Help, Journal, Label, Live, Own, Replay, Version}
+use Rattle.sl_cli.specs.declared.command_words.Words.TheVariants.{Direct, Draw, Help, Label, Live, Own, Replay, Version}
 use Rattle.sl_cli.specs.declared.command_words.Words.{Words}
 use Rattle.sl_direct.specs.declared.action.Action.{Action}
 use Rattle.sl_words.proofs.CaseLaws.{none_some, true_is_false}
@@ -232,21 +232,6 @@ no_placing : (o : Option Placing) (a : Action) → AsksDirect (option_and_then p
 no_placing None a h = absurd cc
 no_placing (Some p) a h = no_folder p.folder p.anew p.keeps p.events a h
 
-no_journal : (a : Action) → Journal ≡ Direct a → ⊥
-no_journal a h = absurd cc
-
-no_check : (a : Action) → Check ≡ Direct a → ⊥
-no_check a h = absurd cc
-
-no_journals : (w : List ℕ) (ws : List (List ℕ)) (a : Action) → AsksDirect (journals_in w ws) a → ⊥
-no_journals w ws a h = elim (cases_Bool (bytes_eq (codes "journal") w)) [
-  | inl journal ↦ no_bare (ends_here ws) Journal a (no_journal a) (rw journal at h)
-  | inr no_name ↦ elim (cases_Bool (bytes_eq (codes "check") w)) [
-    | inl check ↦ no_bare (ends_here ws) Check a (no_check a) (rw (no_name, check) at h)
-    | inr other ↦ none_some (Direct a) (rw (no_name, other) at h)
-  ]
-]
-
 command_asks : (ws : List (List ℕ)) (a : Action) → command_in ws ≡ Some (Direct a) → Asks a ws
 command_asks [] a h = absurd cc
 command_asks (w ∷ ws) a h = elim (cases_Bool (bytes_eq (codes "replay") w)) [
@@ -255,14 +240,14 @@ command_asks (w ∷ ws) a h = elim (cases_Bool (bytes_eq (codes "replay") w)) [
 ]
   where
     direct_asks : (w : List ℕ) (ws : List (List ℕ)) (a : Action)
-        → (if bytes_eq (codes "direct") w then direct_in ws else if bytes_eq (codes "live") w then live_in ws else journals_in w ws) ≡ Some (Direct a) → Asks a (w ∷ ws)
+        → (if bytes_eq (codes "direct") w then direct_in ws else if bytes_eq (codes "live") w then live_in ws else None) ≡ Some (Direct a) → Asks a (w ∷ ws)
     direct_asks w ws a h = elim (cases_Bool (bytes_eq (codes "direct") w)) [
       | inl direct ↦
           let is = direct_by ws a (uses_from nothing_taken ws) refl (rw direct at h) in
           (is.0, ws, ap (λ v. v ∷ ws) (sym ((bytes_eq-Decides (codes "direct") w).0 direct)), is.1)
       | inr no_direct ↦ elim (cases_Bool (bytes_eq (codes "live") w)) [
         | inl live ↦ absurd (no_placing (placed_from false nothing_placed ws) a (rw (no_direct, live) at h))
-        | inr other ↦ absurd (no_journals w ws a (rw (no_direct, other) at h))
+        | inr other ↦ absurd (none_some (Direct a) (rw (no_direct, other) at h))
       ]
     ]
 
@@ -270,7 +255,7 @@ command_asks (w ∷ ws) a h = elim (cases_Bool (bytes_eq (codes "replay") w)) [
         → (if bytes_eq (codes "gen") w then gen_in ws
         else if bytes_eq (codes "direct") w then direct_in ws
         else if bytes_eq (codes "live") w then live_in ws
-        else journals_in w ws)
+        else None)
         ≡ Some (Direct a) → Asks a (w ∷ ws)
     seed_asks w ws a h = elim (cases_Bool (bytes_eq (codes "gen") w)) [
       | inl gen ↦ absurd (no_gen (seeded_in (without_dashes ws)) a (rw gen at h))
@@ -282,7 +267,7 @@ command_asks (w ∷ ws) a h = elim (cases_Bool (bytes_eq (codes "replay") w)) [
         else if bytes_eq (codes "gen") w then gen_in ws
         else if bytes_eq (codes "direct") w then direct_in ws
         else if bytes_eq (codes "live") w then live_in ws
-        else journals_in w ws)
+        else None)
         ≡ Some (Direct a) → Asks a (w ∷ ws)
     span_asks w ws a h = elim (cases_Bool (bytes_eq (codes "draw") w)) [
       | inl draw ↦ absurd (no_draw (without_dashes ws) a (rw draw at h))

@@ -2,7 +2,7 @@
 use Rattle.sl_cli.specs.Actions.{Given, action_in}
 use Rattle.sl_cli.specs.OwnWords.{is_own, own_in}
 use Rattle.sl_cli.specs.TimesWords.{grace_of, is_times, timing_of}
-use Rattle.sl_cli.specs.declared.command_words.Words.TheVariants.{Check, Direct, Draw, Generate, Help, Journal, Label, Live, Replay, Version}
+use Rattle.sl_cli.specs.declared.command_words.Words.TheVariants.{Direct, Draw, Generate, Help, Label, Live, Replay, Version}
 use Rattle.sl_cli.specs.declared.command_words.Words.{Words}
 use Rattle.sl_direct.specs.declared.action.Action.TheVariants.{InitLockspace}
 use Rattle.sl_text.specs.Numbers.{is_number_that, number_of}
@@ -245,7 +245,7 @@ is_only long short [] = false
 is_only long short (w ∷ []) = bytes_eq w long || bytes_eq w short
 is_only long short (w ∷ v ∷ ws) = false
 
--- Behind `replay`, `journal` and `check` stands nothing, or `--`.
+-- Behind `replay` stands nothing, or `--`.
 abbrev pub ends_here : List (List ℕ) → Bool
 ends_here [] = true
 ends_here (w ∷ []) = bytes_eq w (codes "--")
@@ -254,13 +254,6 @@ ends_here (w ∷ v ∷ ws) = false
 -- What the words behind `direct` say.
 abbrev pub direct_in : List (List ℕ) → Option Words
 direct_in ws = option_and_then (λ uses. option_map (λ a. Direct a) (action_in (given_by uses))) (uses_from nothing_taken ws)
-
--- What the words of a command on journals say.
-abbrev pub journals_in : List ℕ → List (List ℕ) → Option Words
-journals_in w ws =
-    if bytes_eq (codes "journal") w then choose (ends_here ws) Journal
-    else if bytes_eq (codes "check") w then choose (ends_here ws) Check
-    else None
 
 -- What the words of a command say.
 abbrev pub command_in : List (List ℕ) → Option Words
@@ -271,7 +264,7 @@ command_in (w ∷ ws) =
     else if bytes_eq (codes "gen") w then gen_in ws
     else if bytes_eq (codes "direct") w then direct_in ws
     else if bytes_eq (codes "live") w then live_in ws
-    else journals_in w ws
+    else None
 
 -- The words are of this form: `direct init -t`, and then the times.
 abbrev pub is_timed : List (List ℕ) → Bool

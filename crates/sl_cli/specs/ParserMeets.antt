@@ -6,7 +6,7 @@ use Rattle.sl_cli.specs.Actions.{Given, action_in}
 use Rattle.sl_cli.specs.ParserShape.{command_line}
 use Rattle.sl_cli.specs.CommandWords.{Placing, Seeding, generated, placed_in, seeding_in, span_in}
 use Rattle.sl_cli.specs.declared.parsed_command.Met.{Met}
-use Rattle.sl_cli.specs.declared.command_words.Words.TheVariants.{Check, Direct, Journal, Replay}
+use Rattle.sl_cli.specs.declared.command_words.Words.TheVariants.{Direct, Replay}
 use Rattle.sl_cli.specs.declared.command_words.Words.{Words}
 use Rattle.std.specs.Prelude.{Bool, List, None, Option, Some, bytes_eq, codes, false, if◌then◌else◌, option_map, [], ◌≡◌}
 
@@ -53,8 +53,6 @@ named_met name rows =
     else if bytes_eq name (codes "gen") then Some (Met.Generate (seeding_of rows))
     else if bytes_eq name (codes "direct") then Some (Met.Direct (given_in rows))
     else if bytes_eq name (codes "live") then Some (Met.Live (placing_of rows))
-    else if bytes_eq name (codes "journal") then Some Met.Journal
-    else if bytes_eq name (codes "check") then Some Met.Check
     else None
 
 -- The command that was met.
@@ -66,8 +64,6 @@ met_in (Some p) = named_met p.0 p.1
 abbrev pub said_by : Met → Option Words
 said_by Met.Replay = Some Replay
 said_by (Met.Draw s) = span_in s.seed s.hosts s.events s.format
-said_by Met.Journal = Some Journal
-said_by Met.Check = Some Check
 said_by (Met.Generate s) = option_map generated (seeding_in s.seed s.hosts s.events s.format)
 said_by (Met.Direct given) = option_map (λ a. Direct a) (action_in given)
 said_by (Met.Live p) = placed_in p

@@ -52,10 +52,6 @@ playing_app = with_subcommand drawing_app (seed_app (codes "gen")).top
 abbrev pub offline_app : App
 offline_app = with_subcommand playing_app direct_app.top
 
--- With live machines.
-abbrev pub running_app : App
-running_app = with_subcommand offline_app live_app.top
-
--- The whole command: with journals, and their check.
+-- The whole command.
 abbrev pub command_line : App
-command_line = with_subcommand (with_subcommand running_app (new_shape (codes "journal"))) (new_shape (codes "check"))
+command_line = with_subcommand offline_app live_app.top

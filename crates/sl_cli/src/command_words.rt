@@ -32,10 +32,6 @@ pub enum Words {
         first: u64,
         last: u64,
     },
-    /// Run a schedule, and put out its journal.
-    Journal,
-    /// Check a journal.
-    Check,
     /// Make a schedule of so many events (0 to 1000000) for so many hosts (1 to 16) from a seed, with pairs or without, and run it.
     Generate {
         seed: u64,
@@ -143,8 +139,6 @@ fn said(alloc: Global, met: Met<'_>) -> Result<Option<Words>, AllocError>
     match met {
         Met::Replay => Ok(Some(Words::Replay)),
         Met::Draw(given) => Ok(given.part()),
-        Met::Journal => Ok(Some(Words::Journal)),
-        Met::Check => Ok(Some(Words::Check)),
         Met::Generate(given) => Ok(generated(&given)),
         Met::Direct(given) => Ok(directed(&given)),
         Met::Live(given) => given.words(alloc),

@@ -397,8 +397,6 @@ impl<'a> Placing<'a> {
 pub(crate) enum Met<'a> {
     Replay,
     Draw(Seeding<'a>),
-    Journal,
-    Check,
     Generate(Seeding<'a>),
     Direct(Given<'a>),
     Live(Placing<'a>),
@@ -418,10 +416,6 @@ fn met_named<'a>(name: &str, matches: &ArgMatches<'a>) -> Option<Met<'a>>
         Some(Met::Direct(Given::new(matches)))
     } else if name == "live" {
         Some(Met::Live(Placing::new(matches)))
-    } else if name == "journal" {
-        Some(Met::Journal)
-    } else if name == "check" {
-        Some(Met::Check)
     } else {
         None
     }

@@ -1,9 +1,9 @@
 //! The command as the argument parser knows it.
 
 ghost use Rattle.clap.specs.Walk.{rule_of};
-ghost use Rattle.clap.specs.Simple.{app_of, new_rule, new_shape, with_rule, with_subcommand};
+ghost use Rattle.clap.specs.Simple.{app_of, new_rule, new_shape, with_rule};
 ghost use Rattle.clap.specs.declared.builder.command.Command.TheViews.{out-Command as fields_of};
-ghost use Rattle.sl_cli.specs.ParserShape.{bare_shape, command_line, direct_app, drawing_app, flag_rule, live_app, offline_app, option_rule, playing_app, reading_app, running_app, seed_app};
+ghost use Rattle.sl_cli.specs.ParserShape.{bare_shape, command_line, direct_app, drawing_app, flag_rule, live_app, offline_app, option_rule, playing_app, reading_app, seed_app};
 ghost use Rattle.std.specs.Prelude.{IfOk, [], codes, false, ◌≡◌};
 
 use clap::{Arg, ArgAction, Command};
@@ -164,23 +164,9 @@ fn offline<'a>(alloc: Global) -> Result<Command<'a>, AllocError>
     playing(alloc)?.subcommand(direct(alloc)?)
 }
 
-/// The program with live machines.
-fn running<'a>(alloc: Global) -> Result<Command<'a>, AllocError>
-    ensures { IfOk result (λ c. app_of c ≡ running_app) }
-{
-    offline(alloc)?.subcommand(live(alloc)?)
-}
-
-/// The program with the command that writes a journal.
-fn journaling<'a>(alloc: Global) -> Result<Command<'a>, AllocError>
-    ensures { IfOk result (λ c. app_of c ≡ with_subcommand running_app (new_shape (codes "journal"))) }
-{
-    running(alloc)?.subcommand(Command::new(alloc, "journal"))
-}
-
 /// The whole command.
 pub(crate) fn command_line<'a>(alloc: Global) -> Result<Command<'a>, AllocError>
     ensures { IfOk result (λ c. app_of c ≡ command_line) }
 {
-    journaling(alloc)?.subcommand(Command::new(alloc, "check"))
+    offline(alloc)?.subcommand(live(alloc)?)
 }

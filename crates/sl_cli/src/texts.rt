@@ -8,10 +8,6 @@ usage: sanlock COMMAND
   draw [FROM TO]           run the schedule on standard input, print its picture
                            as SVG; with FROM and TO what lies between these two
                            lines is drawn
-  journal                  run the schedule on standard input, print its journal:
-                           each event, what it gave a daemon, and what that did
-  check                    check the journal on standard input: is it that of a
-                           run; if not, the first line that differs
   gen SEED HOSTS EVENTS [2]
                            run the schedule of a seed, print its words and the
                            last line of its report; with 2 each host's block has
@@ -61,9 +57,8 @@ SEED is below 2^64, HOSTS 1 to 16, EVENTS at most 1000000.
 
 Status: 0 done; 1 a line was refused; 2 bad words; 3 a read and 4 a write
 failed; 5 no memory; 6 a read or a write of an area failed, or areas that are
-there are not those of the header; 7 not the leader, for an upgrade a torn
-block, or a journal that differs from what is due; 8 a live machine's threads
-and its history differ; 9 a journal breaks off.
+there are not those of the header; 7 not the leader, or for an upgrade a
+torn block; 8 a live machine's threads and its history differ.
 ";
 
 /// What `--version` puts out.

@@ -90,8 +90,6 @@ fn with_label(words: Words, times: &str) -> Option<Words>
         Words::Direct(action) => label_of(action, times),
         Words::Replay => None,
         Words::Draw { .. } => None,
-        Words::Journal => None,
-        Words::Check => None,
         Words::Generate { .. } => None,
         Words::Label { .. } => None,
         Words::Live { .. } => None,

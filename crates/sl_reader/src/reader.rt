@@ -200,7 +200,7 @@ impl LineReader {
     }
 
     /// Whether the source has ended.
-    pub fn has_ended(&self) -> bool
+    fn has_ended(&self) -> bool
         ensures { result ≡ self.now.ended }
     {
         self.ended

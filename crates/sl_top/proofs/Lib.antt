@@ -7,4 +7,3 @@ pub mod StatusLaws
 pub mod LiveLaws
 pub mod OwnLaws
 pub mod PictureLaws
-pub mod JournalLaws

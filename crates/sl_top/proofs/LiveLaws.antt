@@ -16,11 +16,11 @@ use Rattle.sl_run.specs.declared.header.Header.{Header}
 use Rattle.sl_top.proofs.RunLaws.{nothing_put}
 use Rattle.sl_top.specs.LiveHistories.{LiveHistoriesAreGood}
 use Rattle.sl_top.specs.StatusLaws.{SomeDiffer}
-use Rattle.sl_cli.specs.declared.command_words.Words.TheVariants.{Check, Direct, Draw, Generate, Help, Journal, Label, Live, Own, Replay, Version}
+use Rattle.sl_cli.specs.declared.command_words.Words.TheVariants.{Direct, Draw, Generate, Help, Label, Live, Own, Replay, Version}
 use Rattle.sl_cli.specs.declared.command_words.Words.{Words}
 use Rattle.sl_top.specs.Runs.{IsLive, IsOwn, Outside, Owes, RunsLive, RunsOwn, asked_in, asked_of, told_from}
 use Rattle.sl_top.specs.Statuses.{status_of_live}
-use Rattle.sl_top.specs.declared.status.Status.TheVariants.{AreaFault, BadWords, BreaksOff, Differs, JournalDiffers, NoMemory, NotTheLeader, ReadFault, WriteFault}
+use Rattle.sl_top.specs.declared.status.Status.TheVariants.{AreaFault, BadWords, Differs, NoMemory, NotTheLeader, ReadFault, WriteFault}
 use Rattle.sl_top.specs.declared.own.OwnPlace.{OwnPlace}
 use Rattle.sl_top.specs.declared.status.Status.{Status}
 use Rattle.sl_top.specs.declared.top.Asked.TheVariants.{All, One}
@@ -63,24 +63,6 @@ not_a_look lived.WriteFault e = absurd cc
 not_a_look lived.NoMemory e = absurd cc
 not_a_look lived.AreaFault e = absurd cc
 not_a_look lived.Differs e = absurd cc
-
-pub not_a_check : (l : Lived) → status_of_live l ≡ JournalDiffers → ⊥
-not_a_check lived.Done e = absurd cc
-not_a_check lived.Refused e = absurd cc
-not_a_check lived.ReadFault e = absurd cc
-not_a_check lived.WriteFault e = absurd cc
-not_a_check lived.NoMemory e = absurd cc
-not_a_check lived.AreaFault e = absurd cc
-not_a_check lived.Differs e = absurd cc
-
-pub not_broken_off : (l : Lived) → status_of_live l ≡ BreaksOff → ⊥
-not_broken_off lived.Done e = absurd cc
-not_broken_off lived.Refused e = absurd cc
-not_broken_off lived.ReadFault e = absurd cc
-not_broken_off lived.WriteFault e = absurd cc
-not_broken_off lived.NoMemory e = absurd cc
-not_broken_off lived.AreaFault e = absurd cc
-not_broken_off lived.Differs e = absurd cc
 
 pub read_failed : (l : Lived) → status_of_live l ≡ ReadFault → l ≡ lived.ReadFault
 read_failed lived.Done e = absurd cc
@@ -254,8 +236,6 @@ asked_is (Live folder anew keeps events) a is = ap words_for (some_value _ a is)
 asked_is (Own folder machine watchdog syncs keeps events) a is = ap words_for (some_value _ a is)
 asked_is Replay a is = absurd cc
 asked_is (Draw first last) a is = absurd cc
-asked_is Journal a is = absurd cc
-asked_is Check a is = absurd cc
 asked_is (Generate seed hosts events paired) a is = absurd cc
 asked_is (Direct b) a is = absurd cc
 asked_is (Label l g t grace) a is = absurd cc
@@ -288,8 +268,6 @@ live_from at_terminal (Live folder anew keeps events) p is = (folder, record { a
 live_from at_terminal (Own folder machine watchdog syncs keeps events) p is = absurd cc
 live_from at_terminal Replay p is = absurd cc
 live_from at_terminal (Draw first last) p is = absurd cc
-live_from at_terminal Journal p is = absurd cc
-live_from at_terminal Check p is = absurd cc
 live_from at_terminal (Generate seed hosts events paired) p is = absurd cc
 live_from at_terminal (Direct b) p is = absurd cc
 live_from at_terminal (Label l g t grace) p is = absurd cc
@@ -306,8 +284,6 @@ own_from at_terminal (Own folder machine watchdog syncs keeps events) p is =
     (folder, watchdog, record { machine = machine; syncs = syncs; keeps = keeps; events = events }, refl)
 own_from at_terminal Replay p is = absurd cc
 own_from at_terminal (Draw first last) p is = absurd cc
-own_from at_terminal Journal p is = absurd cc
-own_from at_terminal Check p is = absurd cc
 own_from at_terminal (Generate seed hosts events paired) p is = absurd cc
 own_from at_terminal (Direct b) p is = absurd cc
 own_from at_terminal (Label l g t grace) p is = absurd cc
@@ -332,8 +308,6 @@ same_from at_terminal (Live folder anew keeps events) none = absurd cc
 same_from at_terminal (Own folder machine watchdog syncs keeps events) none = absurd cc
 same_from at_terminal Replay none = refl
 same_from at_terminal (Draw first last) none = refl
-same_from at_terminal Journal none = refl
-same_from at_terminal Check none = refl
 same_from at_terminal (Generate seed hosts events paired) none = refl
 same_from at_terminal (Direct b) none = refl
 same_from at_terminal (Label l g t grace) none = refl

@@ -1,6 +1,6 @@
 -- Which statuses a run may end with, by what its words say, and why.
 use Rattle.sl_area.specs.AreaSizes.{Sizes}
-use Rattle.sl_cli.specs.declared.command_words.Words.TheVariants.{Check, Direct, Draw, Generate, Help, Journal, Label, Live, Own, Replay, Version}
+use Rattle.sl_cli.specs.declared.command_words.Words.TheVariants.{Direct, Draw, Generate, Help, Label, Live, Own, Replay, Version}
 use Rattle.sl_cli.specs.declared.command_words.Words.{Words}
 use Rattle.sl_cli.specs.declared.texts.TheConstants.{HELP, VERSION}
 use Rattle.sl_direct.proofs.AreaLaws.{leader_is_told}
@@ -23,14 +23,12 @@ use Rattle.sl_live_play.specs.declared.play.Manner.{Manner}
 use Rattle.sl_own.specs.declared.play.OwnManner.{OwnManner}
 use Rattle.sl_time.specs.Times.{TimingNumbers}
 use Rattle.sl_top.proofs.OwnLaws.{own_caused}
-use Rattle.sl_top.proofs.LiveLaws.{live_caused, not_a_check, not_a_look, not_bad as not_bad_live, not_broken_off}
+use Rattle.sl_top.proofs.LiveLaws.{live_caused, not_a_look, not_bad as not_bad_live}
 use Rattle.sl_top.proofs.RunLaws.{whole_headers}
 use Rattle.sl_top.specs.StatusLaws.{AcceptedSchedulesEndWell, CantBeUpgraded, CausesHaveStatuses, HasItsCause, IsNotTheLeader, NothingFailed, OtherSchedulesAreRefused, StatusesHaveCauses, has_leader}
 use Rattle.sl_top.specs.Runs.{ActsOn, IsCutShort, IsDirect, IsWritten, Outside, PutsOut, Replays, RunsLive, RunsOwn, bad_words_text}
-use Rattle.sl_top.proofs.JournalLaws.{checked_not, played_not, played_not_broken, played_not_compared}
-use Rattle.sl_top.specs.JournalsOwed.{ChecksJournal, WritesJournal}
 use Rattle.sl_top.specs.Statuses.{code, status_after}
-use Rattle.sl_top.specs.declared.status.Status.TheVariants.{AreaFault, BadWords, BreaksOff, Differs, Done, JournalDiffers, NoMemory, NotTheLeader, ReadFault, Refused, WriteFault}
+use Rattle.sl_top.specs.declared.status.Status.TheVariants.{AreaFault, BadWords, Differs, Done, NoMemory, NotTheLeader, ReadFault, Refused, WriteFault}
 use Rattle.sl_top.specs.declared.status.Status.{Status}
 use Rattle.sl_trace.specs.declared.command.LockspaceArg.{LockspaceArg}
 use Rattle.sl_trace.specs.declared.command.ResourceArg.{ResourceArg}
@@ -60,8 +58,6 @@ done_caused w x y text s put =
       write_fault = put.cause;
       area_fault = λ e. absurd (none_of s AreaFault Done ends e (λ no. absurd cc) (λ no. absurd cc) (λ no. absurd cc));
       not_the_leader = λ e. absurd (none_of s NotTheLeader Done ends e (λ no. absurd cc) (λ no. absurd cc) (λ no. absurd cc));
-      journal_differs = λ e. absurd (none_of s JournalDiffers Done ends e (λ no. absurd cc) (λ no. absurd cc) (λ no. absurd cc));
-      breaks_off = λ e. absurd (none_of s BreaksOff Done ends e (λ no. absurd cc) (λ no. absurd cc) (λ no. absurd cc));
       differs = λ e. absurd (none_of s Differs Done ends e (λ no. absurd cc) (λ no. absurd cc) (λ no. absurd cc));
     }
 
@@ -75,8 +71,6 @@ bad_caused x y s put =
       write_fault = put.cause;
       area_fault = λ e. absurd (none_of s AreaFault BadWords ends e (λ no. absurd cc) (λ no. absurd cc) (λ no. absurd cc));
       not_the_leader = λ e. absurd (none_of s NotTheLeader BadWords ends e (λ no. absurd cc) (λ no. absurd cc) (λ no. absurd cc));
-      journal_differs = λ e. absurd (none_of s JournalDiffers BadWords ends e (λ no. absurd cc) (λ no. absurd cc) (λ no. absurd cc));
-      breaks_off = λ e. absurd (none_of s BreaksOff BadWords ends e (λ no. absurd cc) (λ no. absurd cc) (λ no. absurd cc));
       differs = λ e. absurd (none_of s Differs BadWords ends e (λ no. absurd cc) (λ no. absurd cc) (λ no. absurd cc));
     }
 
@@ -96,8 +90,6 @@ replay_caused x y s run =
       write_fault = run.write_fault;
       area_fault = λ e. absurd (outside run.ended run.read run.written s AreaFault run.headline e (λ h. let no : false ≡ true = h.0 in absurd cc));
       not_the_leader = λ e. absurd (outside run.ended run.read run.written s NotTheLeader run.headline e (λ h. let no : false ≡ true = h.0 in absurd cc));
-      journal_differs = λ e. absurd (outside run.ended run.read run.written s JournalDiffers run.headline e (λ h. let no : false ≡ true = h.0 in absurd cc));
-      breaks_off = λ e. absurd (outside run.ended run.read run.written s BreaksOff run.headline e (λ h. let no : false ≡ true = h.0 in absurd cc));
       differs = λ e. absurd (outside run.ended run.read run.written s Differs run.headline e (λ h. let no : false ≡ true = h.0 in absurd cc));
     }
 
@@ -112,34 +104,16 @@ draw_caused : (first last : ℕ) (x y : Outside) (s : Status)
     → Draws (record { first = first; last = last }) x.left y.left x.source_faults y.source_faults x.taken y.taken x.sink_faults y.sink_faults s → HasItsCause (Some (Draw first last)) x y s
 draw_caused first last x y s run =
     record {
-      refused = λ e. inl (inr (inl (first, last, refl)));
+      refused = λ e. inl (inr (first, last, refl));
       bad_words = λ e. absurd (not_drawn _ run.ended run.read run.written s BadWords run.owed e (λ h. let no : false ≡ true = h.0 in absurd cc));
-      read_fault = λ e. (inl (inr (inl (first, last, refl))), run.read_fault e);
+      read_fault = λ e. (inl (inr (first, last, refl)), run.read_fault e);
       write_fault = run.write_fault;
       area_fault = λ e. absurd (not_drawn _ run.ended run.read run.written s AreaFault run.owed e (λ h. let no : false ≡ true = h.0 in absurd cc));
       not_the_leader = λ e. absurd (not_drawn _ run.ended run.read run.written s NotTheLeader run.owed e (λ h. let no : false ≡ true = h.0 in absurd cc));
-      journal_differs = λ e. absurd (not_drawn _ run.ended run.read run.written s JournalDiffers run.owed e (λ h. let no : false ≡ true = h.0 in absurd cc));
-      breaks_off = λ e. absurd (not_drawn _ run.ended run.read run.written s BreaksOff run.owed e (λ h. let no : false ≡ true = h.0 in absurd cc));
       differs = λ e. absurd (not_drawn _ run.ended run.read run.written s Differs run.owed e (λ h. let no : false ≡ true = h.0 in absurd cc));
     }
 
 -- ---- an action
-
-not_compared : (d : Directed) → status_after d ≡ JournalDiffers → ⊥
-not_compared directed.Done e = absurd cc
-not_compared directed.WriteFault e = absurd cc
-not_compared directed.NoMemory e = absurd cc
-not_compared directed.AreaFault e = absurd cc
-not_compared directed.NotTheLeader e = absurd cc
-not_compared directed.TornBlock e = absurd cc
-
-not_broken : (d : Directed) → status_after d ≡ BreaksOff → ⊥
-not_broken directed.Done e = absurd cc
-not_broken directed.WriteFault e = absurd cc
-not_broken directed.NoMemory e = absurd cc
-not_broken directed.AreaFault e = absurd cc
-not_broken directed.NotTheLeader e = absurd cc
-not_broken directed.TornBlock e = absurd cc
 
 not_refused : (d : Directed) → status_after d ≡ Refused → ⊥
 not_refused directed.Done e = absurd cc
@@ -282,8 +256,6 @@ acted_caused w a x y s asked run looked =
       write_fault = λ e. run.directs.write_fault (write_failed run.ended (sym run.status ∙ e));
       area_fault = λ e. inl (inl asked, run.count.rose (some_fault run.counted (run.directs.area_fault (area_failed run.ended (sym run.status ∙ e)))));
       not_the_leader = λ e. looked (other_leader run.ended (sym run.status ∙ e));
-      journal_differs = λ e. absurd (not_compared run.ended (sym run.status ∙ e));
-      breaks_off = λ e. absurd (not_broken run.ended (sym run.status ∙ e));
       differs = λ e. absurd (not_differing run.ended (sym run.status ∙ e));
     }
 
@@ -325,8 +297,6 @@ live_has_cause folder m x y s run =
       write_fault = why.written;
       area_fault = λ e. inl (inr (folder, m, refl), why.area e);
       not_the_leader = λ e. absurd (not_a_look run.ended (sym run.status ∙ e));
-      journal_differs = λ e. absurd (not_a_check run.ended (sym run.status ∙ e));
-      breaks_off = λ e. absurd (not_broken_off run.ended (sym run.status ∙ e));
       differs = λ e. inl ((folder, m, refl), why.differs e);
     }
 
@@ -341,39 +311,7 @@ own_has_cause folder watchdog m x y s run =
       write_fault = why.written;
       area_fault = λ e. inr ((folder, watchdog, m, refl), why.area e);
       not_the_leader = λ e. absurd (not_a_look run.ended (sym run.status ∙ e));
-      journal_differs = λ e. absurd (not_a_check run.ended (sym run.status ∙ e));
-      breaks_off = λ e. absurd (not_broken_off run.ended (sym run.status ∙ e));
       differs = λ e. inr ((folder, watchdog, m, refl), why.differs e);
-    }
-
--- ---- journals
-
-journal_caused : (x y : Outside) (s : Status) → WritesJournal x.left y.left x.source_faults y.source_faults x.taken y.taken x.sink_faults y.sink_faults s → HasItsCause (Some Journal) x y s
-journal_caused x y s run =
-    record {
-      refused = λ e. inl (inr (inr (inl refl)));
-      bad_words = λ e. absurd (played_not run.ended BadWords (sym run.status ∙ e) (inl refl));
-      read_fault = λ e. (inl (inr (inr (inl refl))), run.read_fault e);
-      write_fault = run.write_fault;
-      area_fault = λ e. absurd (played_not run.ended AreaFault (sym run.status ∙ e) (inr (inl refl)));
-      not_the_leader = λ e. absurd (played_not run.ended NotTheLeader (sym run.status ∙ e) (inr (inr (inl refl))));
-      journal_differs = λ e. absurd (played_not_compared run.ended (sym run.status ∙ e));
-      breaks_off = λ e. absurd (played_not_broken run.ended (sym run.status ∙ e));
-      differs = λ e. absurd (played_not run.ended Differs (sym run.status ∙ e) (inr (inr (inr refl))));
-    }
-
-check_caused : (x y : Outside) (s : Status) → ChecksJournal x.left y.left x.source_faults y.source_faults x.taken y.taken x.sink_faults y.sink_faults s → HasItsCause (Some Check) x y s
-check_caused x y s run =
-    record {
-      refused = λ e. inl (inr (inr (inr refl)));
-      bad_words = λ e. absurd (checked_not run.ended BadWords (sym run.status ∙ e) (inl refl));
-      read_fault = λ e. (inl (inr (inr (inr refl))), run.read_fault e);
-      write_fault = run.write_fault;
-      area_fault = λ e. absurd (checked_not run.ended AreaFault (sym run.status ∙ e) (inr (inl refl)));
-      not_the_leader = λ e. absurd (checked_not run.ended NotTheLeader (sym run.status ∙ e) (inr (inr (inl refl))));
-      journal_differs = λ e. refl;
-      breaks_off = λ e. refl;
-      differs = λ e. absurd (checked_not run.ended Differs (sym run.status ∙ e) (inr (inr (inr refl))));
     }
 
 -- ---- all words
@@ -382,8 +320,6 @@ pub statuses_have_causes : StatusesHaveCauses
 statuses_have_causes None x y s h = bad_caused x y s h
 statuses_have_causes (Some Replay) x y s h = replay_caused x y s h
 statuses_have_causes (Some (Draw first last)) x y s h = draw_caused first last x y s h
-statuses_have_causes (Some Journal) x y s h = journal_caused x y s h
-statuses_have_causes (Some Check) x y s h = check_caused x y s h
 statuses_have_causes (Some (Generate seed hosts events paired)) x y s h = done_caused (Some (Generate seed hosts events paired)) x y _ s h.puts
 statuses_have_causes (Some (Direct a)) x y s h = direct_caused a x y s h
 statuses_have_causes (Some (Label l g t grace)) x y s h = label_caused l g t grace x y s h
@@ -464,8 +400,6 @@ ends_well source x y WriteFault run told zero none = absurd (none.sink (run.writ
 ends_well source x y NoMemory run told zero none = inr refl
 ends_well source x y AreaFault run told zero none = absurd (outside run.ended run.read run.written AreaFault AreaFault run.headline refl (λ h. let no : false ≡ true = h.0 in absurd cc))
 ends_well source x y NotTheLeader run told zero none = absurd (outside run.ended run.read run.written NotTheLeader NotTheLeader run.headline refl (λ h. let no : false ≡ true = h.0 in absurd cc))
-ends_well source x y JournalDiffers run told zero none = absurd (outside run.ended run.read run.written JournalDiffers JournalDiffers run.headline refl (λ h. let no : false ≡ true = h.0 in absurd cc))
-ends_well source x y BreaksOff run told zero none = absurd (outside run.ended run.read run.written BreaksOff BreaksOff run.headline refl (λ h. let no : false ≡ true = h.0 in absurd cc))
 ends_well source x y Differs run told zero none = absurd (outside run.ended run.read run.written Differs Differs run.headline refl (λ h. let no : false ≡ true = h.0 in absurd cc))
 
 ends_at_zero : (source : List ℕ) (x y : Outside) (s : Status) → Replays x.left y.left x.source_faults y.source_faults x.taken y.taken x.sink_faults y.sink_faults s
@@ -492,8 +426,6 @@ ends_refused source x y WriteFault run told other none = absurd (none.sink (run.
 ends_refused source x y NoMemory run told other none = inr refl
 ends_refused source x y AreaFault run told other none = absurd (outside run.ended run.read run.written AreaFault AreaFault run.headline refl (λ h. let no : false ≡ true = h.0 in absurd cc))
 ends_refused source x y NotTheLeader run told other none = absurd (outside run.ended run.read run.written NotTheLeader NotTheLeader run.headline refl (λ h. let no : false ≡ true = h.0 in absurd cc))
-ends_refused source x y JournalDiffers run told other none = absurd (outside run.ended run.read run.written JournalDiffers JournalDiffers run.headline refl (λ h. let no : false ≡ true = h.0 in absurd cc))
-ends_refused source x y BreaksOff run told other none = absurd (outside run.ended run.read run.written BreaksOff BreaksOff run.headline refl (λ h. let no : false ≡ true = h.0 in absurd cc))
 ends_refused source x y Differs run told other none = absurd (outside run.ended run.read run.written Differs Differs run.headline refl (λ h. let no : false ≡ true = h.0 in absurd cc))
 
 ends_at_one : (source : List ℕ) (x y : Outside) (s : Status) → Replays x.left y.left x.source_faults y.source_faults x.taken y.taken x.sink_faults y.sink_faults s

@@ -1,5 +1,4 @@
 pub mod Statuses
-pub mod JournalsOwed
 pub mod Runs
 pub mod StatusLaws
 pub mod LiveHistories

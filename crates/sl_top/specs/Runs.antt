@@ -1,6 +1,6 @@
 -- What a run of the program owes: by what its words say, what it read and wrote, what it left on the disks, and its status.
 use Rattle.sl_cli.specs.CommandWords.{said_in}
-use Rattle.sl_cli.specs.declared.command_words.Words.TheVariants.{Check, Direct, Draw, Generate, Help, Journal, Label, Live, Own, Replay, Version}
+use Rattle.sl_cli.specs.declared.command_words.Words.TheVariants.{Direct, Draw, Generate, Help, Label, Live, Own, Replay, Version}
 use Rattle.sl_cli.specs.declared.command_words.Words.{Words}
 use Rattle.sl_cli.specs.declared.texts.TheConstants.{HELP, VERSION}
 use Rattle.sl_direct.specs.Actions.{Directs, path_of}
@@ -27,7 +27,6 @@ use Rattle.sl_text.specs.Forms.{as_bytes}
 use Rattle.sl_time.specs.Times.{TimingNumbers}
 use Rattle.sl_trace.specs.declared.command.LockspaceArg.{LockspaceArg}
 use Rattle.sl_top.specs.Pictures.{Draws}
-use Rattle.sl_top.specs.JournalsOwed.{ChecksJournal, WritesJournal}
 use Rattle.sl_top.specs.Statuses.{code, status_after, status_of_live}
 use Rattle.sl_top.specs.declared.top.Asked.TheVariants.{All, One}
 use Rattle.sl_top.specs.declared.top.Asked.{Asked}
@@ -150,8 +149,6 @@ Owes None x y s = Tells bad_words_text BadWords x y s
 Owes (Some Replay) x y s = Replays x.left y.left x.source_faults y.source_faults x.taken y.taken x.sink_faults y.sink_faults s
 Owes (Some (Draw first last)) x y s =
     Draws (record { first = first; last = last }) x.left y.left x.source_faults y.source_faults x.taken y.taken x.sink_faults y.sink_faults s
-Owes (Some Journal) x y s = WritesJournal x.left y.left x.source_faults y.source_faults x.taken y.taken x.sink_faults y.sink_faults s
-Owes (Some Check) x y s = ChecksJournal x.left y.left x.source_faults y.source_faults x.taken y.taken x.sink_faults y.sink_faults s
 Owes (Some (Generate seed hosts events paired)) x y s = Generates seed hosts events paired x.taken y.taken x.sink_faults y.sink_faults s
 Owes (Some (Direct a)) x y s = ActsOn a x.disks y.disks x.device_faults y.device_faults x.taken y.taken x.sink_faults y.sink_faults s
 Owes (Some (Label l g t grace)) x y s = ActsOn (InitLabelled l g t grace) x.disks y.disks x.device_faults y.device_faults x.taken y.taken x.sink_faults y.sink_faults s
@@ -167,13 +164,9 @@ IsReplay w = w ≡ Some Replay
 abbrev pub IsDraw : Option Words → Type 0
 IsDraw w = (first : ℕ) × (last : ℕ) × (w ≡ Some (Draw first last))
 
--- A journal is to be written, or to be checked.
-abbrev pub IsJournal : Option Words → Type 0
-IsJournal w = (w ≡ Some Journal) ⊎ (w ≡ Some Check)
-
--- The source is read: of a schedule, or of a journal.
+-- A schedule is read from the source.
 abbrev pub ReadsSource : Option Words → Type 0
-ReadsSource w = IsReplay w ⊎ IsDraw w ⊎ IsJournal w
+ReadsSource w = IsReplay w ⊎ IsDraw w
 
 -- An action is done to a disk; a lockspace with a label is made by words of its own.
 abbrev pub IsLabel : Option Words → Type 0

@@ -1,6 +1,6 @@
 -- What each status tells of a run.
 use Rattle.sl_area.specs.AreaSizes.{Sizes}
-use Rattle.sl_cli.specs.declared.command_words.Words.TheVariants.{Check, Direct, Replay}
+use Rattle.sl_cli.specs.declared.command_words.Words.TheVariants.{Direct, Replay}
 use Rattle.sl_cli.specs.declared.command_words.Words.{Words}
 use Rattle.sl_direct.specs.Laws.{can_upgrade, sector_at}
 use Rattle.sl_direct.specs.Lines.{is_its_leader, leader_in_sector}
@@ -23,7 +23,7 @@ use Rattle.sl_report.specs.Languages.{whole_language}
 use Rattle.sl_run.specs.declared.header.Header.{Header}
 use Rattle.sl_sound.specs.Reports.FollowedSchedules.{IsAccepted}
 use Rattle.sl_top.specs.Runs.{IsCutShort, IsDirect, IsLive, IsOwn, Outside, Owes, ReadsSource}
-use Rattle.sl_top.specs.declared.status.Status.TheVariants.{AreaFault, BadWords, BreaksOff, Differs, Done, JournalDiffers, NoMemory, NotTheLeader, ReadFault, Refused, WriteFault}
+use Rattle.sl_top.specs.declared.status.Status.TheVariants.{AreaFault, BadWords, Differs, Done, NoMemory, NotTheLeader, ReadFault, Refused, WriteFault}
 use Rattle.sl_top.specs.declared.status.Status.{Status}
 use Rattle.sl_trace.specs.declared.command.ResourceArg.{ResourceArg}
 use Rattle.sl_io.specs.FaultCauses.{Rose}
@@ -95,9 +95,6 @@ pub record HasItsCause (w : Option Words) (x y : Outside) (s : Status) : Type 0 
   -- a fault was counted; or one machine can't run where it is to
   pub area_fault : s ≡ AreaFault → ((IsDirect w ⊎ IsLive w) × Rose x.device_faults y.device_faults) ⊎ ((own : IsOwn w) × CantRun own.0 own.2 x y)
   pub not_the_leader : s ≡ NotTheLeader → IsNotTheLeader w x ⊎ CantBeUpgraded w x
-  -- a journal was checked; of which journals what is owed says
-  pub journal_differs : s ≡ JournalDiffers → w ≡ Some Check
-  pub breaks_off : s ≡ BreaksOff → w ≡ Some Check
   -- records of a live machine differ: the case that is put out holds
   pub differs : s ≡ Differs → ((live : IsLive w) × SomeDiffer live.1.keeps x y) ⊎ ((own : IsOwn w) × OneDiffers own.2 x y)
 

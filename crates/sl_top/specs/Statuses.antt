@@ -1,6 +1,4 @@
 -- The numbers of statuses.
-use Rattle.sl_check.specs.declared.check.Checked.TheVariants as checked
-use Rattle.sl_check.specs.declared.check.Checked.{Checked}
 use Rattle.sl_direct.specs.declared.action.Directed.TheVariants as directed
 use Rattle.sl_direct.specs.declared.action.Directed.{Directed}
 use Rattle.sl_generate.specs.declared.generator.Generated.TheVariants as generated
@@ -9,7 +7,7 @@ use Rattle.sl_live_play.specs.declared.play.Lived.TheVariants as lived
 use Rattle.sl_live_play.specs.declared.play.Lived.{Lived}
 use Rattle.sl_play.specs.declared.replay.Played.TheVariants as played
 use Rattle.sl_play.specs.declared.replay.Played.{Played}
-use Rattle.sl_top.specs.declared.status.Status.TheVariants.{AreaFault, BadWords, BreaksOff, Differs, Done, JournalDiffers, NoMemory, NotTheLeader, ReadFault, Refused, WriteFault}
+use Rattle.sl_top.specs.declared.status.Status.TheVariants.{AreaFault, BadWords, Differs, Done, NoMemory, NotTheLeader, ReadFault, Refused, WriteFault}
 use Rattle.sl_top.specs.declared.status.Status.{Status}
 use Rattle.std.specs.Prelude.{ℕ}
 
@@ -23,8 +21,6 @@ code WriteFault = 4
 code NoMemory = 5
 code AreaFault = 6
 code NotTheLeader = 7
-code JournalDiffers = 7
-code BreaksOff = 9
 code Differs = 8
 
 -- The status of a replay that ended so.
@@ -34,16 +30,6 @@ status_of played.Refused = Refused
 status_of played.ReadFault = ReadFault
 status_of played.WriteFault = WriteFault
 status_of played.NoMemory = NoMemory
-
--- The status of a check that ended so.
-abbrev pub status_of_check : Checked → Status
-status_of_check checked.Same = Done
-status_of_check checked.Differs = JournalDiffers
-status_of_check checked.Refused = Refused
-status_of_check checked.BreaksOff = BreaksOff
-status_of_check checked.ReadFault = ReadFault
-status_of_check checked.WriteFault = WriteFault
-status_of_check checked.NoMemory = NoMemory
 
 -- The status of an action that went so.
 abbrev pub status_after : Directed → Status

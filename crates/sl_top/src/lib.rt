@@ -9,11 +9,12 @@
 #![tactic(auto)]
 
 pub mod laws;
-mod journals;
 mod own;
 mod status;
 mod top;
 
-pub use sl_outside::{Devices, FileDevices, LentDisk, LiveDevices, MemDevices, MemDisk, StandingDevices};
+pub use sl_outside::{
+    Devices, FileDevices, LentDisk, LiveDevices, MemDevices, MemDisk, StandingDevices,
+};
 pub use status::Status;
 pub use top::{run, run_offline};

@@ -1,9 +1,8 @@
 //! What the program ends with.
 
-ghost use Rattle.sl_top.specs.Statuses.{code, status_after, status_of, status_of_check, status_of_generated, status_of_live};
+ghost use Rattle.sl_top.specs.Statuses.{code, status_after, status_of, status_of_generated, status_of_live};
 ghost use Rattle.std.specs.Prelude.{◌≡◌};
 
-use sl_check::Checked;
 use sl_direct::Directed;
 use sl_generate::Generated;
 use sl_live_play::Lived;
@@ -29,16 +28,12 @@ pub enum Status {
     AreaFault,
     /// The sector that was to be a resource's leader holds none, or one of other names; the output says what it holds.
     NotTheLeader,
-    /// A line of a journal differs from the one that is due, or tells an event that may not happen; the output says which.
-    JournalDiffers,
-    /// A journal breaks off; the output says how far it goes.
-    BreaksOff,
     /// What the threads of a live machine did differs from its history, or that from the script; the output says where.
     Differs,
 }
 
 impl Status {
-    /// Its number, 0 to 9, which the process ends with.
+    /// Its number, 0 to 8, which the process ends with.
     pub fn code(&self) -> u8
         ensures { result ≡ code self.now }
     {
@@ -51,8 +46,6 @@ impl Status {
             Status::NoMemory => 5,
             Status::AreaFault => 6,
             Status::NotTheLeader => 7,
-            Status::JournalDiffers => 7,
-            Status::BreaksOff => 9,
             Status::Differs => 8,
         }
     }
@@ -68,21 +61,6 @@ pub(crate) fn status_of(played: Played) -> Status
         Played::ReadFault => Status::ReadFault,
         Played::WriteFault => Status::WriteFault,
         Played::NoMemory => Status::NoMemory,
-    }
-}
-
-/// The status of a check that ended so.
-pub(crate) fn status_of_check(checked: Checked) -> Status
-    ensures { result ≡ status_of_check checked }
-{
-    match checked {
-        Checked::Same => Status::Done,
-        Checked::Differs => Status::JournalDiffers,
-        Checked::Refused => Status::Refused,
-        Checked::BreaksOff => Status::BreaksOff,
-        Checked::ReadFault => Status::ReadFault,
-        Checked::WriteFault => Status::WriteFault,
-        Checked::NoMemory => Status::NoMemory,
     }
 }
 

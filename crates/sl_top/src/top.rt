@@ -3,7 +3,7 @@
 //! All but `live` is done by `run_offline`, which takes no handle that waits.
 //!
 //! `replay` plays its source line by line, so where a read fails the report of the lines before it stands written; where a write fails or memory
-//! runs out, a front of the report. So does `journal`. `gen` reads nothing: it draws its events as it plays them. `direct` takes one disk of the devices, does its action there, and gives the disk back.
+//! runs out, a front of the report. `gen` reads nothing: it draws its events as it plays them. `direct` takes one disk of the devices, does its action there, and gives the disk back.
 
 ghost use Rattle.sl_cli.specs.Spellings.{CanBeDone};
 ghost use Rattle.sl_direct.specs.Actions.{IsAction};
@@ -12,7 +12,6 @@ ghost use Rattle.sl_top.specs.Runs.{ActsOn, Generates, IsDirect, IsLive, IsNumbe
 ghost use Rattle.sl_top.specs.declared.status.Status.TheVariants.{WriteFault};
 ghost use Rattle.std.specs.Prelude.{IfOk, IfSome, ◌≡◌, ◌≢◌, ◌≤◌};
 
-use crate::journals::{check, journal};
 use crate::own::{OwnPlace, own};
 use crate::status::{Status, status_after, status_of, status_of_generated, status_of_live};
 use sl_area::Area;
@@ -135,17 +134,16 @@ where
 
 /// Does what the words say (those behind the program's name), with no handle that waits: so it returns.
 ///
-/// `replay` reads a schedule from the source to its end, or to one byte past 1000000000, and puts out its report, `draw` the picture of its lines,
-/// `journal` its journal. `check` reads a journal, and puts out whether it is that of a run. `gen` makes a schedule from a seed, plays it, and puts
-/// out what was generated and the last line of its report. `direct` does its action to the disk at the action's path, and puts out what that
-/// tells. The help and the version are put out as they are. Words that say none of these put out one line.
+/// `replay` reads a schedule from the source to its end, or to one byte past 1000000000, and puts out its report, `draw` the picture of its lines.
+/// `gen` makes a schedule from a seed, plays it, and puts out what was generated and the last line of its report. `direct` does its action to the
+/// disk at the action's path, and puts out what that tells. The help and the version are put out as they are. Words that say none of these put
+/// out one line.
 ///
 /// # Statuses
-/// `Done` and `Refused` where the report, the picture or the journal is whole, `Done` also where an action, the help or the version is, and where a
-/// journal that was checked is that of a run; `JournalDiffers` and `BreaksOff` only of a journal that was checked: it differs at a line, or ends
-/// before its last; `BadWords` for words that say nothing; `ReadFault` and `WriteFault` only where the source's or the sink's count of faults
-/// rose; `AreaFault` only where the devices' did; `NotTheLeader` where the sector that an action read is not its resource's leader; `NoMemory`
-/// for want of memory, after which a front of the output was put out.
+/// `Done` and `Refused` where the report or the picture is whole, `Done` also where an action, the help or the version is; `BadWords` for words that
+/// say nothing; `ReadFault` and `WriteFault` only where the source's or the sink's count of faults rose; `AreaFault` only where the devices' did;
+/// `NotTheLeader` where the sector that an action read is not its resource's leader; `NoMemory` for want of memory, after which a front of the
+/// output was put out.
 pub fn run_offline<S: Source, K: Sink, D: Devices>(
     alloc: Global,
     words: &[String],
@@ -165,8 +163,6 @@ pub fn run_offline<S: Source, K: Sink, D: Devices>(
     match read_words(alloc, words) {
         Ok(Words::Replay) => replay(alloc, source, sink),
         Ok(Words::Draw { first, last }) => draw(alloc, Part { first, last }, source, sink),
-        Ok(Words::Journal) => journal(alloc, source, sink),
-        Ok(Words::Check) => check(alloc, source, sink),
         Ok(
             Words::Generate {
                 seed,
@@ -265,8 +261,6 @@ fn asked_of(words: Words, at_terminal: bool) -> Option<Asked>
         })),
         Words::Replay => None,
         Words::Draw { .. } => None,
-        Words::Journal => None,
-        Words::Check => None,
         Words::Generate { .. } => None,
         Words::Direct(_) => None,
         Words::Label { .. } => None,

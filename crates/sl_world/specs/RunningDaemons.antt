@@ -11,11 +11,7 @@ use Rattle.sl_trace.specs.declared.input.Input.{Input}
 use Rattle.sl_world_law.specs.WorldsStand.{HasBegun, HasStepped}
 use Rattle.sl_world_state.specs.FirstKept.{session_of}
 use Rattle.std.specs.List.{slice_set}
-use Rattle.std.specs.Prelude.{List, None, Option, Some, if◌then◌else◌, length, option_and_then, slice_get, [], ℕ, ◌+◌, ◌-◌, ◌==◌, ◌≡◌}
-
--- The daemon that runs on machine m, if one does.
-abbrev pub daemon_in : {D : Type 0} → List (Option D) → ℕ → Option D
-daemon_in hosts m = if m == 0 then None else option_and_then (λ o. o) (slice_get hosts (m - 1))
+use Rattle.std.specs.Prelude.{List, Option, Some, length, slice_get, [], ℕ, ◌+◌, ◌≡◌}
 
 -- A daemon runs at this place, and this may come to it.
 pub record MayStepAt {D : Type 0} (stands : D → Setting → Trace → Type 0) (hosts : List (Option D)) (i now : ℕ) (input : Input) : Type 0 where

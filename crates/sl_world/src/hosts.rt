@@ -10,7 +10,6 @@ ghost use Rattle.sl_world.specs.RunningDaemons.{HostBegun, HostStepped, MayStepA
 ghost use Rattle.sl_world_law.specs.WorldsStand.{HaveBegun, HasBegun};
 ghost use Rattle.sl_world_state.specs.FirstKept as first_kept;
 ghost use Rattle.std.specs.List.{slice_set};
-ghost use Rattle.std.specs.Option.{option_and_then, option_copied};
 ghost use Rattle.std.specs.Prelude.{IfOk, None, OnErr, OnOk, Option, Some, [], ◌++◌, ◌+◌, ◌∷◌, length, slice_get, ◌<◌, ◌≡◌};
 
 use crate::sites::{first_site, session_of};
@@ -132,17 +131,6 @@ impl<D: Daemon> Hosts<D> {
         ensures { result ≡ length self.now }
     {
         self.items.len()
-    }
-
-    /// The daemon at this place, if one runs.
-    pub fn get(&self, index: usize) -> Option<&D>
-        ensures { option_copied result ≡ option_and_then (λ h. h) (slice_get self.now index) }
-    {
-        match self.items.get(index) {
-            Some(Some(host)) => Some(host),
-            Some(None) => None,
-            None => None,
-        }
     }
 
     /// How much the next step of the daemon at this place makes at most.

@@ -9,9 +9,7 @@ ghost use Rattle.sl_world.specs.GivenSteps.{IsSame};
 ghost use Rattle.sl_words.specs.Words.{least};
 ghost use Rattle.sl_world_law.specs.DrawnCandidates.{is_useful_in, least_call_in, starves_in};
 ghost use Rattle.sl_world_law.specs.ToldEvents.{asking_in, tested_in};
-ghost use Rattle.sl_world.specs.RunningDaemons.{daemon_in};
 ghost use Rattle.std.specs.List.{position};
-ghost use Rattle.std.specs.Option.{option_copied};
 ghost use Rattle.std.specs.Prelude.{IfOk, OnErr, filter, is_none, is_some, length, map, not, option_and_then, option_map, true, ◌+◌, ◌≡◌, ◌≤◌};
 
 use crate::world::World;
@@ -71,16 +69,6 @@ impl<D: Daemon, L: LockTable> World<D, L> {
         ensures { result ≡ asking_in (kept_state L.locks self.now.kept) }
     {
         first_due(self.kept.machines.as_slice())
-    }
-
-    /// The daemon that runs on a machine, if one does; on machine 0, which there is not, none does.
-    pub fn daemon(&self, machine: u32) -> Option<&D>
-        ensures { option_copied result ≡ daemon_in self.now.hosts machine }
-    {
-        if machine == 0 {
-            return None;
-        }
-        self.hosts.get(machine as usize - 1)
     }
 
     /// The header of the world.

@@ -1,5 +1,0 @@
-pub mod Fronts
-pub mod Findings
-pub mod Seen
-pub mod Owed
-pub mod ChecksGrow
