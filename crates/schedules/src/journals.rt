@@ -2,8 +2,8 @@
 
 use crate::case::file;
 use sl_text::line::split_line;
-use std::rt::Files;
 use std::io;
+use std::rt::Files;
 
 /// What is done to a line of a journal.
 enum Change<'a> {
@@ -81,10 +81,7 @@ fn changed<R: Files + AllocGlobal>(
 }
 
 /// The journal of a case that changes one, if the line tells such a case: what is done, the number of the line, the journal's name, and a text.
-pub fn changed_journal<R: Files + AllocGlobal>(
-    rt: &R,
-    line: &str,
-) -> io::Result<Option<Vec<u8>>> {
+pub fn changed_journal<R: Files + AllocGlobal>(rt: &R, line: &str) -> io::Result<Option<Vec<u8>>> {
     let Some((word, rest)) = line.split_once(' ') else {
         return Ok(None);
     };

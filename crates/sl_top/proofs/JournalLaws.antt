@@ -218,9 +218,11 @@ module _ {D : Type 0} (stands : D → Setting → Trace → Type 0) (due : Daemo
   tells_by text c (Tells_refusal misread) =
       subst (λ (l : Language). TellsMisread PromisedRun l ended read text) same_language
       (misreads_grow made PromisedRun (played_language whole_commands) (grows stands due) ended read text misread)
-  tells_by text c (Tells_front front is_end told) =
-      (is_end, subst (λ (l : Language). TellsSoFar PromisedRun l read text) same_language
-      (so_far_grows made PromisedRun (played_language whole_commands) (grows stands due) read text (record { front = front; told = told })))
+  tells_by text c (Tells_front front is_end told) = (
+    is_end,
+    subst (λ (l : Language). TellsSoFar PromisedRun l read text) same_language
+        (so_far_grows made PromisedRun (played_language whole_commands) (grows stands due) read text (record { front = front; told = told })),
+  )
 
   told_by : (written : List ℕ) (c : Checked) → Told whole_commands stands [] ended read written c → ToldOf ended read written (status_of_check c)
   told_by written c (Told_all (Tells_right is_end right)) = tells_by written checked.Same (Tells_right is_end right)

@@ -17,9 +17,7 @@ pub(crate) fn journal<S: Source, K: Sink>(alloc: Global, source: &mut S, sink: &
         (K.taken sink.old) (K.taken sink.new) (K.faults sink.old) (K.faults sink.new) result }
 {
     whole_language_may_play();
-    status_of(journal_schedule::<S, K, Recording<HostDaemon>, LvmLocks>(
-        alloc, source, sink,
-    ))
+    status_of(journal_schedule::<S, K, Recording<HostDaemon>, LvmLocks>(alloc, source, sink))
 }
 
 /// Reads a journal from the source, and puts out whether it is that of a run of hosts.
@@ -28,7 +26,5 @@ pub(crate) fn check<S: Source, K: Sink>(alloc: Global, source: &mut S, sink: &mu
         (K.taken sink.old) (K.taken sink.new) (K.faults sink.old) (K.faults sink.new) result }
 {
     whole_language_may_play();
-    status_of_check(check_journal::<S, K, Recording<HostDaemon>, LvmLocks>(
-        alloc, source, sink,
-    ))
+    status_of_check(check_journal::<S, K, Recording<HostDaemon>, LvmLocks>(alloc, source, sink))
 }

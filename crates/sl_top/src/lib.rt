@@ -8,12 +8,14 @@
 //! only with its cause.
 #![tactic(auto)]
 
-pub mod laws;
 mod journals;
+pub mod laws;
 mod own;
 mod status;
 mod top;
 
-pub use sl_outside::{Devices, FileDevices, LentDisk, LiveDevices, MemDevices, MemDisk, StandingDevices};
+pub use sl_outside::{
+    Devices, FileDevices, LentDisk, LiveDevices, MemDevices, MemDisk, StandingDevices,
+};
 pub use status::Status;
 pub use top::{run, run_offline};

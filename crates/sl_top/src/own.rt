@@ -39,14 +39,7 @@ pub(crate) fn own<
     S: Source + Send,
     K: Sink + Send,
     D: StandingDevices,
->(
-    rt: &R,
-    alloc: Global,
-    place: &OwnPlace,
-    source: S,
-    sink: K,
-    devices: &mut D,
-) -> (Status, S, K)
+>(rt: &R, alloc: Global, place: &OwnPlace, source: S, sink: K, devices: &mut D) -> (Status, S, K)
 where
     D::Area: Send,
     requires { 1 ≤ place.now.manner.machine }
