@@ -245,6 +245,10 @@ is_only long short [] = false
 is_only long short (w ∷ []) = bytes_eq w long || bytes_eq w short
 is_only long short (w ∷ v ∷ ws) = false
 
+-- They ask what the program says of itself.
+abbrev pub asks_of_program : List (List ℕ) → Bool
+asks_of_program ws = is_only (codes "--help") (codes "-h") ws || is_only (codes "--version") (codes "-V") ws
+
 -- Behind `replay` stands nothing, or `--`.
 abbrev pub ends_here : List (List ℕ) → Bool
 ends_here [] = true

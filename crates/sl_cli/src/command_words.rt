@@ -2,12 +2,12 @@
 
 ghost use Rattle.clap.specs.Values.{kind_of};
 ghost use Rattle.sl_cli.specs.Actions.{action_in};
-ghost use Rattle.sl_cli.specs.CommandWords.{command_in, generated, is_only, said_in, seeding_in};
+ghost use Rattle.sl_cli.specs.CommandWords.{asks_of_program, command_in, generated, is_only, said_in, seeding_in};
 ghost use Rattle.sl_cli.specs.ParserMeets.{IsRefused, TakenAs, said_by};
 ghost use Rattle.sl_cli.specs.Spellings.{CanBeDone};
 ghost use Rattle.sl_cli.specs.declared.command_words.Words.TheVariants.{Direct};
 ghost use Rattle.sl_cli.specs.declared.command_words.WordsError.TheVariants.{Bad, NoMemory};
-ghost use Rattle.std.specs.Prelude.{Err, IfOk, IfSome, None, Some, map, option_and_then, option_map, string_bytes, ◌≡◌};
+ghost use Rattle.std.specs.Prelude.{Err, IfOk, IfSome, None, Some, false, map, option_and_then, option_map, string_bytes, ◌≡◌};
 
 use crate::folder::Folder;
 use crate::own_words::{is_own, own_words};
@@ -101,7 +101,8 @@ fn is_only(words: &[String], long: &str, short: &str) -> bool
 
 /// Why the parser fails.
 fn error_of(error: &Error) -> WordsError
-    ensures { result ≡ Bad → (kind_of error.now ≡ ErrorKind.OutOfMemory → ⊥) }
+    ensures bad { result ≡ Bad → (kind_of error.now ≡ ErrorKind.OutOfMemory → ⊥) }
+    ensures memory { result ≡ NoMemory → kind_of error.now ≡ ErrorKind.OutOfMemory }
 {
     match error.kind() {
         ErrorKind::OutOfMemory => WordsError::NoMemory,
@@ -176,10 +177,11 @@ pub(crate) fn plain_words(alloc: Global, words: &[String]) -> Result<Words, Word
 }
 
 /// What the words of the command line say; the program's name is none of them. An action that they ask for can be done. `Bad` comes exactly
-/// where they say nothing; in place of either may come `NoMemory`.
+/// where they say nothing; in place of either may come `NoMemory`, but not for the help and the version.
 pub fn read_words(alloc: Global, words: &[String]) -> Result<Words, WordsError>
     ensures read { IfOk result (λ w. said_in (map string_bytes words.now) ≡ Some w) }
     ensures bad { result ≡ Err Bad → said_in (map string_bytes words.now) ≡ None }
+    ensures memory { result ≡ Err NoMemory → asks_of_program (map string_bytes words.now) ≡ false }
     ensures can { IfOk result CanBeDone }
 {
     if is_only(words, "--help", "-h") {

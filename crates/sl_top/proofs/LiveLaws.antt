@@ -7,7 +7,7 @@ use Rattle.sl_live_play.specs.LiveOwed.{All as AllPut, Breaks, Breaks_early, Dif
 use Rattle.sl_live_play.specs.declared.play.Lived.TheVariants as lived
 use Rattle.sl_live_play.specs.declared.play.Lived.{Lived}
 use Rattle.sl_live_play.specs.declared.play.Manner.{Manner}
-use Rattle.sl_live_run.specs.Folders.{Asked}
+use Rattle.sl_live_run.specs.Folders.{Asked as AskedFolder}
 use Rattle.sl_live_run.specs.declared.compare.LiveDiffer.{LiveDiffer}
 use Rattle.sl_reader.specs.ScriptReading.{ReadsScript}
 use Rattle.sl_reader.specs.declared.live_lines.LiveLine.{LiveLine}
@@ -121,7 +121,7 @@ pub record Tells (keeps : Bool) (left after : Option (List ℕ)) (faults later d
   pub written : whole ≡ lived.WriteFault → ⊥
   pub differs : whole ≡ lived.Differs → Differed keeps left after faults later (λ told. text ≡ told)
 
-due_tells : (f : Asked) (w : Manner) (left after : Option (List ℕ)) (faults later device_faults device_later : ℕ) (text : List ℕ) (whole : Lived)
+due_tells : (f : AskedFolder) (w : Manner) (left after : Option (List ℕ)) (faults later device_faults device_later : ℕ) (text : List ℕ) (whole : Lived)
     → Due Serves whole_commands f w left after faults later device_faults device_later text whole → Tells w.keeps left after faults later device_faults device_later text whole
 due_tells f w left after faults later device_faults device_later text whole (Ends h given hs pieces reads lives woven vacant) =
     record { read = λ e. absurd cc; area = λ e. absurd cc; written = λ e. absurd cc; differs = λ e. absurd cc }
@@ -181,7 +181,7 @@ put_caused keeps left after taken now faults later sink_faults sink_later device
 put_caused keeps left after taken now faults later sink_faults sink_later device_faults device_later text whole s tells (Front front appends begins) =
     record { read = λ e. absurd cc; written = λ e. absurd cc; area = λ e. absurd cc; differs = λ e. absurd cc }
 
-owes_caused : (f : Asked) (w : Manner) (left after taken now : Option (List ℕ)) (faults later sink_faults sink_later device_faults device_later : ℕ) (s : Lived)
+owes_caused : (f : AskedFolder) (w : Manner) (left after taken now : Option (List ℕ)) (faults later sink_faults sink_later device_faults device_later : ℕ) (s : Lived)
     → OwesLive Serves whole_commands f w left after taken now faults later sink_faults sink_later device_faults device_later s
     → Caused w.keeps left after taken now faults later sink_faults sink_later device_faults device_later s
 owes_caused f w left after taken now faults later sink_faults sink_later device_faults device_later s (Of text whole t due puts) =
