@@ -2,7 +2,7 @@ use Rattle.sl_top.proofs.LiveLaws.{said_live, said_own}
 use Rattle.sl_top.proofs.OweLaws.{nothing_done}
 use Rattle.sl_top.proofs.top.run_offline.Goals as goal
 use Rattle.sl_top.specs.Runs.{said}
-use Rattle.std.proofs.Common.{Some, ap, ◌∙◌}
+use Rattle.std.proofs.Common.{Some, ap, inl, inr, ◌∙◌}
 
 pub unreachable-requires : goal.unreachable-requires
 unreachable-requires g c =
@@ -16,3 +16,28 @@ unreachable-2-requires g c =
 
 pub returns-in-Err-NoMemory-clause-owes : goal.returns-in-Err-NoMemory-clause-owes
 returns-in-Err-NoMemory-clause-owes g c = nothing_done (said c.args.words.now) _
+
+pub returns-in-Ok-Replay-clause-source : goal.returns-in-Ok-Replay-clause-source
+returns-in-Ok-Replay-clause-source g c =
+    λ none. absurd (none (inl (c.in-Ok-Replay.ensures.read ∙ ap (λ w. Some w) c.in-Ok-Replay.field-0-is)))
+
+pub returns-in-Ok-Draw-clause-source : goal.returns-in-Ok-Draw-clause-source
+returns-in-Ok-Draw-clause-source g c =
+    λ none. absurd (none (inr (inl (c.in-Ok-Draw.first, c.in-Ok-Draw.last, c.in-Ok-Draw.ensures.read ∙ ap (λ w. Some w) c.in-Ok-Draw.field-0-is))))
+
+pub returns-in-Ok-Journal-clause-source : goal.returns-in-Ok-Journal-clause-source
+returns-in-Ok-Journal-clause-source g c =
+    λ none. absurd (none (inr (inr (inl (c.in-Ok-Journal.ensures.read ∙ ap (λ w. Some w) c.in-Ok-Journal.field-0-is)))))
+
+pub returns-in-Ok-Check-clause-source : goal.returns-in-Ok-Check-clause-source
+returns-in-Ok-Check-clause-source g c =
+    λ none. absurd (none (inr (inr (inr (c.in-Ok-Check.ensures.read ∙ ap (λ w. Some w) c.in-Ok-Check.field-0-is)))))
+
+pub returns-in-Ok-Direct-clause-devices : goal.returns-in-Ok-Direct-clause-devices
+returns-in-Ok-Direct-clause-devices g c =
+    λ none. absurd (none (inl (c.in-Ok-Direct.action, c.in-Ok-Direct.ensures.read ∙ ap (λ w. Some w) c.in-Ok-Direct.field-0-is)))
+
+pub returns-in-Ok-Label-clause-devices : goal.returns-in-Ok-Label-clause-devices
+returns-in-Ok-Label-clause-devices g c =
+    λ none. absurd (none (inr (c.in-Ok-Label.lockspace, c.in-Ok-Label.geometry, c.in-Ok-Label.timing, c.in-Ok-Label.grace,
+    c.in-Ok-Label.ensures.read ∙ ap (λ w. Some w) c.in-Ok-Label.field-0-is)))
