@@ -23,15 +23,7 @@ returns-in-Ok-Replay-clause-source g c =
 
 pub returns-in-Ok-Draw-clause-source : goal.returns-in-Ok-Draw-clause-source
 returns-in-Ok-Draw-clause-source g c =
-    λ none. absurd (none (inr (inl (c.in-Ok-Draw.first, c.in-Ok-Draw.last, c.in-Ok-Draw.ensures.read ∙ ap (λ w. Some w) c.in-Ok-Draw.field-0-is))))
-
-pub returns-in-Ok-Journal-clause-source : goal.returns-in-Ok-Journal-clause-source
-returns-in-Ok-Journal-clause-source g c =
-    λ none. absurd (none (inr (inr (inl (c.in-Ok-Journal.ensures.read ∙ ap (λ w. Some w) c.in-Ok-Journal.field-0-is)))))
-
-pub returns-in-Ok-Check-clause-source : goal.returns-in-Ok-Check-clause-source
-returns-in-Ok-Check-clause-source g c =
-    λ none. absurd (none (inr (inr (inr (c.in-Ok-Check.ensures.read ∙ ap (λ w. Some w) c.in-Ok-Check.field-0-is)))))
+    λ none. absurd (none (inr (c.in-Ok-Draw.first, c.in-Ok-Draw.last, c.in-Ok-Draw.ensures.read ∙ ap (λ w. Some w) c.in-Ok-Draw.field-0-is)))
 
 pub returns-in-Ok-Direct-clause-devices : goal.returns-in-Ok-Direct-clause-devices
 returns-in-Ok-Direct-clause-devices g c =
