@@ -47,7 +47,7 @@ pub struct Manner {
     pub events: bool,
 }
 
-/// How a live script ended.
+/// How a live script ended; each goes with a status of its own.
 #[derive(Clone, Copy, Debug, PartialEq, Eq)]
 pub enum Lived {
     /// It was read to its end; all that is told and the last line are put out.
