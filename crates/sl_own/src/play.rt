@@ -25,7 +25,7 @@ use sl_cell::Teller;
 use sl_io::{Failed, Sink, Source};
 use sl_live_play::{Lived, put, put_refusal, put_run};
 use sl_live_run::{LiveRun, Remains, give_back};
-use sl_outside::StandingDevices;
+use sl_place::StandingDevices;
 use sl_reader::{LineReader, Origin, ReadError, Scope, ScriptLines, read_header};
 use sl_run::{Header, Refusal};
 use sl_standing::NotStanding;

@@ -25,7 +25,8 @@ use sl_live_run::{
     LiveRun, LiveStop, Machine, Prepared, Shared, Ways, Work, beside_script, ended_early,
 };
 use sl_output::{Front as Pieces, Output, Press, Put, Seat as Writer};
-use sl_outside::{Device, Gate, Spawner, StandingDevices};
+use sl_outside::{Device, Gate, Spawner};
+use sl_place::StandingDevices;
 use sl_reader::{LiveLines, NoLine};
 use sl_run::Header;
 use sl_text::Bytes;

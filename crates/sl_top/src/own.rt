@@ -7,8 +7,8 @@ use crate::status::{Status, status_of_live};
 use sl_cli::Folder;
 use sl_io::{Sink, Source};
 use sl_live_play::LiveHost;
-use sl_outside::StandingDevices;
 use sl_own::{OwnManner, play_own};
+use sl_place::StandingDevices;
 use sl_play::laws::headers::whole_language_may_play;
 use std::alloc::Global;
 use std::sync::Wait;
@@ -39,14 +39,7 @@ pub(crate) fn own<
     S: Source + Send,
     K: Sink + Send,
     D: StandingDevices,
->(
-    rt: &R,
-    alloc: Global,
-    place: &OwnPlace,
-    source: S,
-    sink: K,
-    devices: &mut D,
-) -> (Status, S, K)
+>(rt: &R, alloc: Global, place: &OwnPlace, source: S, sink: K, devices: &mut D) -> (Status, S, K)
 where
     D::Area: Send,
     requires { 1 ≤ place.now.manner.machine }
