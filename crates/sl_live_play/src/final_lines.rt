@@ -22,7 +22,12 @@ use sl_text::write::push_line;
 use std::alloc::{AllocError, Global};
 
 /// Puts out a text that stands, or found no memory.
-pub fn put<K: Sink>(sink: &mut K, pushed: Result<(), AllocError>, text: &[u8], whole: Lived) -> Lived
+pub fn put<K: Sink>(
+    sink: &mut K,
+    pushed: Result<(), AllocError>,
+    text: &[u8],
+    whole: Lived,
+) -> Lived
     ensures { (all : List ℕ) → OnOk pushed (text.now ≡ all) → Puts (K.taken sink.old) (K.taken sink.new) (K.faults sink.old) (K.faults sink.new) all whole result }
 {
     match pushed {
@@ -44,14 +49,14 @@ pub fn put_refusal<K: Sink>(alloc: Global, sink: &mut K, number: u64, why: Refus
 }
 
 /// Puts out that devices failed.
-pub fn put_area_fault<K: Sink>(sink: &mut K) -> Lived
+pub(crate) fn put_area_fault<K: Sink>(sink: &mut K) -> Lived
     ensures { Puts (K.taken sink.old) (K.taken sink.new) (K.faults sink.old) (K.faults sink.new) area_fault_text lived.AreaFault result }
 {
     put(sink, Ok(()), b"area fault\n", Lived::AreaFault)
 }
 
 /// Puts out that another program has the folder.
-pub fn put_in_use<K: Sink>(sink: &mut K) -> Lived
+pub(crate) fn put_in_use<K: Sink>(sink: &mut K) -> Lived
     ensures { Puts (K.taken sink.old) (K.taken sink.new) (K.faults sink.old) (K.faults sink.new) in_use_text lived.AreaFault result }
 {
     put(sink, Ok(()), b"folder in use\n", Lived::AreaFault)
@@ -66,7 +71,7 @@ fn push_disk_there(out: &mut Vec<u8>, path: &FilePath) -> Result<(), AllocError>
 }
 
 /// Puts out that a disk stands already.
-pub fn put_disk_there<K: Sink>(alloc: Global, sink: &mut K, path: FilePath) -> Lived
+pub(crate) fn put_disk_there<K: Sink>(alloc: Global, sink: &mut K, path: FilePath) -> Lived
     ensures { Puts (K.taken sink.old) (K.taken sink.new) (K.faults sink.old) (K.faults sink.new) (disk_there_text path) lived.AreaFault result }
 {
     let mut out = Vec::new(alloc);
@@ -93,7 +98,7 @@ fn put_behind<K: Sink>(
 }
 
 /// Puts out how a run ended, by how its script ended, behind what so many machines told, with so many replies.
-pub fn put_last<K: Sink>(
+pub(crate) fn put_last<K: Sink>(
     alloc: Global,
     sink: &mut K,
     cut: bool,
@@ -112,7 +117,7 @@ pub fn put_last<K: Sink>(
 }
 
 /// Puts out the case in which records of a machine differ, behind what machines told.
-pub fn put_differ<K: Sink>(
+pub(crate) fn put_differ<K: Sink>(
     alloc: Global,
     sink: &mut K,
     cut: bool,

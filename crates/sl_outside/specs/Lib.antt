@@ -4,4 +4,3 @@ pub mod MemDisks
 pub mod MemSpawners
 pub mod MemPlans
 pub mod MemBits
-pub mod Standing

@@ -5,15 +5,15 @@
 ghost use Rattle.std.specs.Prelude.{◌≡◌};
 
 use crate::child_spawner::ChildSpawner;
+use crate::device::TimedDevice;
 use crate::devices::Devices;
 use crate::folders::NotTaken;
 use crate::gate::OpenGate;
 use crate::live_devices::LiveDevices;
 use crate::paths::disk_path;
 use crate::real_clock::RealClock;
-use crate::system_area::SystemArea;
-use crate::watched_device::WatchedDevice;
 use crate::words::SystemWords;
+use sl_area::FileArea;
 use sl_io::{Failed, FaultCount};
 use std::alloc::Global;
 use std::fs::{File, Files, OpenFile, OpenOptions, TryLockError, create_dir, symlink_metadata};
@@ -24,33 +24,12 @@ use std::time::{Clock, Instant};
 /// The system that the program runs on.
 #[derive(Drop)]
 pub struct FileDevices<R> {
-    pub(crate) rt: R,
-    pub(crate) alloc: Global,
+    rt: R,
+    alloc: Global,
     start: Option<Instant>,
     /// The folder that was taken, open and locked.
-    pub(crate) folder: Option<File>,
-    /// What one machine of a process of its own has.
-    pub(crate) own: Own,
-    pub(crate) faults: FaultCount,
-}
-
-/// What a machine in a process of its own has: its file, open and locked; whether writes wait for the storage; and the system's watchdog device.
-#[derive(Drop)]
-pub(crate) struct Own {
-    pub file: Option<File>,
-    pub syncs: bool,
-    pub watchdog: Option<File>,
-}
-
-impl Own {
-    /// Nothing.
-    fn none() -> Own {
-        Own {
-            file: None,
-            syncs: false,
-            watchdog: None,
-        }
-    }
+    folder: Option<File>,
+    faults: FaultCount,
 }
 
 impl<R: Files + Clock> FileDevices<R> {
@@ -64,7 +43,6 @@ impl<R: Files + Clock> FileDevices<R> {
             alloc,
             start,
             folder: None,
-            own: Own::none(),
             faults: FaultCount::new(),
         }
     }
@@ -91,7 +69,7 @@ fn make_folders<R: Files>(rt: &R, path: &str, from: usize) -> io::Result<()> {
 }
 
 /// Opens a folder. A slash is put behind its text, so that nothing else is opened, as a pipe to which nobody writes.
-pub(crate) fn open_folder<R: Files<File = File>>(rt: &R, alloc: Global, folder: &str) -> io::Result<File> {
+fn open_folder<R: Files<File = File>>(rt: &R, alloc: Global, folder: &str) -> io::Result<File> {
     let text = disk_path(alloc, folder, "/")?;
     File::open(rt, text.as_str())
 }
@@ -135,29 +113,21 @@ fn write_end<R: Files<File = File>>(rt: &R, path: &str) -> io::Result<()> {
 }
 
 /// Says on standard error which path the system refused, and why. Where that can't be said either, nothing is.
-pub(crate) fn say<R: Eprint>(rt: &R, folder: &str, path: &str, error: &io::Error) {
+fn say<R: Eprint>(rt: &R, folder: &str, path: &str, error: &io::Error) {
     let _said = eprintln!(rt; "sanlock: {folder}{path}: {error}");
 }
 
-/// Another handle of this file, if there is one. Where none can be had, nobody keeps the device from firing.
-fn handle_of(file: &Option<File>) -> Option<File> {
-    match file {
-        Some(file) => file.try_clone().ok(),
-        None => None,
-    }
-}
-
 impl<R: Files + Drop> Devices for FileDevices<R> {
-    type Area = SystemArea<R::File>;
+    type Area = FileArea<R::File>;
 
     ghost faults = { λ d. d.faults };
 
     /// The file at the path, opened to read and write. Where that fails, each call of the area is a fault.
-    fn area(&mut self, _machine: u32, _worker: u32, path: &str) -> SystemArea<R::File> {
-        SystemArea::open(&self.rt, path, self.own.syncs)
+    fn area(&mut self, _machine: u32, _worker: u32, path: &str) -> FileArea<R::File> {
+        FileArea::open(&self.rt, path)
     }
 
-    fn back(&mut self, area: SystemArea<R::File>) {
+    fn back(&mut self, area: FileArea<R::File>) {
         if area.faults() > 0 {
             self.faults.raise();
         }
@@ -177,7 +147,7 @@ impl<
 
     type Spawner = ChildSpawner<R>;
 
-    type Device = WatchedDevice;
+    type Device = TimedDevice;
 
     type Words = SystemWords<R>;
 
@@ -231,8 +201,8 @@ impl<
         ChildSpawner::new(self.rt, self.alloc)
     }
 
-    fn device(&mut self, _machine: u32, now: u64, fire: u64) -> WatchedDevice {
-        WatchedDevice::new(now, fire, handle_of(&self.own.watchdog))
+    fn device(&mut self, _machine: u32, now: u64, fire: u64) -> TimedDevice {
+        TimedDevice::new(now, fire)
     }
 
     fn words(&mut self, machine: u32) -> SystemWords<R> {

@@ -4,12 +4,11 @@
 //! out at a time. A path at which no disk stands gives an area each of whose calls fails, as a missing file does.
 //!
 //! Their other parts are the forms in memory: clocks at 0, spawners with no room, a gate that is open.
-ghost use Rattle.sl_io.specs.FaultCauses.{Rose};
 ghost use Rattle.sl_io.specs.FaultCounts.{one_more};
 ghost use Rattle.sl_outside.specs.Disks.{CountsBack, HandsOut, Stay, TakesBack, told_at};
 ghost use Rattle.sl_outside.specs.MemDisks.{content_at, is_at, lent_in};
 ghost use Rattle.std.specs.List.{position};
-ghost use Rattle.std.specs.Prelude.{IfSome, None, Some, [], false, is_some, length, option_map, ◌≡◌};
+ghost use Rattle.std.specs.Prelude.{IfSome, None, Some, [], false, is_some, option_map, ◌≡◌};
 
 use crate::device::TimedDevice;
 use crate::devices::Devices;
@@ -150,22 +149,6 @@ impl MemDevices {
         ensures { option_map (λ c. c.now) result ≡ content_at self.now.all path.now }
     {
         content_of(&self.all, path.as_slice())
-    }
-
-    /// How many bytes the disk at a path has, if there is one.
-    pub(crate) fn size_at(&self, path: &[u8]) -> Option<u64>
-        ensures { result ≡ option_map (λ c. length c) (content_at self.now.all path.now) }
-    {
-        let content = content_of(&self.all, path)?;
-        Some(content.len() as u64)
-    }
-
-    /// Something is missing that is asked for: a fault.
-    pub(crate) fn lacks(&mut self) -> Failed
-        ensures all { self.new.all ≡ self.old.all }
-        ensures rose { Rose self.old.faults self.new.faults }
-    {
-        self.faults.raise()
     }
 }
 

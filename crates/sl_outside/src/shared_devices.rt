@@ -1,7 +1,6 @@
 //! Devices in memory for live machines: disks that all threads share, children and faults that come as planned, the clock of the system.
 //!
 //! Nothing is told of the disks: another thread may write at any time.
-ghost use Rattle.sl_io.specs.FaultCauses.{Rose};
 ghost use Rattle.sl_outside.specs.MemSpawners.{IsFresh};
 ghost use Rattle.std.specs.Prelude.{IfSome, length, [], ◌<◌, ◌≡◌};
 
@@ -159,20 +158,6 @@ impl<R: Wait + Clock + Copy> SharedDevices<R> {
     fn share(&self, path: &str) -> Option<Arc<Mutex<MemArea>>> {
         let at = place_of(&self.disks, path)?;
         Arc::try_clone(&self.disks[at].disk).ok()
-    }
-
-    /// How many bytes the disk at a path has, if there is one.
-    pub(crate) fn size_at(&self, path: &str) -> Option<u64> {
-        let disk = self.share(path)?;
-        let area = disk.lock(&self.rt);
-        Some(area.content().len() as u64)
-    }
-
-    /// Something is missing that is asked for: a fault.
-    pub(crate) fn lacks(&mut self) -> Failed
-        ensures { Rose self.old.faults self.new.faults }
-    {
-        self.makes.raise()
     }
 
     /// The calls that fail of a worker's area.

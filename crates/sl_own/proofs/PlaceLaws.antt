@@ -3,7 +3,7 @@ use Rattle.sl_own.specs.OwnGrounds.{Area_bars, Bars, HasSize, Has_other, Is_miss
 use Rattle.sl_own.specs.declared.no_place.NoPlace.TheVariants.{NoDisk, NotStanding, OtherSize}
 use Rattle.sl_own.specs.declared.no_place.NoPlace.{NoPlace}
 use Rattle.sl_outside.specs.Disks.{Disks}
-use Rattle.sl_outside.specs.Standing.{IsSizeOf}
+use Rattle.sl_place.specs.Standing.{IsSizeOf}
 use Rattle.sl_run.specs.Worlds.{mebibyte}
 use Rattle.sl_run.specs.declared.header.Disk.{Disk as DiskLine}
 use Rattle.sl_run.specs.declared.header.Header.{Header}

@@ -14,7 +14,7 @@ use Rattle.sl_outside.specs.declared.act.Act.{Act}
 use Rattle.sl_output.specs.Pieces.{Piece, text_of}
 use Rattle.sl_own.proofs.LendLaws.{not_lent_on}
 use Rattle.sl_own.specs.OwnGrounds.{Area_bars, Bars, Folder_bars, IsOwnGround, Machine_bars, Size_bars}
-use Rattle.sl_own.specs.OwnOwed.{Breaks, Breaks_early, DifferingOwn, Ends, Is_barred, IsWovenOwn, Lacks, LivesOwn, MayRun, Of, OwesOwn, OwnBeginning, OwnDue, Parts, PutsNoPlace, ReadsOwn, Stops, Stops_early, Stops_header, header_refusal}
+use Rattle.sl_own.specs.OwnOwed.{Breaks, Breaks_early, DifferingOwn, Ends, HadOwn, Is_barred, IsWovenOwn, Lacks, LivesOwn, MayRun, Of, OwesOwn, OwnBeginning, OwnDue, Parts, PutsNoPlace, ReadsOwn, Stops, Stops_early, Stops_header, Tellers, header_refusal}
 use Rattle.sl_own.specs.OwnRuns.{HasToldOwn, IsOwnStop}
 use Rattle.sl_own.specs.declared.ground.OwnGround.{OwnGround}
 use Rattle.sl_own.specs.declared.no_place.NoPlace.{NoPlace}
@@ -44,38 +44,42 @@ use Rattle.std.specs.Prelude.{IfErr, IfOk}
 -- ---- the run
 
 -- For want of memory a part may have been put out.
-lacks : {D : Type 0} (stands : D → Setting → Trace → Type 0) (commands : Header → List (Form Command)) (disks : Disks) (folder : List ℕ) (w : OwnManner) (left after taken now : Option (List ℕ))
+lacks : {D A P : Type 0} (stands : D → Setting → Trace → Type 0) (commands : Header → List (Form Command)) (t : Tellers A P) (disks : Disks) (folder : List ℕ) (w : OwnManner) (left after taken now : Option (List ℕ))
     (faults later sink_faults sink_later device_faults device_later : ℕ) (s : Lived) → s ≡ NoMemory → (part : List ℕ) → Appends taken now part
-    → OwesOwn stands commands disks folder w left after taken now faults later sink_faults sink_later device_faults device_later s
-lacks stands commands disks folder w left after taken now faults later sink_faults sink_later device_faults device_later s is part appends =
-    subst (OwesOwn stands commands disks folder w left after taken now faults later sink_faults sink_later device_faults device_later) (sym is) (Lacks part appends)
+    → OwesOwn stands commands t disks folder w left after taken now faults later sink_faults sink_later device_faults device_later s
+lacks stands commands t disks folder w left after taken now faults later sink_faults sink_later device_faults device_later s is part appends =
+    subst (OwesOwn stands commands t disks folder w left after taken now faults later sink_faults sink_later device_faults device_later) (sym is) (Lacks part appends)
 
 -- The history of the machine, by how its script ended.
-owes_ended : {D : Type 0} (stands : D → Setting → Trace → Type 0) (commands : Header → List (Form Command)) (disks : Disks) (folder : List ℕ) (w : OwnManner) (left after taken now : Option (List ℕ))
+owes_ended : {D A P : Type 0} (stands : D → Setting → Trace → Type 0) (commands : Header → List (Form Command)) (t : Tellers A P) (disks : Disks) (folder : List ℕ) (w : OwnManner) (left after taken now : Option (List ℕ))
     (faults later sink_faults sink_later device_faults device_later : ℕ) (h : Header) (given : List LiveLine) (hist : List Entry) (pieces : List Piece) (end : Option ScriptEnd) (s : Lived)
-    → ReadsOwn w left after faults later h given end → MayRun disks folder h w.machine → (l : LivesOwn stands commands h w.machine given hist)
+    → ReadsOwn w left after faults later h given end → MayRun disks folder h w.machine → (l : LivesOwn stands commands t disks folder h w.machine given hist)
     → IsWovenOwn w.events l.begun.header l.begun.place l.begun.site given hist pieces
     → PutsEnded taken now sink_faults sink_later pieces 1 (count_replies (begun_on l.begun.header l.begun.site) hist) end s
-    → OwesOwn stands commands disks folder w left after taken now faults later sink_faults sink_later device_faults device_later s
-owes_ended stands commands disks folder w left after taken now faults later sink_faults sink_later device_faults device_later h given hist pieces (Some script.End) s reads may lives woven puts =
+    → OwesOwn stands commands t disks folder w left after taken now faults later sink_faults sink_later device_faults device_later s
+owes_ended stands commands t disks folder w left after taken now faults later sink_faults sink_later device_faults device_later h given hist pieces (Some script.End) s reads may lives woven puts =
     Of _ Done s (Ends h given hist pieces reads may lives woven) puts
-owes_ended stands commands disks folder w left after taken now faults later sink_faults sink_later device_faults device_later h given hist pieces (Some (script.Refused number why)) s reads may lives woven puts =
+owes_ended stands commands t disks folder w left after taken now faults later sink_faults sink_later device_faults device_later h given hist pieces (Some (script.Refused number why)) s reads may lives woven puts =
     Of _ Refused s (Stops h given hist pieces number why reads may lives woven) puts
-owes_ended stands commands disks folder w left after taken now faults later sink_faults sink_later device_faults device_later h given hist pieces (Some script.ReadFault) s reads may lives woven puts =
+owes_ended stands commands t disks folder w left after taken now faults later sink_faults sink_later device_faults device_later h given hist pieces (Some script.ReadFault) s reads may lives woven puts =
     Of _ ReadFault s (Breaks h given hist pieces reads may lives woven) puts
-owes_ended stands commands disks folder w left after taken now faults later sink_faults sink_later device_faults device_later h given hist pieces (Some script.NoMemory) s reads may lives woven puts =
-    lacks stands commands disks folder w left after taken now faults later sink_faults sink_later device_faults device_later s puts.0 puts.1.0 puts.1.1
-owes_ended stands commands disks folder w left after taken now faults later sink_faults sink_later device_faults device_later h given hist pieces None s reads may lives woven puts =
-    lacks stands commands disks folder w left after taken now faults later sink_faults sink_later device_faults device_later s puts.0 puts.1.0 puts.1.1
+owes_ended stands commands t disks folder w left after taken now faults later sink_faults sink_later device_faults device_later h given hist pieces (Some script.NoMemory) s reads may lives woven puts =
+    lacks stands commands t disks folder w left after taken now faults later sink_faults sink_later device_faults device_later s puts.0 puts.1.0 puts.1.1
+owes_ended stands commands t disks folder w left after taken now faults later sink_faults sink_later device_faults device_later h given hist pieces None s reads may lives woven puts =
+    lacks stands commands t disks folder w left after taken now faults later sink_faults sink_later device_faults device_later s puts.0 puts.1.0 puts.1.1
 
--- Its lines are those that the script gave it.
-lived : {D A P : Type 0} (content : A → Option (List ℕ)) (area_faults : A → ℕ) (spawned : P → Option (List Act)) (events : Bool) (stands : D → Setting → Trace → Type 0)
-    (commands : Header → List (Form Command)) (h : Header) (m : ℕ) (begun : OwnBeginning h m) (disks : Both A) (was is : List LiveLine → Type 0) (pieces : List Piece) (n : ℕ) (left : Leavings A P)
-    → (told : HasToldOwn content area_faults spawned events stands commands begun.header begun.place begun.site disks was is pieces n left)
-    → LivesOwn stands commands h m told.lines told.history
-lived content area_faults spawned events stands commands h m begun disks was is pieces n left told = record {
+-- Its lines are those that the script gave it, and its calls are all that was done to its areas.
+lived : {D A P : Type 0} (t : Tellers A P) (events : Bool) (stands : D → Setting → Trace → Type 0) (commands : Header → List (Form Command)) (disks : Disks) (folder : List ℕ) (h : Header) (m : ℕ)
+    (begun : OwnBeginning h m) (areas : Both A) (was is : List LiveLine → Type 0) (pieces : List Piece) (n : ℕ) (left : Leavings A P) → HadOwn t.content disks folder h areas
+    → (told : HasToldOwn t.content t.faults t.acts events stands commands begun.header begun.place begun.site areas was is pieces n left)
+    → LivesOwn stands commands t disks folder h m told.lines told.history
+lived t events stands commands disks folder h m begun areas was is pieces n left had told = record {
   begun = begun;
   history = subst (λ (k : ℕ). IsLiveHistory stands (begun_with commands begun.header begun.site) (begun_on begun.header begun.site) (lines_for k told.lines) told.history) (sym begun.numbered) told.live;
+  areas = areas;
+  had = had;
+  left = left;
+  served = told.served;
 }
 
 woven : {D A P : Type 0} (content : A → Option (List ℕ)) (area_faults : A → ℕ) (spawned : P → Option (List Act)) (events : Bool) (stands : D → Setting → Trace → Type 0)
@@ -85,25 +89,24 @@ woven : {D A P : Type 0} (content : A → Option (List ℕ)) (area_faults : A �
 woven content area_faults spawned events stands commands h m begun disks was is pieces n left told = record { below = told.below; text = told.text; refused = told.refused; others = told.others }
 
 -- What came of a run, of a script that has given nothing before, and of whose source the lines that it has given are read now.
-pub owes_run_own : {D A P : Type 0} (content : A → Option (List ℕ)) (area_faults : A → ℕ) (spawned : P → Option (List Act)) (stands : D → Setting → Trace → Type 0)
-    (commands : Header → List (Form Command)) (disks : Disks) (folder : List ℕ) (w : OwnManner) (left after taken now : Option (List ℕ))
-    (faults later sink_faults sink_later device_faults device_later : ℕ) (h : Header) (begun : OwnBeginning h w.machine) (areas : Both A) (was is : List LiveLine → Type 0) (pieces : List Piece)
-    (machines : ℕ) (remains : List (Leavings A P)) (replies : Result ℕ LiveStop) (end : Option ScriptEnd) (s : Lived) → was []
-    → ((given : List LiveLine) → is given → ReadsOwn w left after faults later h given end) → MayRun disks folder h w.machine
+pub owes_run_own : {D A P : Type 0} (stands : D → Setting → Trace → Type 0) (commands : Header → List (Form Command)) (t : Tellers A P) (disks : Disks) (folder : List ℕ) (w : OwnManner)
+    (left after taken now : Option (List ℕ)) (faults later sink_faults sink_later device_faults device_later : ℕ) (h : Header) (begun : OwnBeginning h w.machine) (areas : Both A)
+    (was is : List LiveLine → Type 0) (pieces : List Piece) (machines : ℕ) (remains : List (Leavings A P)) (replies : Result ℕ LiveStop) (end : Option ScriptEnd) (s : Lived) → was []
+    → ((given : List LiveLine) → is given → ReadsOwn w left after faults later h given end) → MayRun disks folder h w.machine → HadOwn t.content disks folder h areas
     → IfOk replies (λ n. (machines ≡ 1) × (back : Leavings A P) × (remains ≡ back ∷ [])
-    × HasToldOwn content area_faults spawned w.events stands commands begun.header begun.place begun.site areas was is pieces n back)
+    × HasToldOwn t.content t.faults t.acts w.events stands commands begun.header begun.place begun.site areas was is pieces n back)
     → IfErr replies (IsOwnStop stands commands begun.header begun.place begun.site was is)
     → IfOk replies (λ n. PutsEnded taken now sink_faults sink_later pieces machines n end s)
     → IfErr replies (λ e. PutsStop taken now sink_faults sink_later pieces e s)
-    → OwesOwn stands commands disks folder w left after taken now faults later sink_faults sink_later device_faults device_later s
-owes_run_own content area_faults spawned stands commands disks folder w left after taken now faults later sink_faults sink_later device_faults device_later h begun areas was is pieces machines remains (Ok n) end s none reads may ok err puts stops =
+    → OwesOwn stands commands t disks folder w left after taken now faults later sink_faults sink_later device_faults device_later s
+owes_run_own stands commands t disks folder w left after taken now faults later sink_faults sink_later device_faults device_later h begun areas was is pieces machines remains (Ok n) end s none reads may had ok err puts stops =
     let told = ok.3 in
     let one : PutsEnded taken now sink_faults sink_later pieces 1 n end s = subst (λ (k : ℕ). PutsEnded taken now sink_faults sink_later pieces k n end s) ok.0 puts in
-    owes_ended stands commands disks folder w left after taken now faults later sink_faults sink_later device_faults device_later h told.lines told.history pieces end s (reads told.lines (told.gave [] none)) may
-    (lived content area_faults spawned w.events stands commands h w.machine begun areas was is pieces n ok.1 told)
-    (woven content area_faults spawned w.events stands commands h w.machine begun areas was is pieces n ok.1 told)
+    owes_ended stands commands t disks folder w left after taken now faults later sink_faults sink_later device_faults device_later h told.lines told.history pieces end s (reads told.lines (told.gave [] none)) may
+    (lived t w.events stands commands disks folder h w.machine begun areas was is pieces n ok.1 had told)
+    (woven t.content t.faults t.acts w.events stands commands h w.machine begun areas was is pieces n ok.1 told)
     (subst (λ (k : ℕ). PutsEnded taken now sink_faults sink_later pieces 1 k end s) told.count one)
-owes_run_own content area_faults spawned stands commands disks folder w left after taken now faults later sink_faults sink_later device_faults device_later h begun areas was is pieces machines remains (Err (stop.Differ machine d)) end s none reads may ok err puts stops =
+owes_run_own stands commands t disks folder w left after taken now faults later sink_faults sink_later device_faults device_later h begun areas was is pieces machines remains (Err (stop.Differ machine d)) end s none reads may had ok err puts stops =
     let same : machine ≡ w.machine = subst (λ (k : ℕ). machine ≡ k) (sym begun.numbered) err.numbered in
     Of _ Differs s
     (Parts h err.lines end (text_of pieces) d (reads err.lines (err.gave [] none)) may
@@ -112,8 +115,8 @@ owes_run_own content area_faults spawned stands commands disks folder w left aft
       differs = subst (λ (k : ℕ). IsLiveCase stands (begun_with commands begun.header begun.site) (begun_on begun.header begun.site) (lines_for k err.lines) d) same err.case_of;
     }))
     (subst (λ (k : ℕ). PutsStop taken now sink_faults sink_later pieces (stop.Differ k d) s) same stops)
-owes_run_own content area_faults spawned stands commands disks folder w left after taken now faults later sink_faults sink_later device_faults device_later h begun areas was is pieces machines remains (Err stop.NoMemory) end s none reads may ok err puts stops =
-    lacks stands commands disks folder w left after taken now faults later sink_faults sink_later device_faults device_later s stops.0 stops.1.0 stops.1.1
+owes_run_own stands commands t disks folder w left after taken now faults later sink_faults sink_later device_faults device_later h begun areas was is pieces machines remains (Err stop.NoMemory) end s none reads may had ok err puts stops =
+    lacks stands commands t disks folder w left after taken now faults later sink_faults sink_later device_faults device_later s stops.0 stops.1.0 stops.1.1
 
 -- ---- what the machine begins with
 
@@ -133,13 +136,13 @@ own_setting content spawned commands disks folder h m g sites reads is = sites c
 
 -- ---- a machine that can't run there
 
-pub owes_no_place : {D : Type 0} (stands : D → Setting → Trace → Type 0) (commands : Header → List (Form Command)) (disks : Disks) (folder : List ℕ) (w : OwnManner) (left after taken now : Option (List ℕ))
+pub owes_no_place : {D A P : Type 0} (stands : D → Setting → Trace → Type 0) (commands : Header → List (Form Command)) (t : Tellers A P) (disks : Disks) (folder : List ℕ) (w : OwnManner) (left after taken now : Option (List ℕ))
     (faults later sink_faults sink_later device_faults device_later : ℕ) (h : Header) (r : ReaderState) (why : NoPlace) (s : Lived) → HeaderBegins left after r h
     → Bars disks folder h w.machine device_faults device_later why → PutsNoPlace taken now sink_faults sink_later why s
-    → OwesOwn stands commands disks folder w left after taken now faults later sink_faults sink_later device_faults device_later s
-owes_no_place stands commands disks folder w left after taken now faults later sink_faults sink_later device_faults device_later h r why s begins bars (inl none) =
-    lacks stands commands disks folder w left after taken now faults later sink_faults sink_later device_faults device_later s none.0 [] none.1
-owes_no_place stands commands disks folder w left after taken now faults later sink_faults sink_later device_faults device_later h r why s begins bars (inr puts) =
+    → OwesOwn stands commands t disks folder w left after taken now faults later sink_faults sink_later device_faults device_later s
+owes_no_place stands commands t disks folder w left after taken now faults later sink_faults sink_later device_faults device_later h r why s begins bars (inl none) =
+    lacks stands commands t disks folder w left after taken now faults later sink_faults sink_later device_faults device_later s none.0 [] none.1
+owes_no_place stands commands t disks folder w left after taken now faults later sink_faults sink_later device_faults device_later h r why s begins bars (inr puts) =
     Of _ AreaFault s (Is_barred r h why begins bars) puts
 
 -- ---- faults before
@@ -169,30 +172,30 @@ reads_since : (w : OwnManner) (left after : Option (List ℕ)) (first faults lat
     → ReadsOwn w left after faults later h given end → ReadsOwn w left after first later h given end
 reads_since w left after first faults later h given end le reads = script_since _ w.keeps left after first faults later h given end le reads
 
-due_since : {D : Type 0} (stands : D → Setting → Trace → Type 0) (commands : Header → List (Form Command)) (disks : Disks) (folder : List ℕ) (w : OwnManner) (left after : Option (List ℕ))
+due_since : {D A P : Type 0} (stands : D → Setting → Trace → Type 0) (commands : Header → List (Form Command)) (t : Tellers A P) (disks : Disks) (folder : List ℕ) (w : OwnManner) (left after : Option (List ℕ))
     (first faults later device_faults device_later : ℕ) (text : List ℕ) (whole : Lived) → first ≤ faults
-    → OwnDue stands commands disks folder w left after faults later device_faults device_later text whole
-    → OwnDue stands commands disks folder w left after first later device_faults device_later text whole
-due_since stands commands disks folder w left after first faults later device_faults device_later text whole le (Ends h given hist pieces reads may lives woven) =
+    → OwnDue stands commands t disks folder w left after faults later device_faults device_later text whole
+    → OwnDue stands commands t disks folder w left after first later device_faults device_later text whole
+due_since stands commands t disks folder w left after first faults later device_faults device_later text whole le (Ends h given hist pieces reads may lives woven) =
     Ends h given hist pieces (reads_since w left after first faults later h given _ le reads) may lives woven
-due_since stands commands disks folder w left after first faults later device_faults device_later text whole le (Stops_early r number why stops) = Stops_early r number why stops
-due_since stands commands disks folder w left after first faults later device_faults device_later text whole le (Stops_header r h why begins is) = Stops_header r h why begins is
-due_since stands commands disks folder w left after first faults later device_faults device_later text whole le (Stops h given hist pieces number why reads may lives woven) =
+due_since stands commands t disks folder w left after first faults later device_faults device_later text whole le (Stops_early r number why stops) = Stops_early r number why stops
+due_since stands commands t disks folder w left after first faults later device_faults device_later text whole le (Stops_header r h why begins is) = Stops_header r h why begins is
+due_since stands commands t disks folder w left after first faults later device_faults device_later text whole le (Stops h given hist pieces number why reads may lives woven) =
     Stops h given hist pieces number why (reads_since w left after first faults later h given _ le reads) may lives woven
-due_since stands commands disks folder w left after first faults later device_faults device_later text whole le (Breaks_early breaks rose) = Breaks_early breaks (rose_since first faults later le rose)
-due_since stands commands disks folder w left after first faults later device_faults device_later text whole le (Breaks h given hist pieces reads may lives woven) =
+due_since stands commands t disks folder w left after first faults later device_faults device_later text whole le (Breaks_early breaks rose) = Breaks_early breaks (rose_since first faults later le rose)
+due_since stands commands t disks folder w left after first faults later device_faults device_later text whole le (Breaks h given hist pieces reads may lives woven) =
     Breaks h given hist pieces (reads_since w left after first faults later h given _ le reads) may lives woven
-due_since stands commands disks folder w left after first faults later device_faults device_later text whole le (Is_barred r h why begins bars) = Is_barred r h why begins bars
-due_since stands commands disks folder w left after first faults later device_faults device_later text whole le (Parts h given end before d reads may case_of) =
+due_since stands commands t disks folder w left after first faults later device_faults device_later text whole le (Is_barred r h why begins bars) = Is_barred r h why begins bars
+due_since stands commands t disks folder w left after first faults later device_faults device_later text whole le (Parts h given end before d reads may case_of) =
     Parts h given end before d (reads_since w left after first faults later h given end le reads) may case_of
 
-pub owes_since : {D : Type 0} (stands : D → Setting → Trace → Type 0) (commands : Header → List (Form Command)) (disks : Disks) (folder : List ℕ) (w : OwnManner) (left after taken now : Option (List ℕ))
+pub owes_since : {D A P : Type 0} (stands : D → Setting → Trace → Type 0) (commands : Header → List (Form Command)) (t : Tellers A P) (disks : Disks) (folder : List ℕ) (w : OwnManner) (left after taken now : Option (List ℕ))
     (first faults later sink_faults sink_later device_faults device_later : ℕ) (s : Lived) → first ≤ faults
-    → OwesOwn stands commands disks folder w left after taken now faults later sink_faults sink_later device_faults device_later s
-    → OwesOwn stands commands disks folder w left after taken now first later sink_faults sink_later device_faults device_later s
-owes_since stands commands disks folder w left after taken now first faults later sink_faults sink_later device_faults device_later s le (Of text whole t due puts) =
-    Of text whole s (due_since stands commands disks folder w left after first faults later device_faults device_later text whole le due) puts
-owes_since stands commands disks folder w left after taken now first faults later sink_faults sink_later device_faults device_later s le (Lacks part nothing) = Lacks part nothing
+    → OwesOwn stands commands t disks folder w left after taken now faults later sink_faults sink_later device_faults device_later s
+    → OwesOwn stands commands t disks folder w left after taken now first later sink_faults sink_later device_faults device_later s
+owes_since stands commands t disks folder w left after taken now first faults later sink_faults sink_later device_faults device_later s le (Of text whole x due puts) =
+    Of text whole s (due_since stands commands t disks folder w left after first faults later device_faults device_later text whole le due) puts
+owes_since stands commands t disks folder w left after taken now first faults later sink_faults sink_later device_faults device_later s le (Lacks part nothing) = Lacks part nothing
 
 -- .. and of the devices.
 pub bars_since : (disks : Disks) (folder : List ℕ) (h : Header) (machine first faults later : ℕ) (why : NoPlace) → first ≤ faults → Bars disks folder h machine faults later why
@@ -202,27 +205,27 @@ bars_since disks folder h machine first faults later why le (Machine_bars rose) 
 bars_since disks folder h machine first faults later why le (Size_bars y differs) = Size_bars why differs
 bars_since disks folder h machine first faults later why le (Area_bars y not) = Area_bars why (not_lent_on disks folder h Delta faults later first later why (rose_since first faults later le) not)
 
-due_devices : {D : Type 0} (stands : D → Setting → Trace → Type 0) (commands : Header → List (Form Command)) (disks : Disks) (folder : List ℕ) (w : OwnManner) (left after : Option (List ℕ))
+due_devices : {D A P : Type 0} (stands : D → Setting → Trace → Type 0) (commands : Header → List (Form Command)) (t : Tellers A P) (disks : Disks) (folder : List ℕ) (w : OwnManner) (left after : Option (List ℕ))
     (faults later first device_faults device_later : ℕ) (text : List ℕ) (whole : Lived) → first ≤ device_faults
-    → OwnDue stands commands disks folder w left after faults later device_faults device_later text whole
-    → OwnDue stands commands disks folder w left after faults later first device_later text whole
-due_devices stands commands disks folder w left after faults later first device_faults device_later text whole le (Ends h given hist pieces reads may lives woven) = Ends h given hist pieces reads may lives woven
-due_devices stands commands disks folder w left after faults later first device_faults device_later text whole le (Stops_early r number why stops) = Stops_early r number why stops
-due_devices stands commands disks folder w left after faults later first device_faults device_later text whole le (Stops_header r h why begins is) = Stops_header r h why begins is
-due_devices stands commands disks folder w left after faults later first device_faults device_later text whole le (Stops h given hist pieces number why reads may lives woven) = Stops h given hist pieces number why reads may lives woven
-due_devices stands commands disks folder w left after faults later first device_faults device_later text whole le (Breaks_early breaks rose) = Breaks_early breaks rose
-due_devices stands commands disks folder w left after faults later first device_faults device_later text whole le (Breaks h given hist pieces reads may lives woven) = Breaks h given hist pieces reads may lives woven
-due_devices stands commands disks folder w left after faults later first device_faults device_later text whole le (Is_barred r h why begins bars) =
+    → OwnDue stands commands t disks folder w left after faults later device_faults device_later text whole
+    → OwnDue stands commands t disks folder w left after faults later first device_later text whole
+due_devices stands commands t disks folder w left after faults later first device_faults device_later text whole le (Ends h given hist pieces reads may lives woven) = Ends h given hist pieces reads may lives woven
+due_devices stands commands t disks folder w left after faults later first device_faults device_later text whole le (Stops_early r number why stops) = Stops_early r number why stops
+due_devices stands commands t disks folder w left after faults later first device_faults device_later text whole le (Stops_header r h why begins is) = Stops_header r h why begins is
+due_devices stands commands t disks folder w left after faults later first device_faults device_later text whole le (Stops h given hist pieces number why reads may lives woven) = Stops h given hist pieces number why reads may lives woven
+due_devices stands commands t disks folder w left after faults later first device_faults device_later text whole le (Breaks_early breaks rose) = Breaks_early breaks rose
+due_devices stands commands t disks folder w left after faults later first device_faults device_later text whole le (Breaks h given hist pieces reads may lives woven) = Breaks h given hist pieces reads may lives woven
+due_devices stands commands t disks folder w left after faults later first device_faults device_later text whole le (Is_barred r h why begins bars) =
     Is_barred r h why begins (bars_since disks folder h w.machine first device_faults device_later why le bars)
-due_devices stands commands disks folder w left after faults later first device_faults device_later text whole le (Parts h given end before d reads may case_of) = Parts h given end before d reads may case_of
+due_devices stands commands t disks folder w left after faults later first device_faults device_later text whole le (Parts h given end before d reads may case_of) = Parts h given end before d reads may case_of
 
-pub owes_devices : {D : Type 0} (stands : D → Setting → Trace → Type 0) (commands : Header → List (Form Command)) (disks : Disks) (folder : List ℕ) (w : OwnManner) (left after taken now : Option (List ℕ))
+pub owes_devices : {D A P : Type 0} (stands : D → Setting → Trace → Type 0) (commands : Header → List (Form Command)) (t : Tellers A P) (disks : Disks) (folder : List ℕ) (w : OwnManner) (left after taken now : Option (List ℕ))
     (faults later sink_faults sink_later first device_faults device_later : ℕ) (s : Lived) → first ≤ device_faults
-    → OwesOwn stands commands disks folder w left after taken now faults later sink_faults sink_later device_faults device_later s
-    → OwesOwn stands commands disks folder w left after taken now faults later sink_faults sink_later first device_later s
-owes_devices stands commands disks folder w left after taken now faults later sink_faults sink_later first device_faults device_later s le (Of text whole t due puts) =
-    Of text whole s (due_devices stands commands disks folder w left after faults later first device_faults device_later text whole le due) puts
-owes_devices stands commands disks folder w left after taken now faults later sink_faults sink_later first device_faults device_later s le (Lacks part nothing) = Lacks part nothing
+    → OwesOwn stands commands t disks folder w left after taken now faults later sink_faults sink_later device_faults device_later s
+    → OwesOwn stands commands t disks folder w left after taken now faults later sink_faults sink_later first device_later s
+owes_devices stands commands t disks folder w left after taken now faults later sink_faults sink_later first device_faults device_later s le (Of text whole x due puts) =
+    Of text whole s (due_devices stands commands t disks folder w left after faults later first device_faults device_later text whole le due) puts
+owes_devices stands commands t disks folder w left after taken now faults later sink_faults sink_later first device_faults device_later s le (Lacks part nothing) = Lacks part nothing
 
 -- ---- the header
 
@@ -231,30 +234,30 @@ none_put : (taken : Option (List ℕ)) → Appends taken taken []
 none_put None = tt
 none_put (Some xs) = sym (append-nil xs)
 
-pub owes_nothing : {D : Type 0} (stands : D → Setting → Trace → Type 0) (commands : Header → List (Form Command)) (disks : Disks) (folder : List ℕ) (w : OwnManner) (left after taken : Option (List ℕ))
+pub owes_nothing : {D A P : Type 0} (stands : D → Setting → Trace → Type 0) (commands : Header → List (Form Command)) (t : Tellers A P) (disks : Disks) (folder : List ℕ) (w : OwnManner) (left after taken : Option (List ℕ))
     (faults later sink_faults device_faults device_later : ℕ)
-    → OwesOwn stands commands disks folder w left after taken taken faults later sink_faults sink_faults device_faults device_later NoMemory
-owes_nothing stands commands disks folder w left after taken faults later sink_faults device_faults device_later = Lacks [] (none_put taken)
+    → OwesOwn stands commands t disks folder w left after taken taken faults later sink_faults sink_faults device_faults device_later NoMemory
+owes_nothing stands commands t disks folder w left after taken faults later sink_faults device_faults device_later = Lacks [] (none_put taken)
 
 -- A read failed within it.
-pub owes_break : {D : Type 0} (stands : D → Setting → Trace → Type 0) (commands : Header → List (Form Command)) (disks : Disks) (folder : List ℕ) (w : OwnManner) (left after taken : Option (List ℕ))
+pub owes_break : {D A P : Type 0} (stands : D → Setting → Trace → Type 0) (commands : Header → List (Form Command)) (t : Tellers A P) (disks : Disks) (folder : List ℕ) (w : OwnManner) (left after taken : Option (List ℕ))
     (faults later sink_faults device_faults device_later : ℕ) → HeaderBreaks left after → Rose faults later
-    → OwesOwn stands commands disks folder w left after taken taken faults later sink_faults sink_faults device_faults device_later ReadFault
-owes_break stands commands disks folder w left after taken faults later sink_faults device_faults device_later breaks rose =
+    → OwesOwn stands commands t disks folder w left after taken taken faults later sink_faults sink_faults device_faults device_later ReadFault
+owes_break stands commands t disks folder w left after taken faults later sink_faults device_faults device_later breaks rose =
     Of [] ReadFault ReadFault (Breaks_early breaks rose) (All (none_put taken))
 
 -- A line of it is refused.
-pub owes_refusal : {D : Type 0} (stands : D → Setting → Trace → Type 0) (commands : Header → List (Form Command)) (disks : Disks) (folder : List ℕ) (w : OwnManner) (left after taken now : Option (List ℕ))
+pub owes_refusal : {D A P : Type 0} (stands : D → Setting → Trace → Type 0) (commands : Header → List (Form Command)) (t : Tellers A P) (disks : Disks) (folder : List ℕ) (w : OwnManner) (left after taken now : Option (List ℕ))
     (faults later sink_faults sink_later device_faults device_later : ℕ) (r : ReaderState) (number : ℕ) (why : Refusal) (s : Lived) → HeaderStops left after r number why
     → Puts taken now sink_faults sink_later (as_bytes (refusal_line number why ∷ [])) Refused s
-    → OwesOwn stands commands disks folder w left after taken now faults later sink_faults sink_later device_faults device_later s
-owes_refusal stands commands disks folder w left after taken now faults later sink_faults sink_later device_faults device_later r number why s stops puts =
+    → OwesOwn stands commands t disks folder w left after taken now faults later sink_faults sink_later device_faults device_later s
+owes_refusal stands commands t disks folder w left after taken now faults later sink_faults sink_later device_faults device_later r number why s stops puts =
     Of _ Refused s (Stops_early r number why stops) puts
 
 -- Its last line.
-pub owes_header : {D : Type 0} (stands : D → Setting → Trace → Type 0) (commands : Header → List (Form Command)) (disks : Disks) (folder : List ℕ) (w : OwnManner) (left after taken now : Option (List ℕ))
+pub owes_header : {D A P : Type 0} (stands : D → Setting → Trace → Type 0) (commands : Header → List (Form Command)) (t : Tellers A P) (disks : Disks) (folder : List ℕ) (w : OwnManner) (left after taken now : Option (List ℕ))
     (faults later sink_faults sink_later device_faults device_later : ℕ) (r : ReaderState) (h : Header) (number : ℕ) (why : Refusal) (s : Lived) → HeaderBegins left after r h
     → header_refusal h w.machine ≡ Some why → number ≡ r.number → Puts taken now sink_faults sink_later (as_bytes (refusal_line number why ∷ [])) Refused s
-    → OwesOwn stands commands disks folder w left after taken now faults later sink_faults sink_later device_faults device_later s
-owes_header stands commands disks folder w left after taken now faults later sink_faults sink_later device_faults device_later r h number why s begins is same puts =
+    → OwesOwn stands commands t disks folder w left after taken now faults later sink_faults sink_later device_faults device_later s
+owes_header stands commands t disks folder w left after taken now faults later sink_faults sink_later device_faults device_later r h number why s begins is same puts =
     Of _ Refused s (Stops_header r h why begins is) (subst (λ (n : ℕ). Puts taken now sink_faults sink_later (as_bytes (refusal_line n why ∷ [])) Refused s) same puts)

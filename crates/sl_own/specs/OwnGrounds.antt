@@ -6,7 +6,7 @@ use Rattle.sl_cell.specs.declared.part.Part.{Part}
 use Rattle.sl_io.specs.FaultCauses.{Rose}
 use Rattle.sl_outside.specs.Acts.{Tells}
 use Rattle.sl_outside.specs.Disks.{Disks}
-use Rattle.sl_outside.specs.Standing.{IsSizeOf}
+use Rattle.sl_place.specs.Standing.{IsSizeOf}
 use Rattle.sl_outside.specs.declared.act.Act.{Act}
 use Rattle.sl_own.specs.declared.ground.OwnGround.{OwnGround}
 use Rattle.sl_own.specs.declared.no_place.NoPlace.TheVariants.{FolderInUse, MachineInUse, NoDisk, NotStanding, OtherSize}

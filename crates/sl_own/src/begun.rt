@@ -8,7 +8,7 @@ use sl_live_lines::GivenLine;
 use sl_live_machine::{Mail, Post};
 use sl_live_run::{MACHINE_THREADS, Prepared, Work};
 use sl_output::{Front as Pieces, Press, Seat as Writer};
-use sl_outside::StandingDevices;
+use sl_place::StandingDevices;
 use std::alloc::{AllocError, Global};
 
 /// The threads of the process: the machine's, and the script's.

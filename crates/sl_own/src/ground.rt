@@ -17,7 +17,7 @@ use sl_live_machine::Parts;
 use sl_live_run::{
     Prepared, TICKS, clocks_of, give_back, read_once, site_of, take_back, with_readings,
 };
-use sl_outside::StandingDevices;
+use sl_place::StandingDevices;
 use sl_run::{FirstReading, Header};
 use sl_standing::NotStanding;
 use sl_time::Clock;

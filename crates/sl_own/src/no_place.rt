@@ -9,7 +9,7 @@ ghost use Rattle.sl_run.specs.declared.header.Header.{Header as HeaderOf};
 ghost use Rattle.std.specs.Prelude.{List, OnErr, OnOk, [], ℕ, ◌++◌, ◌∷◌, ◌≡◌};
 
 use sl_io::Failed;
-use sl_outside::NotClaimed;
+use sl_place::NotClaimed;
 use sl_standing::{NotStanding, push_not_standing};
 use sl_text::FilePath;
 use sl_text::write::push_line;

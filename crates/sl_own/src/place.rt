@@ -8,7 +8,8 @@ ghost use Rattle.sl_standing.specs.declared.not_standing.NotStanding.TheVariants
 ghost use Rattle.std.specs.Prelude.{All, Contains, IfErr, OnOk, ◌≡◌, ◌≤◌, ◌⊎◌};
 
 use crate::no_place::NoPlace;
-use sl_outside::{StandingDevices, disk_path};
+use sl_outside::disk_path;
+use sl_place::StandingDevices;
 use sl_run::{Disk, Header};
 use std::alloc::Global;
 

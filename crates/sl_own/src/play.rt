@@ -25,7 +25,7 @@ use sl_cell::Teller;
 use sl_io::{Failed, Sink, Source};
 use sl_live_play::{Lived, put, put_refusal, put_run};
 use sl_live_run::{LiveRun, Remains, give_back};
-use sl_outside::StandingDevices;
+use sl_place::StandingDevices;
 use sl_reader::{LineReader, Origin, ReadError, Scope, ScriptLines, read_header};
 use sl_run::{Header, Refusal};
 use sl_standing::NotStanding;
@@ -111,7 +111,7 @@ where
     requires keeps { manner.keeps ≡ J.keeps }
     ensures { (disks : Disks) (folder : List ℕ) (first : Option (List ℕ)) (h : HeaderOf) → IsOwnGround V.Area.content V.Spawner.acts disks folder h manner.machine ground
         → MayRun disks folder h manner.machine → HeaderBegins first (S.left source) reader h
-        → OwesOwn D.Daemon.stands D.Daemon.commands disks folder manner first (S.left result.1) (K.taken sink) (K.taken result.2) (S.faults source) (S.faults result.1)
+        → OwesOwn D.Daemon.stands D.Daemon.commands (record { content = V.Area.content; faults = V.Area.faults; acts = V.Spawner.acts }) disks folder manner first (S.left result.1) (K.taken sink) (K.taken result.2) (S.faults source) (S.faults result.1)
         (K.faults sink) (K.faults result.2) (V.Devices.faults devices.old) (V.Devices.faults devices.new) result.0 }
 {
     let scope = Scope::of_machine(&ground.header, manner.machine);
@@ -167,7 +167,7 @@ where
     requires ends { EndStands (S.left source) reader }
     ensures { (disks : Disks) (folder : List ℕ) (first : Option (List ℕ)) (h : HeaderOf) → IsOwnGround V.Area.content V.Spawner.acts disks folder h manner.machine ground
         → MayRun disks folder h manner.machine → HeaderBegins first (S.left source) reader h
-        → OwesOwn D.Daemon.stands D.Daemon.commands disks folder manner first (S.left result.1) (K.taken sink) (K.taken result.2) (S.faults source) (S.faults result.1)
+        → OwesOwn D.Daemon.stands D.Daemon.commands (record { content = V.Area.content; faults = V.Area.faults; acts = V.Spawner.acts }) disks folder manner first (S.left result.1) (K.taken sink) (K.taken result.2) (S.faults source) (S.faults result.1)
         (K.faults sink) (K.faults result.2) (V.Devices.faults devices.old) (V.Devices.faults devices.new) result.0 }
 {
     play_as::<D, Brand, S, K, V, R>(rt, alloc, ground, manner, source, reader, sink, devices)
@@ -256,7 +256,7 @@ where
     requires reads { (h : HeaderOf) → IsHeader h → ReadsCommands D.Daemon.commands h }
     requires ends { EndStands (S.left source) reader }
     ensures { (first : Option (List ℕ)) → HeaderBegins first (S.left source) reader header
-        → OwesOwn D.Daemon.stands D.Daemon.commands (V.Devices.disks devices.old) folder.now manner first (S.left result.1) (K.taken sink) (K.taken result.2) (S.faults source) (S.faults result.1)
+        → OwesOwn D.Daemon.stands D.Daemon.commands (record { content = V.Area.content; faults = V.Area.faults; acts = V.Spawner.acts }) (V.Devices.disks devices.old) folder.now manner first (S.left result.1) (K.taken sink) (K.taken result.2) (S.faults source) (S.faults result.1)
         (K.faults sink) (K.faults result.2) (V.Devices.faults devices.old) (V.Devices.faults devices.new) result.0 }
 {
     let mut sink = sink;
@@ -302,7 +302,7 @@ where
     requires machine { 1 ≤ manner.machine }
     requires reads { (h : HeaderOf) → IsHeader h → ReadsCommands D.Daemon.commands h }
     requires headers { HeadersAreGood whole_language }
-    ensures { OwesOwn D.Daemon.stands D.Daemon.commands (V.Devices.disks devices.old) folder.now manner (S.left source) (S.left result.1) (K.taken sink) (K.taken result.2) (S.faults source) (S.faults result.1)
+    ensures { OwesOwn D.Daemon.stands D.Daemon.commands (record { content = V.Area.content; faults = V.Area.faults; acts = V.Spawner.acts }) (V.Devices.disks devices.old) folder.now manner (S.left source) (S.left result.1) (K.taken sink) (K.taken result.2) (S.faults source) (S.faults result.1)
         (K.faults sink) (K.faults result.2) (V.Devices.faults devices.old) (V.Devices.faults devices.new) result.0 }
 {
     let mut source = source;

@@ -21,9 +21,12 @@ use sl_cell::Teller;
 use sl_io::Sink;
 use sl_live_lines::GivenLine;
 use sl_live_machine::{Mail, Post, Roll};
-use sl_live_run::{LiveRun, LiveStop, Machine, Prepared, Shared, Ways, Work, beside_script, ended_early};
+use sl_live_run::{
+    LiveRun, LiveStop, Machine, Prepared, Shared, Ways, Work, beside_script, ended_early,
+};
 use sl_output::{Front as Pieces, Output, Press, Put, Seat as Writer};
-use sl_outside::{Device, Gate, Spawner, StandingDevices};
+use sl_outside::{Device, Gate, Spawner};
+use sl_place::StandingDevices;
 use sl_reader::{LiveLines, NoLine};
 use sl_run::Header;
 use sl_text::Bytes;

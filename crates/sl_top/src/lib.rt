@@ -13,8 +13,7 @@ mod own;
 mod status;
 mod top;
 
-pub use sl_outside::{
-    Devices, FileDevices, LentDisk, LiveDevices, MemDevices, MemDisk, StandingDevices,
-};
+pub use sl_outside::{Devices, FileDevices, LentDisk, LiveDevices, MemDevices, MemDisk};
+pub use sl_place::{StandingDevices, SystemDevices};
 pub use status::Status;
 pub use top::{run, run_offline};

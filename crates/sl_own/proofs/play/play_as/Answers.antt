@@ -23,8 +23,9 @@ returns g c disks folder first h ground may begins =
     (subst (λ x. ReadsScriptBy x g.J.Origin.keeps first (g.S.Source.left c.close-source.result.0) g.J.Origin.faults (g.S.Source.faults c.close-source.result.0) h given c.close-source.result.1)
     (sym c.requires.scope ∙ ap (λ x. own_scope x m) ground.same) (c.close-source.ensures.script first h given there so))) in
     let run = c.run_own-run.ensures in
-    owes_run_own g.V.Area.Area.content g.V.Area.Area.faults g.V.Spawner.Spawner.acts g.D.Daemon.stands g.D.Daemon.commands disks folder c.args.manner first _ _ _ _ _ _ _ _ _ h
+    owes_run_own g.D.Daemon.stands g.D.Daemon.commands (record { content = g.V.Area.Area.content; faults = g.V.Area.Area.faults; acts = g.V.Spawner.Spawner.acts }) disks folder c.args.manner first _ _ _ _ _ _ _ _ _ h
     (beginning _ _ disks folder h m c.args.ground ground) _ (has c.new-lines.result) (has c.run_own-run.new.lines) run.pieces
-    c.run_own-run.result.machines _ c.run_own-run.result.replies c.close-source.result.1 c.put_run-lived.result c.new-lines.ensures.none reads may run.ok run.stop
+    c.run_own-run.result.machines _ c.run_own-run.result.replies c.close-source.result.1 c.put_run-lived.result c.new-lines.ensures.none reads may
+    (record { delta = ground.delta; resource = ground.resource }) run.ok run.stop
     (c.put_run-lived.ensures.ok (g.K.Sink.taken c.args.sink) (g.K.Sink.faults c.args.sink) run.pieces run.put)
     (c.put_run-lived.ensures.stop (g.K.Sink.taken c.args.sink) (g.K.Sink.faults c.args.sink) run.pieces run.put)

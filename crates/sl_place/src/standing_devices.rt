@@ -1,11 +1,11 @@
 //! What a machine in a process of its own takes beside what all live machines take: a folder where others run, disks that stand, and a watchdog
 //! device of the system.
 ghost use Rattle.sl_io.specs.FaultCauses.{HasCause};
-ghost use Rattle.sl_outside.specs.Standing.{IsSizeOf};
+ghost use Rattle.sl_place.specs.Standing.{IsSizeOf};
 ghost use Rattle.std.specs.Prelude.{◌≡◌};
 
-use crate::live_devices::LiveDevices;
 use sl_io::Failed;
+use sl_outside::LiveDevices;
 
 /// Why a machine can't be claimed: a fault, which was counted.
 #[derive(Clone, Copy, Debug, PartialEq, Eq)]
@@ -19,7 +19,7 @@ pub enum NotClaimed {
 }
 
 impl From<Failed> for NotClaimed {
-    ghost use Rattle.sl_outside.specs.declared.standing_devices.NotClaimed.{NotClaimed};
+    ghost use Rattle.sl_place.specs.declared.standing_devices.NotClaimed.{NotClaimed};
     ghost use Rattle.std.specs.Prelude.{◌≡◌};
 
     ghost from_gives = { λ _ e. e ≡ NotClaimed.Failed };

@@ -4,7 +4,7 @@
 //! any more once it hangs or was stopped: it is given a byte where a keepalive passes, and never else, and resets the computer where none comes.
 ghost use Rattle.std.specs.Prelude.{◌≡◌};
 
-use crate::device::Device;
+use sl_outside::Device;
 use std::fs::File;
 use std::io::Write;
 
