@@ -1,7 +1,5 @@
 //! A live script, played on disks in memory that all threads share, with children in memory and the clock of the system.
 
-ghost use Rattle.std.specs.Prelude.{◌≡◌};
-
 use crate::outside::{Case, Ends};
 use sl_io::{MemSink, MemSource};
 use sl_live_play::{LiveHost, Lived, Manner, play_live};
@@ -35,7 +33,7 @@ fn span(alloc: Global, ends: Option<Ends>) -> Result<Vec<u64>, AllocError> {
 
 /// How long the children of the third machine live, in looks of 16 milliseconds: longer than a session goes on without a renewal, and its
 /// device, and than another host waits before it counts that session as over.
-const LONG: u64 = 300;
+const LONG: u64 = 600;
 
 /// The spawner of a machine, whose children exit by themselves at this look, or never, and then are deaf to a term; and of which these starts
 /// fail.
@@ -240,7 +238,7 @@ fn told_of<R: Clock + Wait + Threads + Eprint + Copy + Drop + Send + Sync>(
     Ok(text)
 }
 
-/// What comes of a case.
+/// Plays a case's script with machines in memory, and gives what was told, as text.
 pub fn told<R: Files + Clock + Wait + Threads + Eprint + AllocGlobal + Copy + Drop + Send + Sync>(
     rt: R,
     case: &Case<'_>,

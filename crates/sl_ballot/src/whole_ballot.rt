@@ -19,7 +19,7 @@ use crate::phases::{phase1_block, phase2_block};
 use sl_sector::{Block, Owner};
 use std::marker::Model;
 
-/// What comes next in a ballot.
+/// What comes next in a ballot: a write or a read of blocks, or its end.
 #[derive(Clone, Copy)]
 pub enum Phase {
     /// The block of phase 1 is to be written.

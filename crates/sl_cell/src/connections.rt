@@ -33,7 +33,7 @@ impl Model for Connection {
 }
 
 impl Connection {
-    /// The lockspace's name.
+    /// The name of the lockspace whose connection it is.
     pub fn name(&self) -> Name
         ensures { result ≡ self.now.name }
     {

@@ -1,37 +1,29 @@
 //! What a decision makes of a delta lease: a call, a move of its connection, an outcome.
 
 ghost use Rattle.sl_delta.specs.DeltaDecisions.{IsFitNext};
-ghost use Rattle.sl_delta.specs.OwnSector.{IsOwnRecord, answer_in, without_calls};
-ghost use Rattle.sl_delta.specs.Steps.{IsFitAnswer, IsFitInput, IsWholeRead, after_step, after_told, answer_next, begun, call_in, called_with, carried, followed, given_by, given_following, given_from, given_told, has_open_write, is_late, is_over, join_next, joined_lease, last_after, last_told, move_in, new_lease, nothing_given, out_of_step, outcome_in, purpose_of, record_in_call, refused_move, refused_now, refusing, registered_after, stage_told, standing_after, step_from, survey_shows, wake_next, with_recovery};
+ghost use Rattle.sl_delta.specs.OwnSector.{IsOwnRecord};
+ghost use Rattle.sl_delta.specs.Steps.{call_in, called_with, carried, given_by, last_after, move_in, outcome_in, purpose_of, record_in_call, registered_after, standing_after};
 ghost use Rattle.sl_delta.specs.declared.lease.Standing.TheVariants.{Holds};
-ghost use Rattle.sl_delta.specs.declared.steps.DeltaIn.TheVariants.{Answered as Told, Leave, Wake};
-ghost use Rattle.sl_sector.specs.Records.{Fits};
-ghost use Rattle.sl_trace.specs.Sessions.{is_survey_purpose};
-ghost use Rattle.sl_text.specs.Names.{is_name};
 ghost use Rattle.sl_trace.specs.declared.effects.Move.TheVariants.{Unregister};
 ghost use Rattle.sl_trace.specs.declared.effects.Purpose.TheVariants.{Survey};
 ghost use Rattle.sl_words.specs.Words.{choose};
 ghost use Rattle.sl_words.specs.Bounds.{moments};
 ghost use Rattle.std.specs.Option.{option_copied};
-ghost use Rattle.std.specs.Prelude.{IfOk, IfSome, IsTrue, OnErr, OnOk, ℕ, false, ◌+◌, ◌<◌, ◌≡◌, ◌≤◌};
+ghost use Rattle.std.specs.Prelude.{IfSome, false, ◌+◌, ◌<◌, ◌≡◌, ◌≤◌};
 
-use crate::answer::{SectorAnswer, sector_answer};
 use crate::lease::{DeltaLease, OpenDelta, Standing};
 use crate::numbers::has_passed;
 use crate::own_sector::OwnSector;
-use crate::purposes::{is_survey, writes_own};
-use crate::renewing::{after_free, after_renewal};
-use crate::steps::{DeltaCall, DeltaIn, DeltaOut, Outcome};
+use crate::steps::{DeltaCall, DeltaOut, Outcome};
 use sl_area::Geometry;
 use sl_request::Bitmap;
 use sl_sector::DeltaRec;
 use sl_text::Name;
 use sl_time::Timing;
-use sl_trace::{Answer, DeltaNext, JoinStep, Move, Purpose, Stage};
-use std::alloc::{AllocError, Global};
+use sl_trace::{DeltaNext, JoinStep, Move, Purpose};
 use std::marker::Model;
 
-/// The call's purpose.
+/// What the call is for, as the definitions name it; the job is 0, since a lease knows no job.
 pub(crate) fn purpose_of(call: &DeltaCall) -> Purpose
     ensures { result ≡ purpose_of call.now }
 {
@@ -50,7 +42,7 @@ pub(crate) fn purpose_of(call: &DeltaCall) -> Purpose
     }
 }
 
-/// The record that it writes.
+/// The delta record that the call writes; none of a read.
 pub(crate) fn record_in(call: &DeltaCall) -> Option<&DeltaRec>
     ensures { option_copied result ≡ record_in_call call.now }
 {
@@ -63,7 +55,7 @@ pub(crate) fn record_in(call: &DeltaCall) -> Option<&DeltaRec>
     }
 }
 
-/// The call that a decision makes.
+/// The one call that a decision makes, if it makes any.
 pub(crate) fn call_in(next: &DeltaNext) -> Option<DeltaCall>
     ensures exact { result ≡ call_in next.now }
     ensures fit { IsFitNext next.now → IfSome result (λ c. IfSome (record_in_call c) IsOwnRecord) }
@@ -93,7 +85,7 @@ pub(crate) fn call_in(next: &DeltaNext) -> Option<DeltaCall>
     }
 }
 
-/// What a decision comes to.
+/// What a decision ends: a joining, well or not, or a leaving.
 pub(crate) fn outcome_in(next: DeltaNext) -> Option<Outcome>
     ensures { result ≡ outcome_in next }
 {
@@ -130,7 +122,7 @@ pub(crate) fn standing_after(generation: u64, next: &DeltaNext, before: Standing
     }
 }
 
-/// The last renewal after a decision.
+/// The submission reading of the last renewal that was answered ok, after this decision.
 pub(crate) fn last_after(next: &DeltaNext, before: u64) -> u64
     ensures exact { result ≡ last_after next.now before }
     ensures bounds { before < moments → IsFitNext next.now → result < moments }
@@ -209,7 +201,7 @@ impl DeltaLease {
         }
     }
 
-    /// A call is submitted.
+    /// A call is submitted at this reading, and waits for its answer.
     pub(crate) fn call(&mut self, now: u64, call: &Option<DeltaCall>)
         requires moment { now < moments }
         requires fit { IfSome call.now (λ c. IfSome (record_in_call c) IsOwnRecord) }

@@ -3,33 +3,26 @@
 //! What it makes due is decided on what was kept before it; that it is told first changes nothing of it.
 
 ghost use Rattle.sl_delta.specs.DeltaDecisions.{IsFitNext};
-ghost use Rattle.sl_delta.specs.OwnSector.{IsOwnRecord, answer_in, without_calls};
-ghost use Rattle.sl_delta.specs.Steps.{IsFitAnswer, IsFitInput, IsWholeRead, after_step, after_told, answer_next, begun, call_in, called_with, carried, followed, given_by, given_following, given_from, given_told, has_open_write, is_late, is_over, join_next, joined_lease, last_after, last_told, move_in, new_lease, nothing_given, out_of_step, outcome_in, purpose_of, record_in_call, refused_move, refused_now, refusing, registered_after, stage_told, standing_after, step_from, survey_shows, wake_next, with_recovery};
+ghost use Rattle.sl_delta.specs.OwnSector.{answer_in};
+ghost use Rattle.sl_delta.specs.Steps.{IsWholeRead, after_told, answer_next, followed, given_following, given_told, is_over, join_next, survey_shows};
 ghost use Rattle.sl_delta.specs.declared.lease.Standing.TheVariants.{Holds};
-ghost use Rattle.sl_delta.specs.declared.steps.DeltaIn.TheVariants.{Answered as Told, Leave, Wake};
-ghost use Rattle.sl_sector.specs.Records.{Fits};
 ghost use Rattle.sl_trace.specs.Sessions.{is_survey_purpose};
-ghost use Rattle.sl_text.specs.Names.{is_name};
-ghost use Rattle.sl_trace.specs.declared.effects.Move.TheVariants.{Unregister};
 ghost use Rattle.sl_trace.specs.declared.effects.Purpose.TheVariants.{Survey};
-ghost use Rattle.sl_words.specs.Words.{choose};
 ghost use Rattle.sl_words.specs.Bounds.{moments};
-ghost use Rattle.std.specs.Prelude.{IfOk, IfSome, IsTrue, OnErr, OnOk, ℕ, false, ◌+◌, ◌<◌, ◌≡◌, ◌≤◌};
+ghost use Rattle.std.specs.Prelude.{ℕ, false, ◌<◌, ◌≡◌};
 
-use crate::answer::{SectorAnswer, sector_answer};
+use crate::answer::SectorAnswer;
 use crate::lease::{DeltaLease, OpenDelta, Standing};
 use crate::numbers::has_passed;
 use crate::own_sector::OwnSector;
-use crate::purposes::{is_survey, writes_own};
 use crate::renewing::{after_free, after_renewal};
-use crate::steps::{DeltaCall, DeltaIn, DeltaOut, Outcome};
+use crate::steps::DeltaOut;
 use sl_area::Geometry;
 use sl_request::Bitmap;
 use sl_sector::DeltaRec;
 use sl_text::Name;
 use sl_time::Timing;
-use sl_trace::{Answer, DeltaNext, JoinStep, Move, Purpose, Stage};
-use std::alloc::{AllocError, Global};
+use sl_trace::{Answer, DeltaNext, JoinStep, Purpose};
 use std::marker::Model;
 
 impl DeltaLease {
@@ -75,7 +68,7 @@ impl DeltaLease {
         }
     }
 
-    /// Whether it has ended.
+    /// Whether the session has ended: refused, or gone.
     pub(crate) fn is_over(&self) -> bool
         ensures { result ≡ is_over self.now.standing }
     {

@@ -5,44 +5,40 @@
 //! stands still. What else ends a session, what is held and which jobs wait, its daemon knows and the lease doesn't.
 
 ghost use Rattle.sl_delta.specs.DeltaDecisions.{IsFitNext};
-ghost use Rattle.sl_delta.specs.OwnSector.{IsOwnRecord, answer_in, without_calls};
-ghost use Rattle.sl_delta.specs.Steps.{IsFitAnswer, IsFitInput, IsWholeRead, after_step, after_told, answer_next, begun, call_in, called_with, carried, ended, ending, followed, given_by, given_following, given_from, given_told, has_open_write, is_late, is_over, join_next, joined_lease, last_after, last_told, may_leave, move_in, new_lease, nothing_given, out_of_step, outcome_in, purpose_of, record_in_call, refused_move, refused_now, refusing, registered_after, stage_told, standing_after, step_from, survey_shows, wake_next, with_recovery};
+ghost use Rattle.sl_delta.specs.OwnSector.{without_calls};
+ghost use Rattle.sl_delta.specs.Steps.{IsFitAnswer, IsFitInput, after_step, after_told, begun, ended, ending, given_from, given_told, has_open_write, is_late, joined_lease, last_told, may_leave, new_lease, nothing_given, out_of_step, refused_move, refused_now, refusing, stage_told, step_from, wake_next, with_recovery};
 ghost use Rattle.sl_delta.specs.declared.lease.Standing.TheVariants.{Holds};
 ghost use Rattle.sl_delta.specs.declared.steps.DeltaIn.TheVariants.{Answered as Told, Leave, Wake};
 ghost use Rattle.sl_sector.specs.Records.{Fits};
-ghost use Rattle.sl_trace.specs.Sessions.{is_survey_purpose};
 ghost use Rattle.sl_text.specs.Names.{is_name};
 ghost use Rattle.sl_trace.specs.declared.effects.Move.TheVariants.{Unregister};
-ghost use Rattle.sl_trace.specs.declared.effects.Purpose.TheVariants.{Survey};
-ghost use Rattle.sl_words.specs.Words.{choose};
 ghost use Rattle.sl_words.specs.Bounds.{moments};
-ghost use Rattle.std.specs.Prelude.{IfOk, IfSome, IsTrue, OnErr, OnOk, ℕ, false, ◌+◌, ◌<◌, ◌≡◌, ◌≤◌};
+ghost use Rattle.std.specs.Prelude.{IfOk, IfSome, IsTrue, OnErr, OnOk, false, ◌+◌, ◌<◌, ◌≡◌, ◌≤◌};
 
-use crate::answer::{SectorAnswer, sector_answer};
+use crate::answer::sector_answer;
 use crate::numbers::{has_next, has_passed};
 use crate::own_sector::OwnSector;
 use crate::purposes::{is_survey, writes_own};
-use crate::renewing::{after_free, after_renewal};
-use crate::steps::{DeltaCall, DeltaIn, DeltaOut, Outcome};
+use crate::steps::{DeltaIn, DeltaOut};
 use sl_area::Geometry;
 use sl_request::Bitmap;
 use sl_sector::DeltaRec;
 use sl_text::Name;
 use sl_time::Timing;
-use sl_trace::{Answer, DeltaNext, JoinStep, Move, Purpose, Stage};
+use sl_trace::{Answer, DeltaNext, Move, Purpose, Stage};
 use std::alloc::{AllocError, Global};
 use std::marker::Model;
 
-/// How a session stands.
+/// How a session stands: before, in, or behind the time in which it is joined.
 #[derive(Clone, Copy)]
 pub enum Standing {
-    /// It joins.
+    /// Its joining goes on.
     Joins,
-    /// It is joined.
+    /// It is joined, and has not ended; it may be in recovery, or leave.
     Holds,
-    /// Its joining was refused.
+    /// Its joining was refused, and it makes no further call.
     Declined,
-    /// It has left.
+    /// It was joined, and has ended: it left, or its recovery is over.
     Gone,
 }
 
@@ -53,7 +49,7 @@ pub struct OpenDelta {
     pub made: u64,
 }
 
-/// A session's lease on an id.
+/// A session's lease on an id, in a fixed size: what of all its calls and answers its next step depends on.
 #[derive(Drop)]
 pub struct DeltaLease {
     pub(crate) own: OwnSector,
@@ -175,7 +171,7 @@ impl DeltaLease {
         late
     }
 
-    /// Whether it does.
+    /// Whether recovery begins at this reading by time: `fail` has passed since the last renewal's submission.
     fn is_late(&self, now: u64) -> bool
         ensures { result ≡ is_late now self.now }
     {
@@ -202,7 +198,7 @@ impl DeltaLease {
         }
     }
 
-    /// Time has passed.
+    /// A wake, at this reading; a renewal would have these bits.
     fn wake(&mut self, now: u64, bits: &Bitmap) -> DeltaOut
         requires { now < moments }
         ensures state { self.new ≡ step_from now (Wake bits.now) self.old }
@@ -407,7 +403,7 @@ impl DeltaLease {
     }
 }
 
-/// Nothing is given.
+/// What a step gives that makes nothing due.
 fn nothing_given() -> DeltaOut
     ensures { result ≡ nothing_given }
 {

@@ -3,7 +3,7 @@
 ghost use Rattle.sl_delta.specs.OwnSector.{HasMoments, IsMade, IsOwnRecord, IsTold, OwnStands, after_answer, after_call, answer_in, heard, known_with, newest_made, newest_told, without_calls};
 ghost use Rattle.sl_host_state.specs.HeardInputs.{answered_at};
 ghost use Rattle.sl_sector.specs.Records.{Fits};
-ghost use Rattle.sl_trace.specs.Sessions.{given_number, is_join_call};
+ghost use Rattle.sl_trace.specs.Sessions.{is_join_call};
 ghost use Rattle.sl_trace.specs.declared.session.Session.{Session};
 ghost use Rattle.sl_text.specs.Names.{is_name};
 ghost use Rattle.sl_trace.specs.Traces.{Answered, Submitted, bytes_given};
@@ -13,7 +13,7 @@ ghost use Rattle.sl_words.specs.Bounds.{moments};
 ghost use Rattle.std.specs.Arc.{arc_value};
 ghost use Rattle.std.specs.Option.{option_copied, option_map_or};
 ghost use Rattle.sl_trace.specs.declared.effects.Purpose.TheVariants.{Joining};
-ghost use Rattle.std.specs.Prelude.{ℕ, cond, option_map, IfSome, IsTrue, List, None, Some, false, true, is_none, [], ◌<◌, ◌∷◌, ◌≡◌, ◌≤◌};
+ghost use Rattle.std.specs.Prelude.{ℕ, cond, option_map, IfSome, IsTrue, List, None, Some, false, true, ◌<◌, ◌∷◌, ◌≡◌, ◌≤◌};
 
 use crate::answer::SectorAnswer;
 use crate::purposes::{is_claim, is_delta, is_first_read, is_free, is_renewal, join_step_of};

@@ -6,7 +6,6 @@ ghost use Rattle.sl_area.specs.AreaLayout.{delta_of as delta_at};
 ghost use Rattle.sl_delta.specs.DeltaDecisions.{watched_in};
 ghost use Rattle.sl_delta.specs.Steps.{FitsRead, IsWholeRead, is_other, shows_other};
 ghost use Rattle.sl_words.specs.Words.{some_is};
-ghost use Rattle.sl_sector.specs.Bitmaps.{no_bits};
 ghost use Rattle.sl_sector.specs.Records.{Fits};
 ghost use Rattle.sl_sector.specs.SectorLayouts.{decoded, delta_in};
 ghost use Rattle.sl_trace.specs.DeltaDecisions.{delta_record, host_of_delta, version_in, version_of};
@@ -107,7 +106,7 @@ pub(crate) fn owner_in(sector: &Image) -> Option<DeltaOwner>
 }
 
 impl OwnSector {
-    /// A record of the lease.
+    /// A delta record of this lease, with the daemon's name, the lockspace and the id; the stamp is `now`.
     pub(crate) fn record(
         &self,
         state: DeltaState,

@@ -5,7 +5,7 @@ ghost use Rattle.sl_delta.specs.OwnSector.{answer_in, known_with, lease_of};
 ghost use Rattle.sl_sector.specs.Records.{Fits};
 ghost use Rattle.sl_trace.specs.DeltaDecisions.{has_seq_left, is_renewal_due, next_after_free, next_after_renewal, next_free, next_renewal};
 ghost use Rattle.sl_words.specs.Bounds.{moments};
-ghost use Rattle.std.specs.Prelude.{Bool, IsTrue, ◌+◌, ◌<◌, ◌≡◌, ◌≤◌};
+ghost use Rattle.std.specs.Prelude.{Bool, ◌+◌, ◌<◌, ◌≡◌, ◌≤◌};
 
 use crate::answer::SectorAnswer;
 use crate::numbers::{has_next, has_two_next};

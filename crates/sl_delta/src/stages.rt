@@ -39,7 +39,7 @@ impl OwnSector {
         }
     }
 
-    /// That of a joined session.
+    /// The stage of a session that is joined, or was.
     pub(crate) fn standing(&self) -> Stage
         ensures { result ≡ stage_holding self.now }
     {

@@ -19,7 +19,7 @@ ghost use Rattle.sl_host.specs.BookQuestions.{state_in};
 ghost use Rattle.sl_host.specs.Host.{Becomes, SameRun, Spends};
 ghost use Rattle.sl_words.specs.Bounds.{moments};
 ghost use Rattle.sl_words.specs.Words.{is_empty};
-ghost use Rattle.std.specs.Prelude.{IfSome, is_some, true, ◌+◌, ◌<◌, ◌≡◌, ◌≤◌};
+ghost use Rattle.std.specs.Prelude.{IfSome, is_some, true, ◌<◌, ◌≡◌, ◌≤◌};
 
 use crate::line_answers::begin;
 use crate::line_grants::end_of;
@@ -129,7 +129,7 @@ fn give(host: &mut Host, number: u64, job: u64, holding: &Grant)
     }
 }
 
-/// A holding is given up.
+/// The line is a job; the holding ends, and where it was the last under its lease the area is written, else the job is answered.
 pub(crate) fn give_up(host: &mut Host, command: &Command, session: &Session, holding: &Grant)
     requires left { 5 ≤ host.old.left }
     requires calls { 1 ≤ host.old.calls }

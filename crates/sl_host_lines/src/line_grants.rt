@@ -5,14 +5,14 @@ ghost use Rattle.sl_host_law.specs.Steps.LineSteps.{deciding};
 ghost use Rattle.sl_host_lines.specs.LineFacts.{IsTimely};
 ghost use Rattle.sl_trace.specs.Traces.{end_of};
 ghost use Rattle.sl_host.specs.Host.{Becomes, SameRun, Spends};
-ghost use Rattle.std.specs.Prelude.{◌+◌, ◌≡◌, ◌≤◌};
+ghost use Rattle.std.specs.Prelude.{◌≡◌, ◌≤◌};
 
 use crate::line_answers::begin;
 use sl_host::Host;
 use sl_host_work::grant_for;
 use sl_trace::{Command, End, Grant, Mode, Session};
 
-/// The end of a holding.
+/// The end that ends this holding, with the names of its grant.
 pub(crate) fn end_of(grant: &Grant) -> End
     ensures { result ≡ end_of grant.now }
 {

@@ -7,14 +7,13 @@ ghost use Rattle.sl_host_state.specs.MadeEffects.{with_grant};
 ghost use Rattle.sl_host_work.specs.ProcessHoldings.{HoldsOnce, held_by, leaves_at, with_orphan};
 ghost use Rattle.sl_trace.specs.Traces.{end_of, no_process, orphan_of, orphans_left};
 ghost use Rattle.sl_host.specs.Host.{Becomes, SameRun, Spends};
-ghost use Rattle.sl_host.specs.Notes.{NotesState};
 ghost use Rattle.std.specs.Prelude.{false, length, ◌+◌, ◌<◌, ◌==◌, ◌≡◌, ◌≤◌};
 
 use sl_host::{Host, Notes};
 use sl_text::Name;
 use sl_trace::{End, Grant, Move, Spot};
 
-/// A connection that stands is removed.
+/// The lockspace's connection is removed, if it stands.
 pub fn remove_connection(host: &mut Host, lockspace: &Name)
     requires { 1 ≤ host.old.left }
     ensures state { Becomes host.old host.new (removing lockspace.now) }

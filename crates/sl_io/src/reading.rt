@@ -9,7 +9,7 @@ use crate::source::Source;
 use std::alloc::{AllocError, Global};
 use thiserror::Error;
 
-/// What a source gave.
+/// What a source gave until its end, or until it gave more than the limit.
 #[derive(Debug, Drop)]
 pub enum ReadAll {
     /// All its bytes: its end was read.
@@ -21,10 +21,10 @@ pub enum ReadAll {
 /// Why a source was not read to its end.
 #[derive(Clone, Copy, Debug, PartialEq, Eq, Error)]
 pub enum ReadAllError {
-    /// A read failed.
+    /// A read failed; the bytes read before it are lost.
     #[error("the input failed")]
     Failed,
-    /// The bytes read found no memory.
+    /// There was no memory for the bytes read.
     #[error("out of memory")]
     NoMemory,
 }

@@ -2,3 +2,4 @@ pub mod TurnLaws
 pub mod RecordLaws
 pub mod ServedLaws
 pub mod WorkLaws
+pub mod CarriedLaws

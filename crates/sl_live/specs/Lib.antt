@@ -1,2 +1,3 @@
 pub mod ServedCalls
 pub mod Turns
+pub mod CarriedOut

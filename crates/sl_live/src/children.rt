@@ -66,7 +66,7 @@ fn mark(awaited: &mut [Awaited], signals: &[Sent])
     }
 }
 
-/// The start, marked.
+/// The start, marked: it is not made, or its child is killed as it comes.
 fn doomed(waiting: Awaited) -> Awaited
     ensures { result ≡ doomed waiting }
 {
@@ -206,6 +206,13 @@ impl<P: Spawner> Children<P> {
         ensures awaited { self.new.awaited ≡ self.old.awaited }
     {
         self.spawner.starter()
+    }
+
+    /// The spawner back, when the machine's run is over.
+    pub(crate) fn into_spawner(self) -> P
+        ensures { result ≡ self.spawner }
+    {
+        self.spawner
     }
 
     /// Whether none runs, and none is awaited.

@@ -6,7 +6,7 @@
 //! children are lent, so no exit comes before its start is told.
 
 ghost use Rattle.sl_cell.specs.Told.{IsTested};
-ghost use Rattle.sl_live.specs.Turns.{GivesUp, Guards, Looks, MakesTurn, Starts, TellsStart};
+ghost use Rattle.sl_live.specs.Turns.{GivesUp, Guards, Looks, MakesTurn, Starts, TellsStart, is_lapsed};
 ghost use Rattle.sl_world_state.specs.Daemons.{read_of};
 ghost use Rattle.std.specs.Prelude.{Bool, IfOk, IfSome, OnErr, OnOk, ℕ, ◌≡◌, ◌≤◌};
 
@@ -123,7 +123,7 @@ pub fn child_step<D: Teller, J: Station, R: Wait, C: Clock, P: Spawner>(
 }
 
 /// Tests the machine's connections at the clock's reading, and keeps the device from firing exactly where the test holds. Where the device
-/// has fired by then, each child is killed and each awaited start marked, and nowhere else. An `Err` is a history that is not the daemon's any more:
+/// has fired by then, each child is killed and each awaited start marked, and nowhere else: whether it has. An `Err` is a history that is not the daemon's any more:
 /// nothing was done then.
 pub fn device_step<D: Teller, J: Station, R: Wait, C: Clock, P: Spawner, V: Device>(
     rt: &R,
@@ -132,10 +132,11 @@ pub fn device_step<D: Teller, J: Station, R: Wait, C: Clock, P: Spawner, V: Devi
     clock: &mut C,
     device: &mut V,
     children: &mut Children<P>,
-) -> Result<(), AllocError>
+) -> Result<bool, AllocError>
     ensures ok { OnOk result ((answer : Bool) × IsTested J.setting seat.old seat.new (C.last clock.new) answer
         × Guards P.acts P.faults P.running (C.last clock.new) (V.last device.old) (V.last device.new) (V.fire device.old)
         children.old children.new answer) }
+    ensures killed { IfOk result (λ killed. killed ≡ is_lapsed (V.last device.new) (V.fire device.old) (C.last clock.new)) }
     ensures err { OnErr result ((seat.new ≡ seat.old) × (children.new ≡ children.old) × (V.last device.new ≡ V.last device.old)) }
     ensures fire { V.fire device.new ≡ V.fire device.old }
     ensures clock { C.last clock.old ≤ C.last clock.new }
@@ -147,8 +148,9 @@ pub fn device_step<D: Teller, J: Station, R: Wait, C: Clock, P: Spawner, V: Devi
     if holds {
         device.keepalive(now);
     }
-    if device.lapsed(now) {
+    let lapsed = device.lapsed(now);
+    if lapsed {
         children.kill();
     }
-    Ok(())
+    Ok(lapsed)
 }

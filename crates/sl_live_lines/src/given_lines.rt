@@ -23,7 +23,7 @@ pub fn same_line(a: &GivenLine, b: &GivenLine) -> bool
     a == b
 }
 
-/// Whether an input gives a line.
+/// Whether an input gives a line of the script, a command or one for lvmlockd.
 pub(crate) fn has_line(input: &Input) -> bool
     ensures { result ≡ is_some (line_given input.now) }
 {

@@ -4,6 +4,7 @@ use Rattle.sl_book.specs.Mails.{ReaderState}
 use Rattle.sl_book.specs.Seats.{SeatState}
 use Rattle.sl_book.specs.declared.signed.Signed.{Signed}
 use Rattle.sl_cell.specs.declared.part.Part.TheVariants.{Delta, Resource}
+use Rattle.sl_live.specs.CarriedOut.{HasSignalled}
 use Rattle.sl_live.specs.declared.disks.Disk.{Disk}
 use Rattle.sl_live_lines.specs.AuditedHistory.{IsAudit}
 use Rattle.sl_live_lines.specs.EventTexts.{Telling}
@@ -12,19 +13,23 @@ use Rattle.sl_live_lines.specs.LocksAlong.{AlongState}
 use Rattle.sl_live_lines.specs.declared.given_lines.GivenLine.{GivenLine}
 use Rattle.sl_live_machine.proofs.PrintLaws.{goes_right}
 use Rattle.sl_live_machine.specs.MachineEnds.{Counts, EndsEarly, EndsSo, EndsWith, Finds, HasRun, HasTold, IsWhole, OnWhole, Told}
-use Rattle.sl_live_machine.proofs.RunLaws.{disks_served}
+use Rattle.sl_live_machine.proofs.RunLaws.{AreMadeBy, made_served, starts_killed}
+use Rattle.sl_live_machine.specs.ServedActs.{ServedStarts}
 use Rattle.sl_live_machine.specs.ServedDisks.{AreOf, AreServing, ServedDisks}
 use Rattle.sl_live_machine.specs.Printing.{IsPrinting, lines_read}
 use Rattle.sl_live_machine.specs.declared.machine.CloseError.TheVariants as close
 use Rattle.sl_live_machine.specs.declared.machine.CloseError.{CloseError}
 use Rattle.sl_live_machine.specs.declared.machine.Ran.{Ran}
 use Rattle.sl_live_machine.specs.declared.printer.Printer.{Printer}
+use Rattle.sl_live_machine.specs.declared.starter.Starter.{Starter}
+use Rattle.sl_outside.specs.Acts.{Tells}
+use Rattle.sl_outside.specs.declared.act.Act.{Act}
 use Rattle.sl_trace.specs.Traces.{Setting, Trace}
 use Rattle.sl_trace.specs.declared.effects.Entry.{Entry}
-use Rattle.std.proofs.Common.{ap, append-nil, subst, sym, ◌∙◌}
+use Rattle.std.proofs.Common.{ap, append-nil, inl, inr, subst, sym, ◌∙◌}
 use Rattle.std.proofs.lemmas.List.{length-map}
 use Rattle.std.specs.List.{concat}
-use Rattle.std.specs.Prelude.{Err, IfOk, IsOk, IsOkAnd, List, None, Ok, OnOk, Option, Result, length, [], ℕ, ◌++◌, ◌≡◌}
+use Rattle.std.specs.Prelude.{Bool, Err, IfOk, IsOk, IsOkAnd, List, None, Ok, OnOk, Option, Result, length, true, [], ℕ, ◌++◌, ◌≡◌, ◌⊎◌}
 
 -- what was found along a whole history
 pub ends_whole : {D : Type 0} (stands : D → Setting → Trace → Type 0) (st : Setting) (a : AlongState) (h : List Entry) (read : List GivenLine) (end : Result Unit CloseError)
@@ -116,44 +121,65 @@ both_so : {V E : Type 0} (seats first : Result V E) (P Q : V → Type 0) (Is : T
 both_so (Ok v) first P Q Is same so f here = f v (subst (λ x. IfOk x P) same so) here
 both_so (Err e) first P Q Is same so f here = absurd here
 
--- the disks, where the history is whole
-pub whole_disks : {A V E : Type 0} (content : A → Option (List ℕ)) (faults : A → ℕ) (sector : ℕ) (st : Setting) (h : List (Signed Entry)) (seats first : Result V E)
-    (items : V → List (SeatState Entry)) (delta delta' resource resource' : List (Disk A)) (end : Result Unit CloseError) → IfOk seats (λ v. first ≡ Ok v)
-    → IfOk first (λ v. AreServing content faults sector st delta delta' resource resource' (items v)) → OnWhole end (IsOkAnd seats (λ v. AreOf st h (items v)))
-    → OnWhole end (ServedDisks content faults sector st Delta (entries h) delta delta' × ServedDisks content faults sector st Resource (entries h) resource resource')
-whole_disks content faults sector st h seats first items delta delta' resource resource' end same so whole =
-    whole_on end (IsOkAnd seats (λ v. AreOf st h (items v)))
-    (ServedDisks content faults sector st Delta (entries h) delta delta' × ServedDisks content faults sector st Resource (entries h) resource resource')
-    (both_so seats first (λ v. AreServing content faults sector st delta delta' resource resource' (items v)) (λ v. AreOf st h (items v)) _ same so
-    (λ v a of. disks_served content faults sector st (items v) h delta delta' resource resource' a of)) whole
+-- the disks and the starts, where the history is whole
+pub whole_made : {A P V E : Type 0} (content : A → Option (List ℕ)) (faults : A → ℕ) (told : P → Option (List Act)) (sector : ℕ) (st : Setting) (h : List (Signed Entry))
+    (seats first : Result V E) (items : V → List (SeatState Entry)) (delta delta' resource resource' : List (Disk A)) (x : P) (y : Starter P) (end : Result Unit CloseError)
+    → Tells (told x) [] → IfOk seats (λ v. first ≡ Ok v) → IfOk first (λ v. AreServing content faults told sector st delta delta' resource resource' x y (items v))
+    → OnWhole end (IsOkAnd seats (λ v. AreOf st h (items v))) → OnWhole end (AreMadeBy content faults told sector st (entries h) delta delta' resource resource' y)
+whole_made content faults told sector st h seats first items delta delta' resource resource' x y end none same so whole =
+    whole_on end (IsOkAnd seats (λ v. AreOf st h (items v))) (AreMadeBy content faults told sector st (entries h) delta delta' resource resource' y)
+    (both_so seats first (λ v. AreServing content faults told sector st delta delta' resource resource' x y (items v)) (λ v. AreOf st h (items v)) _ same so
+    (λ v a of. made_served content faults told sector st (items v) h delta delta' resource resource' x y none a of)) whole
+
+-- what holds where the history is whole holds with what else does
+whole_both : (end : Result Unit CloseError) (X Y Z : Type 0) → (X → Y → Z) → OnWhole end X → OnWhole end Y → OnWhole end Z
+whole_both (Ok u) X Y Z f x y = f x y
+whole_both (Err (close.Line number)) X Y Z f x y = f x y
+whole_both (Err (close.Left left)) X Y Z f x y = f x y
+whole_both (Err (close.Differ d)) X Y Z f x y = tt
+whole_both (Err close.NoMemory) X Y Z f x y = tt
+
+-- .. or want of memory, which is told in its place
+pub or_memory : (end first : Result Unit CloseError) (P : Result Unit CloseError → Type 0) → P (Err close.NoMemory) → (end ≡ first) ⊎ (end ≡ Err close.NoMemory) → P first → P end
+or_memory end first P none (inl same) so = subst P (sym same) so
+or_memory end first P none (inr is) so = subst P (sym is) none
+
+pub whole_from : (end : Result Unit CloseError) (whole : Bool) (Holds : Type 0) → OnWhole end (whole ≡ true) → (whole ≡ true → Holds) → OnWhole end Holds
+whole_from end whole Holds is so = whole_on end (whole ≡ true) Holds so is
 
 -- threads have run, and the printer has put out all unless there was no memory
-pub has_run : {D J O T A S E : Type 0} (content : A → Option (List ℕ)) (faults : A → ℕ) (sector : ℕ) (stands : D → Setting → Trace → Type 0) (st : Setting) (t : Telling)
-    (a : AlongState) (p : Printer J O T) (seats : Result S E) (delta resource : List (Disk A)) (r : Ran O T A)
+pub has_run : {D J O T A P S E : Type 0} (content : A → Option (List ℕ)) (faults : A → ℕ) (spawned : P → Option (List Act)) (sector : ℕ) (stands : D → Setting → Trace → Type 0) (st : Setting) (t : Telling)
+    (a : AlongState) (p : Printer J O T) (seats : Result S E) (delta resource : List (Disk A)) (y : Starter P) (r : Ran O T A P)
     → r.reader ≡ p.reader → r.writer ≡ p.writer → p.writer.by ≡ p.reader.by
     → (OnOk seats (IsPrinting t a (entries p.mine) p) → EndsSo stands st a p r.end)
     → OnOk seats (IsPrinting t a (entries p.mine) p × (p.text.items ≡ [])) → OnOk r.end ((p.wrong ≡ None) × IsOk seats)
     → ((v : Telling) → (b : AlongState) → (g : List Entry) → IsAudit v b g p.audit → r.replies ≡ count_replies b g) → r.entries ≡ length p.mine
-    → OnWhole r.end (ServedDisks content faults sector st Delta (entries p.mine) delta r.delta.items × ServedDisks content faults sector st Resource (entries p.mine) resource r.resource.items)
-    → HasRun content faults sector stands st t a delta resource r
-has_run content faults sector stands st t a p seats delta resource r reader writer by ends all right count long disks = record {
+    → OnWhole r.end (AreMadeBy content faults spawned sector st (entries p.mine) delta r.delta.items resource r.resource.items y)
+    → OnWhole r.end (HasSignalled (entries p.mine) r.spawners.killed (spawned r.spawners.signals)) → OnWhole r.end (y.killed ≡ true → r.spawners.killed ≡ true)
+    → r.spawners.starts ≡ y.spawner → HasRun content faults spawned sector stands st t a delta resource r
+has_run {P = P} content faults spawned sector stands st t a p seats delta resource y r reader writer by ends all right count long made signals killed starts = record {
   by = ap (λ (s : SeatState (List ℕ)). s.by) writer ∙ by ∙ sym (ap (λ (x : ReaderState GivenLine). x.by) reader);
   history = entries p.mine;
   ends = subst (λ (x : ReaderState GivenLine). EndsWith stands st a (entries p.mine) (lines_read x) r.end) (sym reader) (ends (on_first _ _ seats all));
   told = subst (λ (s : SeatState (List ℕ)). Told t a (entries p.mine) r.reader s r.replies r.end) (sym writer)
       (subst (λ (x : ReaderState GivenLine). Told t a (entries p.mine) x p.writer r.replies r.end) (sym reader) (told_so t a p r.replies seats r.end all right count));
   counted = counts_entries p.mine r.entries r.end long;
-  delta = whole_on r.end (ServedDisks content faults sector st Delta (entries p.mine) delta r.delta.items × ServedDisks content faults sector st Resource (entries p.mine) resource r.resource.items)
-      (ServedDisks content faults sector st Delta (entries p.mine) delta r.delta.items) (λ both. both.0) disks;
-  resource = whole_on r.end (ServedDisks content faults sector st Delta (entries p.mine) delta r.delta.items × ServedDisks content faults sector st Resource (entries p.mine) resource r.resource.items)
-      (ServedDisks content faults sector st Resource (entries p.mine) resource r.resource.items) (λ both. both.1) disks;
+  delta = whole_on r.end (AreMadeBy content faults spawned sector st (entries p.mine) delta r.delta.items resource r.resource.items y)
+      (ServedDisks content faults sector st Delta (entries p.mine) delta r.delta.items) (λ m. m.delta_served) made;
+  resource = whole_on r.end (AreMadeBy content faults spawned sector st (entries p.mine) delta r.delta.items resource r.resource.items y)
+      (ServedDisks content faults sector st Resource (entries p.mine) resource r.resource.items) (λ m. m.resource_served) made;
+  signals = signals;
+  starts = whole_both r.end (AreMadeBy content faults spawned sector st (entries p.mine) delta r.delta.items resource r.resource.items y)
+      (y.killed ≡ true → r.spawners.killed ≡ true) (ServedStarts st (entries p.mine) r.spawners.killed (spawned r.spawners.starts))
+      (λ m later. subst (λ (x : P). ServedStarts st (entries p.mine) r.spawners.killed (spawned x)) (sym starts)
+      (starts_killed st (entries p.mine) y.killed r.spawners.killed (spawned y.spawner) later m.starts)) made killed;
 }
 
 -- they have not
-pub has_not_run : {D O T A : Type 0} (content : A → Option (List ℕ)) (faults : A → ℕ) (sector : ℕ) (stands : D → Setting → Trace → Type 0) (st : Setting) (t : Telling)
-    (a : AlongState) (delta resource : List (Disk A)) (r : Ran O T A) → r.end ≡ Err close.NoMemory → r.writer.by ≡ r.reader.by
-    → HasRun content faults sector stands st t a delta resource r
-has_not_run content faults sector stands st t a delta resource r end by = record {
+pub has_not_run : {D O T A P : Type 0} (content : A → Option (List ℕ)) (faults : A → ℕ) (spawned : P → Option (List Act)) (sector : ℕ) (stands : D → Setting → Trace → Type 0) (st : Setting) (t : Telling)
+    (a : AlongState) (delta resource : List (Disk A)) (r : Ran O T A P) → r.end ≡ Err close.NoMemory → r.writer.by ≡ r.reader.by
+    → HasRun content faults spawned sector stands st t a delta resource r
+has_not_run content faults spawned sector stands st t a delta resource r end by = record {
   by = by;
   history = [];
   ends = subst (EndsWith stands st a [] (lines_read r.reader)) (sym end) tt;
@@ -161,4 +187,6 @@ has_not_run content faults sector stands st t a delta resource r end by = record
   counted = subst (Counts [] r.entries) (sym end) tt;
   delta = subst (λ x. OnWhole x (ServedDisks content faults sector st Delta [] delta r.delta.items)) (sym end) tt;
   resource = subst (λ x. OnWhole x (ServedDisks content faults sector st Resource [] resource r.resource.items)) (sym end) tt;
+  signals = subst (λ x. OnWhole x (HasSignalled [] r.spawners.killed (spawned r.spawners.signals))) (sym end) tt;
+  starts = subst (λ x. OnWhole x (ServedStarts st [] r.spawners.killed (spawned r.spawners.starts))) (sym end) tt;
 }

@@ -10,23 +10,30 @@ use Rattle.sl_cell.specs.declared.closing.Differ.TheVariants.{Broken, Entry as C
 use Rattle.sl_cell.specs.declared.closing.Differ.{Differ}
 use Rattle.sl_cell.specs.declared.part.Part.TheVariants.{Delta, Resource}
 use Rattle.sl_cell.specs.declared.part.Part.{Part}
-use Rattle.sl_book.proofs.Fronts.{prefix_length}
+use Rattle.sl_book.proofs.Fronts.{prefix_length, prefix_self}
 use Rattle.sl_book.specs.Logs.{entries, given_by}
 use Rattle.sl_cell.specs.Histories.{Signed, trace_of}
+use Rattle.sl_live.proofs.CarriedLaws.{tells_on}
 use Rattle.sl_live.proofs.WorkLaws.{served_more, take_same}
+use Rattle.sl_live.specs.CarriedOut.{AreStarted, starts_of}
 use Rattle.sl_live.specs.Turns.{AreServed, Gives, IsChildThread, IsDeviceThread, IsLineThread, IsStarterThread, IsTicker, Works}
 use Rattle.sl_live.specs.declared.disks.Disk.{Disk}
+use Rattle.sl_live_machine.proofs.StartChains.{started_more, starts_most, starts_seen}
 use Rattle.sl_live_machine.proofs.WorkChains.{made_seen, most_seen}
+use Rattle.sl_live_machine.specs.ServedActs.{ServedStarts, StartsOn}
 use Rattle.sl_live_machine.specs.ServedDisks.{AreGathered, AreOf, AreServing, ServedDisks}
 use Rattle.sl_live_machine.specs.ThreadTurns.{AreMade, WorksOn}
-use Rattle.sl_live_machine.specs.ThreadSeats.{AreSeats, AreSeatsOf, GaveOnly, IsCaseOfRun, IsRun, Worked, children_number, device_number, entries_by, lines_number, number_of, starter_number, thread_count, ticker_number}
+use Rattle.sl_live_machine.specs.declared.starter.Starter.{Starter}
+use Rattle.sl_outside.specs.Acts.{Tells}
+use Rattle.sl_outside.specs.declared.act.Act.{Act}
+use Rattle.sl_live_machine.specs.ThreadSeats.{AreSeats, AreSeatsOf, GaveOnly, IsCaseOfRun, IsRun, Worked, children_number, device_number, entries_by, lines_number, number_of, starter_number, ticker_number}
 use Rattle.sl_trace.specs.Traces.{IsTrace, Setting}
 use Rattle.sl_trace.specs.declared.effects.Entry.{Entry}
 use Rattle.sl_trace.specs.declared.input.Input.{Input}
 use Rattle.sl_world_state.specs.Daemons.{Stood}
 use Rattle.sl_run.specs.Lawful.{IsSetting}
 use Rattle.std.proofs.Common.{ap, arith, refl, subst, sym, ◌∙◌}
-use Rattle.std.specs.Prelude.{All, Err, IfErr, IfOk, List, Ok, OnOk, Option, Result, length, reverse, take, [], ℕ, ◌++◌, ◌+◌, ◌<◌, ◌^◌, ◌∷◌, ◌≡◌, ◌≤◌}
+use Rattle.std.specs.Prelude.{All, Bool, Err, IfErr, IfOk, List, Ok, OnOk, Option, Result, length, reverse, take, true, [], ℕ, ◌<◌, ◌^◌, ◌∷◌, ◌≡◌}
 use mathlib.Core.List.{IsPrefix}
 
 are_seats : (st : Setting) (ticks delta resource exits starts tests lines : SeatState) → IsTicker ticks → Works st Delta delta → Works st Resource resource → IsChildThread exits
@@ -63,7 +70,7 @@ pub record AreEnded {E : Type 0} (st : Setting) (ticks delta resource exits star
   pub gives_lines : IfOk lines (λ s. IsLineThread s)
 
 pub are_gathered : {E : Type 0} (st : Setting) (t d r c p v l : Result SeatState E) (ticks delta resource exits starts tests lines : SeatState) → t ≡ Ok ticks → d ≡ Ok delta → r ≡ Ok resource
-    → c ≡ Ok exits → p ≡ Ok starts → v ≡ Ok tests → l ≡ Ok lines → AreEnded st t d r c p v l → AreGathered st d r (ticks ∷ delta ∷ resource ∷ exits ∷ starts ∷ tests ∷ lines ∷ [])
+    → c ≡ Ok exits → p ≡ Ok starts → v ≡ Ok tests → l ≡ Ok lines → AreEnded st t d r c p v l → AreGathered st d r p (ticks ∷ delta ∷ resource ∷ exits ∷ starts ∷ tests ∷ lines ∷ [])
 unfolding are_seats
 are_gathered st t d r c p v l ticks delta resource exits starts tests lines ts ds rs cs ps vs ls so = record {
   are = are_seats st ticks delta resource exits starts tests lines (ended t ticks (λ s. IsTicker s) ts so.wakes) (ended d delta (λ s. Works st Delta s) ds so.delta_works)
@@ -72,6 +79,7 @@ are_gathered st t d r c p v l ticks delta resource exits starts tests lines ts d
       (ended l lines (λ s. IsLineThread s) ls so.gives_lines);
   delta_is = ds;
   resource_is = rs;
+  starter_is = ps;
 }
 
 -- ---- seats whose counts are exact
@@ -158,32 +166,37 @@ run_whole : (st : Setting) (seats : List SeatState) (h : List Signed) (es : List
 run_whole st seats h es same a exact below trace =
     run_so st seats h es same a (seven st seats h a exact) below (subst (λ (l : List Entry). IsTrace st (reverse l)) (sym same) trace)
 
--- ---- the disks of the workers
+-- ---- the disks of the workers, and the starter's starts
 
-module _ {A : Type 0} (content : A → Option (List ℕ)) (faults : A → ℕ) (sector : ℕ) (st : Setting) where
-  serving : {E : Type 0} (first second : Result SeatState E) (delta delta' resource resource' : List (Disk A)) (seats : List SeatState)
+module _ {A P : Type 0} (content : A → Option (List ℕ)) (faults : A → ℕ) (told : P → Option (List Act)) (sector : ℕ) (st : Setting) where
+  serving : {E : Type 0} (first second third : Result SeatState E) (delta delta' resource resource' : List (Disk A)) (x : P) (y : Starter P) (seats : List SeatState)
       → IfOk first (WorksOn content faults sector st Delta delta delta') → IfOk second (WorksOn content faults sector st Resource resource resource')
-      → AreGathered st first second seats → AreServing content faults sector st delta delta' resource resource' seats
-  serving {E} first second delta delta' resource resource' seats d r g = record {
+      → IfOk third (StartsOn st y.killed (told x) (told y.spawner)) → AreGathered st first second third seats
+      → AreServing content faults told sector st delta delta' resource resource' x y seats
+  serving {E} first second third delta delta' resource resource' x y seats d r s g = record {
     are = g.are;
-    delta_on = subst (λ (x : Result SeatState E). IfOk x (WorksOn content faults sector st Delta delta delta')) g.delta_is d;
-    resource_on = subst (λ (x : Result SeatState E). IfOk x (WorksOn content faults sector st Resource resource resource')) g.resource_is r;
+    delta_on = subst (λ (e : Result SeatState E). IfOk e (WorksOn content faults sector st Delta delta delta')) g.delta_is d;
+    resource_on = subst (λ (e : Result SeatState E). IfOk e (WorksOn content faults sector st Resource resource resource')) g.resource_is r;
+    starter_on = subst (λ (e : Result SeatState E). IfOk e (StartsOn st y.killed (told x) (told y.spawner))) g.starter_is s;
   }
 
-  -- workers that worked so left their seats among those of all threads
-  pub threads_serving : {V E F : Type 0} (r : Result V F) (items : V → List SeatState) (first second : Result SeatState E)
-      (delta delta' left resource resource' left' : List (Disk A)) → left ≡ delta' → left' ≡ resource'
+  -- threads that worked so left their seats among those of all threads
+  pub threads_serving : {V E F : Type 0} (r : Result V F) (items : V → List SeatState) (first second third : Result SeatState E)
+      (delta delta' left resource resource' left' : List (Disk A)) (x : P) (y y' : Starter P) → left ≡ delta' → left' ≡ resource' → y' ≡ y
       → IfOk first (WorksOn content faults sector st Delta delta delta') → IfOk second (WorksOn content faults sector st Resource resource resource')
-      → IfOk r (λ v. AreGathered st first second (items v)) → IfOk r (λ v. AreServing content faults sector st delta left resource left' (items v))
-  threads_serving (Ok v) items first second delta delta' left resource resource' left' is is' d s g =
-      subst (λ x. AreServing content faults sector st delta x resource left' (items v)) (sym is)
-      (subst (λ x. AreServing content faults sector st delta delta' resource x (items v)) (sym is') (serving first second delta delta' resource resource' (items v) d s g))
-  threads_serving (Err e) items first second delta delta' left resource resource' left' is is' d s g = tt
+      → IfOk third (StartsOn st y.killed (told x) (told y.spawner)) → IfOk r (λ v. AreGathered st first second third (items v))
+      → IfOk r (λ v. AreServing content faults told sector st delta left resource left' x y' (items v))
+  threads_serving (Ok v) items first second third delta delta' left resource resource' left' x y y' is is' same d s p g =
+      subst (λ l. AreServing content faults told sector st delta l resource left' x y' (items v)) (sym is)
+      (subst (λ l. AreServing content faults told sector st delta delta' resource l x y' (items v)) (sym is')
+      (subst (λ z. AreServing content faults told sector st delta delta' resource resource' x z (items v)) (sym same)
+      (serving first second third delta delta' resource resource' x y (items v) d s p g)))
+  threads_serving (Err e) items first second third delta delta' left resource resource' left' x y y' is is' same d s p g = tt
 
-  pub serving_seats : {V E : Type 0} (r : Result V E) (items : V → List SeatState) (delta delta' resource resource' : List (Disk A))
-      → IfOk r (λ v. AreServing content faults sector st delta delta' resource resource' (items v)) → IfOk r (λ v. AreSeats st (items v))
-  serving_seats (Ok v) items delta delta' resource resource' so = so.are
-  serving_seats (Err e) items delta delta' resource resource' so = tt
+  pub serving_seats : {V E : Type 0} (r : Result V E) (items : V → List SeatState) (delta delta' resource resource' : List (Disk A)) (x : P) (y : Starter P)
+      → IfOk r (λ v. AreServing content faults told sector st delta delta' resource resource' x y (items v)) → IfOk r (λ v. AreSeats st (items v))
+  serving_seats (Ok v) items delta delta' resource resource' x y so = so.are
+  serving_seats (Err e) items delta delta' resource resource' x y so = tt
 
   served_disks : (part : Part) (s : SeatState) (h : List Signed) (disks later : List (Disk A)) (run : IsRun st (entries h)) → run.signed ≡ h → IsExact (number_of part) s h
       → WorksOn content faults sector st part disks later s → ServedDisks content faults sector st part (entries h) disks later
@@ -199,15 +212,53 @@ module _ {A : Type 0} (content : A → Option (List ℕ)) (faults : A → ℕ) (
         made = subst (λ g. AreMade content faults sector st g (take s.taken (calls_of part (entries h))) (entries_by (number_of part) g) disks later) (sym same) all;
       }
 
-  -- seats whose counts make up a history have made their disks by its calls
-  pub disks_served : (seats : List SeatState) (h : List Signed) (delta delta' resource resource' : List (Disk A))
-      → AreServing content faults sector st delta delta' resource resource' seats → AreOf st h seats
-      → ServedDisks content faults sector st Delta (entries h) delta delta' × ServedDisks content faults sector st Resource (entries h) resource resource'
+  served_starts : (s : SeatState) (h : List Signed) (x : P) (y : Starter P) (run : IsRun st (entries h)) → run.signed ≡ h → IsExact starter_number s h → Tells (told x) []
+      → StartsOn st y.killed (told x) (told y.spawner) s → ServedStarts st (entries h) y.killed (told y.spawner)
+  served_starts s h x y run same exact none on =
+      let made : AreStarted st h y.killed (take s.taken (starts_of (entries h))) on.given on.acts
+      = starts_seen st s.front h y.killed y.killed s.taken on.given on.acts exact.before (λ is. is) on.most on.made in
+      let all : AreStarted st h y.killed (take s.taken (starts_of (entries h))) (entries_by starter_number h) on.acts
+      = subst (λ es. AreStarted st h y.killed (take s.taken (starts_of (entries h))) es on.acts) (mine_exact starter_number s h on.given exact on.mine) made in
+      record {
+        run = run;
+        taken = s.taken;
+        most = starts_most st s.front h s.taken exact.before on.most;
+        acts = on.acts;
+        tells = tells_on (told x) (told y.spawner) [] on.acts none on.grows;
+        made = subst (λ g. AreStarted st g y.killed (take s.taken (starts_of (entries h))) (entries_by starter_number g) on.acts) (sym same) all;
+      }
+
+  -- What threads of such seats made by this history.
+  pub record AreMadeBy (h : List Entry) (delta delta' resource resource' : List (Disk A)) (y : Starter P) : Type 0 where
+    pub delta_served : ServedDisks content faults sector st Delta h delta delta'
+    pub resource_served : ServedDisks content faults sector st Resource h resource resource'
+    pub starts : ServedStarts st h y.killed (told y.spawner)
+
+  -- seats whose counts make up a history have made their disks by its calls, and its starts
+  pub made_served : (seats : List SeatState) (h : List Signed) (delta delta' resource resource' : List (Disk A)) (x : P) (y : Starter P) → Tells (told x) []
+      → AreServing content faults told sector st delta delta' resource resource' x y seats → AreOf st h seats
+      → AreMadeBy (entries h) delta delta' resource resource' y
   unfolding run_whole run_so
-  disks_served seats h delta delta' resource resource' a of =
-      let x = seven st seats h a.are of.exact in
+  made_served seats h delta delta' resource resource' x y none a of =
+      let e = seven st seats h a.are of.exact in
       let run = run_whole st seats h (entries h) refl a.are of.exact of.below of.trace in
-      (served_disks Delta a.are.delta h delta delta' run refl x.delta a.delta_on, served_disks Resource a.are.resource h resource resource' run refl x.resource a.resource_on)
+      record {
+        delta_served = served_disks Delta a.are.delta h delta delta' run refl e.delta a.delta_on;
+        resource_served = served_disks Resource a.are.resource h resource resource' run refl e.resource a.resource_on;
+        starts = served_starts a.are.starter h x y run refl e.starter none a.starter_on;
+      }
+
+-- the starter need not know that all children were killed
+pub starts_killed : (st : Setting) (h : List Entry) (killed killed' : Bool) (told : Option (List Act)) → (killed ≡ true → killed' ≡ true) → ServedStarts st h killed told
+    → ServedStarts st h killed' told
+starts_killed st h killed killed' told later so = record {
+  run = so.run;
+  taken = so.taken;
+  most = so.most;
+  acts = so.acts;
+  tells = so.tells;
+  made = started_more st so.run.signed so.run.signed killed killed' (take so.taken (starts_of h)) (entries_by starter_number so.run.signed) so.acts (prefix_self so.run.signed) later so.made;
+}
 
 -- ---- a close, where it may have failed
 

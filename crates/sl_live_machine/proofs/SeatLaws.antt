@@ -22,7 +22,7 @@ use Rattle.sl_trace.specs.declared.input.Input.{Input}
 use Rattle.std.proofs.Common.{ap, arith, inl, inr, refl, subst, sym, ◌∙◌}
 use Rattle.std.proofs.lemmas.List.Elements.{All-append, All-cons}
 use Rattle.std.specs.declared.alloc.AllocError.{AllocError}
-use Rattle.std.specs.Prelude.{Bool, Err, IfOk, List, None, Ok, OnErr, OnOk, Option, Result, Some, length, [], ℕ, ◌++◌, ◌+◌, ◌==◌, ◌∷◌, ◌≡◌, ◌⊎◌}
+use Rattle.std.specs.Prelude.{Bool, Err, IfOk, List, None, Ok, OnErr, OnOk, Option, Result, Some, length, [], ℕ, ◌++◌, ◌==◌, ◌∷◌, ◌≡◌, ◌⊎◌}
 
 -- ---- a turn that gives an input
 
@@ -65,6 +65,10 @@ gives_more IsInput i s s' now fx is gave so =
 gives_on : (IsInput : Input → Type 0) (st : Setting) (i : Input) (s s' : SeatState) → IsInput i → GaveTurn st i s s' → Gives IsInput s → Gives IsInput s'
 gives_on IsInput st i s s' is (inl gave) so = gives_more IsInput i s s' gave.0 gave.1 is gave.2 so
 gives_on IsInput st i s s' is (inr passed) so = gives_seen IsInput s s' passed.seen so
+
+-- a starter that takes a start has told nothing more
+pub starter_seen : (s s' : SeatState) → HasSeen s s' → IsStarterThread s → IsStarterThread s'
+starter_seen s s' seen so = gives_seen IsSpawned s s' seen so
 
 -- nothing yet
 pub gave_none : (IsInput : Input → Type 0) (s : SeatState) → s.count ≡ 0 → Gives IsInput s

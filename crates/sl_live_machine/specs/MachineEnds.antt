@@ -3,6 +3,7 @@ use Rattle.sl_book.specs.Logs.{entries}
 use Rattle.sl_book.specs.Mails.{ReaderState}
 use Rattle.sl_book.specs.Seats.{IsMine, SeatState}
 use Rattle.sl_cell.specs.declared.part.Part.TheVariants.{Delta, Resource}
+use Rattle.sl_live.specs.CarriedOut.{HasSignalled}
 use Rattle.sl_live.specs.declared.disks.Disk.{Disk}
 use Rattle.sl_live_lines.specs.AuditedHistory.{AreLines, IsAnswered, IsLeft, KeepsAsks, lines_along}
 use Rattle.sl_live_lines.specs.EventTexts.{Telling}
@@ -11,12 +12,14 @@ use Rattle.sl_live_lines.specs.LocksAlong.{AlongState}
 use Rattle.sl_live_lines.specs.declared.given_lines.GivenLine.{GivenLine}
 use Rattle.sl_live_machine.specs.Printing.{IsWrong, lines_read}
 use Rattle.sl_live_machine.specs.declared.printer.Printer.{Printer}
+use Rattle.sl_live_machine.specs.ServedActs.{ServedStarts}
 use Rattle.sl_live_machine.specs.ServedDisks.{ServedDisks}
 use Rattle.sl_live_machine.specs.ThreadSeats.{IsCaseOfRun, IsRun}
 use Rattle.sl_live_machine.specs.declared.machine.CloseError.TheVariants as close
 use Rattle.sl_live_machine.specs.declared.machine.CloseError.{CloseError}
 use Rattle.sl_live_machine.specs.declared.machine.Ran.{Ran}
 use Rattle.std.specs.List.{concat}
+use Rattle.sl_outside.specs.declared.act.Act.{Act}
 use Rattle.sl_trace.specs.Traces.{Setting, Trace}
 use Rattle.sl_trace.specs.declared.effects.Entry.{Entry}
 use Rattle.sl_world_state.specs.Daemons.{Stood}
@@ -84,9 +87,9 @@ OnWhole (Err (close.Differ d)) Holds = Unit {0}
 OnWhole (Err close.NoMemory) Holds = Unit {0}
 
 -- A machine has run, whose workers had these disks: with a whole history of which all is told; or a case that holds of it, or want of memory. Where the
--- history is whole, the disks that are left are made of those by its calls.
-pub record HasRun {D O T A : Type 0} (content : A → Option (List ℕ)) (faults : A → ℕ) (sector : ℕ) (stands : D → Setting → Trace → Type 0) (st : Setting)
-    (t : Telling) (a : AlongState) (delta_disks resource_disks : List (Disk A)) (r : Ran O T A) : Type 0 where
+-- history is whole, the disks that are left are made of those by its calls, and the spawners were asked for its signals and its starts.
+pub record HasRun {D O T A P : Type 0} (content : A → Option (List ℕ)) (faults : A → ℕ) (spawned : P → Option (List Act)) (sector : ℕ) (stands : D → Setting → Trace → Type 0) (st : Setting)
+    (t : Telling) (a : AlongState) (delta_disks resource_disks : List (Disk A)) (r : Ran O T A P) : Type 0 where
   pub by : r.writer.by ≡ r.reader.by
   pub history : List Entry
   pub ends : EndsWith stands st a history (lines_read r.reader) r.end
@@ -94,3 +97,5 @@ pub record HasRun {D O T A : Type 0} (content : A → Option (List ℕ)) (faults
   pub counted : Counts history r.entries r.end
   pub delta : OnWhole r.end (ServedDisks content faults sector st Delta history delta_disks r.delta.items)
   pub resource : OnWhole r.end (ServedDisks content faults sector st Resource history resource_disks r.resource.items)
+  pub signals : OnWhole r.end (HasSignalled history r.spawners.killed (spawned r.spawners.signals))
+  pub starts : OnWhole r.end (ServedStarts st history r.spawners.killed (spawned r.spawners.starts))

@@ -6,26 +6,31 @@ use Rattle.sl_cell.specs.Seats.{SeatState}
 use Rattle.sl_cell.specs.declared.part.Part.TheVariants.{Delta, Resource}
 use Rattle.sl_cell.specs.declared.part.Part.{Part}
 use Rattle.sl_live.specs.declared.disks.Disk.{Disk}
+use Rattle.sl_live_machine.specs.ServedActs.{StartsOn}
 use Rattle.sl_live_machine.specs.ThreadSeats.{AreSeats, IsRun, entries_by, number_of}
 use Rattle.sl_live_machine.specs.ThreadTurns.{AreMade, WorksOn}
+use Rattle.sl_live_machine.specs.declared.starter.Starter.{Starter}
+use Rattle.sl_outside.specs.declared.act.Act.{Act}
 use Rattle.sl_trace.specs.Traces.{IsTrace, Setting}
 use Rattle.sl_trace.specs.declared.effects.Entry.{Entry}
 use Rattle.std.specs.Prelude.{List, Ok, Option, Result, length, take, ℕ, ◌≡◌, ◌≤◌}
 
 -- ---- seats
 
--- Seats of a machine's threads, of which the workers' are those with which these two ended.
-pub record AreGathered {E : Type 0} (st : Setting) (delta_end resource_end : Result SeatState E) (seats : List SeatState) : Type 0 where
+-- Seats of a machine's threads, of which the workers' and the starter's are those with which these three ended.
+pub record AreGathered {E : Type 0} (st : Setting) (delta_end resource_end starter_end : Result SeatState E) (seats : List SeatState) : Type 0 where
   pub are : AreSeats st seats
   pub delta_is : delta_end ≡ Ok are.delta
   pub resource_is : resource_end ≡ Ok are.resource
+  pub starter_is : starter_end ≡ Ok are.starter
 
--- Seats of a machine's threads, whose workers had these disks and have those.
-pub record AreServing {A : Type 0} (content : A → Option (List ℕ)) (faults : A → ℕ) (sector : ℕ) (st : Setting)
-    (delta delta_later resource resource_later : List (Disk A)) (seats : List SeatState) : Type 0 where
+-- Seats of a machine's threads, whose workers had these disks and have those, and whose starter began with this spawner and is this one.
+pub record AreServing {A P : Type 0} (content : A → Option (List ℕ)) (faults : A → ℕ) (told : P → Option (List Act)) (sector : ℕ) (st : Setting)
+    (delta delta_later resource resource_later : List (Disk A)) (spawner : P) (starter : Starter P) (seats : List SeatState) : Type 0 where
   pub are : AreSeats st seats
   pub delta_on : WorksOn content faults sector st Delta delta delta_later are.delta
   pub resource_on : WorksOn content faults sector st Resource resource resource_later are.resource
+  pub starter_on : StartsOn st starter.killed (told spawner) (told starter.spawner) are.starter
 
 -- What these seats counted makes up this history, which the daemon could have.
 pub record AreOf (st : Setting) (h : List Signed) (seats : List SeatState) : Type 0 where

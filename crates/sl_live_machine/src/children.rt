@@ -10,7 +10,7 @@ use crate::script_waits::Post;
 use crate::thread_numbers::CHILDREN;
 use crate::turn::{Happened, Turn};
 use sl_cell::{Seat, Station, Teller};
-use sl_live::laws::{Gone, child_step};
+use sl_live::laws::Gone;
 use sl_outside::Spawner;
 use sl_time::Clock;
 use std::alloc::AllocError;
@@ -64,7 +64,7 @@ fn look<D: Teller, J: Station, R: Wait, C: Clock, P: Spawner>(
     ensures thread { OnOk result (IsChildThread seat.old → IsChildThread seat.new) }
 {
     let mut children = room.children.lock(rt);
-    match child_step(rt, &room.cell, seat, clock, &mut *children) {
+    match children.tell_exit(rt, &room.cell, seat, clock) {
         Ok(gone) => Ok(outcome(gone, children.is_idle())),
         Err(error) => Err(error),
     }

@@ -9,7 +9,6 @@ use crate::room::Room;
 use crate::script_waits::Post;
 use crate::thread_numbers::DEVICE;
 use sl_cell::{Seat, Station, Teller};
-use sl_live::laws::device_step;
 use sl_outside::{Device, Spawner};
 use sl_time::Clock;
 use std::alloc::AllocError;
@@ -34,7 +33,7 @@ fn test<D: Teller, J: Station, R: Wait, C: Clock, P: Spawner, V: Device>(
     ensures thread { OnOk result (IsDeviceThread seat.old → IsDeviceThread seat.new) }
 {
     let mut children = room.children.lock(rt);
-    device_step(rt, &room.cell, seat, clock, device, &mut *children)
+    children.test(rt, &room.cell, seat, clock, device)
 }
 
 /// Tests again and again until the machine ends. An `Err` is want of memory.

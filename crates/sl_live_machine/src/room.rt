@@ -5,7 +5,7 @@
 
 use sl_area::Geometry;
 use sl_cell::{Front, HostCell, Station, Teller};
-use sl_live::Children;
+use sl_live::Carried;
 use sl_locks::LvmLocks;
 use sl_outside::Spawner;
 use std::alloc::Global;
@@ -21,7 +21,7 @@ pub(crate) struct Pace {
     pub test: Duration,
 }
 
-/// A machine's cell and children, and lvmlockd's locks there.
+/// A machine's cell, its children with what was carried out of its history, and lvmlockd's locks there.
 #[derive(Drop)]
 pub(crate) struct Room<D: Teller, J: Station, P: Spawner> {
     pub alloc: Global,
@@ -31,6 +31,6 @@ pub(crate) struct Room<D: Teller, J: Station, P: Spawner> {
     pub cell: HostCell<D, J>,
     /// The front of one who has seen nothing: a thread gets its seat by it.
     pub front: Front<J>,
-    pub children: Mutex<Children<P>>,
+    pub children: Mutex<Carried<P, J>>,
     pub locks: Mutex<LvmLocks>,
 }

@@ -7,6 +7,7 @@ ghost use Rattle.sl_book.specs.Logs.{entries};
 ghost use Rattle.sl_live_lines.specs.EventTexts.{Telling};
 ghost use Rattle.sl_live_lines.specs.LocksAlong.{AlongState};
 ghost use Rattle.sl_live_machine.specs.Printing.{IsPrinting};
+ghost use Rattle.sl_live_machine.specs.ServedActs.{StartsOn};
 ghost use Rattle.sl_live_machine.specs.ServedDisks.{AreGathered, AreServing};
 ghost use Rattle.sl_live_machine.specs.ThreadTurns.{WorksOn};
 ghost use Rattle.std.specs.Prelude.{IfOk, Ok, OnOk, ◌+◌, ◌≡◌};
@@ -19,7 +20,7 @@ use crate::lines::give_lines;
 use crate::printer::{Desk, Printer, print_replies};
 use crate::room::Room;
 use crate::script_waits::{Post, fail_all};
-use crate::starter::start_programs;
+use crate::starter::{Starter, start_programs};
 use crate::thread_roll::Roll;
 use crate::ticker::tick;
 use crate::worker::work;
@@ -36,7 +37,7 @@ use std::sync::Wait;
 use std::thread::{Threads, join};
 use std::time;
 
-/// The clocks of a machine's threads.
+/// The clocks of a machine's threads: each reads its own.
 #[derive(Drop)]
 pub struct Clocks<C: Clock> {
     pub ticks: C,
@@ -84,7 +85,7 @@ impl<'a> Stand<'a> {
     }
 }
 
-/// The ticker.
+/// The thread that wakes the daemon, again and again.
 fn ticker<D: Teller, J: Station, R: Wait + time::Clock, C: Clock, P: Spawner>(
     rt: &R,
     room: &Room<D, J, P>,
@@ -97,7 +98,7 @@ fn ticker<D: Teller, J: Station, R: Wait + time::Clock, C: Clock, P: Spawner>(
     stand.ended(rt, tick(rt, room, stand.post, clock))
 }
 
-/// The line thread.
+/// The thread that gives the script's lines, and what lvmlockd's locks ask.
 fn line_thread<D: Teller, J: Station, R: Wait + time::Clock, C: Clock, P: Spawner>(
     rt: &R,
     room: &Room<D, J, P>,
@@ -127,20 +128,45 @@ fn child_thread<D: Teller, J: Station, R: Wait + time::Clock, C: Clock, P: Spawn
     seat
 }
 
+/// The starter's seat, and what it made the starts with.
+#[derive(Drop)]
+pub(crate) struct StarterEnd<J: Station, P: Spawner> {
+    pub seat: Result<Seat<J>, AllocError>,
+    pub starter: Starter<P>,
+}
+
+/// What the thread that starts programs ends with.
+fn starter_seat<D: Teller, J: Station, R: Wait + time::Clock, C: Clock, P: Spawner>(
+    rt: &R,
+    room: &Room<D, J, P>,
+    stand: &Stand<'_>,
+    clock: C,
+    starter: &mut Starter<P>,
+) -> Result<Seat<J>, AllocError>
+    ensures thread { IfOk result (λ s. IsStarterThread s) }
+    ensures starts { IfOk result (λ s. StartsOn J.setting starter.new.killed (P.acts starter.old.spawner) (P.acts starter.new.spawner) s) }
+{
+    stand.enter(rt)?;
+    stand.ended(rt, start_programs(rt, room, stand.post, clock, starter))
+}
+
 /// The thread that starts programs.
 fn starter_thread<D: Teller, J: Station, R: Wait + time::Clock, C: Clock, P: Spawner>(
     rt: &R,
     room: &Room<D, J, P>,
     stand: &Stand<'_>,
     clock: C,
-) -> Result<Seat<J>, AllocError>
-    ensures { IfOk result (λ s. IsStarterThread s) }
+    starter: Starter<P>,
+) -> StarterEnd<J, P>
+    ensures thread { IfOk result.seat (λ s. IsStarterThread s) }
+    ensures starts { IfOk result.seat (λ s. StartsOn J.setting result.starter.killed (P.acts starter.spawner) (P.acts result.starter.spawner) s) }
 {
-    stand.enter(rt)?;
-    stand.ended(rt, start_programs(rt, room, stand.post, clock))
+    let mut starter = starter;
+    let seat = starter_seat(rt, room, stand, clock, &mut starter);
+    StarterEnd { seat, starter }
 }
 
-/// The device thread.
+/// The thread that tests the connections and keeps the device alive.
 fn device_thread<D: Teller, J: Station, R: Wait + time::Clock, C: Clock, P: Spawner, V: Device>(
     rt: &R,
     room: &Room<D, J, P>,
@@ -194,7 +220,7 @@ fn worker_seat<
     stand.ended(rt, work(rt, room, stand.post, gate, part, clock, disks))
 }
 
-/// A worker.
+/// The thread that makes the sector calls of its part, and gives their answers.
 fn worker<D: Teller, J: Station, R: Wait + time::Clock, C: Clock, P: Spawner, A: Area, G: Gate>(
     rt: &R,
     room: &Room<D, J, P>,
@@ -214,7 +240,7 @@ fn worker<D: Teller, J: Station, R: Wait + time::Clock, C: Clock, P: Spawner, A:
     Worked { seat, disks }
 }
 
-/// Both workers.
+/// Runs both workers, each in a thread of its own.
 fn workers<
     D: Teller + Send,
     J: Station + Send + Sync,
@@ -279,14 +305,22 @@ fn keepers<
     R: Threads + Wait + time::Clock + Sync,
     C: Clock + Send,
     P: Spawner + Send,
->(rt: &R, room: &Room<D, J, P>, stand: &Stand<'_>, exits: C, starts: C) -> (Ending<J>, Ending<J>)
+>(
+    rt: &R,
+    room: &Room<D, J, P>,
+    stand: &Stand<'_>,
+    exits: C,
+    starts: C,
+    starter: Starter<P>,
+) -> (Ending<J>, StarterEnd<J, P>)
     ensures exits { IfOk result.0 (λ s. IsChildThread s) }
-    ensures starts { IfOk result.1 (λ s. IsStarterThread s) }
+    ensures starts { IfOk result.1.seat (λ s. IsStarterThread s) }
+    ensures made { IfOk result.1.seat (λ s. StartsOn J.setting result.1.starter.killed (P.acts starter.spawner) (P.acts result.1.starter.spawner) s) }
 {
     join(
         rt,
         || child_thread(rt, room, stand, exits),
-        || starter_thread(rt, room, stand, starts),
+        || starter_thread(rt, room, stand, starts, starter),
     )
 }
 
@@ -305,15 +339,17 @@ fn watchers<
     exits: C,
     starts: C,
     tests: C,
+    starter: Starter<P>,
     device: V,
-) -> (Ending<J>, Ending<J>, Ending<J>)
+) -> (Ending<J>, StarterEnd<J, P>, Ending<J>)
     ensures exits { IfOk result.0 (λ s. IsChildThread s) }
-    ensures starts { IfOk result.1 (λ s. IsStarterThread s) }
+    ensures starts { IfOk result.1.seat (λ s. IsStarterThread s) }
+    ensures made { IfOk result.1.seat (λ s. StartsOn J.setting result.1.starter.killed (P.acts starter.spawner) (P.acts result.1.starter.spawner) s) }
     ensures tests { IfOk result.2 (λ s. IsDeviceThread s) }
 {
     let ((exits, starts), tests) = join(
         rt,
-        || keepers(rt, room, stand, exits, starts),
+        || keepers(rt, room, stand, exits, starts, starter),
         || device_thread(rt, room, stand, tests, device),
     );
     (exits, starts, tests)
@@ -321,11 +357,11 @@ fn watchers<
 
 /// What all threads but the workers end with.
 #[derive(Drop)]
-struct OtherEndings<J: Station> {
+struct OtherEndings<J: Station, P: Spawner> {
     ticks: Ending<J>,
     lines: Ending<J>,
     exits: Ending<J>,
-    starts: Ending<J>,
+    starts: StarterEnd<J, P>,
     tests: Ending<J>,
 }
 
@@ -346,12 +382,14 @@ fn others<
     exits: C,
     starts: C,
     tests: C,
+    starter: Starter<P>,
     device: V,
-) -> OtherEndings<J>
+) -> OtherEndings<J, P>
     ensures ticks { IfOk result.ticks (λ s. IsTicker s) }
     ensures lines { IfOk result.lines (λ s. IsLineThread s) }
     ensures exits { IfOk result.exits (λ s. IsChildThread s) }
-    ensures starts { IfOk result.starts (λ s. IsStarterThread s) }
+    ensures starts { IfOk result.starts.seat (λ s. IsStarterThread s) }
+    ensures made { IfOk result.starts.seat (λ s. StartsOn J.setting result.starts.starter.killed (P.acts starter.spawner) (P.acts result.starts.starter.spawner) s) }
     ensures tests { IfOk result.tests (λ s. IsDeviceThread s) }
 {
     let ((ticks, lines), (exits, starts, tests)) = join(
@@ -365,7 +403,7 @@ fn others<
             requires clock { IsSend C.row }
             requires spawner { IsSend P.row }
             requires device { IsSend V.row }
-        { watchers(rt, room, stand, exits, starts, tests, device) },
+        { watchers(rt, room, stand, exits, starts, tests, starter, device) },
     );
     OtherEndings {
         ticks,
@@ -392,57 +430,56 @@ fn three<J: Station>(
 /// The seats of all threads, if none ended for want of memory, and there is memory for the list.
 fn gather<J: Station>(
     alloc: Global,
+    ticks: Ending<J>,
     delta: Ending<J>,
     resource: Ending<J>,
-    others: OtherEndings<J>,
+    exits: Ending<J>,
+    starts: Ending<J>,
+    tests: Ending<J>,
+    lines: Ending<J>,
 ) -> Result<Vec<Seat<J>>, AllocError>
     requires delta { IfOk delta (λ s. Works J.setting DeltaPart s) }
     requires resource { IfOk resource (λ s. Works J.setting ResourcePart s) }
-    requires ticks { IfOk others.ticks (λ s. IsTicker s) }
-    requires lines { IfOk others.lines (λ s. IsLineThread s) }
-    requires exits { IfOk others.exits (λ s. IsChildThread s) }
-    requires starts { IfOk others.starts (λ s. IsStarterThread s) }
-    requires tests { IfOk others.tests (λ s. IsDeviceThread s) }
-    ensures { IfOk result (λ v. AreGathered J.setting delta resource v.items) }
+    requires ticks { IfOk ticks (λ s. IsTicker s) }
+    requires lines { IfOk lines (λ s. IsLineThread s) }
+    requires exits { IfOk exits (λ s. IsChildThread s) }
+    requires starts { IfOk starts (λ s. IsStarterThread s) }
+    requires tests { IfOk tests (λ s. IsDeviceThread s) }
+    ensures { IfOk result (λ v. AreGathered J.setting delta resource starts v.items) }
 {
-    let OtherEndings {
-        ticks,
-        lines,
-        exits,
-        starts,
-        tests,
-    } = others;
     let (ticks, delta, resource) = three(ticks, delta, resource)?;
     let (exits, starts, tests) = three(exits, starts, tests)?;
     let lines = lines?;
     Ok(vec![in alloc; ticks, delta, resource, exits, starts, tests, lines]?)
 }
 
-/// What the threads of a machine have left: their seats, and the workers' disks.
+/// What the threads of a machine have left: their seats, the workers' disks, and what made the starts.
 #[derive(Drop)]
-pub(crate) struct Threaded<J: Station, A: Area> {
+pub(crate) struct Threaded<J: Station, P: Spawner, A: Area> {
     pub seats: Result<Vec<Seat<J>>, AllocError>,
     pub delta: Vec<Disk<A>>,
     pub resource: Vec<Disk<A>>,
+    pub starter: Starter<P>,
 }
 
 /// What the threads have left, by what each has ended with.
-fn gather_threads<J: Station, A: Area>(
+fn gather_threads<J: Station, P: Spawner, A: Area>(
     alloc: Global,
     delta: Worked<J, A>,
     resource: Worked<J, A>,
-    others: OtherEndings<J>,
-) -> Threaded<J, A>
+    others: OtherEndings<J, P>,
+) -> Threaded<J, P, A>
     requires delta { IfOk delta.seat (λ s. Works J.setting DeltaPart s) }
     requires resource { IfOk resource.seat (λ s. Works J.setting ResourcePart s) }
     requires ticks { IfOk others.ticks (λ s. IsTicker s) }
     requires lines { IfOk others.lines (λ s. IsLineThread s) }
     requires exits { IfOk others.exits (λ s. IsChildThread s) }
-    requires starts { IfOk others.starts (λ s. IsStarterThread s) }
+    requires starts { IfOk others.starts.seat (λ s. IsStarterThread s) }
     requires tests { IfOk others.tests (λ s. IsDeviceThread s) }
-    ensures seats { IfOk result.seats (λ v. AreGathered J.setting delta.seat resource.seat v.items) }
+    ensures seats { IfOk result.seats (λ v. AreGathered J.setting delta.seat resource.seat others.starts.seat v.items) }
     ensures delta_disks { result.delta ≡ delta.disks }
     ensures resource_disks { result.resource ≡ resource.disks }
+    ensures starter { result.starter ≡ others.starts.starter }
 {
     let Worked {
         seat: delta,
@@ -452,10 +489,22 @@ fn gather_threads<J: Station, A: Area>(
         seat: resource,
         disks: resource_disks,
     } = resource;
+    let OtherEndings {
+        ticks,
+        lines,
+        exits,
+        starts,
+        tests,
+    } = others;
+    let StarterEnd {
+        seat: starts,
+        starter,
+    } = starts;
     Threaded {
-        seats: gather(alloc, delta, resource, others),
+        seats: gather(alloc, ticks, delta, resource, exits, starts, tests, lines),
         delta: delta_disks,
         resource: resource_disks,
+        starter,
     }
 }
 
@@ -534,12 +583,13 @@ pub(crate) fn run_threads<
     stand: &Stand<'_>,
     gate: &G,
     clocks: Clocks<C>,
+    starter: Starter<P>,
     device: V,
     delta: Vec<Disk<A>>,
     resource: Vec<Disk<A>>,
-) -> Threaded<J, A>
-    ensures { IfOk result.seats (λ v. AreServing A.content A.faults room.now.geometry.sector J.setting delta.items result.delta.items
-        resource.items result.resource.items v.items) }
+) -> Threaded<J, P, A>
+    ensures { IfOk result.seats (λ v. AreServing A.content A.faults P.acts room.now.geometry.sector J.setting delta.items result.delta.items
+        resource.items result.resource.items starter.spawner result.starter v.items) }
 {
     let Clocks {
         ticks,
@@ -580,7 +630,11 @@ pub(crate) fn run_threads<
             requires clock { IsSend C.row }
             requires spawner { IsSend P.row }
             requires device { IsSend V.row }
-        { others(rt, room, stand, ticks, lines, exits, starts, tests, device) },
+        {
+            others(
+                rt, room, stand, ticks, lines, exits, starts, tests, starter, device,
+            )
+        },
     );
     gather_threads(room.alloc, delta, resource, rest)
 }
@@ -605,13 +659,14 @@ pub(crate) fn run_beside<
     gate: &G,
     desk: &Desk<'_, K, O, T>,
     clocks: Clocks<C>,
+    starter: Starter<P>,
     device: V,
     printer: Printer<J, O, T>,
     delta: Vec<Disk<A>>,
     resource: Vec<Disk<A>>,
-) -> (Threaded<J, A>, Printed<J, O, T>)
-    ensures seats { IfOk result.0.seats (λ v. AreServing A.content A.faults room.now.geometry.sector J.setting delta.items result.0.delta.items
-        resource.items result.0.resource.items v.items) }
+) -> (Threaded<J, P, A>, Printed<J, O, T>)
+    ensures seats { IfOk result.0.seats (λ v. AreServing A.content A.faults P.acts room.now.geometry.sector J.setting delta.items result.0.delta.items
+        resource.items result.0.resource.items starter.spawner result.0.starter v.items) }
     ensures printer { (t : Telling) → (a : AlongState) → IsPrinting t a (entries printer.mine) printer → OnOk result.1.end (IsPrinting t a (entries result.1.printer.mine) result.1.printer) }
     ensures by { result.1.printer.reader.by ≡ printer.reader.by }
     ensures seat { result.1.printer.writer.by ≡ printer.writer.by }
@@ -628,9 +683,13 @@ pub(crate) fn run_beside<
             requires device { IsSend V.row }
             requires area { IsSend A.row }
             requires gate { IsSync G.row }
-            ensures { IfOk result.seats (λ v. AreServing A.content A.faults room.entry.now.geometry.sector J.setting delta.items result.delta.items
-                resource.items result.resource.items v.items) }
-        { run_threads(rt, room, stand, gate, clocks, device, delta, resource) },
+            ensures { IfOk result.seats (λ v. AreServing A.content A.faults P.acts room.entry.now.geometry.sector J.setting delta.items result.delta.items
+                resource.items result.resource.items starter.spawner result.starter v.items) }
+        {
+            run_threads(
+                rt, room, stand, gate, clocks, starter, device, delta, resource,
+            )
+        },
         ||
             ensures goes { (t : Telling) → (a : AlongState) → IsPrinting t a (entries printer.mine) printer
                 → OnOk result.end (IsPrinting t a (entries result.printer.mine) result.printer) }

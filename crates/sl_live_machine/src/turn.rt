@@ -7,7 +7,6 @@ ghost use Rattle.std.specs.Prelude.{IfOk, IfSome, OnErr, ℕ, ◌≡◌};
 
 use crate::room::Room;
 use sl_cell::{Seat, Station, Teller};
-use sl_live::laws::give_step;
 use sl_outside::Spawner;
 use sl_sector::Images;
 use sl_time::Clock;
@@ -15,7 +14,7 @@ use sl_trace::{Effects, Input};
 use std::alloc::AllocError;
 use std::sync::Wait;
 
-/// What was given.
+/// What was given in a turn: the kind of its input.
 #[derive(Clone, Copy)]
 pub(crate) enum Happened {
     Woke,
@@ -26,7 +25,7 @@ pub(crate) enum Happened {
 }
 
 impl Happened {
-    /// What this input tells.
+    /// The kind of an input.
     pub(crate) fn of(input: &Input) -> Happened
         ensures { result ≡ happened_of input.now }
     {
@@ -69,6 +68,6 @@ pub(crate) fn give<D: Teller, J: Station, R: Wait, C: Clock, P: Spawner>(
 {
     let happened = Happened::of(&input);
     let mut children = room.children.lock(rt);
-    let effects = give_step(rt, &room.cell, seat, clock, &mut *children, input, sectors)?;
+    let effects = children.give(rt, &room.cell, seat, clock, input, sectors)?;
     Ok(Turn { happened, effects })
 }

@@ -13,7 +13,8 @@ use Rattle.sl_live_run.specs.declared.folder.NoEntry.TheVariants as no_entry
 use Rattle.sl_live_run.specs.declared.folder.NoEntry.{NoEntry}
 use Rattle.sl_live_run.specs.declared.ground.NoGround.TheVariants as no_ground
 use Rattle.sl_live_run.specs.declared.ground.NoGround.{NoGround}
-use Rattle.sl_live_run.specs.Runs.{Both, HasToldAll, IsLiveStop, replies_of}
+use Rattle.sl_live_run.specs.Runs.{Both, HasToldAll, IsLiveStop, Leavings, replies_of}
+use Rattle.sl_outside.specs.declared.act.Act.{Act}
 use Rattle.sl_output.specs.Outputs.{IsCut}
 use Rattle.sl_output.specs.Pieces.{Piece, text_of}
 use Rattle.std.proofs.KnownBytes.{Appends-trans}
@@ -70,31 +71,31 @@ owes_ended stands commands f w left after taken now faults later sink_faults sin
 
 -- ---- what was told of all machines
 
-woven : {D A : Type 0} (content : A → Option (List ℕ)) (area_faults : A → ℕ) (stands : D → Setting → Trace → Type 0) (commands : Header → List (Form Command)) (h : Header)
-    (begun : Beginnings h) (events : Bool) (disks : List (Both A)) (was is : List LiveLine → Type 0) (pieces : List Piece) (machines replies : ℕ) (back : List (Both A))
-    → (told : HasToldAll content area_faults events stands commands begun.header begun.sites disks was is pieces machines replies back)
+woven : {D A P : Type 0} (content : A → Option (List ℕ)) (area_faults : A → ℕ) (spawned : P → Option (List Act)) (stands : D → Setting → Trace → Type 0) (commands : Header → List (Form Command)) (h : Header)
+    (begun : Beginnings h) (events : Bool) (disks : List (Both A)) (was is : List LiveLine → Type 0) (pieces : List Piece) (machines replies : ℕ) (back : List (Leavings A P))
+    → (told : HasToldAll content area_faults spawned events stands commands begun.header begun.sites disks was is pieces machines replies back)
     → IsWoven events begun.header begun.sites told.lines told.histories pieces
-woven content area_faults stands commands h begun events disks was is pieces machines replies back told = record { below = told.below; each = told.texts; refused = told.refused }
+woven content area_faults spawned stands commands h begun events disks was is pieces machines replies back told = record { below = told.below; each = told.texts; refused = told.refused }
 
 -- What came of a run, of a script that has given nothing before, and of whose source the lines that it has given are read now.
-pub owes_run : {D A : Type 0} (content : A → Option (List ℕ)) (area_faults : A → ℕ) (stands : D → Setting → Trace → Type 0) (commands : Header → List (Form Command)) (f : Asked) (w : Manner) (left after taken now : Option (List ℕ))
+pub owes_run : {D A P : Type 0} (content : A → Option (List ℕ)) (area_faults : A → ℕ) (spawned : P → Option (List Act)) (stands : D → Setting → Trace → Type 0) (commands : Header → List (Form Command)) (f : Asked) (w : Manner) (left after taken now : Option (List ℕ))
     (faults later sink_faults sink_later device_faults device_later : ℕ) (h : Header) (begun : Beginnings h) (disks : List (Both A)) (was is : List LiveLine → Type 0) (pieces : List Piece) (machines : ℕ)
-    (back : List (Both A)) (replies : Result ℕ LiveStop) (end : Option ScriptEnd) (s : Lived) → was [] → ((given : List LiveLine) → is given → ReadsScript w.keeps left after faults later h given end) → IsVacant f h
-    → IfOk replies (λ n. HasToldAll content area_faults w.events stands commands begun.header begun.sites disks was is pieces machines n back)
+    (back : List (Leavings A P)) (replies : Result ℕ LiveStop) (end : Option ScriptEnd) (s : Lived) → was [] → ((given : List LiveLine) → is given → ReadsScript w.keeps left after faults later h given end) → IsVacant f h
+    → IfOk replies (λ n. HasToldAll content area_faults spawned w.events stands commands begun.header begun.sites disks was is pieces machines n back)
     → IfErr replies (IsLiveStop stands commands begun.header begun.sites was is)
     → IfOk replies (λ n. PutsEnded taken now sink_faults sink_later pieces machines n end s)
     → IfErr replies (λ e. PutsStop taken now sink_faults sink_later pieces e s)
     → Owes stands commands f w left after taken now faults later sink_faults sink_later device_faults device_later s
-owes_run content area_faults stands commands f w left after taken now faults later sink_faults sink_later device_faults device_later h begun disks was is pieces machines back (Ok n) end s none reads vacant ok err puts stops =
+owes_run content area_faults spawned stands commands f w left after taken now faults later sink_faults sink_later device_faults device_later h begun disks was is pieces machines back (Ok n) end s none reads vacant ok err puts stops =
     let hs = ok.histories in
     let here : PutsEnded taken now sink_faults sink_later pieces (length hs) n end s = subst (λ (m : ℕ). PutsEnded taken now sink_faults sink_later pieces m n end s) ok.machines_are puts in
     owes_ended stands commands f w left after taken now faults later sink_faults sink_later device_faults device_later h ok.lines hs pieces end s (reads ok.lines (ok.gave [] none))
     (record { begun = begun; histories = ok.live })
-    (woven content area_faults stands commands h begun w.events disks was is pieces machines n back ok) vacant
+    (woven content area_faults spawned stands commands h begun w.events disks was is pieces machines n back ok) vacant
     (subst (λ (k : ℕ). PutsEnded taken now sink_faults sink_later pieces (length hs) k end s) ok.count here)
-owes_run content area_faults stands commands f w left after taken now faults later sink_faults sink_later device_faults device_later h begun disks was is pieces machines back (Err (stop.Differ machine d)) end s none reads vacant ok err puts stops =
+owes_run content area_faults spawned stands commands f w left after taken now faults later sink_faults sink_later device_faults device_later h begun disks was is pieces machines back (Err (stop.Differ machine d)) end s none reads vacant ok err puts stops =
     Of _ Differs s (Parts h err.0 end (text_of pieces) machine d (reads err.0 (err.1 [] none)) (record { begun = begun; differs = err.2 }) vacant) stops
-owes_run content area_faults stands commands f w left after taken now faults later sink_faults sink_later device_faults device_later h begun disks was is pieces machines back (Err stop.NoMemory) end s none reads vacant ok err puts stops =
+owes_run content area_faults spawned stands commands f w left after taken now faults later sink_faults sink_later device_faults device_later h begun disks was is pieces machines back (Err stop.NoMemory) end s none reads vacant ok err puts stops =
     lacks stands commands f w left after taken now faults later sink_faults sink_later device_faults device_later s stops.0 stops.1
 
 -- A run that can't begin.

@@ -8,6 +8,7 @@ ghost use Rattle.sl_reader.specs.Scopes.{scope_of};
 ghost use Rattle.sl_live_play.specs.LiveOwed.{Owes, PutsEnded, PutsNoEntry, PutsNoGround, PutsStop};
 ghost use Rattle.sl_run.specs.Headers.{IsHeader};
 ghost use Rattle.sl_run.specs.Lawful.{IsSetting};
+ghost use Rattle.sl_outside.specs.Acts.{Tells};
 ghost use Rattle.sl_output.specs.Outputs.{IsPut};
 ghost use Rattle.sl_output.specs.Pieces.{Piece};
 ghost use Rattle.sl_run.specs.declared.header.Header.{Header as HeaderOf};
@@ -15,7 +16,7 @@ ghost use Rattle.sl_reader.specs.HeaderBegins.{HeaderBegins};
 ghost use Rattle.sl_reader.specs.LineReads.{EndStands};
 ghost use Rattle.sl_report.specs.OwedReports.{HeadersAreGood};
 ghost use Rattle.sl_report.specs.Languages.{whole_language};
-ghost use Rattle.std.specs.Prelude.{All, IfErr, IfOk, List, Option, map, ℕ, ◌≡◌};
+ghost use Rattle.std.specs.Prelude.{All, IfErr, IfOk, List, Option, [], map, ℕ, ◌≡◌};
 
 use crate::final_lines::{
     put_area_fault, put_differ, put_disk_there, put_in_use, put_last, put_refusal,
@@ -24,7 +25,7 @@ use sl_cell::Teller;
 use sl_io::{Sink, Source};
 use sl_live_lines::Ending;
 use sl_live_run::{
-    Disks, Ground, LiveRun, LiveStop, NoEntry, NoGround, enter, give_back, prepare, run_machines,
+    Ground, LiveRun, LiveStop, NoEntry, NoGround, Remains, enter, give_back, prepare, run_machines,
 };
 use sl_outside::LiveDevices;
 use sl_reader::{LineReader, Origin, ReadError, ScriptEnd, ScriptLines, read_header};
@@ -46,7 +47,7 @@ pub struct Manner {
     pub events: bool,
 }
 
-/// How a live script ended.
+/// How a live script ended; each goes with a status of its own.
 #[derive(Clone, Copy, Debug, PartialEq, Eq)]
 pub enum Lived {
     /// It was read to its end; all that is told and the last line are put out.
@@ -67,8 +68,12 @@ pub enum Lived {
 }
 
 /// Gives the disks of all machines back.
-fn give_all_back<V: LiveDevices>(disks: Vec<Disks<V::Area>>, devices: &mut V) {
-    for Disks { delta, resource } in disks {
+fn give_all_back<V: LiveDevices>(remains: Vec<Remains<V::Area, V::Spawner>>, devices: &mut V) {
+    for Remains {
+        delta,
+        resource,
+        spawners: _,
+    } in remains {
         give_back(delta, resource, devices);
     }
 }
@@ -192,13 +197,14 @@ where
     V::Area: Send,
     requires header { IsHeader ground.header }
     requires settings { All (λ s. IsSetting (begun_with D.Daemon.commands ground.header s)) (map (λ p. p.site) ground.machines.items) }
+    requires unasked { All (λ p. Tells (V.Spawner.acts p.parts.spawner) []) ground.machines.items }
     requires ends { EndStands (S.left source) reader }
     requires left { S.left source ≡ J.left }
     requires faults { S.faults source ≡ J.faults }
     requires began { reader ≡ J.began }
     requires scope { scope_of ground.header ≡ J.scope }
     requires keeps { manner.keeps ≡ J.keeps }
-    ensures { (f : Asked) (first : Option (List ℕ)) (h : HeaderOf) → IsGroundOf V.Clock.last V.Spawner.running V.Device.last V.Device.fire V.Area.content h ground
+    ensures { (f : Asked) (first : Option (List ℕ)) (h : HeaderOf) → IsGroundOf V.Clock.last V.Spawner.running V.Spawner.acts V.Device.last V.Device.fire V.Area.content h ground
         → HeaderBegins first (S.left source) reader h → IsVacant f h
         → Owes D.Daemon.stands D.Daemon.commands f manner first (S.left result.1) (K.taken sink) (K.taken result.2) (S.faults source) (S.faults result.1)
         (K.faults sink) (K.faults result.2) (V.Devices.faults devices.old) (V.Devices.faults devices.new) result.0 }
@@ -223,11 +229,11 @@ where
         machines,
         sink,
         cut,
-        disks,
+        remains,
         ended: _,
     } = run;
     let mut sink = sink;
-    give_all_back::<V>(disks, devices);
+    give_all_back::<V>(remains, devices);
     let (source, end) = lines.close();
     let lived = put_run(alloc, &mut sink, cut, machines, replies, end);
     (lived, source, sink)
@@ -254,8 +260,9 @@ where
     V::Area: Send,
     requires header { IsHeader ground.header }
     requires settings { All (λ s. IsSetting (begun_with D.Daemon.commands ground.header s)) (map (λ p. p.site) ground.machines.items) }
+    requires unasked { All (λ p. Tells (V.Spawner.acts p.parts.spawner) []) ground.machines.items }
     requires ends { EndStands (S.left source) reader }
-    ensures { (f : Asked) (first : Option (List ℕ)) (h : HeaderOf) → IsGroundOf V.Clock.last V.Spawner.running V.Device.last V.Device.fire V.Area.content h ground
+    ensures { (f : Asked) (first : Option (List ℕ)) (h : HeaderOf) → IsGroundOf V.Clock.last V.Spawner.running V.Spawner.acts V.Device.last V.Device.fire V.Area.content h ground
         → HeaderBegins first (S.left source) reader h → IsVacant f h
         → Owes D.Daemon.stands D.Daemon.commands f manner first (S.left result.1) (K.taken sink) (K.taken result.2) (S.faults source) (S.faults result.1)
         (K.faults sink) (K.faults result.2) (V.Devices.faults devices.old) (V.Devices.faults devices.new) result.0 }

@@ -47,26 +47,26 @@ whole_only reading.Apart (Ok tt) next is = absurd (cc is)
 
 -- ---- all of them
 
-pub none_settled : {O T A : Type 0} (l : LedgerState GivenLine) → AreSettled {O = O} {T = T} {A = A} l [] 0
-none_settled {O} {T} {A} l = record { each = λ place r at. absurd (none_some r at); count = refl }
+pub none_settled : {O T A P : Type 0} (l : LedgerState GivenLine) → AreSettled {O = O} {T = T} {A = A} {P = P} l [] 0
+none_settled {O} {T} {A} {P} l = record { each = λ place r at. absurd (none_some r at); count = refl }
 
-settled_on : {O T A : Type 0} (l : LedgerState GivenLine) (done : List (Ran O T A)) (r : Ran O T A) (n n' : ℕ) → n' ≡ n + r.replies → r.end ≡ Ok tt
+settled_on : {O T A P : Type 0} (l : LedgerState GivenLine) (done : List (Ran O T A P)) (r : Ran O T A P) (n n' : ℕ) → n' ≡ n + r.replies → r.end ≡ Ok tt
     → given_by r.reader.by r.reader.front ≡ given_by r.reader.by l.front → AreSettled l done n → AreSettled l (done ++ r ∷ []) n'
-settled_on {O} {T} {A} l done r n n' more ok read so = record {
+settled_on {O} {T} {A} {P} l done r n n' more ok read so = record {
   each = λ place x at. go place x (placed_behind done r place x at);
-  count = more ∙ ap (λ k. k + r.replies) so.count ∙ sym (sum_by_push (λ (x : Ran O T A). x.replies) done r);
+  count = more ∙ ap (λ k. k + r.replies) so.count ∙ sym (sum_by_push (λ (x : Ran O T A P). x.replies) done r);
 }
   where
-    go : (place : ℕ) (x : Ran O T A) → PlacedBehind done r place x → (x.end ≡ Ok tt) × (given_by x.reader.by x.reader.front ≡ given_by x.reader.by l.front)
+    go : (place : ℕ) (x : Ran O T A P) → PlacedBehind done r place x → (x.end ≡ Ok tt) × (given_by x.reader.by x.reader.front ≡ given_by x.reader.by l.front)
     go place x (Stood at) = so.each place x at
-    go place x (Came here same) = subst (λ (y : Ran O T A). (y.end ≡ Ok tt) × (given_by y.reader.by y.reader.front ≡ given_by y.reader.by l.front)) (sym same) (ok, read)
+    go place x (Came here same) = subst (λ (y : Ran O T A P). (y.end ≡ Ok tt) × (given_by y.reader.by y.reader.front ≡ given_by y.reader.by l.front)) (sym same) (ok, read)
 
 all_read : (r : Reading) (reader : ReaderState GivenLine) (l : LedgerState GivenLine) → r ≡ reading.All → IsReading r reader l
     → given_by reader.by reader.front ≡ given_by reader.by l.front
 all_read r reader l is so = (subst (λ x. IsReading x reader l) is so).1
 
 -- The next machine has a whole history.
-pub settled_more : {O T A : Type 0} (l : LedgerState GivenLine) (rans : List (Ran O T A)) (place : ℕ) (r : Ran O T A) (how : Reading) (s : Settled) (n n' next : ℕ) → place < length rans
+pub settled_more : {O T A P : Type 0} (l : LedgerState GivenLine) (rans : List (Ran O T A P)) (place : ℕ) (r : Ran O T A P) (how : Reading) (s : Settled) (n n' next : ℕ) → place < length rans
     → r ≡ get_or rans place r → IsReading how r.reader l → s ≡ settled how r.end next → s ≡ Whole → n' ≡ n + r.replies → AreSettled l (take place rans) n
     → AreSettled l (take (place + 1) rans) n'
 settled_more l rans place r how s n n' next lt is read come whole more so =
@@ -76,7 +76,7 @@ settled_more l rans place r how s n n' next lt is read come whole more so =
     (subst (λ done. AreSettled l done n') (sym (next_taken rans place r lt is)) (settled_on l (take place rans) r n n' more both.1 (all_read how r.reader l both.0 read) so))
 
 -- It has a case.
-pub case_here : {O T A : Type 0} (l : LedgerState GivenLine) (rans : List (Ran O T A)) (place : ℕ) (r : Ran O T A) (how : Reading) (s : Settled) (next : ℕ) (d : LiveDiffer) → place < length rans
+pub case_here : {O T A P : Type 0} (l : LedgerState GivenLine) (rans : List (Ran O T A P)) (place : ℕ) (r : Ran O T A P) (how : Reading) (s : Settled) (next : ℕ) (d : LiveDiffer) → place < length rans
     → r ≡ get_or rans place r → IsReading how r.reader l → next ≡ r.entries + 1 → s ≡ settled how r.end next → s ≡ Case d → IsCaseOf false l rans (place + 1) d
 case_here l rans place r how s next d lt is read next_is come case_is = record {
   place = place;
@@ -88,7 +88,7 @@ case_here l rans place r how s next d lt is read next_is come case_is = record {
   case_is = ap (λ n. settled how r.end n) (sym next_is) ∙ sym come ∙ case_is;
 }
 
-pub early_here : {O T A : Type 0} (l : LedgerState GivenLine) (rans : List (Ran O T A)) (place : ℕ) (r : Ran O T A) (how : Reading) (s : Settled) (d : LiveDiffer) → place < length rans
+pub early_here : {O T A P : Type 0} (l : LedgerState GivenLine) (rans : List (Ran O T A P)) (place : ℕ) (r : Ran O T A P) (how : Reading) (s : Settled) (d : LiveDiffer) → place < length rans
     → r ≡ get_or rans place r → IsReading how r.reader l → s ≡ settled_early how r.end → s ≡ Case d → IsCaseOf true l rans (place + 1) d
 early_here l rans place r how s d lt is read come case_is = record {
   place = place;
@@ -100,5 +100,5 @@ early_here l rans place r how s d lt is read come case_is = record {
   case_is = sym come ∙ case_is;
 }
 
-pub no_memory : {O T A : Type 0} (early : Bool) (l : LedgerState GivenLine) (rans : List (Ran O T A)) (s : LiveStop) → s ≡ NoMemory → StopsSome early l rans s
+pub no_memory : {O T A P : Type 0} (early : Bool) (l : LedgerState GivenLine) (rans : List (Ran O T A P)) (s : LiveStop) → s ≡ NoMemory → StopsSome early l rans s
 no_memory early l rans s is = subst (StopsSome early l rans) (sym is) tt

@@ -8,6 +8,8 @@ use Rattle.sl_live_run.specs.Clocks.{as_first}
 use Rattle.sl_live_run.specs.declared.ground.Ground.{Ground}
 use Rattle.sl_live_run.specs.declared.ground.Prepared.{Prepared}
 use Rattle.sl_live_machine.specs.declared.machine.Parts.{Parts}
+use Rattle.sl_outside.specs.Acts.{Tells}
+use Rattle.sl_outside.specs.declared.act.Act.{Act}
 use Rattle.sl_run.specs.Headers.{IsHeader}
 use Rattle.sl_run.specs.Worlds.{clock_reading, first_numbers}
 use Rattle.sl_run.specs.declared.header.Header.{Header}
@@ -29,11 +31,12 @@ IsSiteOf h m None s = (bits : ℕ) × (s ≡ drawn_site m bits)
 -- ---- machines
 
 -- What machine m runs on.
-pub record RunsOn {C P D A : Type 0} (last : C → ℕ) (running : P → List ℕ) (since fire : D → ℕ) (content : A → Option (List ℕ))
+pub record RunsOn {C P D A : Type 0} (last : C → ℕ) (running : P → List ℕ) (spawned : P → Option (List Act)) (since fire : D → ℕ) (content : A → Option (List ℕ))
     (h : Header) (m : ℕ) (p : Parts C P D A) : Type 0 where
   -- its first reading, at which its sessions count as renewed, is what its ticker's clock read last
   pub reading : clock_reading h m ≡ as_first (last p.clocks.ticks)
   pub idle : running p.spawner ≡ []
+  pub unasked : Tells (spawned p.spawner) []
   -- its device counts from that reading on
   pub since_then : since p.device ≡ clock_reading h m
   pub fires : fire p.device ≡ h.timing.fire
@@ -41,23 +44,23 @@ pub record RunsOn {C P D A : Type 0} (last : C → ℕ) (running : P → List �
   pub resource : AreLent content (first_writes h m Resource) h.disks p.resource.items
 
 -- Machine m is ready.
-pub record IsReady {C P D A : Type 0} (last : C → ℕ) (running : P → List ℕ) (since fire : D → ℕ) (content : A → Option (List ℕ))
+pub record IsReady {C P D A : Type 0} (last : C → ℕ) (running : P → List ℕ) (spawned : P → Option (List Act)) (since fire : D → ℕ) (content : A → Option (List ℕ))
     (h : Header) (m : ℕ) (s : Site) (p : Parts C P D A) : Type 0 where
   pub machine : s.machine ≡ m
   pub site : IsSiteOf h m (session_of h m) s
-  pub parts : RunsOn last running since fire content h m p
+  pub parts : RunsOn last running spawned since fire content h m p
 
 -- Each is ready, by its place.
-abbrev pub AreReady : {V C P D W G A : Type 0} → (C → ℕ) → (P → List ℕ) → (D → ℕ) → (D → ℕ) → (A → Option (List ℕ)) → Header → List (Prepared V C P D W G A) → Type 0
-AreReady {V} {C} {P} {D} {W} {G} {A} last running since fire content h ps =
-    (k : ℕ) (p : Prepared V C P D W G A) → slice_get ps k ≡ Some p → IsReady last running since fire content h (k + 1) p.site p.parts
+abbrev pub AreReady : {V C P D W G A : Type 0} → (C → ℕ) → (P → List ℕ) → (P → Option (List Act)) → (D → ℕ) → (D → ℕ) → (A → Option (List ℕ)) → Header → List (Prepared V C P D W G A) → Type 0
+AreReady {V} {C} {P} {D} {W} {G} {A} last running spawned since fire content h ps =
+    (k : ℕ) (p : Prepared V C P D W G A) → slice_get ps k ≡ Some p → IsReady last running spawned since fire content h (k + 1) p.site p.parts
 
 -- ---- all of them
 
 -- The header is the given one but for its clocks, and a header still; and each of its machines is ready.
-pub record IsGroundOf {V C P D W G A : Type 0} (last : C → ℕ) (running : P → List ℕ) (since fire : D → ℕ) (content : A → Option (List ℕ))
+pub record IsGroundOf {V C P D W G A : Type 0} (last : C → ℕ) (running : P → List ℕ) (spawned : P → Option (List Act)) (since fire : D → ℕ) (content : A → Option (List ℕ))
     (h : Header) (g : Ground V C P D W G A) : Type 0 where
   pub lawful : IsHeader g.header
   pub same : g.header ≡ record h { clocks = g.header.clocks }
   pub counted : length g.machines.items ≡ h.machines
-  pub ready : AreReady last running since fire content g.header g.machines.items
+  pub ready : AreReady last running spawned since fire content g.header g.machines.items

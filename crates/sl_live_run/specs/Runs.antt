@@ -3,6 +3,7 @@ use Rattle.sl_book.specs.Logs.{entries, given_by as given_in}
 use Rattle.sl_book.specs.Mails.{LedgerState}
 use Rattle.sl_book.specs.Seats.{IsMine, SeatState}
 use Rattle.sl_cell.specs.declared.part.Part.TheVariants.{Delta, Resource}
+use Rattle.sl_live.specs.CarriedOut.{HasSignalled}
 use Rattle.sl_live.specs.declared.disks.Disk.{Disk}
 use Rattle.sl_live_lines.specs.AuditedHistory.{AreLines, IsAnswered, IsLeft, KeepsAsks, LineDiffers, lines_along}
 use Rattle.sl_book.specs.Closings.{AreBelow}
@@ -10,12 +11,16 @@ use Rattle.sl_live_lines.specs.EventTexts.{Telling, first_telling}
 use Rattle.sl_live_lines.specs.LiveTexts.{count_replies, history_text}
 use Rattle.sl_live_machine.specs.MachineEnds.{HasRun, IsWhole}
 use Rattle.sl_live_machine.specs.Printing.{lines_read}
+use Rattle.sl_live_machine.specs.ServedActs.{ServedStarts}
 use Rattle.sl_live_machine.specs.ServedDisks.{ServedDisks}
+use Rattle.sl_live_machine.specs.declared.machine.Spawners.{Spawners}
 use Rattle.sl_live_machine.specs.declared.machine.Parts.{Parts}
 use Rattle.sl_live_machine.specs.ThreadSeats.{IsCaseOfRun}
 use Rattle.sl_live_run.specs.declared.machine_runs.Work.{Work}
-use Rattle.sl_live_run.specs.declared.run.Disks.{Disks}
+use Rattle.sl_live_run.specs.declared.run.Remains.{Remains}
 use Rattle.sl_live_run.specs.declared.run.LiveRun.{LiveRun}
+use Rattle.sl_outside.specs.Acts.{Tells}
+use Rattle.sl_outside.specs.declared.act.Act.{Act}
 use Rattle.sl_output.specs.Outputs.{IsPut}
 use Rattle.sl_output.specs.Pieces.{Piece, text_by}
 use Rattle.sl_world_state.specs.Daemons.{begun_with}
@@ -121,9 +126,12 @@ disks_in p = (p.delta.items, p.resource.items)
 abbrev pub disks_of : {C P V A O T : Type 0} → Machine C P V A O T → Option (Both A)
 disks_of m = option_map (λ w. disks_in w.parts) m.work
 
--- .. that are given back.
-abbrev pub disks_back : {A : Type 0} → Disks A → Both A
-disks_back d = (d.delta.items, d.resource.items)
+-- What a machine leaves: the disks of its workers, which are given back, and its spawners.
+abbrev pub Leavings : Type 0 → Type 0 → Type 0
+Leavings A P = Both A × Spawners P
+
+abbrev pub remains_of : {A P : Type 0} → Remains A P → Leavings A P
+remains_of d = ((d.delta.items, d.resource.items), d.spawners)
 
 -- Its printer has read nothing and put out nothing.
 pub record IsFresh {C P V A O T : Type 0} (w : Work C P V A O T) : Type 0 where
@@ -131,13 +139,18 @@ pub record IsFresh {C P V A O T : Type 0} (w : Work C P V A O T) : Type 0 where
   pub writer : w.writer.by ≡ w.reader.by
   pub none : w.writer.count ≡ 0
 
--- A machine that is to run has a setting, of this header, and is fresh.
-abbrev pub CanRun : {C P V A O T : Type 0} → (Header → List (Form Command)) → Header → Machine C P V A O T → Type 0
-CanRun commands h m = IsHeader h × IfSome m.work (λ w. IsSetting (begun_with commands h w.site) × IsFresh w)
+-- The spawner of a machine that is to run.
+abbrev pub spawner_of : {C P V A O T : Type 0} → Machine C P V A O T → Option P
+spawner_of m = option_map (λ w. w.parts.spawner) m.work
+
+-- A machine that is to run has a setting, of this header, and is fresh; and its spawner was asked for nothing.
+abbrev pub CanRun : {C P V A O T : Type 0} → (P → Option (List Act)) → (Header → List (Form Command)) → Header → Machine C P V A O T → Type 0
+CanRun spawned commands h m = IsHeader h × IfSome m.work (λ w. IsSetting (begun_with commands h w.site) × IsFresh w × Tells (spawned w.parts.spawner) [])
 
 -- The machines' readers and writers have their places as numbers.
 abbrev pub AreFresh : {C P V A O T : Type 0} → List (Machine C P V A O T) → Type 0
-AreFresh {C} {P} {V} {A} {O} {T} ms = (place : ℕ) (m : Machine C P V A O T) → slice_get ms place ≡ Some m → IfSome m.work (λ w. (w.reader.by ≡ place) × IsFresh w)
+AreFresh {C} {P} {V} {A} {O} {T} ms =
+    (place : ℕ) (m : Machine C P V A O T) → slice_get ms place ≡ Some m → IfSome m.work (λ w. (w.reader.by ≡ place) × IsFresh w)
 
 -- With what lvmlockd's locks begin on a machine of this site.
 abbrev pub begun_on : Header → Site → AlongState
@@ -148,10 +161,10 @@ abbrev pub begun_telling : Bool → Header → Site → Telling
 begun_telling events header site = first_telling events header.timing site.given
 
 -- It has run, on the disks that it had.
-abbrev pub Runs : {D C P V A O T : Type 0} → (A → Option (List ℕ)) → (A → ℕ) → Bool → (Header → List (Form Command)) → (D → Setting → Trace → Type 0) → Header
+abbrev pub Runs : {D C P V A O T : Type 0} → (A → Option (List ℕ)) → (A → ℕ) → (P → Option (List Act)) → Bool → (Header → List (Form Command)) → (D → Setting → Trace → Type 0) → Header
     → Machine C P V A O T → Machine C P V A O T → Type 0
-Runs content area_faults events commands stands h before after =
-    IfSome before.work (λ w. IfSome after.ran (λ r. HasRun content area_faults h.geometry.sector stands (begun_with commands h w.site) (begun_telling events h w.site) (begun_on h w.site)
+Runs content area_faults spawned events commands stands h before after =
+    IfSome before.work (λ w. IfSome after.ran (λ r. HasRun content area_faults spawned h.geometry.sector stands (begun_with commands h w.site) (begun_telling events h w.site) (begun_on h w.site)
     w.parts.delta.items w.parts.resource.items r × (r.reader.by ≡ w.reader.by)))
 
 -- ---- a whole run
@@ -202,17 +215,20 @@ IsLiveStop stands commands header sites before after NoMemory = Unit {0}
 abbrev pub IsTold : Telling → AlongState → ℕ → List Entry → List Piece → Type 0
 IsTold t a place h pieces = text_by place pieces ≡ history_text (place + 1) t a h
 
--- The disks of a machine's workers went from these to those by just the calls of its history, each worker's by those of its part.
-pub record AreServed {A : Type 0} (content : A → Option (List ℕ)) (area_faults : A → ℕ) (sector : ℕ) (st : Setting) (h : List Entry) (disks left : Both A) : Type 0 where
-  pub delta : ServedDisks content area_faults sector st Delta h disks.0 left.0
-  pub resource : ServedDisks content area_faults sector st Resource h disks.1 left.1
+-- The disks of a machine's workers went from these to those by just the calls of its history, each worker's by those of its part; and its spawners were asked,
+-- where they tell what they were asked for, for just the history's signals and its starts, beside the kills of which it is said that there were some.
+pub record AreServed {A P : Type 0} (content : A → Option (List ℕ)) (area_faults : A → ℕ) (spawned : P → Option (List Act)) (sector : ℕ) (st : Setting) (h : List Entry) (disks : Both A) (left : Leavings A P) : Type 0 where
+  pub delta : ServedDisks content area_faults sector st Delta h disks.0 left.0.0
+  pub resource : ServedDisks content area_faults sector st Resource h disks.1 left.0.1
+  pub signals : HasSignalled h left.1.killed (spawned left.1.signals)
+  pub starts : ServedStarts st h left.1.killed (spawned left.1.starts)
 
 -- .. each machine's by those of its own, by its place.
-pub record AreAllServed {A : Type 0} (content : A → Option (List ℕ)) (area_faults : A → ℕ) (commands : Header → List (Form Command)) (header : Header) (sites : List Site)
-    (hs : List (List Entry)) (disks left : List (Both A)) : Type 0 where
+pub record AreAllServed {A P : Type 0} (content : A → Option (List ℕ)) (area_faults : A → ℕ) (spawned : P → Option (List Act)) (commands : Header → List (Form Command)) (header : Header) (sites : List Site)
+    (hs : List (List Entry)) (disks : List (Both A)) (left : List (Leavings A P)) : Type 0 where
   pub counted : length left ≡ length hs
-  pub each : (place : ℕ) (site : Site) (h : List Entry) (d l : Both A) → slice_get sites place ≡ Some site → slice_get hs place ≡ Some h → slice_get disks place ≡ Some d
-      → slice_get left place ≡ Some l → AreServed content area_faults header.geometry.sector (begun_with commands header site) h d l
+  pub each : (place : ℕ) (site : Site) (h : List Entry) (d : Both A) (l : Leavings A P) → slice_get sites place ≡ Some site → slice_get hs place ≡ Some h → slice_get disks place ≡ Some d
+      → slice_get left place ≡ Some l → AreServed content area_faults spawned header.geometry.sector (begun_with commands header site) h d l
 
 -- How many replies these histories have, of machines with these sites.
 abbrev pub replies_of : Header → List Site → List (List Entry) → ℕ
@@ -221,10 +237,11 @@ replies_of header (s ∷ ss) [] = 0
 replies_of header (s ∷ ss) (h ∷ hs) = count_replies (begun_on header s) h + replies_of header ss hs
 
 -- All machines have such histories, for the lines that the script gave in this run, with so many replies; and these pieces are what is told of them, with
--- their events or without, and of which lines are refused. The disks that are left are made of those that the machines had, by the calls of these histories.
-pub record HasToldAll {D A : Type 0} (content : A → Option (List ℕ)) (area_faults : A → ℕ) (events : Bool) (stands : D → Setting → Trace → Type 0)
+-- their events or without, and of which lines are refused. The disks that are left are made of those that the machines had, by the calls of these histories,
+-- and the spawners that are left were asked for their signals and their starts.
+pub record HasToldAll {D A P : Type 0} (content : A → Option (List ℕ)) (area_faults : A → ℕ) (spawned : P → Option (List Act)) (events : Bool) (stands : D → Setting → Trace → Type 0)
     (commands : Header → List (Form Command)) (header : Header) (sites : List Site) (disks : List (Both A)) (before after : List LiveLine → Type 0) (pieces : List Piece)
-    (machines replies : ℕ) (left : List (Both A)) : Type 0 where
+    (machines replies : ℕ) (left : List (Leavings A P)) : Type 0 where
   pub lines : List LiveLine
   pub gave : Gave before after lines
   pub histories : List (List Entry)
@@ -235,13 +252,13 @@ pub record HasToldAll {D A : Type 0} (content : A → Option (List ℕ)) (area_f
   pub below : AreBelow (length histories + 1) pieces
   pub machines_are : machines ≡ length histories
   pub count : replies ≡ replies_of header sites histories
-  pub served : AreAllServed content area_faults commands header sites histories disks left
+  pub served : AreAllServed content area_faults spawned commands header sites histories disks left
 
 -- What a run leaves: such histories, or why there are none; and a sink that has taken pieces behind what it had, or a front of them after a fault.
-pub record HasRunAll {D K A : Type 0} (content : A → Option (List ℕ)) (area_faults : A → ℕ) (events : Bool) (stands : D → Setting → Trace → Type 0)
+pub record HasRunAll {D K A P : Type 0} (content : A → Option (List ℕ)) (area_faults : A → ℕ) (spawned : P → Option (List Act)) (events : Bool) (stands : D → Setting → Trace → Type 0)
     (commands : Header → List (Form Command)) (header : Header) (sites : List Site) (disks : List (Both A)) (before after : List LiveLine → Type 0)
-    (taken now : Option (List ℕ)) (faults later : ℕ) (r : LiveRun K A) : Type 0 where
+    (taken now : Option (List ℕ)) (faults later : ℕ) (r : LiveRun K A P) : Type 0 where
   pub pieces : List Piece
   pub put : IsPut taken now faults later pieces r.cut
-  pub ok : IfOk r.replies (λ n. HasToldAll content area_faults events stands commands header sites disks before after pieces r.machines n (map disks_back r.disks.items))
+  pub ok : IfOk r.replies (λ n. HasToldAll content area_faults spawned events stands commands header sites disks before after pieces r.machines n (map remains_of r.remains.items))
   pub stop : IfErr r.replies (IsLiveStop stands commands header sites before after)

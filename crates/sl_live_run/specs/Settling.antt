@@ -11,8 +11,8 @@ use Rattle.sl_live_lines.specs.declared.given_lines.GivenLine.{GivenLine}
 use Rattle.sl_live_machine.specs.declared.machine.CloseError.TheVariants as close
 use Rattle.sl_live_machine.specs.declared.machine.CloseError.{CloseError}
 use Rattle.sl_live_machine.specs.declared.machine.Ran.{Ran}
-use Rattle.sl_live_run.specs.Runs.{Both, disks_back}
-use Rattle.sl_live_run.specs.declared.run.Disks.{Disks}
+use Rattle.sl_live_run.specs.Runs.{Leavings, remains_of}
+use Rattle.sl_live_run.specs.declared.run.Remains.{Remains}
 use Rattle.sl_live_run.specs.declared.compare.LiveDiffer.TheVariants.{Cell, Left, Line, Untold}
 use Rattle.sl_live_run.specs.declared.compare.LiveDiffer.{LiveDiffer}
 use Rattle.sl_live_run.specs.declared.compare.LiveStop.TheVariants.{Differ, NoMemory}
@@ -62,27 +62,27 @@ come_to true r end next = settled_early r end
 come_to false r end next = settled r end next
 
 -- All have whole histories and have read all their lines, and were given so many replies together.
-pub record AreSettled {O T A : Type 0} (l : LedgerState GivenLine) (rans : List (Ran O T A)) (replies : ℕ) : Type 0 where
-  pub each : (place : ℕ) (r : Ran O T A) → slice_get rans place ≡ Some r → (r.end ≡ Ok tt) × (given_by r.reader.by r.reader.front ≡ given_by r.reader.by l.front)
-  pub count : replies ≡ sum_by (λ (r : Ran O T A). r.replies) rans
+pub record AreSettled {O T A P : Type 0} (l : LedgerState GivenLine) (rans : List (Ran O T A P)) (replies : ℕ) : Type 0 where
+  pub each : (place : ℕ) (r : Ran O T A P) → slice_get rans place ≡ Some r → (r.end ≡ Ok tt) × (given_by r.reader.by r.reader.front ≡ given_by r.reader.by l.front)
+  pub count : replies ≡ sum_by (λ (r : Ran O T A P). r.replies) rans
 
--- The disks of what is left of a machine's run.
-abbrev pub disks_after : {O T A : Type 0} → Ran O T A → Both A
-disks_after r = (r.delta.items, r.resource.items)
+-- What is left of a machine's run: its disks and its spawners.
+abbrev pub remains_after : {O T A P : Type 0} → Ran O T A P → Leavings A P
+remains_after r = ((r.delta.items, r.resource.items), r.spawners)
 
--- .. and threads ended in time, and these pieces are just those that they put, and the script's thread, and these disks are theirs.
-pub record AreWhole {O T A : Type 0} (early : Bool) (l : LedgerState GivenLine) (w : SeatState (List ℕ)) (rans : List (Ran O T A)) (pieces : List Piece) (disks : List (Disks A))
+-- .. and threads ended in time, and these pieces are just those that they put, and the script's thread, and this is what they left.
+pub record AreWhole {O T A P : Type 0} (early : Bool) (l : LedgerState GivenLine) (w : SeatState (List ℕ)) (rans : List (Ran O T A P)) (pieces : List Piece) (remains : List (Remains A P))
     (replies : ℕ) : Type 0 where
   pub in_time : early ≡ false
   pub settled : AreSettled l rans replies
-  pub exact : AreExact 0 (map (λ (r : Ran O T A). r.writer) rans ++ w ∷ []) pieces
+  pub exact : AreExact 0 (map (λ (r : Ran O T A P). r.writer) rans ++ w ∷ []) pieces
   pub below : AreBelow (length rans + 1) pieces
-  pub disks_are : map disks_back disks ≡ map (λ (r : Ran O T A). disks_after r) rans
+  pub remains_are : map remains_of remains ≡ map (λ (r : Ran O T A P). remains_after r) rans
 
 -- The case is that of the machine at this place, as it was read.
-pub record IsCaseOf {O T A : Type 0} (early : Bool) (l : LedgerState GivenLine) (rans : List (Ran O T A)) (machine : ℕ) (d : LiveDiffer) : Type 0 where
+pub record IsCaseOf {O T A P : Type 0} (early : Bool) (l : LedgerState GivenLine) (rans : List (Ran O T A P)) (machine : ℕ) (d : LiveDiffer) : Type 0 where
   pub place : ℕ
-  pub ran : Ran O T A
+  pub ran : Ran O T A P
   pub reading : Reading
   pub numbered : machine ≡ place + 1
   pub there : slice_get rans place ≡ Some ran
@@ -90,27 +90,27 @@ pub record IsCaseOf {O T A : Type 0} (early : Bool) (l : LedgerState GivenLine) 
   pub case_is : come_to early reading ran.end (ran.entries + 1) ≡ Case d
 
 -- Why there are no histories: a case of a machine, or want of memory.
-abbrev pub StopsSome : {O T A : Type 0} → Bool → LedgerState GivenLine → List (Ran O T A) → LiveStop → Type 0
+abbrev pub StopsSome : {O T A P : Type 0} → Bool → LedgerState GivenLine → List (Ran O T A P) → LiveStop → Type 0
 StopsSome early l rans (Differ machine d) = IsCaseOf early l rans machine d
 StopsSome early l rans NoMemory = Unit {0}
 
 -- These are what is left of these machines, which all have run.
-abbrev pub AreRansOf : {C P V A O T : Type 0} → List (Machine C P V A O T) → List (Ran O T A) → Type 0
+abbrev pub AreRansOf : {C P V A O T : Type 0} → List (Machine C P V A O T) → List (Ran O T A P) → Type 0
 AreRansOf {C} {P} {V} {A} {O} {T} machines rans = map (λ (m : Machine C P V A O T). m.ran) machines ≡ map (λ r. Some r) rans
 
 -- So many replies were given to machines that have whole histories.
-abbrev pub AreAllWhole : {C P V A O T : Type 0} → Bool → LedgerState GivenLine → SeatState (List ℕ) → List (Machine C P V A O T) → List Piece → List (Disks A) → ℕ → Type 0
-AreAllWhole {C} {P} {V} {A} {O} {T} early l w machines pieces disks n = (rans : List (Ran O T A)) × AreRansOf machines rans × AreWhole early l w rans pieces disks n
+abbrev pub AreAllWhole : {C P V A O T : Type 0} → Bool → LedgerState GivenLine → SeatState (List ℕ) → List (Machine C P V A O T) → List Piece → List (Remains A P) → ℕ → Type 0
+AreAllWhole {C} {P} {V} {A} {O} {T} early l w machines pieces disks n = (rans : List (Ran O T A P)) × AreRansOf machines rans × AreWhole early l w rans pieces disks n
 
 -- Why machines have no histories.
 abbrev pub StopsOne : {C P V A O T : Type 0} → Bool → LedgerState GivenLine → List (Machine C P V A O T) → LiveStop → Type 0
-StopsOne {C} {P} {V} {A} {O} {T} early l machines stop = (rans : List (Ran O T A)) × AreRansOf machines rans × StopsSome early l rans stop
+StopsOne {C} {P} {V} {A} {O} {T} early l machines stop = (rans : List (Ran O T A P)) × AreRansOf machines rans × StopsSome early l rans stop
 
 -- What is left of machines whose threads have all ended.
 pub record HasLeft {K C P V A O T : Type 0} (early : Bool) (l : LedgerState GivenLine) (w : SeatState (List ℕ)) (machines : List (Machine C P V A O T)) (taken now : Option (List ℕ)) (faults later : ℕ)
-    (r : LiveRun K A) : Type 0 where
+    (r : LiveRun K A P) : Type 0 where
   pub pieces : List Piece
   pub put : IsPut taken now faults later pieces r.cut
   pub machines_are : r.machines ≡ length machines
-  pub ok : IfOk r.replies (AreAllWhole early l w machines pieces r.disks.items)
+  pub ok : IfOk r.replies (AreAllWhole early l w machines pieces r.remains.items)
   pub stop : IfErr r.replies (λ s. (s ≡ NoMemory) ⊎ StopsOne early l machines s)

@@ -1,6 +1,6 @@
 //! What is there before the threads of a run begin: its machines, with a post and a mail for each.
 
-ghost use Rattle.sl_live_run.specs.Runs.{AreFresh, IsFresh, disks_in, disks_of, site_of};
+ghost use Rattle.sl_live_run.specs.Runs.{AreFresh, IsFresh, disks_in, disks_of, site_of, spawner_of};
 ghost use Rattle.sl_live_run.specs.declared.machine_runs.Machine.{Machine as MachineOf};
 ghost use Rattle.std.specs.Prelude.{IfOk, OnOk, Some, [], map, ◌++◌, ◌<◌, ◌∷◌, ◌≡◌};
 ghost use Rattle.std.specs.Vec.{vec_capacity, vec_len};
@@ -25,7 +25,7 @@ pub(crate) struct Begun<C: Clock, P: Spawner, V: Device, A: Area, O: Press, T: S
 }
 
 impl<C: Clock, P: Spawner, V: Device, A: Area, O: Press, T: Shelf> Begun<C, P, V, A, O, T> {
-    /// No machine yet.
+    /// A list of machines that have begun, still without one. It takes no memory.
     fn new(alloc: Global) -> Begun<C, P, V, A, O, T>
         ensures { result.machines.items ≡ [] }
     {
@@ -109,6 +109,7 @@ pub(crate) fn begin<V: LiveDevices, O: Press, T: Shelf>(
     requires pieces { pieces.now ≡ [] }
     ensures sites { IfOk result (λ b. map site_of b.machines.items ≡ map (λ s. Some s) (map (λ p. p.site) prepared.items)) }
     ensures disks { IfOk result (λ b. map disks_of b.machines.items ≡ map (λ d. Some d) (map (λ p. disks_in p.parts) prepared.items)) }
+    ensures spawners { IfOk result (λ b. map spawner_of b.machines.items ≡ map (λ x. Some x) (map (λ p. p.parts.spawner) prepared.items)) }
     ensures fresh { IfOk result (λ b. AreFresh b.machines.items) }
 {
     let mut begun = Begun::new(alloc);

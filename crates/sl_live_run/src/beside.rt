@@ -139,10 +139,10 @@ fn run_all<
     writer: &mut Writer<O>,
     machines: &mut [Machine<C, P, V, A, O, T>],
 ) -> Result<Option<NoLine>, AllocError>
-    requires { All (CanRun D.Daemon.commands shared.now.header.now) machines.old }
+    requires { All (CanRun P.acts D.Daemon.commands shared.now.header.now) machines.old }
     ensures len { length machines.new ≡ length machines.old }
     ensures each { (k : ℕ) → (d : MachineOf C P V A O T) → k < length machines.old
-        → Runs A.content A.faults shared.now.events D.Daemon.commands D.Daemon.stands shared.now.header.now (slice_index_or machines.old k d) (slice_index_or machines.new k d) }
+        → Runs A.content A.faults P.acts shared.now.events D.Daemon.commands D.Daemon.stands shared.now.header.now (slice_index_or machines.old k d) (slice_index_or machines.new k d) }
     ensures told { (count : ℕ) → AreGiven ledger.old count [] → HasPutOut writer.old []
         → HasTold count (L.has_given lines.old) (L.has_given lines.new) ledger.new writer.new result }
 {
@@ -161,8 +161,8 @@ fn run_all<
         ledger,
         writer,
         &|place: usize, machine: &mut Machine<C, P, V, A, O, T>|
-            requires { CanRun D.Daemon.commands shared.now.header.now machine.now }
-            ensures { Runs A.content A.faults shared.entry.now.events D.Daemon.commands D.Daemon.stands shared.entry.now.header.now machine.entry.now machine.exit.now }
+            requires { CanRun P.acts D.Daemon.commands shared.now.header.now machine.now }
+            ensures { Runs A.content A.faults P.acts shared.entry.now.events D.Daemon.commands D.Daemon.stands shared.entry.now.header.now machine.entry.now machine.exit.now }
         { machine.run::<D, K, R, G>(rt, alloc, gate, shared, place) },
         machines,
     )
@@ -192,10 +192,10 @@ pub(crate) fn run_list<
     writer: &mut Writer<O>,
     machines: &mut Vec<Machine<C, P, V, A, O, T>>,
 ) -> Result<Option<NoLine>, AllocError>
-    requires { All (CanRun D.Daemon.commands shared.now.header.now) machines.old.items }
+    requires { All (CanRun P.acts D.Daemon.commands shared.now.header.now) machines.old.items }
     ensures len { length machines.new.items ≡ length machines.old.items }
     ensures each { (k : ℕ) → (d : MachineOf C P V A O T) → k < length machines.old.items
-        → Runs A.content A.faults shared.now.events D.Daemon.commands D.Daemon.stands shared.now.header.now (slice_index_or machines.old.items k d) (slice_index_or machines.new.items k d) }
+        → Runs A.content A.faults P.acts shared.now.events D.Daemon.commands D.Daemon.stands shared.now.header.now (slice_index_or machines.old.items k d) (slice_index_or machines.new.items k d) }
     ensures told { (count : ℕ) → AreGiven ledger.old count [] → HasPutOut writer.old []
         → HasTold count (L.has_given lines.old) (L.has_given lines.new) ledger.new writer.new result }
 {

@@ -10,6 +10,7 @@ use sl_cell::Differ;
 use sl_live_lines::{GivenLine, Left};
 use sl_live_machine::{CloseError, Ran};
 use sl_output::{Front as Pieces, Press, Seat as Writer};
+use sl_outside::Spawner;
 use std::alloc::AllocError;
 
 /// How a machine's threads, its history and the script differ.
@@ -121,9 +122,9 @@ fn plus(count: u64, more: u64) -> Result<u64, AllocError>
 }
 
 /// How many replies all machines were given, the first of which has this place, where all have whole histories. Else the first case, or want of memory.
-pub(crate) fn settle_all<O: Press, T: Shelf, A: Area>(
+pub(crate) fn settle_all<O: Press, T: Shelf, A: Area, P: Spawner>(
     ledger: &Ledger<T, GivenLine>,
-    rans: &[Ran<O, T, A>],
+    rans: &[Ran<O, T, A, P>],
 ) -> Result<u64, LiveStop>
     ensures ok { IfOk result (AreSettled ledger.now rans.now) }
     ensures err { IfErr result (StopsSome false ledger.now rans.now) }
@@ -147,9 +148,9 @@ pub(crate) fn settle_all<O: Press, T: Shelf, A: Area>(
 }
 
 /// Why there are no histories, where threads ended too soon: the first case, or want of memory.
-pub(crate) fn stop_early<O: Press, T: Shelf, A: Area>(
+pub(crate) fn stop_early<O: Press, T: Shelf, A: Area, P: Spawner>(
     ledger: &Ledger<T, GivenLine>,
-    rans: &[Ran<O, T, A>],
+    rans: &[Ran<O, T, A, P>],
 ) -> LiveStop
     ensures { StopsSome true ledger.now rans.now result }
 {

@@ -1,13 +1,13 @@
 //! What is left of a run once all its threads have ended.
 
-ghost use Rattle.sl_live_run.specs.Settling.{AreAllWhole, AreRansOf, AreSettled, AreWhole, HasLeft, StopsOne, StopsSome, disks_after};
-ghost use Rattle.sl_live_run.specs.Runs.{disks_back};
+ghost use Rattle.sl_live_run.specs.Settling.{AreAllWhole, AreRansOf, AreSettled, AreWhole, HasLeft, StopsOne, StopsSome, remains_after};
+ghost use Rattle.sl_live_run.specs.Runs.{remains_of};
 ghost use Rattle.sl_live_run.specs.declared.compare.LiveStop.TheVariants.{NoMemory as NoMemoryStop};
 ghost use Rattle.std.specs.Prelude.{IfErr, IfOk, [], false, map, ◌++◌, ◌∷◌, ◌≡◌, ◌⊎◌};
 
 use crate::compare::{LiveStop, are_pieces, settle_all, stop_early};
 use crate::machine_runs::Machine;
-use crate::run::{Disks, LiveRun};
+use crate::run::{LiveRun, Remains};
 use sl_area::Area;
 use sl_book::{Ledger, Shelf};
 use sl_io::Sink;
@@ -23,7 +23,7 @@ use std::alloc::{AllocError, Global};
 fn take_apart<C: Clock, P: Spawner, V: Device, A: Area, O: Press, T: Shelf>(
     alloc: Global,
     machines: Vec<Machine<C, P, V, A, O, T>>,
-) -> Result<Vec<Ran<O, T, A>>, AllocError>
+) -> Result<Vec<Ran<O, T, A, P>>, AllocError>
     ensures { IfOk result (λ rans. AreRansOf machines.items rans.items) }
 {
     let mut rans = Vec::new(alloc);
@@ -37,23 +37,23 @@ fn take_apart<C: Clock, P: Spawner, V: Device, A: Area, O: Press, T: Shelf>(
     Ok(rans)
 }
 
-/// Who put out the pieces of all machines, and their disks.
+/// Who put out the pieces of all machines, and what they leave.
 #[derive(Drop)]
-struct Ends<O: Press, A: Area> {
+struct Ends<O: Press, A: Area, P: Spawner> {
     writers: Vec<Writer<O>>,
-    disks: Vec<Disks<A>>,
+    remains: Vec<Remains<A, P>>,
 }
 
 /// Takes what machines have left apart. An `Err` is want of memory.
-fn take_ends<O: Press, T: Shelf, A: Area>(
+fn take_ends<O: Press, T: Shelf, A: Area, P: Spawner>(
     alloc: Global,
-    rans: Vec<Ran<O, T, A>>,
-) -> Result<Ends<O, A>, AllocError>
+    rans: Vec<Ran<O, T, A, P>>,
+) -> Result<Ends<O, A, P>, AllocError>
     ensures writers { IfOk result (λ e. e.writers.items ≡ map (λ r. r.writer) rans.items) }
-    ensures disks { IfOk result (λ e. map disks_back e.disks.items ≡ map disks_after rans.items) }
+    ensures remains { IfOk result (λ e. map remains_of e.remains.items ≡ map remains_after rans.items) }
 {
     let mut writers = Vec::new(alloc);
-    let mut disks = Vec::new(alloc);
+    let mut remains = Vec::new(alloc);
     for ran in rans {
         let Ran {
             end: _,
@@ -63,33 +63,41 @@ fn take_ends<O: Press, T: Shelf, A: Area>(
             entries: _,
             delta,
             resource,
+            spawners,
         } = ran;
         writers.push(writer)?;
-        disks.push(Disks { delta, resource })?;
+        remains.push(Remains {
+            delta,
+            resource,
+            spawners,
+        })?;
     }
-    Ok(Ends { writers, disks })
+    Ok(Ends { writers, remains })
 }
 
 /// .. with who put out the script's pieces behind those who put out theirs.
-fn take_all_ends<O: Press, T: Shelf, A: Area>(
+fn take_all_ends<O: Press, T: Shelf, A: Area, P: Spawner>(
     alloc: Global,
-    rans: Vec<Ran<O, T, A>>,
+    rans: Vec<Ran<O, T, A, P>>,
     last: Writer<O>,
-) -> Result<Ends<O, A>, AllocError>
+) -> Result<Ends<O, A, P>, AllocError>
     ensures writers { IfOk result (λ e. e.writers.items ≡ map (λ r. r.writer) rans.items ++ last ∷ []) }
-    ensures disks { IfOk result (λ e. map disks_back e.disks.items ≡ map disks_after rans.items) }
+    ensures remains { IfOk result (λ e. map remains_of e.remains.items ≡ map remains_after rans.items) }
 {
-    let Ends { mut writers, disks } = take_ends(alloc, rans)?;
+    let Ends {
+        mut writers,
+        remains,
+    } = take_ends(alloc, rans)?;
     writers.push(last)?;
-    Ok(Ends { writers, disks })
+    Ok(Ends { writers, remains })
 }
 
 /// How many replies machines were given that have run, or why they have no histories: where threads ended too soon, a case goes before want of memory,
 /// by which all machines end.
-fn settle<O: Press, T: Shelf, A: Area>(
+fn settle<O: Press, T: Shelf, A: Area, P: Spawner>(
     early: bool,
     ledger: &Ledger<T, GivenLine>,
-    rans: &[Ran<O, T, A>],
+    rans: &[Ran<O, T, A, P>],
 ) -> Result<u64, LiveStop>
     ensures ok { IfOk result (λ n. (early ≡ false) × AreSettled ledger.now rans.now n) }
     ensures err { IfErr result (StopsSome early ledger.now rans.now) }
@@ -102,24 +110,24 @@ fn settle<O: Press, T: Shelf, A: Area>(
 }
 
 /// What machines came to whose threads have all ended: with the script's lines, and with the pieces that were put out, its own among them.
-fn finish<O: Press, T: Shelf, A: Area>(
+fn finish<O: Press, T: Shelf, A: Area, P: Spawner>(
     alloc: Global,
     early: bool,
     ledger: &Ledger<T, GivenLine>,
     writer: Writer<O>,
     pieces: &Pieces<O>,
-    rans: Vec<Ran<O, T, A>>,
-) -> (Result<u64, LiveStop>, Vec<Disks<A>>)
+    rans: Vec<Ran<O, T, A, P>>,
+) -> (Result<u64, LiveStop>, Vec<Remains<A, P>>)
     ensures ok { IfOk result.0 (AreWhole early ledger.now writer rans.items pieces.now result.1.items) }
     ensures err { IfErr result.0 (StopsSome early ledger.now rans.items) }
 {
     let settled = settle(early, ledger, &rans);
     match take_all_ends(alloc, rans, writer) {
-        Ok(Ends { writers, disks }) => {
+        Ok(Ends { writers, remains }) => {
             if settled.is_ok() && !are_pieces(&writers, pieces) {
-                (Err(LiveStop::NoMemory), disks)
+                (Err(LiveStop::NoMemory), remains)
             } else {
-                (settled, disks)
+                (settled, remains)
             }
         }
         Err(_) => (Err(LiveStop::NoMemory), Vec::new(alloc)),
@@ -134,7 +142,7 @@ fn end_all<C: Clock, P: Spawner, V: Device, A: Area, O: Press, T: Shelf>(
     writer: Writer<O>,
     pieces: &Pieces<O>,
     machines: Vec<Machine<C, P, V, A, O, T>>,
-) -> (Result<u64, LiveStop>, Vec<Disks<A>>)
+) -> (Result<u64, LiveStop>, Vec<Remains<A, P>>)
     ensures ok { IfOk result.0 (AreAllWhole early ledger.now writer machines.items pieces.now result.1.items) }
     ensures err { IfErr result.0 (λ s. (s ≡ NoMemoryStop) ⊎ StopsOne early ledger.now machines.items s) }
 {
@@ -153,18 +161,18 @@ pub(crate) fn leave<K: Sink, C: Clock, P: Spawner, V: Device, A: Area, O: Press,
     writer: Writer<O>,
     output: Output<K, O>,
     machines: Vec<Machine<C, P, V, A, O, T>>,
-) -> LiveRun<K, A>
+) -> LiveRun<K, A, P>
     ensures { HasLeft early ledger.now writer machines.items O.taken (K.taken result.sink) O.faults (K.faults result.sink) result }
 {
     let count = machines.len();
     let Put { sink, front, cut } = output.into_parts();
-    let (replies, disks) = end_all(alloc, early, ledger, writer, &front, machines);
+    let (replies, remains) = end_all(alloc, early, ledger, writer, &front, machines);
     LiveRun {
         replies,
         machines: count,
         sink,
         cut,
-        disks,
+        remains,
         ended,
     }
 }

@@ -3,7 +3,8 @@
 ghost use Rattle.sl_live_run.specs.Causes.{Explains};
 ghost use Rattle.sl_live_run.specs.Grounds.{IsGroundOf};
 ghost use Rattle.sl_run.specs.Headers.{IsHeader};
-ghost use Rattle.std.specs.Prelude.{IfErr, IfOk, ◌≤◌};
+ghost use Rattle.sl_outside.specs.Acts.{Tells};
+ghost use Rattle.std.specs.Prelude.{All, IfErr, IfOk, [], ◌≤◌};
 
 use crate::clocks::{start_clocks, with_readings};
 use crate::disks::make_disks;
@@ -31,13 +32,13 @@ pub struct Ground<V: LiveDevices> {
     pub gate: V::Gate,
 }
 
-/// Why a live run can't begin.
+/// Why a live run can't begin: its disks can't be made, or there is no memory.
 #[derive(Clone, Copy, Debug, PartialEq, Eq, Error)]
 pub enum NoGround {
     /// A disk can't be made, or a sector of an area can't be written.
     #[error("area fault")]
     AreaFault,
-    /// There is no memory.
+    /// There is no memory for its beginning.
     #[error("out of memory")]
     NoMemory,
 }
@@ -67,7 +68,8 @@ impl From<AllocError> for NoGround {
 /// Makes the disks of a header in a folder that was entered, writes what stands on them at moment 0, and gets all that its machines run on.
 ///
 /// An `Ok` has the header with the clocks' readings in place of its `clock` lines, and a machine for each of its machines, in order. An
-/// `Err` is a fault of the devices, whose count then rose, or want of memory; no area is handed out then, and disks that were made stay.
+/// `Err` is a fault of the devices, whose count then rose, or want of memory; no area is handed out then, and disks that were made stay. No
+/// spawner was asked for anything.
 pub fn prepare<V: LiveDevices>(
     alloc: Global,
     header: Header,
@@ -76,7 +78,8 @@ pub fn prepare<V: LiveDevices>(
     devices: &mut V,
 ) -> Result<Ground<V>, NoGround>
     requires { IsHeader header }
-    ensures ok { IfOk result (IsGroundOf V.Clock.last V.Spawner.running V.Device.last V.Device.fire V.Area.content header) }
+    ensures ok { IfOk result (IsGroundOf V.Clock.last V.Spawner.running V.Spawner.acts V.Device.last V.Device.fire V.Area.content header) }
+    ensures unasked { IfOk result (λ g. All (λ p. Tells (V.Spawner.acts p.parts.spawner) []) g.machines.items) }
     ensures err { IfErr result (Explains (V.Devices.faults devices.old) (V.Devices.faults devices.new)) }
     ensures later { V.Devices.faults devices.old ≤ V.Devices.faults devices.new }
 {

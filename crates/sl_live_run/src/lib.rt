@@ -41,4 +41,4 @@ pub use compare::{LiveDiffer, LiveStop};
 pub use disks::give_back;
 pub use folder::{NoEntry, enter};
 pub use ground::{Ground, NoGround, Prepared, prepare};
-pub use run::{Disks, LiveRun, run_machines};
+pub use run::{LiveRun, Remains, run_machines};

@@ -7,6 +7,7 @@ ghost use Rattle.sl_live_machine.specs.Printing.{lines_read};
 ghost use Rattle.sl_live_machine.specs.declared.machine.CloseError.TheVariants.{NoMemory as NoMemoryClose};
 ghost use Rattle.sl_world_state.specs.Daemons.{begun_with};
 ghost use Rattle.sl_live_run.specs.Runs.{CanRun, IsFresh, Runs};
+ghost use Rattle.sl_outside.specs.Acts.{Tells};
 ghost use Rattle.sl_run.specs.Headers.{IsHeader};
 ghost use Rattle.sl_run.specs.Lawful.{IsSetting};
 ghost use Rattle.std.specs.Prelude.{Err, None, Some, [], ◌+◌, ◌≡◌};
@@ -17,7 +18,7 @@ use sl_cell::{Opened, Station, Teller};
 use sl_io::Sink;
 use sl_live_lines::GivenLine;
 use sl_live_machine::{
-    CloseError, Desk, Mail, Parts, Post, Ran, Roll, Stand, fail_all, run_machine,
+    CloseError, Desk, Mail, Parts, Post, Ran, Roll, Spawners, Stand, fail_all, run_machine,
 };
 use sl_output::{Output, Press, Seat as Writer};
 use sl_outside::{Device, Gate, Spawner};
@@ -43,7 +44,7 @@ pub(crate) struct Work<C: Clock, P: Spawner, V: Device, A: Area, O: Press, T: Sh
 #[derive(Drop)]
 pub(crate) struct Machine<C: Clock, P: Spawner, V: Device, A: Area, O: Press, T: Shelf> {
     pub work: Option<Work<C, P, V, A, O, T>>,
-    pub ran: Option<Ran<O, T, A>>,
+    pub ran: Option<Ran<O, T, A, P>>,
 }
 
 /// What all machines of a run share: its header, the roll of all threads, a post and a mail for each machine, the output, and whether beside replies
@@ -61,7 +62,7 @@ pub(crate) struct Shared<'a, K: Sink, O: Press, T: Shelf> {
 /// What is left of a machine that did not run.
 fn not_run<C: Clock, P: Spawner, V: Device, A: Area, O: Press, T: Shelf>(
     work: Work<C, P, V, A, O, T>,
-) -> Ran<O, T, A>
+) -> Ran<O, T, A, P>
     ensures end { result.end ≡ Err NoMemoryClose }
     ensures reader { result.reader ≡ work.reader }
     ensures writer { result.writer ≡ work.writer }
@@ -74,11 +75,13 @@ fn not_run<C: Clock, P: Spawner, V: Device, A: Area, O: Press, T: Shelf>(
     } = work;
     let Parts {
         clocks: _,
-        spawner: _,
+        spawner,
         device: _,
         delta,
         resource,
     } = parts;
+    let mut spawner = spawner;
+    let starts = spawner.starter();
     Ran {
         end: Err(CloseError::NoMemory),
         reader,
@@ -87,6 +90,11 @@ fn not_run<C: Clock, P: Spawner, V: Device, A: Area, O: Press, T: Shelf>(
         entries: 0,
         delta,
         resource,
+        spawners: Spawners {
+            signals: spawner,
+            starts,
+            killed: false,
+        },
     }
 }
 
@@ -111,13 +119,14 @@ fn run_as<
     place: usize,
     opened: Opened,
     work: Work<C, P, V, A, O, T>,
-) -> Ran<O, T, A>
+) -> Ran<O, T, A, P>
     requires header { IsHeader shared.now.header.now }
     requires setting { IsSetting J.setting }
     requires site { J.setting ≡ begun_with D.Daemon.commands shared.now.header.now work.site }
     requires book { opened.seen.book ≡ J.book }
     requires fresh { IsFresh work }
-    ensures goes { HasRun A.content A.faults shared.now.header.now.geometry.sector D.Daemon.stands J.setting
+    requires unasked { Tells (P.acts work.parts.spawner) [] }
+    ensures goes { HasRun A.content A.faults P.acts shared.now.header.now.geometry.sector D.Daemon.stands J.setting
         (first_telling shared.now.events shared.now.header.now.timing work.site.given) (begun_along shared.now.header.now work.site.first.job)
         work.parts.delta.items work.parts.resource.items result }
     ensures by { result.reader.by ≡ work.reader.by }
@@ -177,11 +186,12 @@ fn run_work<
     shared: &Shared<'_, K, O, T>,
     place: usize,
     work: Work<C, P, V, A, O, T>,
-) -> Ran<O, T, A>
+) -> Ran<O, T, A, P>
     requires header { IsHeader shared.now.header.now }
     requires setting { IsSetting (begun_with D.Daemon.commands shared.now.header.now work.site) }
     requires fresh { IsFresh work }
-    ensures goes { HasRun A.content A.faults shared.now.header.now.geometry.sector D.Daemon.stands (begun_with D.Daemon.commands shared.now.header.now work.site)
+    requires unasked { Tells (P.acts work.parts.spawner) [] }
+    ensures goes { HasRun A.content A.faults P.acts shared.now.header.now.geometry.sector D.Daemon.stands (begun_with D.Daemon.commands shared.now.header.now work.site)
         (first_telling shared.now.events shared.now.header.now.timing work.site.given) (begun_along shared.now.header.now work.site.first.job)
         work.parts.delta.items work.parts.resource.items result }
     ensures by { result.reader.by ≡ work.reader.by }
@@ -224,8 +234,8 @@ impl<
         R: Threads + Wait + time::Clock + Sync,
         G: Gate + Sync,
     >(&mut self, rt: &R, alloc: Global, gate: &G, shared: &Shared<'_, K, O, T>, place: usize)
-        requires { CanRun D.Daemon.commands shared.now.header.now self.old }
-        ensures { Runs A.content A.faults shared.now.events D.Daemon.commands D.Daemon.stands shared.now.header.now self.old self.new }
+        requires { CanRun P.acts D.Daemon.commands shared.now.header.now self.old }
+        ensures { Runs A.content A.faults P.acts shared.now.events D.Daemon.commands D.Daemon.stands shared.now.header.now self.old self.new }
     {
         if let Some(work) = self.work.take() {
             self.ran = Some(run_work::<D, K, O, T, R, C, P, V, A, G>(

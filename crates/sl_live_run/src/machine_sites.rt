@@ -73,7 +73,7 @@ fn parts_of<V: LiveDevices>(
     requires ticks { clock_reading header.now machine ≡ as_first (V.Clock.last ticks) }
     requires delta { AreLent V.Area.content (first_writes header.now machine Delta) header.now.disks delta.items }
     requires resource { AreLent V.Area.content (first_writes header.now machine Resource) header.now.disks resource.items }
-    ensures runs { RunsOn V.Clock.last V.Spawner.running V.Device.last V.Device.fire V.Area.content header.now machine result }
+    ensures runs { RunsOn V.Clock.last V.Spawner.running V.Spawner.acts V.Device.last V.Device.fire V.Area.content header.now machine result }
     ensures count { V.Devices.faults devices.new ≡ V.Devices.faults devices.old }
 {
     let now = clock_reading(header, machine);
@@ -105,7 +105,7 @@ fn prepare_machine<V: LiveDevices>(
 ) -> Result<Prepared<V>, NoGround>
     requires header { IsHeader header.now }
     requires ticks { clock_reading header.now machine ≡ as_first (V.Clock.last ticks) }
-    ensures ok { IfOk result (λ p. IsReady V.Clock.last V.Spawner.running V.Device.last V.Device.fire V.Area.content header.now machine
+    ensures ok { IfOk result (λ p. IsReady V.Clock.last V.Spawner.running V.Spawner.acts V.Device.last V.Device.fire V.Area.content header.now machine
         p.site p.parts) }
     ensures err { IfErr result (Explains (V.Devices.faults devices.old) (V.Devices.faults devices.new)) }
     ensures later { V.Devices.faults devices.old ≤ V.Devices.faults devices.new }
@@ -138,7 +138,7 @@ fn prepare_each<V: LiveDevices>(
     requires each { length clocks.items ≡ header.now.machines }
     requires first { machines.old.items ≡ [] }
     ensures each { OnOk result (length machines.new.items ≡ header.now.machines) }
-    ensures ready { OnOk result (AreReady V.Clock.last V.Spawner.running V.Device.last V.Device.fire V.Area.content header.now machines.new.items) }
+    ensures ready { OnOk result (AreReady V.Clock.last V.Spawner.running V.Spawner.acts V.Device.last V.Device.fire V.Area.content header.now machines.new.items) }
     ensures err { IfErr result (Explains (V.Devices.faults devices.old) (V.Devices.faults devices.new)) }
     ensures later { V.Devices.faults devices.old ≤ V.Devices.faults devices.new }
 {
@@ -184,7 +184,7 @@ pub(crate) fn prepare_all<V: LiveDevices>(
     requires ticks { AreTicks V.Clock.last header.now 1 clocks.items }
     requires each { length clocks.items ≡ header.now.machines }
     ensures each { IfOk result (λ machines. length machines.items ≡ header.now.machines) }
-    ensures ready { IfOk result (λ machines. AreReady V.Clock.last V.Spawner.running V.Device.last V.Device.fire V.Area.content header.now machines.items) }
+    ensures ready { IfOk result (λ machines. AreReady V.Clock.last V.Spawner.running V.Spawner.acts V.Device.last V.Device.fire V.Area.content header.now machines.items) }
     ensures err { IfErr result (Explains (V.Devices.faults devices.old) (V.Devices.faults devices.new)) }
     ensures later { V.Devices.faults devices.old ≤ V.Devices.faults devices.new }
 {

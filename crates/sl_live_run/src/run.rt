@@ -2,6 +2,7 @@
 
 ghost use Rattle.sl_live_run.specs.Runs.{AreFresh, AreGiven, Both, CanRun, HasPutOut, HasRunAll, disks_in, disks_of, site_of};
 ghost use Rattle.sl_live_run.specs.declared.compare.LiveStop.TheVariants.{NoMemory as NoMemoryStop};
+ghost use Rattle.sl_outside.specs.Acts.{Tells};
 ghost use Rattle.sl_output.specs.Outputs.{IsPut};
 ghost use Rattle.sl_output.specs.Pieces.{Piece};
 ghost use Rattle.sl_run.specs.Headers.{IsHeader};
@@ -23,7 +24,7 @@ use sl_cell::Teller;
 use sl_io::Sink;
 use sl_live::Disk;
 use sl_live_lines::GivenLine;
-use sl_live_machine::{Post, Roll};
+use sl_live_machine::{Post, Roll, Spawners};
 use sl_output::{Front as Pieces, Output, Press, Put, Seat as Writer};
 use sl_outside::{Device, Gate, LiveDevices, Spawner};
 use sl_reader::{LiveLines, NoLine};
@@ -39,22 +40,23 @@ use std::time;
 /// The threads of a machine.
 const MACHINE_THREADS: u64 = 8;
 
-/// The disks of a machine's workers, to be given back.
+/// What a machine leaves: the disks of its workers, to be given back, and its spawners.
 #[derive(Drop)]
-pub struct Disks<A: Area> {
+pub struct Remains<A: Area, P: Spawner> {
     pub delta: Vec<Disk<A>>,
     pub resource: Vec<Disk<A>>,
+    pub spawners: Spawners<P>,
 }
 
 /// What is left of a run: how many replies its machines were given, or why they have no histories; the sink with what was put out, and whether a write
-/// failed; the disks of each machine; and why the script ended, if it was not at its end.
+/// failed; what each machine leaves; and why the script ended, if it was not at its end.
 #[derive(Drop)]
-pub struct LiveRun<K: Sink, A: Area> {
+pub struct LiveRun<K: Sink, A: Area, P: Spawner> {
     pub replies: Result<u64, LiveStop>,
     pub machines: usize,
     pub sink: K,
     pub cut: bool,
-    pub disks: Vec<Disks<A>>,
+    pub remains: Vec<Remains<A, P>>,
     pub ended: Option<NoLine>,
 }
 
@@ -102,14 +104,14 @@ fn run_begun<
     output: Output<K, O>,
     events: bool,
     lines: &mut L,
-) -> LiveRun<K, A>
-    requires settings { All (CanRun D.Daemon.commands header.now) begun.machines.items }
+) -> LiveRun<K, A, P>
+    requires settings { All (CanRun P.acts D.Daemon.commands header.now) begun.machines.items }
     requires fresh { AreFresh begun.machines.items }
     requires given { AreGiven ledger (length begun.machines.items) [] }
     requires writer { HasPutOut writer [] }
     ensures { (sites : List SiteOf) → map site_of begun.machines.items ≡ map (λ s. Some s) sites
         → (disks : List (Both A)) → map disks_of begun.machines.items ≡ map (λ d. Some d) disks
-        → HasRunAll A.content A.faults events D.Daemon.stands D.Daemon.commands header.now sites disks (L.has_given lines.old) (L.has_given lines.new) O.taken (K.taken result.sink) O.faults (K.faults result.sink) result }
+        → HasRunAll A.content A.faults P.acts events D.Daemon.stands D.Daemon.commands header.now sites disks (L.has_given lines.old) (L.has_given lines.new) O.taken (K.taken result.sink) O.faults (K.faults result.sink) result }
 {
     let Begun {
         machines,
@@ -150,7 +152,10 @@ fn run_begun<
 }
 
 /// A run without memory, into whose output nothing more comes.
-fn no_run<K: Sink, O: Press, A: Area>(alloc: Global, output: Output<K, O>) -> LiveRun<K, A>
+fn no_run<K: Sink, O: Press, A: Area, P: Spawner>(
+    alloc: Global,
+    output: Output<K, O>,
+) -> LiveRun<K, A, P>
     ensures replies { result.replies ≡ Err NoMemoryStop }
     ensures put { (ps : List Piece) × IsPut O.taken (K.taken result.sink) O.faults (K.faults result.sink) ps result.cut }
 {
@@ -164,7 +169,7 @@ fn no_run<K: Sink, O: Press, A: Area>(alloc: Global, output: Output<K, O>) -> Li
         machines: 0,
         sink,
         cut,
-        disks: Vec::new(alloc),
+        remains: Vec::new(alloc),
         ended: None,
     }
 }
@@ -198,16 +203,17 @@ fn run_ready<
     events: bool,
     sink: K,
     lines: &mut L,
-) -> LiveRun<K, V::Area>
+) -> LiveRun<K, V::Area, V::Spawner>
 where
     V::Area: Send,
     requires header { IsHeader header.now }
     requires settings { All (λ s. IsSetting (begun_with D.Daemon.commands header.now s)) (map (λ p. p.site) prepared.items) }
+    requires unasked { All (λ p. Tells (V.Spawner.acts p.parts.spawner) []) prepared.items }
     requires given { given.seen.book ≡ T.book }
     requires told { told.seen.book ≡ O.book }
     requires taken { K.taken sink ≡ O.taken }
     requires faults { K.faults sink ≡ O.faults }
-    ensures { HasRunAll V.Area.content V.Area.faults events D.Daemon.stands D.Daemon.commands header.now (map (λ p. p.site) prepared.items)
+    ensures { HasRunAll V.Area.content V.Area.faults V.Spawner.acts events D.Daemon.stands D.Daemon.commands header.now (map (λ p. p.site) prepared.items)
         (map (λ p. disks_in p.parts) prepared.items) (L.has_given lines.old) (L.has_given lines.new) O.taken (K.taken result.sink) O.faults (K.faults result.sink) result }
 {
     let (book, unread) = given.named::<T>();
@@ -244,15 +250,16 @@ fn run_put<
     events: bool,
     sink: K,
     lines: &mut L,
-) -> LiveRun<K, V::Area>
+) -> LiveRun<K, V::Area, V::Spawner>
 where
     V::Area: Send,
     requires header { IsHeader header.now }
     requires settings { All (λ s. IsSetting (begun_with D.Daemon.commands header.now s)) (map (λ p. p.site) prepared.items) }
+    requires unasked { All (λ p. Tells (V.Spawner.acts p.parts.spawner) []) prepared.items }
     requires told { told.seen.book ≡ O.book }
     requires taken { K.taken sink ≡ O.taken }
     requires faults { K.faults sink ≡ O.faults }
-    ensures { HasRunAll V.Area.content V.Area.faults events D.Daemon.stands D.Daemon.commands header.now (map (λ p. p.site) prepared.items)
+    ensures { HasRunAll V.Area.content V.Area.faults V.Spawner.acts events D.Daemon.stands D.Daemon.commands header.now (map (λ p. p.site) prepared.items)
         (map (λ p. disks_in p.parts) prepared.items) (L.has_given lines.old) (L.has_given lines.new) O.taken (K.taken result.sink) O.faults (K.faults result.sink) result }
 {
     run_ready::<D, V, L, K, O, Brand, R>(
@@ -276,7 +283,8 @@ where
 /// exactly those that the script gave it in this run, in order, each for lvmlockd with its asks and answered, and no call and no start of it is
 /// unanswered; and what was put out are pieces, of which each machine's are what is told of its history, with its events or without them, and of which
 /// the script's are the refusals of the lines that it went on behind. The disks that come back are, machine by machine, made of those of the ground by
-/// just the calls of that machine's history, with the answers that stand there. Else a case that holds of a machine; or want of
+/// just the calls of that machine's history, with the answers that stand there; and the spawners that come back were asked, where they tell what they were
+/// asked for, for just the signals and the starts of that history, beside the kills that are counted with them. Else a case that holds of a machine; or want of
 /// memory, which ends all machines. The header and the sink come back.
 pub fn run_machines<
     D: Teller + Send,
@@ -291,13 +299,14 @@ pub fn run_machines<
     events: bool,
     sink: K,
     lines: &mut L,
-) -> (LiveRun<K, V::Area>, Header)
+) -> (LiveRun<K, V::Area, V::Spawner>, Header)
 where
     V::Area: Send,
     requires header { IsHeader ground.header }
     requires settings { All (λ s. IsSetting (begun_with D.Daemon.commands ground.header s)) (map (λ p. p.site) ground.machines.items) }
+    requires unasked { All (λ p. Tells (V.Spawner.acts p.parts.spawner) []) ground.machines.items }
     ensures header { result.1 ≡ ground.header }
-    ensures run { HasRunAll V.Area.content V.Area.faults events D.Daemon.stands D.Daemon.commands ground.header (map (λ p. p.site) ground.machines.items)
+    ensures run { HasRunAll V.Area.content V.Area.faults V.Spawner.acts events D.Daemon.stands D.Daemon.commands ground.header (map (λ p. p.site) ground.machines.items)
         (map (λ p. disks_in p.parts) ground.machines.items) (L.has_given lines.old) (L.has_given lines.new)
         (K.taken sink) (K.taken result.0.sink) (K.faults sink) (K.faults result.0.sink) result.0 }
 {

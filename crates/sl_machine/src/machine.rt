@@ -1,7 +1,5 @@
 //! A machine.
 
-ghost use Rattle.sl_world_state.specs.Daemons.{IsSoundOp};
-ghost use Rattle.sl_world_state.specs.declared.daemon.Most.{Most as MostOf};
 ghost use Rattle.sl_world_state.specs.Changes.{change_flight, crashed_machine, reset_machine, restarted_machine, started_machine, tested_machine};
 ghost use Rattle.sl_world_state.specs.Steps.{owned_machine};
 ghost use Rattle.sl_world_state.specs.KeptWorld.{FlightState, flight_in};
@@ -39,14 +37,14 @@ pub struct Machine<L: LockTable> {
     pub up: bool,
     /// A daemon ran since the last restart.
     pub used: bool,
-    /// One runs.
+    /// Whether a daemon runs there.
     pub runs: bool,
-    /// In thousandths of a millisecond.
+    /// What its clock shows, in thousandths of a millisecond.
     pub clock: u64,
     /// The moment on which the last keepalive rests.
     pub kept: u64,
     pub connections: Vec<Connection>,
-    /// The number of the next job.
+    /// The number of the machine's next line, above all before.
     pub job: u64,
     /// The children of the daemon that runs whose start has no answer.
     pub starting: Vec<u32>,
@@ -58,7 +56,7 @@ pub struct Machine<L: LockTable> {
 }
 
 impl<L: LockTable> Machine<L> {
-    /// What its clock shows.
+    /// What its clock shows, in whole milliseconds.
     #[tactic(auto, unfolding(crate::specs::Machines::machine_state))]
     pub fn reading(&self) -> u64
         ensures { result ≡ reading_of (machine_state L.locks self.now).clock }
@@ -99,7 +97,7 @@ impl<L: LockTable> Machine<L> {
         }
     }
 
-    /// A daemon begins.
+    /// A daemon begins, without entries; lvmlockd's locks are fresh.
     #[tactic(auto, unfolding(crate::specs::Machines::machine_state))]
     pub fn start(&mut self, alloc: Global, header: &Header)
         ensures { machine_state L.locks self.new ≡ started_machine header.now (machine_state L.locks self.old) }

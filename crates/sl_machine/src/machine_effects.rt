@@ -5,8 +5,7 @@ ghost use Rattle.sl_machine.specs.KeptParts.{kept_state};
 ghost use Rattle.sl_machine.specs.Machines.{machine_state};
 ghost use Rattle.sl_run.specs.declared.event.Event.TheVariants.{ExitOf, Reset};
 ghost use Rattle.sl_trace.specs.Traces as traces;
-ghost use Rattle.std.specs.List.{list_any};
-ghost use Rattle.std.specs.Prelude.{IfOk, OnOk, [], filter, map, not, ◌&&◌, ◌++◌, ◌==◌, ◌∷◌, ◌≡◌};
+ghost use Rattle.std.specs.Prelude.{IfOk, OnOk, [], filter, map, ◌&&◌, ◌++◌, ◌==◌, ◌∷◌, ◌≡◌};
 
 use crate::kept_world::Kept;
 use crate::locks::LockTable;

@@ -102,7 +102,7 @@ impl<K: Sink, O: Press> Kept<K, O> {
         Ok(())
     }
 
-    /// Whether a write failed.
+    /// Whether a write failed: then nothing is put out any more.
     pub(crate) fn is_cut(&self) -> bool
         ensures cut { result ≡ self.now.cut }
         ensures put { IsPut O.taken (K.taken self.now.sink) O.faults (K.faults self.now.sink) self.now.front result }

@@ -1,2 +1,3 @@
 pub mod MemDiskLaws
 pub mod ChildLaws
+pub mod ActLaws

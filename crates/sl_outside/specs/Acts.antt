@@ -8,6 +8,11 @@ Grows None after xs = after ≡ None
 Grows (Some before) None xs = ⊤
 Grows (Some before) (Some after) xs = after ≡ before ++ xs
 
+-- A spawner was asked for just these, where it tells what it was asked for.
+abbrev pub Tells : Option (List Act) → List Act → Type 0
+Tells None acts = ⊤
+Tells (Some told) acts = told ≡ acts
+
 -- One child less, wherever it stood.
 pub record IsLess (process : ℕ) (before after : List ℕ) : Type 0 where
   pub front : List ℕ

@@ -8,6 +8,7 @@ use Rattle.sl_words.specs.RoomyLists.{Roomy}
 use Rattle.sl_trace.specs.declared.effects.Signal.TheVariants.{Kill, Term}
 use Rattle.sl_trace.specs.declared.effects.Signal.{Signal}
 use Rattle.std.specs.List.{position, remove}
+use Rattle.std.specs.Option.{ForSome}
 use Rattle.std.specs.Prelude.{Bool, List, None, Option, Some, false, if◌then◌else◌, length, map, min, nat_le, not, option_map, slice_get, slice_set, true, unwrap_or, [], ℕ, ◌+◌, ◌++◌, ◌-◌, ◌==◌, ◌^◌, ◌∷◌, ◌≡◌}
 
 -- The process numbers of children.
@@ -104,10 +105,11 @@ exited s = process_at (first_ended (one_more s.polls) s.children) s.children
 abbrev pub after_poll : SpawnerState → SpawnerState
 after_poll s = record s { polls = one_more s.polls; children = without (first_ended (one_more s.polls) s.children) s.children }
 
--- No child was taken in, and no fault counted.
+-- No child was taken in, no fault counted, and nothing was asked for.
 pub record IsFresh (s : SpawnerState) : Type 0 where
   pub faults : s.starts.faults ≡ 0
   pub idle : numbers s.children ≡ []
+  pub unasked : ForSome (told s.acts) (λ acts. length acts ≡ 0)
 
 -- A spawner with no room, which tells nothing.
 abbrev pub no_room : SpawnerState

@@ -1,5 +1,6 @@
 //! What a live run takes beside disks.
 ghost use Rattle.sl_io.specs.FaultCauses.{HasCause};
+ghost use Rattle.sl_outside.specs.Acts.{Tells};
 ghost use Rattle.sl_outside.specs.Disks.{Stay};
 ghost use Rattle.std.specs.Prelude.{None, OnOk, [], false, ◌≡◌};
 
@@ -48,10 +49,11 @@ pub trait LiveDevices: Devices {
     fn clock(&mut self, machine: u32, thread: u32) -> Self::Clock
         ensures count { Self.faults self.new ≡ Self.faults self.old };
 
-    /// The spawner of a machine, of which no child runs yet.
+    /// The spawner of a machine, of which no child runs yet, and which was asked for nothing.
     fn spawner(&mut self, machine: u32) -> Self::Spawner
         ensures fresh { Self.Spawner.faults result ≡ 0 }
         ensures idle { Self.Spawner.running result ≡ [] }
+        ensures unasked { Tells (Self.Spawner.acts result) [] }
         ensures count { Self.faults self.new ≡ Self.faults self.old };
 
     /// The watchdog device of a machine, which fires so many milliseconds after this reading if no keepalive comes.

@@ -32,7 +32,7 @@ pub struct MemPlan {
     /// At which poll after it was taken in a child exits by itself, by the number of the start; the last goes for all later starts, and with
     /// none no child exits by itself. A 0 stands for 1.
     pub lives: Vec<u64>,
-    /// Whether a term does nothing.
+    /// Whether a term does nothing to its children: only a kill ends them.
     pub deaf: bool,
     /// The starts that fail, counted from 1.
     pub failing: Vec<u64>,
@@ -46,7 +46,20 @@ struct ToStart {
     acts: Option<Room<Act>>,
 }
 
-/// Runs children in memory.
+impl Model for ToStart {
+    ghost use Rattle.sl_outside.specs.Acts.{Tells};
+    ghost use Rattle.sl_outside.specs.MemSpawners.{told};
+    ghost use Rattle.sl_outside.specs.declared.act.Act.{Act};
+    ghost use Rattle.std.specs.Prelude.{List, Option, []};
+
+    ghost Value = { Option (List Act) };
+
+    ghost view = { λ s. told s.acts };
+
+    ghost invariant = { λ s. Tells (told s.acts) [] };
+}
+
+/// A spawner whose children are in memory; it notes what it was asked to do.
 #[derive(Drop)]
 pub struct MemSpawner {
     alloc: Global,
@@ -145,7 +158,7 @@ impl MemSpawner {
         }
     }
 
-    /// The faults so far.
+    /// How many of its calls have failed, as planned or for want of room.
     pub fn faults(&self) -> u64
         ensures { result ≡ self.now.starts.faults }
     {

@@ -1,5 +1,5 @@
 //! The child programs of a machine.
-ghost use Rattle.sl_outside.specs.Acts.{Grows, IsTold};
+ghost use Rattle.sl_outside.specs.Acts.{Grows, IsTold, Tells};
 ghost use Rattle.sl_outside.specs.declared.act.Act.TheVariants.{Signalled, Started};
 ghost use Rattle.sl_outside.specs.declared.act.Act.{Act};
 ghost use Rattle.sl_io.specs.FaultCauses.{HasCause};
@@ -14,7 +14,7 @@ use sl_trace::Signal;
 /// A start may take any time, as where the program lies on storage that hangs. So it is made by a spawner of its own (`starter`), while no lock is
 /// held, and the child that it gives is then taken in. No other call waits for anything, so all others may be made while a lock is held.
 pub trait Spawner: Drop {
-    /// The faults so far.
+    /// How many of its calls have failed so far; it never falls.
     ghost faults: { Self → ℕ };
 
     /// The children that were taken in and are not yet told as exited, in that order.
@@ -24,10 +24,11 @@ pub trait Spawner: Drop {
     /// room for it is used up, and never begins again.
     ghost acts: { Self → Option (List Act) } = { λ _. None };
 
-    /// A spawner that starts programs for this one. It has no child, and has counted no fault.
+    /// A spawner that starts programs for this one. It has no child, has counted no fault, and was asked for nothing.
     fn starter(&mut self) -> Self
         ensures fresh { faults result ≡ 0 }
         ensures idle { running result ≡ [] }
+        ensures unasked { Tells (acts result) [] }
         ensures running { running self.new ≡ running self.old }
         ensures acts { acts self.new ≡ acts self.old }
         ensures count { faults self.new ≡ faults self.old };

@@ -30,7 +30,6 @@ pub struct Play<D: Daemon, L: LockTable> {
 impl<D: Daemon, L: LockTable> Play<D, L> {
     ghost use Rattle.sl_world_state.specs.SaneWorlds.{ReadsCommands, WorldStands};
     ghost use Rattle.sl_world_state.specs.Refusals.{refusal_in};
-    ghost use Rattle.sl_machine.specs.KeptParts.{kept_state};
     ghost use Rattle.sl_machine.specs.EventTests.{is_tear};
     ghost use Rattle.sl_play.specs.Plays.{Answers, Begins, PassesCounts, StandsFor, StaysAs, state_of, test_told};
     ghost use Rattle.sl_play.specs.ToldSteps.{AreCounted, counts_with, one_more, tests_told, told_view};
@@ -56,7 +55,7 @@ impl<D: Daemon, L: LockTable> Play<D, L> {
         })
     }
 
-    /// The world, to be asked.
+    /// The world as it stands now, to be asked.
     pub fn world(&self) -> &World<D, L>
         ensures { result.now ≡ self.now.world }
     {
@@ -72,7 +71,7 @@ impl<D: Daemon, L: LockTable> Play<D, L> {
         self.world.allows(event)
     }
 
-    /// What was counted so far.
+    /// What was counted of the events so far, for the last line.
     pub fn counts(&self) -> &Counts
         ensures { result.now ≡ (state_of L.locks self.now).counts }
     {

@@ -40,7 +40,7 @@ impl Model for Wdmd {
 }
 
 impl Wdmd {
-    /// No connection. It takes no memory.
+    /// A watchdog daemon without a connection, whose test holds. It takes no memory.
     pub fn new(alloc: Global) -> Wdmd
         ensures { result ≡ [] }
     {

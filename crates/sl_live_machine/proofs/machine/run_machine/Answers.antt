@@ -15,7 +15,7 @@ use Rattle.std.proofs.Common.{List, [], ap, subst, sym, ℕ, ◌∙◌}
 
 pub returns-in-Err-clause-goes : goal.returns-in-Err-clause-goes
 returns-in-Err-clause-goes g c =
-    has_not_run g.A.Area.content g.A.Area.faults c.args.header.now.geometry.sector g.D.Daemon.stands g.J.Station.setting (first_telling c.args.desk.now.events c.args.header.now.timing c.args.site.given)
+    has_not_run g.A.Area.content g.A.Area.faults g.P.Spawner.acts c.args.header.now.geometry.sector g.D.Daemon.stands g.J.Station.setting (first_telling c.args.desk.now.events c.args.header.now.timing c.args.site.given)
     (begun_along c.args.header.now c.args.site.first.job) c.args.parts.delta.items c.args.parts.resource.items _ c.not_run.ensures.end
     (ap (λ (s : SeatState (List ℕ)). s.by) c.not_run.ensures.writer ∙ c.requires.writer.0 ∙ sym (ap (λ (r : ReaderState GivenLine). r.by) c.not_run.ensures.reader))
 

@@ -7,9 +7,9 @@ pub returns : goal.returns
 returns g c =
     let first = c.in_ok-ticks in
     let second = c.in_ok-exits in
-    let o = c.args.others in
-    subst (AreGathered g.J.Station.setting c.args.delta c.args.resource) (search rules)
-    (are_gathered g.J.Station.setting o.ticks c.args.delta c.args.resource o.exits o.starts o.tests o.lines first.ticks first.delta first.resource second.exits second.starts second.tests
+    let a = c.args in
+    subst (AreGathered g.J.Station.setting a.delta a.resource a.starts) (search rules)
+    (are_gathered g.J.Station.setting a.ticks a.delta a.resource a.exits a.starts a.tests a.lines first.ticks first.delta first.resource second.exits second.starts second.tests
     c.in_ok-lines.lines first.ensures.first first.ensures.second first.ensures.third second.ensures.first second.ensures.second second.ensures.third (search rules)
     (record {
       wakes = c.requires.ticks;

@@ -21,7 +21,7 @@ returns g c f first h ground begins vacant =
     (subst (λ n. ReadsScript g.J.Origin.keeps first (g.S.Source.left c.close-source.result.0) n (g.S.Source.faults c.close-source.result.0) h given c.close-source.result.1) (sym c.requires.faults)
     (c.close-source.ensures.script first h given there (sym (ap scope_of ground.same) ∙ c.requires.scope) so)) in
     let run = c.run_machines-run.ensures.run in
-    owes_run g.V.Area.Area.content g.V.Area.Area.faults g.D.Daemon.stands g.D.Daemon.commands f c.args.manner first _ _ _ _ _ _ _ _ _ h (beginnings _ _ _ _ _ h c.args.ground ground) _ (has c.new-lines.result) (has c.run_machines-run.new.lines) run.pieces
+    owes_run g.V.Area.Area.content g.V.Area.Area.faults g.V.Spawner.Spawner.acts g.D.Daemon.stands g.D.Daemon.commands f c.args.manner first _ _ _ _ _ _ _ _ _ h (beginnings _ _ _ _ _ _ h c.args.ground ground) _ (has c.new-lines.result) (has c.run_machines-run.new.lines) run.pieces
     c.run_machines-run.result.0.machines _ c.run_machines-run.result.0.replies c.close-source.result.1 c.put_run-lived.result c.new-lines.ensures.none reads vacant run.ok run.stop
     (c.put_run-lived.ensures.ok (g.K.Sink.taken c.args.sink) (g.K.Sink.faults c.args.sink) run.pieces run.put)
     (c.put_run-lived.ensures.stop (g.K.Sink.taken c.args.sink) (g.K.Sink.faults c.args.sink) run.pieces run.put)

@@ -8,7 +8,7 @@ play_ground-requires-clause-header g c κs within = c.in-Ok.ensures.ok.lawful
 
 pub play_ground-requires-clause-settings : goal.play_ground-requires-clause-settings
 play_ground-requires-clause-settings g c κs within =
-    are_settings _ _ _ _ _ g.D.Daemon.commands c.args.header c.in-Ok.ground sites_are_settings c.requires.reads c.in-Ok.ensures.ok
+    are_settings _ _ _ _ _ _ g.D.Daemon.commands c.args.header c.in-Ok.ground sites_are_settings c.requires.reads c.in-Ok.ensures.ok
 
 pub returns-in-Ok : goal.returns-in-Ok
 returns-in-Ok g c f first begins vacant =

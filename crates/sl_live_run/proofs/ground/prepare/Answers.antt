@@ -1,5 +1,5 @@
 -- The header has the readings of the clocks, and each machine is ready; or why one is not.
-use Rattle.sl_live_run.proofs.ReadyLaws.{explains_between, handed_on, header_lawful, header_machines, header_same, header_ticks, machines_back}
+use Rattle.sl_live_run.proofs.ReadyLaws.{explains_between, handed_on, header_lawful, header_machines, header_same, header_ticks, machines_back, ready_unasked}
 use Rattle.sl_live_run.proofs.ground.prepare.Goals as goal
 use Rattle.sl_live_run.specs.declared.ground.NoGround.TheVariants.{AreaFault, NoMemory}
 use Rattle.sl_words.proofs.Numbers.{refl_le}
@@ -40,3 +40,8 @@ returns-clause-ok g c =
       counted = machines_back c.args.header c.with_readings-header.result _ _ c.with_readings-header.ensures c.in_ok-machines.ensures.each;
       ready = c.in_ok-machines.ensures.ready;
     }
+
+pub returns-clause-unasked : goal.returns-clause-unasked
+returns-clause-unasked g c =
+    ready_unasked g.V.Clock.Clock.last g.V.Spawner.Spawner.running g.V.Spawner.Spawner.acts g.V.Device.Device.last g.V.Device.Device.fire g.V.Area.Area.content c.with_readings-header.result
+    c.in_ok-machines.machines.items c.in_ok-machines.ensures.ready

@@ -11,7 +11,7 @@ loop-before-init g c =
       left = c.requires.ticks;
       some = omega (arith, c.requires.each);
       each = ap length c.requires.first;
-      ready = ready_none g.V.Clock.Clock.last g.V.Spawner.Spawner.running g.V.Device.Device.last g.V.Device.Device.fire g.V.Area.Area.content c.args.header.now _ c.requires.first;
+      ready = ready_none g.V.Clock.Clock.last g.V.Spawner.Spawner.running g.V.Spawner.Spawner.acts g.V.Device.Device.last g.V.Device.Device.fire g.V.Area.Area.content c.args.header.now _ c.requires.first;
       later = refl_le _;
     }
 
@@ -43,7 +43,7 @@ loop-before-preserved g c =
           i.left).1;
       some = omega (arith, cut, some);
       each = search rules;
-      ready = ready_pushed g.V.Clock.Clock.last g.V.Spawner.Spawner.running g.V.Device.Device.last g.V.Device.Device.fire g.V.Area.Area.content c.args.header.now
+      ready = ready_pushed g.V.Clock.Clock.last g.V.Spawner.Spawner.running g.V.Spawner.Spawner.acts g.V.Device.Device.last g.V.Device.Device.fire g.V.Area.Area.content c.args.header.now
           c.loop-before.machines.items c.reserve.new.self.items c.push_reserved.new.self.items c.in_ok-machine.machine (c.loop-before.before + 1) c.reserve.ensures.items
           c.push_reserved.ensures.items (omega (arith, each)) i.ready c.in_ok-machine.ensures.ok;
       later = omega (arith, before, later);

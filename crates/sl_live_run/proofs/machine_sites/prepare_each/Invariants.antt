@@ -9,7 +9,7 @@ invariant-loop-before g l = record {
   left : AreTicks g.V.Clock.Clock.last l.header (l.before + 1) l.clocks.items;
   some : length l.clocks.items + l.before ≡ l.header.machines;
   each : length l.machines.items ≡ l.before;
-  ready : AreReady g.V.Clock.Clock.last g.V.Spawner.Spawner.running g.V.Device.Device.last g.V.Device.Device.fire g.V.Area.Area.content l.header
+  ready : AreReady g.V.Clock.Clock.last g.V.Spawner.Spawner.running g.V.Spawner.Spawner.acts g.V.Device.Device.last g.V.Device.Device.fire g.V.Area.Area.content l.header
       l.machines.items;
   later : g.V.Devices.faults l.fn.devices ≤ g.V.Devices.faults l.devices;
 }
