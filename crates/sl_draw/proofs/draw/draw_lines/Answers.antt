@@ -93,4 +93,3 @@ loop-sink-preserved g c =
       ends = c.read_line.ensures.stands;
       faults = omega (arith, c.loop-sink.invariant.faults, c.read_line.ensures.later);
     }
-
