@@ -62,11 +62,7 @@ pub fn site_of<V: LiveDevices>(
 }
 
 /// The clocks of a machine's threads, the first of which was read.
-pub fn clocks_of<V: LiveDevices>(
-    machine: u32,
-    ticks: V::Clock,
-    devices: &mut V,
-) -> Clocks<V::Clock>
+pub fn clocks_of<V: LiveDevices>(machine: u32, ticks: V::Clock, devices: &mut V) -> Clocks<V::Clock>
     ensures ticks { result.ticks ≡ ticks }
     ensures count { V.Devices.faults devices.new ≡ V.Devices.faults devices.old }
 {

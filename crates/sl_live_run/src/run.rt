@@ -70,7 +70,11 @@ fn roll_of(machines: usize) -> Roll {
 }
 
 /// Whether threads of the run ended too soon: the script's, or one that had no memory or met a line that was not due.
-pub fn ended_early<R: Wait>(rt: &R, told: &Result<Option<NoLine>, AllocError>, posts: &[Post]) -> bool
+pub fn ended_early<R: Wait>(
+    rt: &R,
+    told: &Result<Option<NoLine>, AllocError>,
+    posts: &[Post],
+) -> bool
     ensures { result ≡ false → IsOk told.now }
 {
     match told {

@@ -31,5 +31,10 @@ returns-in-Ok-Direct-clause-devices g c =
 
 pub returns-in-Ok-Label-clause-devices : goal.returns-in-Ok-Label-clause-devices
 returns-in-Ok-Label-clause-devices g c =
-    λ none. absurd (none (inr (c.in-Ok-Label.lockspace, c.in-Ok-Label.geometry, c.in-Ok-Label.timing, c.in-Ok-Label.grace,
-    c.in-Ok-Label.ensures.read ∙ ap (λ w. Some w) c.in-Ok-Label.field-0-is)))
+    λ none. absurd (none (inr (
+      c.in-Ok-Label.lockspace,
+      c.in-Ok-Label.geometry,
+      c.in-Ok-Label.timing,
+      c.in-Ok-Label.grace,
+      c.in-Ok-Label.ensures.read ∙ ap (λ w. Some w) c.in-Ok-Label.field-0-is,
+    )))
