@@ -70,15 +70,15 @@ pub record AreAllHad {A : Type 0} (content : A → Option (List ℕ)) (h : Heade
   pub counted : length disks ≡ machines
   pub each : (place : ℕ) (d : Both A) → slice_get disks place ≡ Some d → AreHad content h (place + 1) d
 
--- Machines of these sites had such disks, and from these the disks that they left came by the calls of these histories, and by no others; and the spawners
--- that they left were asked for just the signals and the starts of these, beside kills that are told.
+-- Machines of these sites had such disks, and the disks that they left were made of those by just the calls of these histories; and the spawners that they
+-- left were asked for just the signals and the starts of these, beside the kills that are told with them.
 pub record Served {A P : Type 0} (t : Tellers A P) (commands : Header → List (Form Command)) (header : Header) (sites : List Site) (hs : List (List Entry)) : Type 0 where
   pub disks : List (Both A)
   pub had : AreAllHad t.content header (length sites) disks
   pub left : List (Leavings A P)
   pub served : AreAllServed t.content t.faults t.acts commands header sites hs disks left
 
--- These are their histories, where the script gave these lines; and what they say was done to the disks, and asked of the spawners, was, and no more.
+-- These are their histories, where the script gave these lines; and what they say of disks, of signals and of starts was done.
 pub record Lives {D A P : Type 0} (stands : D → Setting → Trace → Type 0) (commands : Header → List (Form Command)) (t : Tellers A P) (h : Header) (given : List LiveLine)
     (hs : List (List Entry)) : Type 0 where
   pub begun : Beginnings h
