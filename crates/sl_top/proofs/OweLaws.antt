@@ -28,11 +28,11 @@ none_generated seed hosts events paired taken faults =
     }
 
 -- For want of memory, whatever the words say.
-pub nothing_done : {A P : Type 0} (t : Tellers A P) (w : Option Words) (x : Outside) → Owes t w x x NoMemory
-nothing_done t None x = nothing_told x.taken x.sink_faults bad_words_text _
-nothing_done t (Some Replay) x = unread x.left x.source_faults x.taken x.sink_faults
-nothing_done t (Some (Generate seed hosts events paired)) x = none_generated seed hosts events paired x.taken x.sink_faults
-nothing_done t (Some (Direct a)) x = not_begun a x.disks x.device_faults x.taken x.sink_faults
-nothing_done t (Some (Live folder anew keeps events)) x = never_run t folder (record { anew = anew; keeps = keeps; events = events }) x
-nothing_done t (Some Help) x = nothing_told x.taken x.sink_faults _ _
-nothing_done t (Some Version) x = nothing_told x.taken x.sink_faults _ _
+pub nothing_done : {A P : Type 0} (tellers : Tellers A P) (w : Option Words) (x : Outside) → Owes tellers w x x NoMemory
+nothing_done tellers None x = nothing_told x.taken x.sink_faults bad_words_text _
+nothing_done tellers (Some Replay) x = unread x.left x.source_faults x.taken x.sink_faults
+nothing_done tellers (Some (Generate seed hosts events paired)) x = none_generated seed hosts events paired x.taken x.sink_faults
+nothing_done tellers (Some (Direct a)) x = not_begun a x.disks x.device_faults x.taken x.sink_faults
+nothing_done tellers (Some (Live folder anew keeps events)) x = never_run tellers folder (record { anew = anew; keeps = keeps; events = events }) x
+nothing_done tellers (Some Help) x = nothing_told x.taken x.sink_faults _ _
+nothing_done tellers (Some Version) x = nothing_told x.taken x.sink_faults _ _

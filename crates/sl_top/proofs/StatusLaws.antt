@@ -233,9 +233,9 @@ direct_caused a x y s run =
 
 -- ---- a live run
 
-live_has_cause : {A P : Type 0} (t : Tellers A P) (folder : List ℕ) (m : Manner) (x y : Outside) (s : Status) → RunsLive t folder m x y s → HasItsCause (Some (Live folder m.anew m.keeps m.events)) x y s
-live_has_cause t folder m x y s run =
-    let why = live_caused t folder m x y s run in
+live_has_cause : {A P : Type 0} (tellers : Tellers A P) (folder : List ℕ) (m : Manner) (x y : Outside) (s : Status) → RunsLive tellers folder m x y s → HasItsCause (Some (Live folder m.anew m.keeps m.events)) x y s
+live_has_cause tellers folder m x y s run =
+    let why = live_caused tellers folder m x y s run in
     record {
       refused = λ e. inr (folder, m, refl);
       bad_words = λ e. absurd (not_bad_live run.ended (sym run.status ∙ e));
@@ -248,14 +248,14 @@ live_has_cause t folder m x y s run =
 
 -- ---- all words
 
-pub statuses_have_causes : {A P : Type 0} (t : Tellers A P) → StatusesHaveCauses t
-statuses_have_causes t None x y s h = bad_caused x y s h
-statuses_have_causes t (Some Replay) x y s h = replay_caused x y s h
-statuses_have_causes t (Some (Generate seed hosts events paired)) x y s h = done_caused (Some (Generate seed hosts events paired)) x y _ s h.puts
-statuses_have_causes t (Some (Direct a)) x y s h = direct_caused a x y s h
-statuses_have_causes t (Some (Live folder anew keeps events)) x y s h = live_has_cause t folder (record { anew = anew; keeps = keeps; events = events }) x y s h
-statuses_have_causes t (Some Help) x y s h = done_caused (Some Help) x y HELP.now s h
-statuses_have_causes t (Some Version) x y s h = done_caused (Some Version) x y VERSION.now s h
+pub statuses_have_causes : {A P : Type 0} (tellers : Tellers A P) → StatusesHaveCauses tellers
+statuses_have_causes tellers None x y s h = bad_caused x y s h
+statuses_have_causes tellers (Some Replay) x y s h = replay_caused x y s h
+statuses_have_causes tellers (Some (Generate seed hosts events paired)) x y s h = done_caused (Some (Generate seed hosts events paired)) x y _ s h.puts
+statuses_have_causes tellers (Some (Direct a)) x y s h = direct_caused a x y s h
+statuses_have_causes tellers (Some (Live folder anew keeps events)) x y s h = live_has_cause tellers folder (record { anew = anew; keeps = keeps; events = events }) x y s h
+statuses_have_causes tellers (Some Help) x y s h = done_caused (Some Help) x y HELP.now s h
+statuses_have_causes tellers (Some Version) x y s h = done_caused (Some Version) x y VERSION.now s h
 
 -- ---- where its cause stands
 
@@ -285,8 +285,8 @@ upgrade_found r g content now counted taken put sink_faults sink_later directed.
 upgrade_found r g content now counted taken put sink_faults sink_later directed.NotTheLeader s h is other = inl is
 upgrade_found r g content now counted taken put sink_faults sink_later directed.TornBlock s h is other = inl is
 
-pub causes_have_statuses : {A P : Type 0} (t : Tellers A P) → CausesHaveStatuses t
-causes_have_statuses t =
+pub causes_have_statuses : {A P : Type 0} (tellers : Tellers A P) → CausesHaveStatuses tellers
+causes_have_statuses tellers =
     record {
       bad_words = λ x y s put. put_status bad_words_text put.written BadWords s put.text_is;
       not_the_leader = λ r g content x y s run told other.
@@ -335,8 +335,8 @@ ends_at_zero : (source : List ℕ) (x y : Outside) (s : Status) → Replays x.le
 ends_at_zero source x y s run told done =
     sym (own_status source x y s told run (ap (λ t. is_whole_status (code t)) done)) ∙ ap code done
 
-pub accepted_schedules_end_well : {A P : Type 0} (t : Tellers A P) → AcceptedSchedulesEndWell t
-accepted_schedules_end_well t =
+pub accepted_schedules_end_well : {A P : Type 0} (tellers : Tellers A P) → AcceptedSchedulesEndWell tellers
+accepted_schedules_end_well tellers =
     record {
       well = λ source x y s run told accepted none. ends_well source x y s run told (accepted_runs.well whole_language whole_headers source accepted) none;
       only = λ source x y s run told done. accepted_runs.only whole_language whole_headers source (ends_at_zero source x y s run told done);
@@ -361,8 +361,8 @@ ends_at_one : (source : List ℕ) (x y : Outside) (s : Status) → Replays x.lef
 ends_at_one source x y s run told refused =
     sym (own_status source x y s told run (ap (λ t. is_whole_status (code t)) refused)) ∙ ap code refused
 
-pub other_schedules_are_refused : {A P : Type 0} (t : Tellers A P) → OtherSchedulesAreRefused t
-other_schedules_are_refused t =
+pub other_schedules_are_refused : {A P : Type 0} (tellers : Tellers A P) → OtherSchedulesAreRefused tellers
+other_schedules_are_refused tellers =
     record {
       well = λ source x y s run told other none. ends_refused source x y s run told (λ zero. other (accepted_runs.only whole_language whole_headers source zero)) none;
       only = λ source x y s run told refused accepted.

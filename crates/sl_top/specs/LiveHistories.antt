@@ -13,17 +13,17 @@ use Rattle.std.specs.Prelude.{List, Some, reverse, slice_get, ℕ, ◌+◌, ◌�
 
 -- The history of the machine of this site is a lawful trace, and each reply in it has its cause. The disks that the machine left were made of those that it
 -- had by just the calls of its history, and the spawners that it left were asked for just its signals and its starts, beside the kills that are told.
-pub record IsGoodHistory {A P : Type 0} (t : Tellers A P) (header : Header) (place : ℕ) (site : Site) (history : List Entry) : Type 0 where
+pub record IsGoodHistory {A P : Type 0} (tellers : Tellers A P) (header : Header) (place : ℕ) (site : Site) (history : List Entry) : Type 0 where
   pub lawful : Lawful (begun_with whole_commands header site) (reverse history)
   pub caused : IsCaused (begun_with whole_commands header site) (reverse history)
   pub disks : Both A
-  pub had : AreHad t.content header (place + 1) disks
+  pub had : AreHad tellers.content header (place + 1) disks
   pub left : Leavings A P
-  pub served : AreServed t.content t.faults t.acts header.geometry.sector (begun_with whole_commands header site) history disks left
+  pub served : AreServed tellers.content tellers.faults tellers.acts header.geometry.sector (begun_with whole_commands header site) history disks left
 
 -- So is that of each machine of a live run.
 abbrev pub LiveHistoriesAreGood : {A P : Type 0} → Tellers A P → Type 0
-LiveHistoriesAreGood t =
-    (h : Header) (given : List LiveLine) (hs : List (List Entry)) → (l : Lives Serves whole_commands t h given hs)
+LiveHistoriesAreGood tellers =
+    (h : Header) (given : List LiveLine) (hs : List (List Entry)) → (l : Lives Serves whole_commands tellers h given hs)
     → (place : ℕ) (site : Site) (history : List Entry) → slice_get l.begun.sites place ≡ Some site → slice_get hs place ≡ Some history
-    → IsGoodHistory t l.begun.header place site history
+    → IsGoodHistory tellers l.begun.header place site history
