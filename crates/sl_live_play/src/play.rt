@@ -353,8 +353,8 @@ where
 /// has the folder. If the manner says so, a line that is refused is put out as it comes, and the script goes on behind it, but where the line is too
 /// long or the source is; and what becomes of children and of connections is put out beside the replies.
 ///
-/// A machine ends when the script has ended, no child of it runs and nothing of it is unanswered. The source and the sink come
-/// back.
+/// A machine ends when the script has ended, no child of it runs and nothing of it is unanswered. What its areas and its spawner then tell of
+/// themselves, where they tell it, is what its history says. The source and the sink come back.
 pub fn play_live<
     D: Teller + Send,
     S: Source + Send,
