@@ -2,7 +2,7 @@
 use Rattle.sl_cell.specs.declared.part.Part.TheVariants.{Delta}
 use Rattle.sl_io.specs.FaultCauses.{Rose}
 use Rattle.sl_live_lines.specs.LiveTexts.{count_replies}
-use Rattle.sl_live_play.specs.LiveOwed.{All, Puts, PutsEnded, PutsStop}
+use Rattle.sl_live_play.specs.LiveOwed.{All, Puts, PutsEnded, PutsStop, Tellers}
 use Rattle.sl_live_play.specs.declared.play.Lived.TheVariants.{AreaFault, Differs, Done, NoMemory, ReadFault, Refused}
 use Rattle.sl_live_play.specs.declared.play.Lived.{Lived}
 use Rattle.sl_live_run.specs.Laws.{SitesAreSettings}
@@ -14,7 +14,7 @@ use Rattle.sl_outside.specs.declared.act.Act.{Act}
 use Rattle.sl_output.specs.Pieces.{Piece, text_of}
 use Rattle.sl_own.proofs.LendLaws.{not_lent_on}
 use Rattle.sl_own.specs.OwnGrounds.{Area_bars, Bars, Folder_bars, IsOwnGround, Machine_bars, Size_bars}
-use Rattle.sl_own.specs.OwnOwed.{Breaks, Breaks_early, DifferingOwn, Ends, HadOwn, Is_barred, IsWovenOwn, Lacks, LivesOwn, MayRun, Of, OwesOwn, OwnBeginning, OwnDue, Parts, PutsNoPlace, ReadsOwn, Stops, Stops_early, Stops_header, Tellers, header_refusal}
+use Rattle.sl_own.specs.OwnOwed.{Breaks, Breaks_early, DifferingOwn, Ends, HadOwn, Is_barred, IsWovenOwn, Lacks, LivesOwn, MayRun, Of, OwesOwn, OwnBeginning, OwnDue, Parts, PutsNoPlace, ReadsOwn, Stops, Stops_early, Stops_header, header_refusal}
 use Rattle.sl_own.specs.OwnRuns.{HasToldOwn, IsOwnStop}
 use Rattle.sl_own.specs.declared.ground.OwnGround.{OwnGround}
 use Rattle.sl_own.specs.declared.no_place.NoPlace.{NoPlace}

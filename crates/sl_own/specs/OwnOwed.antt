@@ -5,7 +5,7 @@ use Rattle.sl_live_lines.specs.LiveTexts.{count_replies, history_text, last_text
 use Rattle.sl_live_lines.specs.declared.live_texts.Ending.TheVariants as ending
 use Rattle.sl_live_lines.specs.declared.live_texts.Ending.{Ending}
 use Rattle.sl_live_play.specs.DifferenceLines.{differ_text}
-use Rattle.sl_live_play.specs.LiveOwed.{Puts}
+use Rattle.sl_live_play.specs.LiveOwed.{Puts, Tellers}
 use Rattle.sl_live_play.specs.declared.play.Lived.TheVariants.{AreaFault, Differs, Done, NoMemory, ReadFault, Refused}
 use Rattle.sl_live_play.specs.declared.play.Lived.{Lived}
 use Rattle.sl_live_run.specs.Grounds.{IsSiteOf}
@@ -59,12 +59,6 @@ pub record OwnBeginning (h : Header) (m : ℕ) : Type 0 where
   pub numbered : m ≡ place + 1
   pub site : Site
   pub begun : IsSiteOf header m (session_of header m) site
-
--- What areas tell of themselves: what they have, and the faults that they counted; and spawners: what they were asked for. `None` is told where nothing is.
-pub record Tellers (A P : Type 0) : Type 0 where
-  pub content : A → Option (List ℕ)
-  pub faults : A → ℕ
-  pub acts : P → Option (List Act)
 
 -- What the machine had for its workers: for each an area of each disk of the header, to which nothing was written since all that the header has there was
 -- found to stand on it.

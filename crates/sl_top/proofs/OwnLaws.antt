@@ -2,7 +2,7 @@
 use Rattle.sl_host_step.specs.HostServes.{Serves, whole_commands}
 use Rattle.sl_io.specs.FaultCauses.{Rose}
 use Rattle.sl_live_play.specs.DifferenceLines.{differ_text}
-use Rattle.sl_live_play.specs.LiveOwed.{All, Front, Part, Puts}
+use Rattle.sl_live_play.specs.LiveOwed.{All, Front, Part, Puts, Tellers}
 use Rattle.sl_live_play.specs.declared.play.Lived.TheVariants as lived
 use Rattle.sl_live_play.specs.declared.play.Lived.{Lived}
 use Rattle.sl_live_run.specs.declared.compare.LiveDiffer.{LiveDiffer}
@@ -27,8 +27,8 @@ use Rattle.std.proofs.Common.{List, Option, [], refl, subst, sym, ℕ, ◌++◌,
 use Rattle.std.specs.Io.KnownBytes.{Appends}
 
 -- For want of memory, before anything was done.
-pub never_run : (folder : List ℕ) (manner : OwnManner) (x : Outside) → RunsOwn folder manner x x NoMemory
-never_run folder manner x = record { ended = lived.NoMemory; owes = Lacks [] (nothing_put x.taken); status = refl }
+pub never_run : {A P : Type 0} (tellers : Tellers A P) (folder : List ℕ) (manner : OwnManner) (x : Outside) → RunsOwn tellers folder manner x x NoMemory
+never_run tellers folder manner x = record { ended = lived.NoMemory; owes = Lacks [] (nothing_put x.taken); status = refl }
 
 -- ---- what is due, by how it ended
 
@@ -66,8 +66,8 @@ record Caused (disks : Disks) (folder : List ℕ) (w : OwnManner) (left after ta
   pub area : s ≡ lived.AreaFault → Barred disks folder w left after device_faults device_later (λ told. Appends taken now told)
   pub differs : s ≡ lived.Differs → Differed w left after faults later (λ told. Appends taken now told)
 
-module _ (disks : Disks) (folder : List ℕ) (w : OwnManner) (left after : Option (List ℕ)) (faults later device_faults device_later : ℕ) where
-  due_tells : (text : List ℕ) (whole : Lived) → OwnDue Serves whole_commands disks folder w left after faults later device_faults device_later text whole → Tells disks folder w left after faults later device_faults device_later text whole
+module _ {A P : Type 0} (tellers : Tellers A P) (disks : Disks) (folder : List ℕ) (w : OwnManner) (left after : Option (List ℕ)) (faults later device_faults device_later : ℕ) where
+  due_tells : (text : List ℕ) (whole : Lived) → OwnDue Serves whole_commands tellers disks folder w left after faults later device_faults device_later text whole → Tells disks folder w left after faults later device_faults device_later text whole
   due_tells text whole (Ends h given hist pieces reads may lives woven) =
       record { read = λ e. absurd cc; area = λ e. absurd cc; written = λ e. absurd cc; differs = λ e. absurd cc }
   due_tells text whole (Stops_early r number why stops) =
@@ -129,7 +129,7 @@ module _ (disks : Disks) (folder : List ℕ) (w : OwnManner) (left after : Optio
       record { read = λ e. absurd cc; written = λ e. absurd cc; area = λ e. absurd cc; differs = λ e. absurd cc }
 
   owes_caused : (taken now : Option (List ℕ)) (sink_faults sink_later : ℕ) (s : Lived)
-      → OwesOwn Serves whole_commands disks folder w left after taken now faults later sink_faults sink_later device_faults device_later s
+      → OwesOwn Serves whole_commands tellers disks folder w left after taken now faults later sink_faults sink_later device_faults device_later s
       → Caused disks folder w left after taken now faults later sink_faults sink_later device_faults device_later s
   owes_caused taken now sink_faults sink_later s (Of text whole t due puts) = put_caused taken now sink_faults sink_later text whole s (due_tells text whole due) puts
   owes_caused taken now sink_faults sink_later s (Lacks part nothing) =
@@ -142,9 +142,9 @@ pub record OwnCaused (folder : List ℕ) (manner : OwnManner) (x y : Outside) (s
   pub area : s ≡ AreaFault → CantRun folder manner x y
   pub differs : s ≡ Differs → OneDiffers manner x y
 
-pub own_caused : (folder : List ℕ) (manner : OwnManner) (x y : Outside) (s : Status) → RunsOwn folder manner x y s → OwnCaused folder manner x y s
-own_caused folder manner x y s run =
-    let why = owes_caused x.disks folder manner x.left y.left x.source_faults y.source_faults x.device_faults y.device_faults x.taken y.taken x.sink_faults y.sink_faults run.ended run.owes in
+pub own_caused : {A P : Type 0} (tellers : Tellers A P) (folder : List ℕ) (manner : OwnManner) (x y : Outside) (s : Status) → RunsOwn tellers folder manner x y s → OwnCaused folder manner x y s
+own_caused tellers folder manner x y s run =
+    let why = owes_caused tellers x.disks folder manner x.left y.left x.source_faults y.source_faults x.device_faults y.device_faults x.taken y.taken x.sink_faults y.sink_faults run.ended run.owes in
     record {
       read = λ e. why.read (read_failed run.ended (sym run.status ∙ e));
       written = λ e. why.written (write_failed run.ended (sym run.status ∙ e));

@@ -5,11 +5,11 @@ use Rattle.sl_top.specs.Runs.{said, said_from}
 use Rattle.std.proofs.Common.{sym, ◌∙◌}
 
 pub returns-in-Err-clause-owes : goal.returns-in-Err-clause-owes
-returns-in-Err-clause-owes g c = nothing_done (said_from c.args.at_terminal c.args.words.now) _
+returns-in-Err-clause-owes g c = nothing_done _ (said_from c.args.at_terminal c.args.words.now) _
 
 pub returns-in-Ok-Some-All-clause-owes : goal.returns-in-Ok-Some-All-clause-owes
 returns-in-Ok-Some-All-clause-owes g c =
-    owes_live (said_from c.args.at_terminal c.args.words.now) _ _ _ _ (sym c.in-Ok-Some-All.ensures.exact ∙ c.in-Ok-Some-All.field-0-is) c.live-status.ensures
+    owes_live _ (said_from c.args.at_terminal c.args.words.now) _ _ _ _ (sym c.in-Ok-Some-All.ensures.exact ∙ c.in-Ok-Some-All.field-0-is) c.live-status.ensures
 
 pub returns-in-Ok-Some-All-clause-devices : goal.returns-in-Ok-Some-All-clause-devices
 returns-in-Ok-Some-All-clause-devices g c =
@@ -39,4 +39,4 @@ run_offline-status-requires-own g c = not_own c.args.at_terminal (said c.args.wo
 
 pub returns-in-Ok-None-clause-owes : goal.returns-in-Ok-None-clause-owes
 returns-in-Ok-None-clause-owes g c =
-    owes_from c.args.at_terminal (said c.args.words.now) _ _ _ (sym c.in-Ok-None.ensures.exact ∙ c.in-Ok-None.field-0-is) c.run_offline-status.ensures.owes
+    owes_from _ c.args.at_terminal (said c.args.words.now) _ _ _ (sym c.in-Ok-None.ensures.exact ∙ c.in-Ok-None.field-0-is) c.run_offline-status.ensures.owes

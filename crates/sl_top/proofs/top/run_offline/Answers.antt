@@ -15,7 +15,7 @@ unreachable-2-requires g c =
     (c.in-Ok-Own.ensures.read ∙ ap (λ w. Some w) c.in-Ok-Own.field-0-is))
 
 pub returns-in-Err-NoMemory-clause-owes : goal.returns-in-Err-NoMemory-clause-owes
-returns-in-Err-NoMemory-clause-owes g c = nothing_done (said c.args.words.now) _
+returns-in-Err-NoMemory-clause-owes g c = nothing_done _ (said c.args.words.now) _
 
 pub returns-in-Ok-Replay-clause-source : goal.returns-in-Ok-Replay-clause-source
 returns-in-Ok-Replay-clause-source g c =
