@@ -12,7 +12,6 @@ use Rattle.sl_live_run.specs.Grounds.{IsSiteOf}
 use Rattle.sl_live_run.specs.Runs.{AreServed, Both, IsLiveCase, IsLiveHistory, Leavings, begun_on, begun_telling, lines_for, refusals_text}
 use Rattle.sl_live_run.specs.declared.compare.LiveDiffer.{LiveDiffer}
 use Rattle.sl_outside.specs.Disks.{Disks}
-use Rattle.sl_outside.specs.declared.act.Act.{Act}
 use Rattle.sl_output.specs.Pieces.{Piece, text_by, text_of}
 use Rattle.sl_own.specs.OwnGrounds.{AreLeft, Bars, Finds, FindsOn, IsPlaceOf}
 use Rattle.sl_own.specs.OwnTexts.{no_place_text}
