@@ -344,11 +344,12 @@ own_first events false o q is = own_chosen events (not o.events) (record o { eve
 
 own_again : (g : Flag) (ws behind : List (List ℕ)) (o : Options) → on_own g o ≡ true → options_from o (ws ++ word_of g ∷ behind) ≡ None
 own_again g [] behind o met = ap (option_and_then (λ next. options_from next behind)) (own_met g o.waits o met)
-own_again g (w ∷ ws) behind o met = by (with_word o w) refl
+own_again g (w ∷ ws) behind o met = by (with_word o w) refl (λ q kept. own_again g ws behind q kept)
   where
-    by : (x : Option Options) → with_word o w ≡ x → option_and_then (λ next. options_from next (ws ++ word_of g ∷ behind)) x ≡ None
-    by None is = refl
-    by (Some q) is = own_again g ws behind q (own_word_stays g o.waits (bytes_eq w (codes "--watchdog")) o q w is met)
+    by : (x : Option Options) → with_word o w ≡ x → ((q : Options) → on_own g q ≡ true → options_from q (ws ++ word_of g ∷ behind) ≡ None)
+        → option_and_then (λ next. options_from next (ws ++ word_of g ∷ behind)) x ≡ None
+    by None is later = refl
+    by (Some q) is later = later q (own_word_stays g o.waits (bytes_eq w (codes "--watchdog")) o q w is met)
 
 own_twice : (g : Flag) (before between behind : List (List ℕ)) (o : Options) → options_from o (before ++ word_of g ∷ between ++ word_of g ∷ behind) ≡ None
 own_twice g [] between behind o = by (with_word o (word_of g)) refl
@@ -356,11 +357,12 @@ own_twice g [] between behind o = by (with_word o (word_of g)) refl
     by : (x : Option Options) → with_word o (word_of g) ≡ x → option_and_then (λ next. options_from next (between ++ word_of g ∷ behind)) x ≡ None
     by None is = refl
     by (Some q) is = own_again g between behind q (own_first g o.waits o q is)
-own_twice g (w ∷ ws) between behind o = by (with_word o w)
+own_twice g (w ∷ ws) between behind o = by (with_word o w) (λ q. own_twice g ws between behind q)
   where
-    by : (x : Option Options) → option_and_then (λ next. options_from next (ws ++ word_of g ∷ between ++ word_of g ∷ behind)) x ≡ None
-    by None = refl
-    by (Some q) = own_twice g ws between behind q
+    by : (x : Option Options) → ((q : Options) → options_from q (ws ++ word_of g ∷ between ++ word_of g ∷ behind) ≡ None)
+        → option_and_then (λ next. options_from next (ws ++ word_of g ∷ between ++ word_of g ∷ behind)) x ≡ None
+    by None later = refl
+    by (Some q) later = later q
 
 -- A flag is no folder, names no machine and is no number.
 flag_first : (g : Flag) (rest : List (List ℕ)) → own_in (codes "live" ∷ word_of g ∷ rest) ≡ None

@@ -146,8 +146,8 @@ is_action u is none =
 -- Two actions are not apart.
 no_second_action : (u v : Use) (us : List Use) → u.name ≡ codes "action" → v.name ≡ codes "action" → are_apart [] (u ∷ v ∷ us) ≡ true → ⊥
 no_second_action u v us first second apart =
-    let rest = (and_true _ _ apart).1 in
-    let new : is_given v.name (u ∷ []) ≡ false = not-true (is_given v.name (u ∷ [])) (and_true _ _ rest).0 in
+    let rest : are_apart (u ∷ []) (v ∷ us) ≡ true = (and_true (not (is_given u.name [])) (are_apart (u ∷ []) (v ∷ us)) apart).1 in
+    let new : is_given v.name (u ∷ []) ≡ false = not-true (is_given v.name (u ∷ [])) (and_true (not (is_given v.name (u ∷ []))) (are_apart (u ∷ v ∷ []) us) rest).0 in
     true_is_false (sym (ap (λ n. is_given n (u ∷ [])) second ∙ ap (λ n. bytes_eq n (codes "action") || false) first) ∙ new)
 
 not_timed : (us : List Use) → list_all is_use us ≡ true → are_apart [] us ≡ true → is_timed (codes "direct" ∷ spelled us) ≡ false
