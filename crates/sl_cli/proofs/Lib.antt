@@ -14,6 +14,7 @@ pub mod OptionSteps
 pub mod OwnWordLaws
 pub mod ParseLaws
 pub mod SizeWords
+pub mod TimedLaws
 pub mod SpellingLaws
 pub mod ReaderSteps
 pub mod ParserTurns

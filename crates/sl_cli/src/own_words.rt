@@ -3,9 +3,10 @@
 //! They are read here and not by the argument parser: the machine's option stands at one place, so words without it are the parser's as before.
 
 ghost use Rattle.sl_cli.specs.OwnWords as own;
+ghost use Rattle.sl_cli.specs.Spellings.{CanBeDone};
 ghost use Rattle.sl_words.specs.Words.{choose};
 ghost use Rattle.sl_text.specs.Numbers.{number_of};
-ghost use Rattle.std.specs.Prelude.{IfOk, map, option_map, string_bytes, [], ◌≡◌};
+ghost use Rattle.std.specs.Prelude.{IfOk, IfSome, map, option_map, string_bytes, [], ◌≡◌, ◌≤◌};
 
 use crate::command_words::Words;
 use crate::folder::Folder;
@@ -206,7 +207,8 @@ fn path_of(alloc: Global, word: Option<&str>) -> Result<Option<Folder>, AllocErr
 
 /// The number of a machine that a word says, 1 to 16, if it says one.
 fn machine_of(word: &str) -> Option<u32>
-    ensures { result ≡ choose (own.is_machine word.now) (number_of word.now) }
+    ensures exact { result ≡ choose (own.is_machine word.now) (number_of word.now) }
+    ensures some { IfSome result (λ machine. 1 ≤ machine) }
 {
     let machine = read_number_within(word.as_bytes(), 1, 16)?;
     Some(machine as u32)
@@ -219,7 +221,8 @@ fn own_of(
     machine: &str,
     words: &[String],
 ) -> Result<Option<Words>, AllocError>
-    ensures { IfOk result (λ said. said ≡ own.own_of folder.now machine.now (map string_bytes words.now)) }
+    ensures exact { IfOk result (λ said. said ≡ own.own_of folder.now machine.now (map string_bytes words.now)) }
+    ensures can { IfOk result (λ said. IfSome said CanBeDone) }
 {
     if !is_folder(folder) {
         return Ok(None);
@@ -242,7 +245,8 @@ fn own_of(
 
 /// What words of this form say, if they say something. An `Err` is want of memory.
 pub(crate) fn own_words(alloc: Global, words: &[String]) -> Result<Option<Words>, AllocError>
-    ensures { IfOk result (λ said. said ≡ own.own_in (map string_bytes words.now)) }
+    ensures exact { IfOk result (λ said. said ≡ own.own_in (map string_bytes words.now)) }
+    ensures can { IfOk result (λ said. IfSome said CanBeDone) }
 {
     match words {
         [_, folder, _, machine, rest @ ..] => {

@@ -99,6 +99,40 @@ fn with_label(words: Words, times: &str) -> Option<Words>
     }
 }
 
+/// What words without the times say. `Bad` comes exactly where they say nothing; in place of either may come `NoMemory`.
+fn untimed_words(
+    alloc: Global,
+    command: &String,
+    action: &String,
+    rest: &[String],
+) -> Result<Words, WordsError>
+    ensures read { IfOk result (λ w. command_in (string_bytes command.now ∷ string_bytes action.now ∷ map string_bytes rest.now) ≡ Some w) }
+    ensures bad { result ≡ Err Bad → command_in (string_bytes command.now ∷ string_bytes action.now ∷ map string_bytes rest.now) ≡ None }
+    ensures can { IfOk result CanBeDone }
+{
+    let left = untimed(alloc, command, action, rest)?;
+    plain_words(alloc, &left)
+}
+
+/// What they say with a label of these times. `Bad` comes exactly where they say nothing; in place of either may come `NoMemory`.
+fn labelled_words(
+    alloc: Global,
+    command: &String,
+    action: &String,
+    times: &str,
+    rest: &[String],
+) -> Result<Words, WordsError>
+    ensures read { IfOk result (λ w. labelled times.now (command_in (string_bytes command.now ∷ string_bytes action.now ∷ map string_bytes rest.now)) ≡ Some w) }
+    ensures bad { result ≡ Err Bad → labelled times.now (command_in (string_bytes command.now ∷ string_bytes action.now ∷ map string_bytes rest.now)) ≡ None }
+    ensures can { IfOk result CanBeDone }
+{
+    let said = untimed_words(alloc, command, action, rest)?;
+    match with_label(said, times) {
+        Some(words) => Ok(words),
+        None => Err(WordsError::Bad),
+    }
+}
+
 /// What words of this form say. `Bad` comes exactly where they say nothing; in place of either may come `NoMemory`.
 pub(crate) fn timed_words(alloc: Global, words: &[String]) -> Result<Words, WordsError>
     ensures read { IfOk result (λ w. timed_in (map string_bytes words.now) ≡ Some w) }
@@ -107,9 +141,7 @@ pub(crate) fn timed_words(alloc: Global, words: &[String]) -> Result<Words, Word
 {
     match words {
         [command, action, _, times, rest @ ..] => {
-            let left = untimed(alloc, command, action, rest)?;
-            let said = plain_words(alloc, &left)?;
-            with_label(said, times.as_str()).ok_or(WordsError::Bad)
+            labelled_words(alloc, command, action, times.as_str(), rest)
         }
         _ => Err(WordsError::Bad),
     }
