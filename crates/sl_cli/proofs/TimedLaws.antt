@@ -9,7 +9,8 @@ use Rattle.sl_direct.specs.declared.action.Action.TheVariants.{InitLockspace}
 use Rattle.sl_direct.specs.declared.action.Action.{Action}
 use Rattle.sl_trace.specs.declared.command.LockspaceArg.{LockspaceArg}
 use Rattle.sl_words.specs.Words.{choose}
-use Rattle.std.proofs.Common.{Bool, List, None, Option, Some, [], ap, arith, drop, false, get_or, length, map, refl, sym, true, ℕ, ◌<◌, ◌≡◌, ◌≤◌, ◌∙◌, ◌∷◌}
+use Rattle.std.proofs.Common.{Bool, List, None, Option, Some, [], ap, arith, drop, false, get_or, length, map, refl, sym, take, true, ℕ, ◌-◌, ◌<◌, ◌≡◌, ◌≤◌, ◌∙◌, ◌∷◌}
+use Rattle.std.proofs.lemmas.List.{take_all}
 use Rattle.std.specs.Global.{Global}
 use Rattle.std.specs.Prelude.{String, option_map, string_bytes}
 
@@ -29,9 +30,13 @@ module _ (t : List ℕ) (l : LockspaceArg) (g : Sizes) (a : Action) where
 
 -- ---- the words
 
+-- Those behind the fourth.
+abbrev pub behind : List (String Global) → List (List ℕ)
+behind xs = map string_bytes (take (length xs - 4) (drop 4 xs))
+
 -- At least four: the third is the option, the fourth the times.
 pub timed_at : (xs : List (String Global)) (c i t : String Global) → 4 ≤ length xs → c ≡ get_or xs 0 c → i ≡ get_or xs 1 i → t ≡ get_or xs 3 t
-    → timed_in (map string_bytes xs) ≡ labelled (string_bytes t) (command_in (string_bytes c ∷ string_bytes i ∷ map string_bytes (drop 4 xs)))
+    → timed_in (map string_bytes xs) ≡ labelled (string_bytes t) (command_in (string_bytes c ∷ string_bytes i ∷ behind xs))
 timed_at [] c i t some first second fourth = absurd (omega (arith, some))
 timed_at (a ∷ []) c i t some first second fourth = absurd (omega (arith, some))
 timed_at (a ∷ b ∷ []) c i t some first second fourth = absurd (omega (arith, some))
@@ -40,6 +45,7 @@ timed_at (a ∷ b ∷ d ∷ e ∷ rest) c i t some first second fourth =
     ap (λ x. labelled (string_bytes e) (command_in (string_bytes x ∷ string_bytes b ∷ map string_bytes rest))) (sym first)
     ∙ ap (λ x. labelled (string_bytes e) (command_in (string_bytes c ∷ string_bytes x ∷ map string_bytes rest))) (sym second)
     ∙ ap (λ x. labelled (string_bytes x) (command_in (string_bytes c ∷ string_bytes i ∷ map string_bytes rest))) (sym fourth)
+    ∙ ap (λ ws. labelled (string_bytes t) (command_in (string_bytes c ∷ string_bytes i ∷ map string_bytes ws))) (sym (take_all (length (a ∷ b ∷ d ∷ e ∷ rest) - 4) rest (omega arith)))
 
 -- Fewer say nothing.
 pub timed_short : (xs : List (String Global)) → length xs < 4 → timed_in (map string_bytes xs) ≡ None
