@@ -4,7 +4,7 @@ use Rattle.sl_cli.specs.declared.command_words.Words.{Words}
 use Rattle.sl_text.specs.Numbers.{is_number_that, number_of}
 use Rattle.sl_words.specs.Words.{choose}
 use Rattle.std.specs.Int.{is_in_range}
-use Rattle.std.specs.Prelude.{Bool, List, None, Option, Some, bytes_eq, codes, false, if◌then◌else◌, is_some, not, option_and_then, option_map, slice_index_or, true, [], ℕ, ◌&&◌, ◌==◌, ◌∷◌}
+use Rattle.std.specs.Prelude.{Bool, List, None, Option, Some, bytes_eq, codes, false, if◌then◌else◌, is_some, not, option_and_then, option_map, true, [], ℕ, ◌&&◌, ◌==◌, ◌∷◌}
 
 -- The words are of this form: the third behind `live` names the machine.
 abbrev pub is_own : List (List ℕ) → Bool
