@@ -111,6 +111,21 @@ fn run_beside<
     )
 }
 
+/// The machine that is to run.
+fn machine_of<D: Teller, C: Clock, P: Spawner, V: Device, A: Area, O: Press, T: Shelf>(
+    _header: &Header,
+    work: Work<C, P, V, A, O, T>,
+) -> Machine<C, P, V, A, O, T>
+    requires header { IsHeader _header.now }
+    requires setting { IsSetting (begun_with D.Daemon.commands _header.now work.site) }
+    requires unasked { Tells (P.acts work.parts.spawner) [] }
+    requires fresh { IsFresh work }
+    ensures work { result.work ≡ Some work }
+    ensures can { CanRun P.acts D.Daemon.commands _header.now result }
+{
+    Machine::new(work)
+}
+
 /// Runs a machine that has a post and a mail at this place, with a book of what the script gives and one of what is put out.
 fn run_with<
     D: Teller + Send,
@@ -152,7 +167,11 @@ fn run_with<
     ensures { HasRunOwn A.content A.faults P.acts events D.Daemon.stands D.Daemon.commands header.now place work.site (disks_in work.parts)
         (L.has_given lines.old) (L.has_given lines.new) O.taken (K.taken result.sink) O.faults (K.faults result.sink) result }
 {
-    let (mut machine, mut ledger, mut writer) = (Machine::new(work), ledger, writer);
+    let (mut machine, mut ledger, mut writer) = (
+        machine_of::<D, C, P, V, A, O, T>(header, work),
+        ledger,
+        writer,
+    );
     let roll = Roll::new(THREADS);
     let shared = Shared {
         header,

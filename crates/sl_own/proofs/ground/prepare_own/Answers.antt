@@ -4,6 +4,9 @@ use Rattle.sl_own.proofs.LendLaws.{err_on}
 use Rattle.sl_own.proofs.ground.prepare_own.Goals as goal
 use Rattle.sl_own.specs.OwnGrounds.{No_memory}
 
+pub returns-in_err-lend_both-clause-not : goal.returns-in_err-lend_both-clause-not
+returns-in_err-lend_both-clause-not g c = err_on c.from_residual.result c.in_err-lend_both.field-0.0 _ c.from_residual.ensures.1 c.in_err-lend_both.ensures.not
+
 pub returns-in-Ok-clause-ok : goal.returns-in-Ok-clause-ok
 returns-in-Ok-clause-ok g c =
     own_ground g.V.Area.Area.content g.V.Spawner.Spawner.acts (g.V.Devices.disks c.args.devices.now) c.args.folder.now c.args.header c.args.machine c.ground_of.result c.in-Ok.start.header _ _ _
