@@ -21,7 +21,7 @@ returns-in-Ok-Some-All-clause-source g c =
 
 pub returns-in-Ok-Some-One-clause-owes : goal.returns-in-Ok-Some-One-clause-owes
 returns-in-Ok-Some-One-clause-owes g c =
-    owes_own (said_from c.args.at_terminal c.args.words.now) _ _ _ _ (sym c.in-Ok-Some-One.ensures.exact ∙ c.in-Ok-Some-One.field-0-is) c.own-status.ensures
+    owes_own _ (said_from c.args.at_terminal c.args.words.now) _ _ _ _ (sym c.in-Ok-Some-One.ensures.exact ∙ c.in-Ok-Some-One.field-0-is) c.own-status.ensures
 
 pub returns-in-Ok-Some-One-clause-devices : goal.returns-in-Ok-Some-One-clause-devices
 returns-in-Ok-Some-One-clause-devices g c =
