@@ -43,7 +43,7 @@ fn look_at<V: StandingDevices>(
     disk: &Disk,
     devices: &mut V,
 ) -> Result<(), NoPlace>
-    requires { disk.now.mebibytes ≤ 64 }
+    requires small { disk.now.mebibytes ≤ 64 }
     ensures ok { OnOk result (HasSize (V.Devices.disks devices.old) folder.now disk.now) }
     ensures differs { (h : HeaderOf) → Contains h.disks disk.now → IfErr result (λ why. (why ≡ NotStanding NoMemory) ⊎ SizeDiffers (V.Devices.disks devices.old) folder.now h why) }
     ensures same { V.Devices.disks devices.new ≡ V.Devices.disks devices.old }

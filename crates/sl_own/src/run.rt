@@ -62,6 +62,7 @@ fn no_run<K: Sink, O: Press, A: Area, P: Spawner>(
 
 /// Runs the machine at this place and the script beside it, until all threads have ended: how the script ended.
 fn run_beside<
+    'a,
     D: Teller + Send,
     L: LiveLines + Send,
     K: Sink + Send,
@@ -77,8 +78,8 @@ fn run_beside<
     rt: &R,
     alloc: Global,
     gate: &G,
-    shared: &Shared<'_, K, O, T>,
-    book: &Book<T, GivenLine>,
+    shared: &'a Shared<'a, K, O, T>,
+    book: &'a Book<T, GivenLine>,
     place: usize,
     lines: &mut L,
     ledger: &mut Ledger<T, GivenLine>,
@@ -128,6 +129,7 @@ fn machine_of<D: Teller, C: Clock, P: Spawner, V: Device, A: Area, O: Press, T: 
 
 /// Runs a machine that has a post and a mail at this place, with a book of what the script gives and one of what is put out.
 fn run_with<
+    'a,
     D: Teller + Send,
     L: LiveLines + Send,
     K: Sink + Send,
@@ -142,12 +144,12 @@ fn run_with<
 >(
     rt: &R,
     alloc: Global,
-    header: &Header,
+    header: &'a Header,
     gate: &G,
     place: u32,
-    posts: &[Post],
-    mails: &[Mail<T>],
-    book: &Book<T, GivenLine>,
+    posts: &'a [Post],
+    mails: &'a [Mail<T>],
+    book: &'a Book<T, GivenLine>,
     ledger: Ledger<T, GivenLine>,
     writer: Writer<O>,
     unwritten: &Pieces<O>,

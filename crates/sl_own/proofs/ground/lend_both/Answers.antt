@@ -11,7 +11,7 @@ returns-in-Ok-clause-resource g c = left_plainly g.V.Area.Area.content _ _ c.arg
 
 pub returns-in-Err-clause-not : goal.returns-in-Err-clause-not
 returns-in-Err-clause-not g c =
-    let first = c.lend-delta.ensures.later in
+    let first = c.lend.ensures.later in
     let last = c.take_back.ensures.later in
     not_lent_other (g.V.Devices.disks c.args.devices.now) _ c.args.folder.now c.args.header.now _ _ (g.V.Devices.faults c.args.devices.now) (g.V.Devices.faults c.take_back.new.devices) c.in-Err.why
     (λ rose. omega (arith, first, rose, last)) c.in-Err.ensures.not
