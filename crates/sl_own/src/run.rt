@@ -77,38 +77,53 @@ fn run_beside<
 >(
     rt: &R,
     alloc: Global,
+    header: &'a Header,
     gate: &G,
-    shared: &'a Shared<'a, K, O, T>,
+    roll: &'a Roll,
+    posts: &'a [Post],
+    mails: &'a [Mail<T>],
     book: &'a Book<T, GivenLine>,
+    output: &'a Output<K, O>,
+    events: bool,
     place: usize,
     lines: &mut L,
     ledger: &mut Ledger<T, GivenLine>,
     writer: &mut Writer<O>,
     machine: &mut Machine<C, P, V, A, O, T>,
 ) -> Result<Option<NoLine>, AllocError>
-    requires { CanRun P.acts D.Daemon.commands shared.now.header.now machine.old }
-    ensures ran { Runs A.content A.faults P.acts shared.now.events D.Daemon.commands D.Daemon.stands shared.now.header.now machine.old machine.new }
+    requires { CanRun P.acts D.Daemon.commands header.now machine.old }
+    ensures ran { Runs A.content A.faults P.acts events D.Daemon.commands D.Daemon.stands header.now machine.old machine.new }
     ensures told { (count : ℕ) → AreGiven ledger.old count [] → HasPutOut writer.old []
         → HasTold count (L.has_given lines.old) (L.has_given lines.new) ledger.new writer.new result }
 {
     let ways = Ways {
-        posts: shared.posts,
-        mails: shared.mails,
+        posts,
+        mails,
         book,
-        output: shared.output,
+        output,
     };
     beside_script(
         rt,
         alloc,
-        shared.roll,
+        roll,
         &ways,
         lines,
         ledger,
         writer,
         &mut ||
-            requires { CanRun P.acts D.Daemon.commands shared.now.header.now machine.now }
-            ensures { Runs A.content A.faults P.acts shared.entry.now.events D.Daemon.commands D.Daemon.stands shared.entry.now.header.now machine.entry.now machine.exit.now }
-        { machine.run::<D, K, R, G>(rt, alloc, gate, shared, place) },
+            requires { CanRun P.acts D.Daemon.commands header.now machine.now }
+            ensures { Runs A.content A.faults P.acts events D.Daemon.commands D.Daemon.stands header.entry.now machine.entry.now machine.exit.now }
+        {
+            let shared = Shared {
+                header,
+                roll,
+                posts,
+                mails,
+                output,
+                events,
+            };
+            machine.run::<D, K, R, G>(rt, alloc, gate, &shared, place)
+        },
     )
 }
 
@@ -175,20 +190,17 @@ fn run_with<
         writer,
     );
     let roll = Roll::new(THREADS);
-    let shared = Shared {
-        header,
-        roll: &roll,
-        posts,
-        mails,
-        output: &output,
-        events,
-    };
     let told = run_beside::<D, L, K, O, T, R, C, P, V, A, G>(
         rt,
         alloc,
+        header,
         gate,
-        &shared,
+        &roll,
+        posts,
+        mails,
         book,
+        &output,
+        events,
         place as usize,
         lines,
         &mut ledger,

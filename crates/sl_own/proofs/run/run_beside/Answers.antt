@@ -5,5 +5,5 @@ use Rattle.std.proofs.Common.{rules, subst}
 
 pub returns-clause-ran : goal.returns-clause-ran
 returns-clause-ran g c =
-    subst (λ m. Runs g.A.Area.content g.A.Area.faults g.P.Spawner.acts c.args.shared.now.events g.D.Daemon.commands g.D.Daemon.stands c.args.shared.now.header.now c.args.machine.now m) (search rules)
+    subst (λ m. Runs g.A.Area.content g.A.Area.faults g.P.Spawner.acts c.args.events g.D.Daemon.commands g.D.Daemon.stands c.args.header.now c.args.machine.now m) (search rules)
     c.beside_script.ensures.rest.met.1
