@@ -20,7 +20,7 @@ use Rattle.sl_live_machine.specs.declared.machine.Parts.{Parts}
 use Rattle.sl_live_machine.specs.declared.machine.Ran.{Ran}
 use Rattle.sl_live_run.proofs.CaseLaws.{case_so, met}
 use Rattle.sl_live_run.proofs.RunLaws.{if_err_on, if_ok_on}
-use Rattle.sl_live_run.specs.Runs.{AreGiven, Both, HasPutOut, HasTold, IsLiveCase, Leavings, Runs, begun_on, begun_telling, disks_in, lines_for, refusals_text, remains_of}
+use Rattle.sl_live_run.specs.Runs.{AreGiven, Both, CanRun, HasPutOut, HasTold, IsFresh, IsLiveCase, Leavings, Runs, begun_on, begun_telling, disks_in, lines_for, refusals_text, remains_of}
 use Rattle.sl_live_run.specs.Settling.{remains_after}
 use Rattle.sl_live_run.specs.declared.compare.LiveDiffer.{LiveDiffer}
 use Rattle.sl_live_run.specs.declared.compare.LiveStop.TheVariants.{Differ, NoMemory}
@@ -28,12 +28,15 @@ use Rattle.sl_live_run.specs.declared.compare.LiveStop.{LiveStop}
 use Rattle.sl_live_run.specs.declared.machine_runs.Machine.{Machine}
 use Rattle.sl_live_run.specs.declared.machine_runs.Work.{Work}
 use Rattle.sl_live_run.specs.declared.run.LiveRun.{LiveRun}
+use Rattle.sl_outside.specs.Acts.{Tells}
 use Rattle.sl_outside.specs.declared.act.Act.{Act}
 use Rattle.sl_output.specs.Outputs.{IsPut}
 use Rattle.sl_output.specs.Pieces.{Piece, text_by}
 use Rattle.sl_own.specs.OwnRuns.{HasRunOwn, HasToldOwn, IsOwnStop}
 use Rattle.sl_own.specs.OwnSettling.{ArePieces, HasLeftOwn, IsCaseOf, IsSettled, Stops}
 use Rattle.sl_reader.specs.declared.live_lines.LiveLine.{LiveLine}
+use Rattle.sl_run.specs.Headers.{IsHeader}
+use Rattle.sl_run.specs.Lawful.{IsSetting}
 use Rattle.sl_run.specs.declared.header.Header.{Header}
 use Rattle.sl_text.specs.Forms.{Form}
 use Rattle.sl_trace.specs.Traces.{Setting, Trace}
@@ -156,6 +159,14 @@ own_stop content area_faults spawned events stands commands header place site di
     }
 
 -- ---- the whole run
+
+-- A machine that was begun with fresh work can run.
+pub can_run_one : {C P V A O T : Type 0} (spawned : P → Option (List Act)) (commands : Header → List (Form Command)) (h : Header) (work : Work C P V A O T) (m : Machine C P V A O T)
+    → m.work ≡ Some work → IsHeader h → IsSetting (begun_with commands h work.site) → IsFresh work → Tells (spawned work.parts.spawner) [] → CanRun spawned commands h m
+can_run_one {C} {P} {V} {A} {O} {T} spawned commands h work m begun lawful setting fresh unasked = (
+  lawful,
+  subst (λ (o : Option (Work C P V A O T)). IfSome o (λ w. IsSetting (begun_with commands h w.site) × IsFresh w × Tells (spawned w.parts.spawner) [])) (sym begun) (setting, fresh, unasked),
+)
 
 -- What the machine that was begun has left is of what it began with.
 ran_here : {D C P V A O T : Type 0} (content : A → Option (List ℕ)) (area_faults : A → ℕ) (spawned : P → Option (List Act)) (events : Bool) (stands : D → Setting → Trace → Type 0)

@@ -1,6 +1,6 @@
 -- Disks of a header that are looked at one after another, each for its size.
-use Rattle.sl_own.specs.OwnGrounds.{Area_bars, Bars, HasSize, Has_other, Is_missing, No_memory, SizeDiffers, Size_bars}
-use Rattle.sl_own.specs.declared.no_place.NoPlace.TheVariants.{NoDisk, NotStanding, OtherSize}
+use Rattle.sl_own.specs.OwnGrounds.{Area_bars, Bars, HasSize, Has_other, Is_missing, No_memory, SizeDiffers, Size_bars, size_refusal}
+use Rattle.sl_own.specs.declared.no_place.NoPlace.TheVariants.{NotStanding, OtherSize}
 use Rattle.sl_own.specs.declared.no_place.NoPlace.{NoPlace}
 use Rattle.sl_outside.specs.Disks.{Disks}
 use Rattle.sl_place.specs.Standing.{IsSizeOf}
@@ -8,27 +8,46 @@ use Rattle.sl_run.specs.Worlds.{mebibyte}
 use Rattle.sl_run.specs.declared.header.Disk.{Disk as DiskLine}
 use Rattle.sl_run.specs.declared.header.Header.{Header}
 use Rattle.sl_standing.specs.declared.not_standing.NotStanding.TheVariants.{NoMemory}
-use Rattle.std.proofs.Common.{ap, inl, inr, subst, sym, ◌∙◌}
-use Rattle.std.specs.Prelude.{Contains, Err, IfErr, IsErrAnd, List, None, Ok, Option, Result, Some, ℕ, ◌*◌, ◌++◌, ◌≡◌, ◌≢◌, ◌⊎◌}
+use Rattle.std.proofs.Common.{inl, inr, refl, subst, sym, ◌∙◌}
+use Rattle.std.proofs.lemmas.Bool.{eqb-false, eqb-true}
+use Rattle.std.specs.Prelude.{Bool, Contains, Err, IfErr, IsErrAnd, List, None, Ok, OnOk, Option, Result, Some, false, if◌then◌else◌, true, ℕ, ◌*◌, ◌++◌, ◌==◌, ◌≡◌, ◌⊎◌}
 
 -- ---- one disk
 
--- What was answered of the whole path is of the disk.
-size_told : (disks : Disks) (folder whole : List ℕ) (d : DiskLine) (size is : Option ℕ) → whole ≡ folder ++ d.path → size ≡ is → IsSizeOf (disks whole) size → IsSizeOf (disks (folder ++ d.path)) is
-size_told disks folder whole d size is path same told =
-    subst (λ (s : Option ℕ). IsSizeOf (disks (folder ++ d.path)) s) same (subst (λ (p : List ℕ). IsSizeOf (disks p) size) path told)
+sized_by : (same : Bool) (r : Result (Unit {0}) NoPlace) (disks : Disks) (folder : List ℕ) (d : DiskLine) (bytes : ℕ) → same ≡ (bytes == d.mebibytes * mebibyte)
+    → IsSizeOf (disks (folder ++ d.path)) (Some bytes) → r ≡ (if same then Ok tt else Err (OtherSize d.path bytes)) → OnOk r (HasSize disks folder d)
+sized_by true r disks folder d bytes test told is =
+    let due : bytes ≡ d.mebibytes * mebibyte = eqb-true bytes (d.mebibytes * mebibyte) (sym test) in
+    subst (λ (x : Result (Unit {0}) NoPlace). OnOk x (HasSize disks folder d)) (sym is) (subst (λ (n : ℕ). IsSizeOf (disks (folder ++ d.path)) (Some n)) due told)
+sized_by false r disks folder d bytes test told is = subst (λ (x : Result (Unit {0}) NoPlace). OnOk x (HasSize disks folder d)) (sym is) tt
 
-pub is_missing : (disks : Disks) (folder whole : List ℕ) (d : DiskLine) (h : Header) (size : Option ℕ) → whole ≡ folder ++ d.path → size ≡ None → IsSizeOf (disks whole) size → Contains h.disks d
-    → (NoDisk d.path ≡ NotStanding NoMemory) ⊎ SizeDiffers disks folder h (NoDisk d.path)
-is_missing disks folder whole d h size path none told has = inr (Is_missing d has (size_told disks folder whole d size None path none told))
+-- What was told of a disk that is not refused.
+pub sized : (r : Result (Unit {0}) NoPlace) (disks : Disks) (folder : List ℕ) (d : DiskLine) (size : Option ℕ) → IsSizeOf (disks (folder ++ d.path)) size → r ≡ size_refusal d size
+    → OnOk r (HasSize disks folder d)
+sized r disks folder d None told is = subst (λ (x : Result (Unit {0}) NoPlace). OnOk x (HasSize disks folder d)) (sym is) tt
+sized r disks folder d (Some bytes) told is = sized_by (bytes == d.mebibytes * mebibyte) r disks folder d bytes refl told is
 
-pub has_other : (disks : Disks) (folder whole : List ℕ) (d : DiskLine) (h : Header) (size : Option ℕ) (bytes : ℕ) → whole ≡ folder ++ d.path → size ≡ Some bytes → IsSizeOf (disks whole) size
-    → bytes ≢ d.mebibytes * mebibyte → Contains h.disks d → (OtherSize d.path bytes ≡ NotStanding NoMemory) ⊎ SizeDiffers disks folder h (OtherSize d.path bytes)
-has_other disks folder whole d h size bytes path some told apart has = inr (Has_other d bytes has (size_told disks folder whole d size (Some bytes) path some told) apart)
+other_by : (same : Bool) (r : Result (Unit {0}) NoPlace) (disks : Disks) (folder : List ℕ) (h : Header) (d : DiskLine) (bytes : ℕ) → same ≡ (bytes == d.mebibytes * mebibyte)
+    → Contains h.disks d → IsSizeOf (disks (folder ++ d.path)) (Some bytes) → r ≡ (if same then Ok tt else Err (OtherSize d.path bytes))
+    → IfErr r (λ why. (why ≡ NotStanding NoMemory) ⊎ SizeDiffers disks folder h why)
+other_by true r disks folder h d bytes test has told is =
+    subst (λ (x : Result (Unit {0}) NoPlace). IfErr x (λ why. (why ≡ NotStanding NoMemory) ⊎ SizeDiffers disks folder h why)) (sym is) tt
+other_by false r disks folder h d bytes test has told is =
+    subst (λ (x : Result (Unit {0}) NoPlace). IfErr x (λ why. (why ≡ NotStanding NoMemory) ⊎ SizeDiffers disks folder h why)) (sym is)
+    (inr (Has_other d bytes has told (eqb-false bytes (d.mebibytes * mebibyte) (sym test))))
 
-pub has_size : (disks : Disks) (folder whole : List ℕ) (d : DiskLine) (size : Option ℕ) (bytes : ℕ) → whole ≡ folder ++ d.path → size ≡ Some bytes → IsSizeOf (disks whole) size
-    → bytes ≡ d.mebibytes * mebibyte → HasSize disks folder d
-has_size disks folder whole d size bytes path some told same = size_told disks folder whole d size (Some (d.mebibytes * mebibyte)) path (some ∙ ap (λ (n : ℕ). Some n) same) told
+-- .. and of one that is.
+pub size_differs : (r : Result (Unit {0}) NoPlace) (disks : Disks) (folder : List ℕ) (h : Header) (d : DiskLine) (size : Option ℕ) → Contains h.disks d
+    → IsSizeOf (disks (folder ++ d.path)) size → r ≡ size_refusal d size → IfErr r (λ why. (why ≡ NotStanding NoMemory) ⊎ SizeDiffers disks folder h why)
+size_differs r disks folder h d None has told is =
+    subst (λ (x : Result (Unit {0}) NoPlace). IfErr x (λ why. (why ≡ NotStanding NoMemory) ⊎ SizeDiffers disks folder h why)) (sym is) (inr (Is_missing d has told))
+size_differs r disks folder h d (Some bytes) has told is = other_by (bytes == d.mebibytes * mebibyte) r disks folder h d bytes refl has told is
+
+-- There was no memory to look.
+pub no_look : {T : Type 0} (r : Result T NoPlace) (disks : Disks) (folder : List ℕ) (h : Header) → IsErrAnd r (λ x. x ≡ NotStanding NoMemory)
+    → IfErr r (λ why. (why ≡ NotStanding NoMemory) ⊎ SizeDiffers disks folder h why)
+no_look (Ok t) disks folder h is = tt
+no_look (Err e) disks folder h is = inl is
 
 -- ---- the folder
 

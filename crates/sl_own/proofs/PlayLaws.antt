@@ -12,8 +12,8 @@ use Rattle.sl_live_run.specs.declared.compare.LiveStop.{LiveStop}
 use Rattle.sl_outside.specs.Disks.{Disks}
 use Rattle.sl_outside.specs.declared.act.Act.{Act}
 use Rattle.sl_output.specs.Pieces.{Piece, text_of}
-use Rattle.sl_own.proofs.LendLaws.{not_lent_on}
-use Rattle.sl_own.specs.OwnGrounds.{Area_bars, Bars, Folder_bars, IsOwnGround, Machine_bars, Size_bars}
+use Rattle.sl_own.proofs.LendLaws.{areas_stand, not_lent_on}
+use Rattle.sl_own.specs.OwnGrounds.{Area_bars, Bars, Folder_bars, HasSize, IsOwnGround, IsPlaceOf, Machine_bars, NotLent, Size_bars}
 use Rattle.sl_own.specs.OwnOwed.{Breaks, Breaks_early, DifferingOwn, Ends, HadOwn, Is_barred, IsWovenOwn, Lacks, LivesOwn, MayRun, Of, OwesOwn, OwnBeginning, OwnDue, Parts, PutsNoPlace, ReadsOwn, Stops, Stops_early, Stops_header, header_refusal}
 use Rattle.sl_own.specs.OwnRuns.{HasToldOwn, IsOwnStop}
 use Rattle.sl_own.specs.declared.ground.OwnGround.{OwnGround}
@@ -37,9 +37,9 @@ use Rattle.sl_trace.specs.declared.command.Command.{Command}
 use Rattle.sl_trace.specs.declared.effects.Entry.{Entry}
 use Rattle.sl_world_state.specs.Daemons.{begun_with}
 use Rattle.sl_world_state.specs.SaneWorlds.{ReadsCommands}
-use Rattle.std.proofs.Common.{Bool, Err, List, None, Ok, Option, Result, Some, [], append-nil, arith, inl, inr, subst, sym, ℕ, ◌+◌, ◌++◌, ◌<◌, ◌^◌, ◌≡◌, ◌≤◌, ◌⊎◌, ◌∷◌}
+use Rattle.std.proofs.Common.{Bool, Err, List, None, Ok, Option, Result, Some, [], ap, append-nil, arith, inl, inr, subst, sym, ℕ, ◌+◌, ◌++◌, ◌<◌, ◌^◌, ◌≡◌, ◌≤◌, ◌⊎◌, ◌∙◌, ◌∷◌}
 use Rattle.std.specs.Io.KnownBytes.{Appends}
-use Rattle.std.specs.Prelude.{IfErr, IfOk}
+use Rattle.std.specs.Prelude.{All as PreludeAll, IfErr, IfOk, OnOk}
 
 -- ---- the run
 
@@ -145,9 +145,21 @@ owes_no_place stands commands t disks folder w left after taken now faults later
 owes_no_place stands commands t disks folder w left after taken now faults later sink_faults sink_later device_faults device_later h r why s begins bars (inr puts) =
     Of _ AreaFault s (Is_barred r h why begins bars) puts
 
+-- What stands in a text that was empty is put out.
+pub text_is : {T E : Type 0} (r : Result T E) (text items first due : List ℕ) → text ≡ items → first ≡ [] → OnOk r (items ≡ first ++ due) → OnOk r (text ≡ due)
+text_is (Ok t) text items first due same none is = same ∙ is ∙ ap (λ (xs : List ℕ). xs ++ due) none
+text_is (Err e) text items first due same none is = tt
+
+-- The areas of a machine that is ready stand, and so do the disks, with their sizes.
+pub place_stands : {V C P D W G A : Type 0} (content : A → Option (List ℕ)) (spawned : P → Option (List Act)) (disks : Disks) (folder : List ℕ) (h : Header) (m : ℕ)
+    (r : Result (OwnGround V C P D W G A) NoPlace) → PreludeAll (HasSize disks folder) h.disks → IfOk r (IsOwnGround content spawned disks folder h m) → OnOk r (IsPlaceOf disks folder h)
+place_stands content spawned disks folder h m (Ok g) sizes is =
+    record { sizes = sizes; areas = areas_stand content disks folder h h.disks g.ready.parts.delta.items is.delta }
+place_stands content spawned disks folder h m (Err e) sizes is = tt
+
 -- ---- faults before
 
-rose_since : (first faults later : ℕ) → first ≤ faults → Rose faults later → Rose first later
+pub rose_since : (first faults later : ℕ) → first ≤ faults → Rose faults later → Rose first later
 rose_since first faults later le rose = omega (arith, le, rose)
 
 -- Faults of the source that were counted since were counted since before.
@@ -205,6 +217,14 @@ bars_since disks folder h machine first faults later why le (Machine_bars rose) 
 bars_since disks folder h machine first faults later why le (Size_bars y differs) = Size_bars why differs
 bars_since disks folder h machine first faults later why le (Area_bars y not) = Area_bars why (not_lent_on disks folder h Delta faults later first later why (rose_since first faults later le) not)
 
+-- Why areas can't be had of disks that are as before bars the machine.
+pub bars_area : {T : Type 0} (r : Result T NoPlace) (disks now : Disks) (folder : List ℕ) (h : Header) (machine first faults later : ℕ) → now ≡ disks → first ≤ faults
+    → IfErr r (NotLent now folder h Delta faults later) → IfErr r (Bars disks folder h machine first later)
+bars_area (Ok t) disks now folder h machine first faults later same le not = tt
+bars_area (Err e) disks now folder h machine first faults later same le not =
+    Area_bars e
+    (not_lent_on disks folder h Delta faults later first later e (rose_since first faults later le) (subst (λ (x : Disks). NotLent x folder h Delta faults later e) same not))
+
 due_devices : {D A P : Type 0} (stands : D → Setting → Trace → Type 0) (commands : Header → List (Form Command)) (t : Tellers A P) (disks : Disks) (folder : List ℕ) (w : OwnManner) (left after : Option (List ℕ))
     (faults later first device_faults device_later : ℕ) (text : List ℕ) (whole : Lived) → first ≤ device_faults
     → OwnDue stands commands t disks folder w left after faults later device_faults device_later text whole
@@ -230,7 +250,7 @@ owes_devices stands commands t disks folder w left after taken now faults later 
 -- ---- the header
 
 -- Nothing was put out.
-none_put : (taken : Option (List ℕ)) → Appends taken taken []
+pub none_put : (taken : Option (List ℕ)) → Appends taken taken []
 none_put None = tt
 none_put (Some xs) = sym (append-nil xs)
 

@@ -9,7 +9,7 @@ use Rattle.sl_live_lines.specs.declared.given_lines.GivenLine.{GivenLine}
 use Rattle.sl_live_machine.specs.declared.machine.CloseError.TheVariants as close
 use Rattle.sl_live_machine.specs.declared.machine.CloseError.{CloseError}
 use Rattle.sl_live_machine.specs.declared.machine.Ran.{Ran}
-use Rattle.sl_live_run.specs.Runs.{remains_of}
+use Rattle.sl_live_run.specs.Runs.{Leavings, remains_of}
 use Rattle.sl_live_run.specs.Settling.{come_to, remains_after}
 use Rattle.sl_live_run.specs.declared.compare.LiveDiffer.{LiveDiffer}
 use Rattle.sl_live_run.specs.declared.compare.LiveStop.TheVariants.{NoMemory}
@@ -20,7 +20,8 @@ use Rattle.sl_live_run.specs.declared.machine_runs.Machine.{Machine}
 use Rattle.sl_live_run.specs.declared.run.Remains.{Remains}
 use Rattle.sl_output.specs.Pieces.{Piece}
 use Rattle.sl_own.specs.OwnSettling.{ArePieces, IsCaseOf, IsSettled, Stops, without_pieces}
-use Rattle.std.proofs.Common.{List, ap, inr, length, map, refl, subst, sym, ◌++◌, ◌+◌, ◌∙◌, ◌∷◌, ◌≡◌, ◌⊎◌, [], ℕ}
+use Rattle.std.proofs.Common.{List, ap, append_assoc, inr, length, map, refl, subst, sym, ◌++◌, ◌+◌, ◌∙◌, ◌∷◌, ◌≡◌, ◌⊎◌, [], ℕ}
+use Rattle.std.proofs.lemmas.List.Elements.{All-push}
 use Rattle.std.proofs.lemmas.List.{length-append}
 use Rattle.std.specs.Prelude.{All, Bool, Err, IfErr, IfOk, Ok, Result, Some, false, true}
 
@@ -65,6 +66,30 @@ own_case early l r how s next d read next_is come is = record {
 }
 
 -- ---- pieces
+
+-- One is put behind those before, and another behind it.
+pub two_pushed : (before mid first ws : List (SeatState (List ℕ))) (own script : SeatState (List ℕ)) → mid ≡ before → first ≡ mid ++ own ∷ [] → ws ≡ first ++ script ∷ []
+    → ws ≡ before ++ own ∷ script ∷ []
+two_pushed before mid first ws own script kept one two =
+    two ∙ ap (λ (xs : List (SeatState (List ℕ))). xs ++ script ∷ []) (one ∙ ap (λ (xs : List (SeatState (List ℕ))). xs ++ own ∷ []) kept)
+    ∙ append_assoc before (own ∷ []) (script ∷ [])
+
+-- One more that counted nothing.
+pub silent_more : (xs mid ys : List (SeatState (List ℕ))) (s : SeatState (List ℕ)) (by : ℕ) → mid ≡ xs → ys ≡ mid ++ s ∷ [] → length xs ≡ by → length ys ≡ by + 1
+silent_more xs mid ys s by kept pushed counted =
+    ap (λ (zs : List (SeatState (List ℕ))). length zs) (pushed ∙ ap (λ (zs : List (SeatState (List ℕ))). zs ++ s ∷ []) kept) ∙ length-append xs (s ∷ []) ∙ ap (λ (n : ℕ). n + 1) counted
+
+pub none_more : (xs mid ys : List (SeatState (List ℕ))) (s : SeatState (List ℕ)) → mid ≡ xs → ys ≡ mid ++ s ∷ [] → s.count ≡ 0 → All (λ (x : SeatState (List ℕ)). x.count ≡ 0) xs
+    → All (λ (x : SeatState (List ℕ)). x.count ≡ 0) ys
+none_more xs mid ys s kept pushed none all =
+    subst (All (λ (x : SeatState (List ℕ)). x.count ≡ 0)) (sym (pushed ∙ ap (λ (zs : List (SeatState (List ℕ))). zs ++ s ∷ []) kept))
+    (All-push (λ (x : SeatState (List ℕ)). x.count ≡ 0) xs s all none)
+
+-- What it leaves, put away.
+pub one_left : {O T A P : Type 0} (none all : List (Remains A P)) (x : Remains A P) (r : Ran O T A P) → none ≡ [] → all ≡ none ++ x ∷ [] → remains_of x ≡ remains_after r
+    → map remains_of all ≡ remains_after r ∷ []
+one_left {O} {T} {A} {P} none all x r empty pushed left =
+    ap (λ (xs : List (Remains A P)). map remains_of xs) (pushed ∙ ap (λ (xs : List (Remains A P)). xs ++ x ∷ []) empty) ∙ ap (λ (y : Leavings A P). y ∷ []) left
 
 -- Nobody before, and behind them these two: so many in all.
 two_behind : (place : ℕ) (before ws : List (SeatState (List ℕ))) (own script : SeatState (List ℕ)) → length before ≡ place → ws ≡ before ++ own ∷ script ∷ [] → length ws ≡ place + 2

@@ -20,7 +20,7 @@ use Rattle.sl_standing.specs.declared.not_standing.NotStanding.TheVariants.{Area
 use Rattle.sl_standing.specs.declared.not_standing.NotStanding.{NotStanding as NotStandingOf}
 use Rattle.sl_world_state.specs.FirstKept.{session_of}
 use Rattle.std.specs.Io.KnownBytes.{Keeps}
-use Rattle.std.specs.Prelude.{All, Contains, List, Option, Some, None, [], ℕ, ◌*◌, ◌++◌, ◌+◌, ◌<◌, ◌^◌, ◌∷◌, ◌≡◌, ◌≢◌}
+use Rattle.std.specs.Prelude.{All, Contains, Err, List, None, Ok, Option, Result, Some, if◌then◌else◌, [], ℕ, ◌*◌, ◌++◌, ◌+◌, ◌<◌, ◌==◌, ◌^◌, ◌∷◌, ◌≡◌, ◌≢◌}
 
 -- ---- why it can't run there
 
@@ -29,6 +29,11 @@ pub data SizeDiffers (disks : Disks) (folder : List ℕ) (h : Header) : NoPlace 
   Is_missing : (d : DiskLine) → Contains h.disks d → IsSizeOf (disks (folder ++ d.path)) None → SizeDiffers disks folder h (NoDisk d.path)
   Has_other : (d : DiskLine) (bytes : ℕ) → Contains h.disks d → IsSizeOf (disks (folder ++ d.path)) (Some bytes) → bytes ≢ d.mebibytes * mebibyte
       → SizeDiffers disks folder h (OtherSize d.path bytes)
+
+-- How a disk of the header that has so many bytes, if it stands, is to be refused.
+abbrev pub size_refusal : DiskLine → Option ℕ → Result (Unit {0}) NoPlace
+size_refusal d None = Err (NoDisk d.path)
+size_refusal d (Some bytes) = if bytes == d.mebibytes * mebibyte then Ok tt else Err (OtherSize d.path bytes)
 
 -- What a worker's part was to find on a disk that has this does not stand there. Only the one of the ids' records looks.
 abbrev pub FindsNot : Header → Part → List ℕ → Option (List ℕ) → ℕ → ℕ → NotStandingOf → Type 0

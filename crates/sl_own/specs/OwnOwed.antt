@@ -35,19 +35,18 @@ use Rattle.sl_text.specs.Forms.{Form, as_bytes}
 use Rattle.sl_trace.specs.Traces.{Setting, Trace}
 use Rattle.sl_trace.specs.declared.command.Command.{Command}
 use Rattle.sl_trace.specs.declared.effects.Entry.{Entry}
-use Rattle.sl_words.specs.Words.{is_empty}
 use Rattle.sl_world_state.specs.Daemons.{begun_with}
 use Rattle.sl_world_state.specs.FirstKept.{session_of}
 use Rattle.sl_world_state.specs.declared.daemon.Site.{Site}
 use Rattle.sl_io.specs.FaultCauses.{Rose}
 use Rattle.std.specs.Io.KnownBytes.{Appends}
-use Rattle.std.specs.Prelude.{Bool, List, None, Option, Some, if◌then◌else◌, nat_lt, [], ℕ, ◌++◌, ◌+◌, ◌<◌, ◌∷◌, ◌≡◌, ◌≢◌, ◌⊎◌}
+use Rattle.std.specs.Prelude.{Bool, List, None, Option, Some, if◌then◌else◌, length, nat_lt, [], ℕ, ◌++◌, ◌+◌, ◌<◌, ◌==◌, ◌∷◌, ◌≡◌, ◌≢◌, ◌⊎◌}
 
 -- ---- what the machine did
 
 -- Why a header is none for the machine of this number: it has no such machine, or sessions that would be joined at moment 0.
 abbrev pub header_refusal : Header → ℕ → Option Refusal
-header_refusal h m = if nat_lt h.machines m then Some MissingMachine else if is_empty h.sessions then None else Some Syntax
+header_refusal h m = if nat_lt h.machines m then Some MissingMachine else if length h.sessions == 0 then None else Some Syntax
 
 -- What the machine of this number of a header began with: its clock's reading in place of the `clock` lines, and the site that the header gives it.
 pub record OwnBeginning (h : Header) (m : ℕ) : Type 0 where

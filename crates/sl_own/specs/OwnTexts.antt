@@ -8,7 +8,7 @@ use Rattle.std.specs.Prelude.{List, codes, decimal, [], ℕ, ◌++◌, ◌∷◌
 -- With its line feed. Of want of memory nothing is told.
 abbrev pub no_place_text : NoPlace → List ℕ
 no_place_text FolderInUse = codes "folder in use" ++ 10 ∷ []
-no_place_text (MachineInUse machine) = codes "machine in use " ++ decimal machine ++ 10 ∷ []
+no_place_text (MachineInUse machine) = spaced (codes "machine in use" ∷ decimal machine ∷ []) ++ 10 ∷ []
 no_place_text (NoDisk path) = codes "disk missing " ++ path ++ 10 ∷ []
 no_place_text (OtherSize path bytes) = spaced (codes "disk size" ∷ path ∷ decimal bytes ∷ []) ++ 10 ∷ []
 no_place_text (NotStanding why) = difference_text why

@@ -75,7 +75,8 @@ fn silent<O: Press>(
 {
     let mut writers = Vec::new(alloc);
     for by in 0..place {
-        writers.push(Writer::new(by, pieces.again()))?;
+        writers.reserve(1)?;
+        writers.push_reserved(Writer::new(by, pieces.again()));
     }
     Ok(writers)
 }
@@ -92,8 +93,9 @@ fn writers_of<O: Press>(
         × (ws.items ≡ before ++ own ∷ script ∷ [])) }
 {
     let mut writers = silent(alloc, place, pieces)?;
-    writers.push(own)?;
-    writers.push(script)?;
+    writers.reserve(2)?;
+    writers.push_reserved(own);
+    writers.push_reserved(script);
     Ok(writers)
 }
 
@@ -124,6 +126,14 @@ fn take_apart<O: Press, T: Shelf, A: Area, P: Spawner>(
     )
 }
 
+/// Whether the pieces that were put out are just those that these put.
+fn have_put<O: Press>(writers: &Vec<Writer<O>>, pieces: &Pieces<O>) -> bool
+    ensures exact { result ≡ true → AreExact 0 writers.now.items pieces.now }
+    ensures below { result ≡ true → AreBelow (length writers.now.items) pieces.now }
+{
+    are_pieces(writers, pieces)
+}
+
 /// Whether the pieces that were put out are just those that the machine's printer put, and the script's thread.
 fn are_own_pieces<O: Press>(
     alloc: Global,
@@ -137,7 +147,7 @@ fn are_own_pieces<O: Press>(
         × AreExact 0 (before ++ own ∷ script ∷ []) pieces.now × AreBelow (place + 2) pieces.now }
 {
     match writers_of(alloc, place, unwritten, own, script) {
-        Ok(writers) => are_pieces(&writers, pieces),
+        Ok(writers) => have_put(&writers, pieces),
         Err(_) => false,
     }
 }

@@ -44,7 +44,8 @@ fn with_reading(
     ensures { IfOk result (λ h. h ≡ with_readings (record { machine = machine; reading = reading } ∷ []) header) }
 {
     let mut readings = Vec::new(alloc);
-    readings.push(FirstReading { machine, reading })?;
+    readings.reserve(1)?;
+    readings.push_reserved(FirstReading { machine, reading });
     Ok(with_readings(header, readings))
 }
 

@@ -4,7 +4,7 @@ ghost use Rattle.sl_io.specs.FaultCauses.{Rose};
 ghost use Rattle.sl_outside.specs.Disks.{Disks};
 ghost use Rattle.sl_own.specs.OwnGrounds.{Bars};
 ghost use Rattle.sl_own.specs.OwnTexts.{no_place_text};
-ghost use Rattle.sl_own.specs.declared.no_place.NoPlace.TheVariants.{OtherSize};
+ghost use Rattle.sl_own.specs.declared.no_place.NoPlace.TheVariants.{MachineInUse, OtherSize};
 ghost use Rattle.sl_run.specs.declared.header.Header.{Header as HeaderOf};
 ghost use Rattle.std.specs.Prelude.{List, OnErr, OnOk, [], ℕ, ◌++◌, ◌∷◌, ◌≡◌};
 
@@ -93,6 +93,15 @@ fn push_disk_line(
     push_line(out, line.as_bytes())
 }
 
+/// Adds the line of a machine that another process has.
+fn push_in_use(out: &mut Vec<u8>, machine: u32) -> Result<(), AllocError>
+    ensures ok { OnOk result (out.new.items ≡ out.old.items ++ no_place_text (MachineInUse machine)) }
+    ensures err { OnErr result (out.new.items ≡ out.old.items) }
+{
+    let line = format!(in *out.allocator(); "machine in use {machine}")?;
+    push_line(out, line.as_bytes())
+}
+
 /// Adds the line of a disk of another size.
 fn push_size_line(out: &mut Vec<u8>, path: &FilePath, bytes: u64) -> Result<(), AllocError>
     ensures ok { OnOk result (out.new.items ≡ out.old.items ++ no_place_text (OtherSize path.now bytes)) }
@@ -109,10 +118,7 @@ pub(crate) fn push_no_place(out: &mut Vec<u8>, why: &NoPlace) -> Result<(), Allo
 {
     match why {
         NoPlace::FolderInUse => push_line(out, b"folder in use"),
-        NoPlace::MachineInUse { machine } => {
-            let line = format!(in *out.allocator(); "machine in use {machine}")?;
-            push_line(out, line.as_bytes())
-        }
+        NoPlace::MachineInUse { machine } => push_in_use(out, *machine),
         NoPlace::NoDisk { path } => push_disk_line(out, "disk missing", path, ""),
         NoPlace::OtherSize { path, bytes } => push_size_line(out, path, *bytes),
         NoPlace::NotStanding(why) => push_not_standing(out, why),

@@ -1,6 +1,6 @@
 //! The place of a machine: the folder, claimed for it, and the disks that stand there.
 
-ghost use Rattle.sl_own.specs.OwnGrounds.{Bars, HasSize, SizeDiffers};
+ghost use Rattle.sl_own.specs.OwnGrounds.{Bars, HasSize, SizeDiffers, size_refusal};
 ghost use Rattle.sl_own.specs.declared.no_place.NoPlace.TheVariants.{NotStanding};
 ghost use Rattle.sl_run.specs.Headers.{IsHeader};
 ghost use Rattle.sl_run.specs.declared.header.Header.{Header as HeaderOf};
@@ -16,21 +16,12 @@ use std::alloc::Global;
 /// The unit of a disk's size, in bytes.
 const MEBIBYTE: u64 = 1_048_576;
 
-/// Sees that a disk stands, with its size.
-fn look_at<V: StandingDevices>(
-    alloc: Global,
-    folder: &str,
-    disk: &Disk,
-    devices: &mut V,
-) -> Result<(), NoPlace>
+/// Compares what a disk has, so many bytes if it stands, with its size by the header.
+fn compare_size(disk: &Disk, size: Option<u64>) -> Result<(), NoPlace>
     requires { disk.now.mebibytes ≤ 64 }
-    ensures ok { OnOk result (HasSize (V.Devices.disks devices.old) folder.now disk.now) }
-    ensures differs { (h : HeaderOf) → Contains h.disks disk.now → IfErr result (λ why. (why ≡ NotStanding NoMemory) ⊎ SizeDiffers (V.Devices.disks devices.old) folder.now h why) }
-    ensures same { V.Devices.disks devices.new ≡ V.Devices.disks devices.old }
-    ensures count { V.Devices.faults devices.new ≡ V.Devices.faults devices.old }
+    ensures { result ≡ size_refusal disk.now size }
 {
-    let whole = disk_path(alloc, folder, disk.path.as_str())?;
-    match devices.size(whole.as_str()) {
+    match size {
         None => Err(NoPlace::NoDisk { path: disk.path }),
         Some(bytes) => {
             if bytes == disk.mebibytes * MEBIBYTE {
@@ -43,6 +34,23 @@ fn look_at<V: StandingDevices>(
             }
         }
     }
+}
+
+/// Sees that a disk stands, with its size.
+fn look_at<V: StandingDevices>(
+    alloc: Global,
+    folder: &str,
+    disk: &Disk,
+    devices: &mut V,
+) -> Result<(), NoPlace>
+    requires small { disk.now.mebibytes ≤ 64 }
+    ensures ok { OnOk result (HasSize (V.Devices.disks devices.old) folder.now disk.now) }
+    ensures differs { (h : HeaderOf) → Contains h.disks disk.now → IfErr result (λ why. (why ≡ NotStanding NoMemory) ⊎ SizeDiffers (V.Devices.disks devices.old) folder.now h why) }
+    ensures same { V.Devices.disks devices.new ≡ V.Devices.disks devices.old }
+    ensures count { V.Devices.faults devices.new ≡ V.Devices.faults devices.old }
+{
+    let whole = disk_path(alloc, folder, disk.path.as_str())?;
+    compare_size(disk, devices.size(whole.as_str()))
 }
 
 /// Sees that all disks stand, each with its size.

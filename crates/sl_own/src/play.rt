@@ -48,11 +48,19 @@ pub struct OwnManner {
     pub events: bool,
 }
 
+/// Whether there was no memory to see to what stands.
+fn is_memory(why: &NoPlace) -> bool {
+    match why {
+        NoPlace::NotStanding(NotStanding::NoMemory) => true,
+        _ => false,
+    }
+}
+
 /// Puts out why a machine can't run.
 fn put_no_place<K: Sink>(alloc: Global, sink: &mut K, why: NoPlace) -> Lived
     ensures { PutsNoPlace (K.taken sink.old) (K.taken sink.new) (K.faults sink.old) (K.faults sink.new) why result }
 {
-    if let NoPlace::NotStanding(NotStanding::NoMemory) = why {
+    if is_memory(&why) {
         return Lived::NoMemory;
     }
     let mut out = Vec::new(alloc);
@@ -260,15 +268,17 @@ where
         (K.faults sink) (K.faults result.2) (V.Devices.faults devices.old) (V.Devices.faults devices.new) result.0 }
 {
     let mut sink = sink;
-    if let Some(why) = header_refusal(&header, manner.machine) {
-        let number = reader.line().number;
-        return (put_refusal(alloc, &mut sink, number, why), source, sink);
-    }
-    match begin::<V>(alloc, folder, watchdog, manner, header, devices) {
-        Ok(ground) => {
-            play_ground::<D, S, K, V, R>(rt, alloc, ground, manner, source, reader, sink, devices)
+    match header_refusal(&header, manner.machine) {
+        Some(why) => {
+            let number = reader.line().number;
+            (put_refusal(alloc, &mut sink, number, why), source, sink)
         }
-        Err(why) => (put_no_place(alloc, &mut sink, why), source, sink),
+        None => match begin::<V>(alloc, folder, watchdog, manner, header, devices) {
+            Ok(ground) => play_ground::<D, S, K, V, R>(
+                rt, alloc, ground, manner, source, reader, sink, devices,
+            ),
+            Err(why) => (put_no_place(alloc, &mut sink, why), source, sink),
+        },
     }
 }
 

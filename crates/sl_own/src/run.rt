@@ -62,6 +62,7 @@ fn no_run<K: Sink, O: Press, A: Area, P: Spawner>(
 
 /// Runs the machine at this place and the script beside it, until all threads have ended: how the script ended.
 fn run_beside<
+    'a,
     D: Teller + Send,
     L: LiveLines + Send,
     K: Sink + Send,
@@ -76,43 +77,74 @@ fn run_beside<
 >(
     rt: &R,
     alloc: Global,
+    header: &'a Header,
     gate: &G,
-    shared: &Shared<'_, K, O, T>,
-    book: &Book<T, GivenLine>,
+    roll: &'a Roll,
+    posts: &'a [Post],
+    mails: &'a [Mail<T>],
+    book: &'a Book<T, GivenLine>,
+    output: &'a Output<K, O>,
+    events: bool,
     place: usize,
     lines: &mut L,
     ledger: &mut Ledger<T, GivenLine>,
     writer: &mut Writer<O>,
     machine: &mut Machine<C, P, V, A, O, T>,
 ) -> Result<Option<NoLine>, AllocError>
-    requires { CanRun P.acts D.Daemon.commands shared.now.header.now machine.old }
-    ensures ran { Runs A.content A.faults P.acts shared.now.events D.Daemon.commands D.Daemon.stands shared.now.header.now machine.old machine.new }
+    requires { CanRun P.acts D.Daemon.commands header.now machine.old }
+    ensures ran { Runs A.content A.faults P.acts events D.Daemon.commands D.Daemon.stands header.now machine.old machine.new }
     ensures told { (count : ℕ) → AreGiven ledger.old count [] → HasPutOut writer.old []
         → HasTold count (L.has_given lines.old) (L.has_given lines.new) ledger.new writer.new result }
 {
     let ways = Ways {
-        posts: shared.posts,
-        mails: shared.mails,
+        posts,
+        mails,
         book,
-        output: shared.output,
+        output,
     };
     beside_script(
         rt,
         alloc,
-        shared.roll,
+        roll,
         &ways,
         lines,
         ledger,
         writer,
         &mut ||
-            requires { CanRun P.acts D.Daemon.commands shared.now.header.now machine.now }
-            ensures { Runs A.content A.faults P.acts shared.entry.now.events D.Daemon.commands D.Daemon.stands shared.entry.now.header.now machine.entry.now machine.exit.now }
-        { machine.run::<D, K, R, G>(rt, alloc, gate, shared, place) },
+            requires { CanRun P.acts D.Daemon.commands header.now machine.now }
+            ensures { Runs A.content A.faults P.acts events D.Daemon.commands D.Daemon.stands header.entry.now machine.entry.now machine.exit.now }
+        {
+            let shared = Shared {
+                header,
+                roll,
+                posts,
+                mails,
+                output,
+                events,
+            };
+            machine.run::<D, K, R, G>(rt, alloc, gate, &shared, place)
+        },
     )
+}
+
+/// The machine that is to run.
+fn machine_of<D: Teller, C: Clock, P: Spawner, V: Device, A: Area, O: Press, T: Shelf>(
+    _header: &Header,
+    work: Work<C, P, V, A, O, T>,
+) -> Machine<C, P, V, A, O, T>
+    requires header { IsHeader _header.now }
+    requires setting { IsSetting (begun_with D.Daemon.commands _header.now work.site) }
+    requires unasked { Tells (P.acts work.parts.spawner) [] }
+    requires fresh { IsFresh work }
+    ensures work { result.work ≡ Some work }
+    ensures can { CanRun P.acts D.Daemon.commands _header.now result }
+{
+    Machine::new(work)
 }
 
 /// Runs a machine that has a post and a mail at this place, with a book of what the script gives and one of what is put out.
 fn run_with<
+    'a,
     D: Teller + Send,
     L: LiveLines + Send,
     K: Sink + Send,
@@ -127,12 +159,12 @@ fn run_with<
 >(
     rt: &R,
     alloc: Global,
-    header: &Header,
+    header: &'a Header,
     gate: &G,
     place: u32,
-    posts: &[Post],
-    mails: &[Mail<T>],
-    book: &Book<T, GivenLine>,
+    posts: &'a [Post],
+    mails: &'a [Mail<T>],
+    book: &'a Book<T, GivenLine>,
     ledger: Ledger<T, GivenLine>,
     writer: Writer<O>,
     unwritten: &Pieces<O>,
@@ -152,22 +184,23 @@ fn run_with<
     ensures { HasRunOwn A.content A.faults P.acts events D.Daemon.stands D.Daemon.commands header.now place work.site (disks_in work.parts)
         (L.has_given lines.old) (L.has_given lines.new) O.taken (K.taken result.sink) O.faults (K.faults result.sink) result }
 {
-    let (mut machine, mut ledger, mut writer) = (Machine::new(work), ledger, writer);
+    let (mut machine, mut ledger, mut writer) = (
+        machine_of::<D, C, P, V, A, O, T>(header, work),
+        ledger,
+        writer,
+    );
     let roll = Roll::new(THREADS);
-    let shared = Shared {
-        header,
-        roll: &roll,
-        posts,
-        mails,
-        output: &output,
-        events,
-    };
     let told = run_beside::<D, L, K, O, T, R, C, P, V, A, G>(
         rt,
         alloc,
+        header,
         gate,
-        &shared,
+        &roll,
+        posts,
+        mails,
         book,
+        &output,
+        events,
         place as usize,
         lines,
         &mut ledger,

@@ -1,13 +1,13 @@
 -- One area more is handed out; what does not stand was found on the last one.
 use Rattle.sl_own.proofs.LendLaws.{err_on, left_pushed, not_found, told_here, untaken_more}
 use Rattle.sl_own.proofs.lending.lend_each.Goals as goal
-use Rattle.sl_own.specs.OwnGrounds.{FindsOn, No_memory}
+use Rattle.sl_own.specs.OwnGrounds.{AreLeft, FindsOn, No_memory}
 use Rattle.sl_own.specs.declared.no_place.NoPlace.TheVariants.{NotStanding}
 use Rattle.sl_run.specs.declared.header.Disk.{Disk as DiskLine}
-use Rattle.sl_standing.proofs.AreaLaws.{all_whole, item_inside}
+use Rattle.sl_standing.proofs.AreaLaws.{item_inside}
 use Rattle.sl_standing.specs.declared.not_standing.NotStanding.TheVariants.{NoMemory}
-use Rattle.std.proofs.Common.{List, refl, rules, subst, sym, ◌∙◌}
-use Rattle.std.specs.Prelude.{AllPairs, ◌≢◌}
+use Rattle.std.proofs.Common.{refl, rules, subst, sym, ◌∙◌}
+use Rattle.std.specs.Prelude.{AllPairs, [], ◌≢◌}
 
 pub returns-in_err-reserve-clause-not : goal.returns-in_err-reserve-clause-not
 returns-in_err-reserve-clause-not g c = err_on c.from_residual.result (NotStanding NoMemory) _ c.from_residual.ensures.1 No_memory
@@ -28,7 +28,12 @@ returns-in_err-stands-clause-not g c =
     c.in_err-stands.ensures.not)
 
 pub loop-disk-init : goal.loop-disk-init
-loop-disk-init g c = record { left = tt; untaken = λ other all. refl; count = refl }
+loop-disk-init g c =
+    record {
+      left = subst (AreLeft g.V.Area.Area.content (FindsOn (g.V.Devices.disks c.args.devices.now) c.args.folder.now c.args.header.now c.args.part) []) (sym c.requires.first) tt;
+      untaken = λ other all. refl;
+      count = refl;
+    }
 
 pub loop-disk-preserved : goal.loop-disk-preserved
 loop-disk-preserved g c =

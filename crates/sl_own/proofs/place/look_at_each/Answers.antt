@@ -5,8 +5,8 @@ use Rattle.sl_own.specs.OwnGrounds.{HasSize}
 use Rattle.sl_standing.proofs.AreaLaws.{all_more, all_whole, item_inside}
 use Rattle.std.proofs.Common.{subst, ◌∙◌}
 
-pub look_at-requires : goal.look_at-requires
-look_at-requires g c =
+pub look_at-requires-clause-small : goal.look_at-requires-clause-small
+look_at-requires-clause-small g c κs within =
     (c.requires.disks c.disk-item.result
     (item_inside c.args.header.now.disks c.as_slice-disk-items.result.now c.loop-disk.disk-index c.disk-item.result c.as_slice-disk-items.ensures c.loop-disk-test.true c.disk-item.is)).2
 

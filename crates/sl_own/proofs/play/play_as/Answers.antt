@@ -1,3 +1,4 @@
+use Rattle.sl_live_run.specs.Runs.{disks_in}
 use Rattle.sl_own.proofs.PlayLaws.{beginning, owes_run_own}
 use Rattle.sl_own.proofs.play.play_as.Goals as goal
 use Rattle.sl_own.specs.OwnOwed.{ReadsOwn}
@@ -24,7 +25,7 @@ returns g c disks folder first h ground may begins =
     (sym c.requires.scope ∙ ap (λ x. own_scope x m) ground.same) (c.close-source.ensures.script first h given there so))) in
     let run = c.run_own-run.ensures in
     owes_run_own g.D.Daemon.stands g.D.Daemon.commands (record { content = g.V.Area.Area.content; faults = g.V.Area.Area.faults; acts = g.V.Spawner.Spawner.acts }) disks folder c.args.manner first _ _ _ _ _ _ _ _ _ h
-    (beginning _ _ disks folder h m c.args.ground ground) _ (has c.new-lines.result) (has c.run_own-run.new.lines) run.pieces
+    (beginning _ _ disks folder h m c.args.ground ground) (disks_in c.args.ground.ready.parts) (has c.new-lines.result) (has c.run_own-run.new.lines) run.pieces
     c.run_own-run.result.machines _ c.run_own-run.result.replies c.close-source.result.1 c.put_run-lived.result c.new-lines.ensures.none reads may
     (record { delta = ground.delta; resource = ground.resource }) run.ok run.stop
     (c.put_run-lived.ensures.ok (g.K.Sink.taken c.args.sink) (g.K.Sink.faults c.args.sink) run.pieces run.put)
