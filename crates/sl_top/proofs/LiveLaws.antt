@@ -3,7 +3,7 @@ use Rattle.sl_world_state.specs.Daemons.{begun_with}
 use Rattle.sl_due_law.proofs.DueIsLawful.{due_is_lawful}
 use Rattle.sl_host_step.specs.HostServes.{Serves, whole_commands}
 use Rattle.sl_live_play.specs.DifferenceLines.{differ_text}
-use Rattle.sl_live_play.specs.LiveOwed.{All, Breaks, Breaks_early, Differing, Disk_there, Due, Ends, Faults, Front, In_use, Lacks, Of, Owes as OwesLive, Part, Parts, Puts, Stops, Stops_early}
+use Rattle.sl_live_play.specs.LiveOwed.{All, Breaks, Breaks_early, Differing, Disk_there, Due, Ends, Faults, Front, In_use, Lacks, Of, Owes as OwesLive, Part, Parts, Puts, Stops, Stops_early, Tellers}
 use Rattle.sl_live_play.specs.declared.play.Lived.TheVariants as lived
 use Rattle.sl_live_play.specs.declared.play.Lived.{Lived}
 use Rattle.sl_live_play.specs.declared.play.Manner.{Manner}
@@ -18,29 +18,39 @@ use Rattle.sl_top.specs.LiveHistories.{LiveHistoriesAreGood}
 use Rattle.sl_top.specs.StatusLaws.{SomeDiffer}
 use Rattle.sl_cli.specs.declared.command_words.Words.TheVariants.{Direct, Generate, Help, Live, Replay, Version}
 use Rattle.sl_cli.specs.declared.command_words.Words.{Words}
-use Rattle.sl_top.specs.Runs.{IsLive, Outside, Owes, RunsLive, place_in, place_of, told_from}
+use Rattle.sl_top.specs.Runs.{IsLive, Outside, Owes, RunsLive, place_in, place_of, told_from, untold}
 use Rattle.sl_top.specs.Statuses.{status_of_live}
 use Rattle.sl_top.specs.declared.status.Status.TheVariants.{AreaFault, BadWords, Differs, NoMemory, NotTheLeader, ReadFault, WriteFault}
 use Rattle.sl_top.specs.declared.status.Status.{Status}
 use Rattle.sl_io.specs.FaultCauses.{Rose}
 use Rattle.sl_words.proofs.CaseLaws.{none_some, some_value}
+use Rattle.sl_words.proofs.Lists.{same_place_in}
 use Rattle.std.proofs.Common.{Bool, List, None, Option, Some, [], ap, refl, subst, sym, ℕ, ◌++◌, ◌||◌, ◌∙◌, ◌≡◌}
 use Rattle.std.specs.Io.KnownBytes.{Appends}
 use Rattle.std.specs.Prelude.{option_map}
 
 -- ---- histories
 
-pub live_histories_are_good : LiveHistoriesAreGood
-live_histories_are_good h given hs l place site history at there =
+pub live_histories_are_good : {A P : Type 0} (tellers : Tellers A P) → LiveHistoriesAreGood tellers
+live_histories_are_good tellers h given hs l place site history at there =
     let it = l.histories.each place site history at there in
     let good = due_is_lawful (begun_with whole_commands l.begun.header site) _ it.whole.stood.setting it.whole.stood.stood.stands.past in
-    (good.0, good.1)
+    let had = same_place_in l.served.disks l.begun.sites place site (sym l.served.had.counted) at in
+    let left = same_place_in l.served.left hs place history (sym l.served.served.counted) there in
+    record {
+      lawful = good.0;
+      caused = good.1;
+      disks = had.0;
+      had = l.served.had.each place had.0 had.1;
+      left = left.0;
+      served = l.served.served.each place site history had.0 left.0 at there had.1 left.1;
+    }
 
 -- ---- statuses
 
 -- For want of memory, before anything was done.
-pub never_run : (folder : List ℕ) (manner : Manner) (x : Outside) → RunsLive folder manner x x NoMemory
-never_run folder manner x = record { ended = lived.NoMemory; owes = Lacks [] (nothing_put x.taken); status = refl }
+pub never_run : {A P : Type 0} (tellers : Tellers A P) (folder : List ℕ) (manner : Manner) (x : Outside) → RunsLive tellers folder manner x x NoMemory
+never_run tellers folder manner x = record { ended = lived.NoMemory; owes = Lacks [] (nothing_put x.taken); status = refl }
 
 pub not_bad : (l : Lived) → status_of_live l ≡ BadWords → ⊥
 not_bad lived.Done e = absurd cc
@@ -117,25 +127,25 @@ pub record Tells (keeps : Bool) (left after : Option (List ℕ)) (faults later d
   pub written : whole ≡ lived.WriteFault → ⊥
   pub differs : whole ≡ lived.Differs → Differed keeps left after faults later (λ told. text ≡ told)
 
-due_tells : (f : Asked) (w : Manner) (left after : Option (List ℕ)) (faults later device_faults device_later : ℕ) (text : List ℕ) (whole : Lived)
-    → Due Serves whole_commands f w left after faults later device_faults device_later text whole → Tells w.keeps left after faults later device_faults device_later text whole
-due_tells f w left after faults later device_faults device_later text whole (Ends h given hs pieces reads lives woven vacant) =
+due_tells : {A P : Type 0} (tellers : Tellers A P) (f : Asked) (w : Manner) (left after : Option (List ℕ)) (faults later device_faults device_later : ℕ) (text : List ℕ) (whole : Lived)
+    → Due Serves whole_commands tellers f w left after faults later device_faults device_later text whole → Tells w.keeps left after faults later device_faults device_later text whole
+due_tells tellers f w left after faults later device_faults device_later text whole (Ends h given hs pieces reads lives woven vacant) =
     record { read = λ e. absurd cc; area = λ e. absurd cc; written = λ e. absurd cc; differs = λ e. absurd cc }
-due_tells f w left after faults later device_faults device_later text whole (Stops_early r number why stops) =
+due_tells tellers f w left after faults later device_faults device_later text whole (Stops_early r number why stops) =
     record { read = λ e. absurd cc; area = λ e. absurd cc; written = λ e. absurd cc; differs = λ e. absurd cc }
-due_tells f w left after faults later device_faults device_later text whole (Stops h given hs pieces number why reads lives woven vacant) =
+due_tells tellers f w left after faults later device_faults device_later text whole (Stops h given hs pieces number why reads lives woven vacant) =
     record { read = λ e. absurd cc; area = λ e. absurd cc; written = λ e. absurd cc; differs = λ e. absurd cc }
-due_tells f w left after faults later device_faults device_later text whole (Breaks_early breaks rose) =
+due_tells tellers f w left after faults later device_faults device_later text whole (Breaks_early breaks rose) =
     record { read = λ e. rose; area = λ e. absurd cc; written = λ e. absurd cc; differs = λ e. absurd cc }
-due_tells f w left after faults later device_faults device_later text whole (Breaks h given hs pieces reads lives woven vacant) =
+due_tells tellers f w left after faults later device_faults device_later text whole (Breaks h given hs pieces reads lives woven vacant) =
     record { read = λ e. (reads.fault refl).0; area = λ e. absurd cc; written = λ e. absurd cc; differs = λ e. absurd cc }
-due_tells f w left after faults later device_faults device_later text whole (Faults rose) =
+due_tells tellers f w left after faults later device_faults device_later text whole (Faults rose) =
     record { read = λ e. absurd cc; area = λ e. rose; written = λ e. absurd cc; differs = λ e. absurd cc }
-due_tells f w left after faults later device_faults device_later text whole (In_use rose) =
+due_tells tellers f w left after faults later device_faults device_later text whole (In_use rose) =
     record { read = λ e. absurd cc; area = λ e. rose; written = λ e. absurd cc; differs = λ e. absurd cc }
-due_tells f w left after faults later device_faults device_later text whole (Disk_there r h path begins there rose) =
+due_tells tellers f w left after faults later device_faults device_later text whole (Disk_there r h path begins there rose) =
     record { read = λ e. absurd cc; area = λ e. rose; written = λ e. absurd cc; differs = λ e. absurd cc }
-due_tells f w left after faults later device_faults device_later text whole (Parts h given end before machine d reads case_of vacant) =
+due_tells tellers f w left after faults later device_faults device_later text whole (Parts h given end before machine d reads case_of vacant) =
     record {
       read = λ e. absurd cc;
       area = λ e. absurd cc;
@@ -177,13 +187,13 @@ put_caused keeps left after taken now faults later sink_faults sink_later device
 put_caused keeps left after taken now faults later sink_faults sink_later device_faults device_later text whole s tells (Front front appends begins) =
     record { read = λ e. absurd cc; written = λ e. absurd cc; area = λ e. absurd cc; differs = λ e. absurd cc }
 
-owes_caused : (f : Asked) (w : Manner) (left after taken now : Option (List ℕ)) (faults later sink_faults sink_later device_faults device_later : ℕ) (s : Lived)
-    → OwesLive Serves whole_commands f w left after taken now faults later sink_faults sink_later device_faults device_later s
+owes_caused : {A P : Type 0} (tellers : Tellers A P) (f : Asked) (w : Manner) (left after taken now : Option (List ℕ)) (faults later sink_faults sink_later device_faults device_later : ℕ) (s : Lived)
+    → OwesLive Serves whole_commands tellers f w left after taken now faults later sink_faults sink_later device_faults device_later s
     → Caused w.keeps left after taken now faults later sink_faults sink_later device_faults device_later s
-owes_caused f w left after taken now faults later sink_faults sink_later device_faults device_later s (Of text whole t due puts) =
+owes_caused tellers f w left after taken now faults later sink_faults sink_later device_faults device_later s (Of text whole it due puts) =
     put_caused w.keeps left after taken now faults later sink_faults sink_later device_faults device_later text whole s
-    (due_tells f w left after faults later device_faults device_later text whole due) puts
-owes_caused f w left after taken now faults later sink_faults sink_later device_faults device_later s (Lacks part nothing) =
+    (due_tells tellers f w left after faults later device_faults device_later text whole due) puts
+owes_caused tellers f w left after taken now faults later sink_faults sink_later device_faults device_later s (Lacks part nothing) =
     record { read = λ e. absurd cc; written = λ e. absurd cc; area = λ e. absurd cc; differs = λ e. absurd cc }
 
 -- So of a live run.
@@ -193,9 +203,9 @@ pub record LiveCaused (keeps : Bool) (x y : Outside) (s : Status) : Type 0 where
   pub area : s ≡ AreaFault → Rose x.device_faults y.device_faults
   pub differs : s ≡ Differs → SomeDiffer keeps x y
 
-pub live_caused : (folder : List ℕ) (manner : Manner) (x y : Outside) (s : Status) → RunsLive folder manner x y s → LiveCaused manner.keeps x y s
-live_caused folder manner x y s run =
-    let why = owes_caused (record { path = folder; anew = manner.anew; disks = x.disks }) manner x.left y.left x.taken y.taken x.source_faults y.source_faults x.sink_faults y.sink_faults x.device_faults y.device_faults run.ended run.owes in
+pub live_caused : {A P : Type 0} (tellers : Tellers A P) (folder : List ℕ) (manner : Manner) (x y : Outside) (s : Status) → RunsLive tellers folder manner x y s → LiveCaused manner.keeps x y s
+live_caused tellers folder manner x y s run =
+    let why = owes_caused tellers (record { path = folder; anew = manner.anew; disks = x.disks }) manner x.left y.left x.taken y.taken x.source_faults y.source_faults x.sink_faults y.sink_faults x.device_faults y.device_faults run.ended run.owes in
     record {
       read = λ e. why.read (read_failed run.ended (sym run.status ∙ e));
       written = λ e. why.written (write_failed run.ended (sym run.status ∙ e));
@@ -228,9 +238,9 @@ place_is_live Help p is = absurd cc
 place_is_live Version p is = absurd cc
 
 -- So what live machines did is owed by such words.
-pub owes_live : (s : Option Words) (p : List ℕ × Manner) (x y : Outside) (st : Status) → place_in s ≡ Some p → RunsLive p.0 p.1 x y st → Owes s x y st
-owes_live None p x y st is run = absurd cc
-owes_live (Some w) p x y st is run = subst (λ w. Owes (Some w) x y st) (sym (place_is_live w p is)) run
+pub owes_live : {A P : Type 0} (tellers : Tellers A P) (s : Option Words) (p : List ℕ × Manner) (x y : Outside) (st : Status) → place_in s ≡ Some p → RunsLive tellers p.0 p.1 x y st → Owes tellers s x y st
+owes_live tellers None p x y st is run = absurd cc
+owes_live tellers (Some w) p x y st is run = subst (λ w. Owes tellers (Some w) x y st) (sym (place_is_live w p is)) run
 
 -- Such words ask for live machines.
 pub said_live : (s : Option Words) (folder : List ℕ) (anew keeps events : Bool) → s ≡ Some (Live folder anew keeps events) → IsLive s
@@ -253,16 +263,17 @@ pub not_live : (at_terminal : Bool) (s : Option Words) → place_in (option_map 
 not_live at_terminal s none live =
     absurd (none_some _ (sym none ∙ ap (λ o. place_in (option_map (told_from at_terminal) o)) live.2))
 
--- Other words say the same from anywhere.
-same_from : (at_terminal : Bool) (w : Words) → place_of (told_from at_terminal w) ≡ None → told_from at_terminal w ≡ w
-same_from at_terminal (Live folder anew keeps events) none = absurd cc
-same_from at_terminal Replay none = refl
-same_from at_terminal (Generate seed hosts events paired) none = refl
-same_from at_terminal (Direct a) none = refl
-same_from at_terminal Help none = refl
-same_from at_terminal Version none = refl
+-- Other words say the same from anywhere, and owe the same whatever areas and spawners tell.
+owes_still : {A P : Type 0} (tellers : Tellers A P) (at_terminal : Bool) (w : Words) (x y : Outside) (st : Status) → place_of (told_from at_terminal w) ≡ None → Owes untold (Some w) x y st
+    → Owes tellers (Some (told_from at_terminal w)) x y st
+owes_still tellers at_terminal (Live folder anew keeps events) x y st none owes = absurd cc
+owes_still tellers at_terminal Replay x y st none owes = owes
+owes_still tellers at_terminal (Generate seed hosts events paired) x y st none owes = owes
+owes_still tellers at_terminal (Direct a) x y st none owes = owes
+owes_still tellers at_terminal Help x y st none owes = owes
+owes_still tellers at_terminal Version x y st none owes = owes
 
-pub owes_from : (at_terminal : Bool) (s : Option Words) (x y : Outside) (st : Status) → place_in (option_map (told_from at_terminal) s) ≡ None → Owes s x y st
-    → Owes (option_map (told_from at_terminal) s) x y st
-owes_from at_terminal None x y st none owes = owes
-owes_from at_terminal (Some w) x y st none owes = subst (λ v. Owes (Some v) x y st) (sym (same_from at_terminal w none)) owes
+pub owes_from : {A P : Type 0} (tellers : Tellers A P) (at_terminal : Bool) (s : Option Words) (x y : Outside) (st : Status) → place_in (option_map (told_from at_terminal) s) ≡ None → Owes untold s x y st
+    → Owes tellers (option_map (told_from at_terminal) s) x y st
+owes_from tellers at_terminal None x y st none owes = owes
+owes_from tellers at_terminal (Some w) x y st none owes = owes_still tellers at_terminal w x y st none owes

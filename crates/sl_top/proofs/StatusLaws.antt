@@ -16,6 +16,7 @@ use Rattle.sl_report.specs.OwedReports.{MayHaveBeen, ReplayHeadline, is_whole_st
 use Rattle.sl_report.specs.Languages.{whole_language}
 use Rattle.sl_sound.proofs.Reports.OneReport.{accepted_schedules_end_well as accepted_runs}
 use Rattle.sl_sound.specs.Reports.ReportLaws.{replay_status}
+use Rattle.sl_live_play.specs.LiveOwed.{Tellers}
 use Rattle.sl_live_play.specs.declared.play.Manner.{Manner}
 use Rattle.sl_top.proofs.LiveLaws.{live_caused, not_a_look, not_bad as not_bad_live}
 use Rattle.sl_top.proofs.RunLaws.{whole_headers}
@@ -232,9 +233,9 @@ direct_caused a x y s run =
 
 -- ---- a live run
 
-live_has_cause : (folder : List ℕ) (m : Manner) (x y : Outside) (s : Status) → RunsLive folder m x y s → HasItsCause (Some (Live folder m.anew m.keeps m.events)) x y s
-live_has_cause folder m x y s run =
-    let why = live_caused folder m x y s run in
+live_has_cause : {A P : Type 0} (tellers : Tellers A P) (folder : List ℕ) (m : Manner) (x y : Outside) (s : Status) → RunsLive tellers folder m x y s → HasItsCause (Some (Live folder m.anew m.keeps m.events)) x y s
+live_has_cause tellers folder m x y s run =
+    let why = live_caused tellers folder m x y s run in
     record {
       refused = λ e. inr (folder, m, refl);
       bad_words = λ e. absurd (not_bad_live run.ended (sym run.status ∙ e));
@@ -247,14 +248,14 @@ live_has_cause folder m x y s run =
 
 -- ---- all words
 
-pub statuses_have_causes : StatusesHaveCauses
-statuses_have_causes None x y s h = bad_caused x y s h
-statuses_have_causes (Some Replay) x y s h = replay_caused x y s h
-statuses_have_causes (Some (Generate seed hosts events paired)) x y s h = done_caused (Some (Generate seed hosts events paired)) x y _ s h.puts
-statuses_have_causes (Some (Direct a)) x y s h = direct_caused a x y s h
-statuses_have_causes (Some (Live folder anew keeps events)) x y s h = live_has_cause folder (record { anew = anew; keeps = keeps; events = events }) x y s h
-statuses_have_causes (Some Help) x y s h = done_caused (Some Help) x y HELP.now s h
-statuses_have_causes (Some Version) x y s h = done_caused (Some Version) x y VERSION.now s h
+pub statuses_have_causes : {A P : Type 0} (tellers : Tellers A P) → StatusesHaveCauses tellers
+statuses_have_causes tellers None x y s h = bad_caused x y s h
+statuses_have_causes tellers (Some Replay) x y s h = replay_caused x y s h
+statuses_have_causes tellers (Some (Generate seed hosts events paired)) x y s h = done_caused (Some (Generate seed hosts events paired)) x y _ s h.puts
+statuses_have_causes tellers (Some (Direct a)) x y s h = direct_caused a x y s h
+statuses_have_causes tellers (Some (Live folder anew keeps events)) x y s h = live_has_cause tellers folder (record { anew = anew; keeps = keeps; events = events }) x y s h
+statuses_have_causes tellers (Some Help) x y s h = done_caused (Some Help) x y HELP.now s h
+statuses_have_causes tellers (Some Version) x y s h = done_caused (Some Version) x y VERSION.now s h
 
 -- ---- where its cause stands
 
@@ -284,8 +285,8 @@ upgrade_found r g content now counted taken put sink_faults sink_later directed.
 upgrade_found r g content now counted taken put sink_faults sink_later directed.NotTheLeader s h is other = inl is
 upgrade_found r g content now counted taken put sink_faults sink_later directed.TornBlock s h is other = inl is
 
-pub causes_have_statuses : CausesHaveStatuses
-causes_have_statuses =
+pub causes_have_statuses : {A P : Type 0} (tellers : Tellers A P) → CausesHaveStatuses tellers
+causes_have_statuses tellers =
     record {
       bad_words = λ x y s put. put_status bad_words_text put.written BadWords s put.text_is;
       not_the_leader = λ r g content x y s run told other.
@@ -334,8 +335,8 @@ ends_at_zero : (source : List ℕ) (x y : Outside) (s : Status) → Replays x.le
 ends_at_zero source x y s run told done =
     sym (own_status source x y s told run (ap (λ t. is_whole_status (code t)) done)) ∙ ap code done
 
-pub accepted_schedules_end_well : AcceptedSchedulesEndWell
-accepted_schedules_end_well =
+pub accepted_schedules_end_well : {A P : Type 0} (tellers : Tellers A P) → AcceptedSchedulesEndWell tellers
+accepted_schedules_end_well tellers =
     record {
       well = λ source x y s run told accepted none. ends_well source x y s run told (accepted_runs.well whole_language whole_headers source accepted) none;
       only = λ source x y s run told done. accepted_runs.only whole_language whole_headers source (ends_at_zero source x y s run told done);
@@ -360,8 +361,8 @@ ends_at_one : (source : List ℕ) (x y : Outside) (s : Status) → Replays x.lef
 ends_at_one source x y s run told refused =
     sym (own_status source x y s told run (ap (λ t. is_whole_status (code t)) refused)) ∙ ap code refused
 
-pub other_schedules_are_refused : OtherSchedulesAreRefused
-other_schedules_are_refused =
+pub other_schedules_are_refused : {A P : Type 0} (tellers : Tellers A P) → OtherSchedulesAreRefused tellers
+other_schedules_are_refused tellers =
     record {
       well = λ source x y s run told other none. ends_refused source x y s run told (λ zero. other (accepted_runs.only whole_language whole_headers source zero)) none;
       only = λ source x y s run told refused accepted.

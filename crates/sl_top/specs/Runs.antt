@@ -14,7 +14,7 @@ use Rattle.sl_report.specs.Languages.{whole_language}
 use Rattle.sl_sound.specs.Reports.ReportLaws.{replay_status}
 use Rattle.sl_headline.specs.PromisedRuns.{PromisedRun}
 use Rattle.sl_host_step.specs.HostServes.{Serves, whole_commands}
-use Rattle.sl_live_play.specs.LiveOwed.{Owes as OwesLive}
+use Rattle.sl_live_play.specs.LiveOwed.{Owes as OwesLive, Tellers}
 use Rattle.sl_live_play.specs.declared.play.Lived.{Lived}
 use Rattle.sl_live_play.specs.declared.play.Manner.{Manner}
 use Rattle.sl_outside.specs.Disks.{CountsBack, Disks, KeepsAllBut}
@@ -120,21 +120,25 @@ abbrev pub Tells : List ℕ → Status → Outside → Outside → Status → Ty
 Tells text whole x y s = PutsOut x.taken y.taken x.sink_faults y.sink_faults text whole s
 
 -- What a live run owes, in this folder, played in this manner: what is told of its machines, as histories of hosts that were compared
--- with what their threads did; or why there is none.
-pub record RunsLive (folder : List ℕ) (manner : Manner) (x y : Outside) (s : Status) : Type 0 where
+-- with what their threads did, and whose calls, signals and starts came to the machines' disks and spawners; or why there is none.
+pub record RunsLive {A P : Type 0} (tellers : Tellers A P) (folder : List ℕ) (manner : Manner) (x y : Outside) (s : Status) : Type 0 where
   pub ended : Lived
-  pub owes : OwesLive Serves whole_commands (record { path = folder; anew = manner.anew; disks = x.disks }) manner x.left y.left x.taken y.taken x.source_faults y.source_faults x.sink_faults y.sink_faults x.device_faults y.device_faults ended
+  pub owes : OwesLive Serves whole_commands tellers (record { path = folder; anew = manner.anew; disks = x.disks }) manner x.left y.left x.taken y.taken x.source_faults y.source_faults x.sink_faults y.sink_faults x.device_faults y.device_faults ended
   pub status : s ≡ status_of_live ended
 
--- What a run owes, by what its words say.
-abbrev pub Owes : Option Words → Outside → Outside → Status → Type 0
-Owes None x y s = Tells bad_words_text BadWords x y s
-Owes (Some Replay) x y s = Replays x.left y.left x.source_faults y.source_faults x.taken y.taken x.sink_faults y.sink_faults s
-Owes (Some (Generate seed hosts events paired)) x y s = Generates seed hosts events paired x.taken y.taken x.sink_faults y.sink_faults s
-Owes (Some (Direct a)) x y s = ActsOn a x.disks y.disks x.device_faults y.device_faults x.taken y.taken x.sink_faults y.sink_faults s
-Owes (Some (Live folder anew keeps events)) x y s = RunsLive folder (record { anew = anew; keeps = keeps; events = events }) x y s
-Owes (Some Help) x y s = Tells HELP.now Done x y s
-Owes (Some Version) x y s = Tells VERSION.now Done x y s
+-- Nothing is told of areas and spawners, where no machine runs.
+abbrev pub untold : Tellers (Unit {0}) (Unit {0})
+untold = record { content = λ area. None; faults = λ area. 0; acts = λ spawner. None }
+
+-- What a run owes, by what its words say, where areas and spawners tell this of themselves.
+abbrev pub Owes : {A P : Type 0} → Tellers A P → Option Words → Outside → Outside → Status → Type 0
+Owes tellers None x y s = Tells bad_words_text BadWords x y s
+Owes tellers (Some Replay) x y s = Replays x.left y.left x.source_faults y.source_faults x.taken y.taken x.sink_faults y.sink_faults s
+Owes tellers (Some (Generate seed hosts events paired)) x y s = Generates seed hosts events paired x.taken y.taken x.sink_faults y.sink_faults s
+Owes tellers (Some (Direct a)) x y s = ActsOn a x.disks y.disks x.device_faults y.device_faults x.taken y.taken x.sink_faults y.sink_faults s
+Owes tellers (Some (Live folder anew keeps events)) x y s = RunsLive tellers folder (record { anew = anew; keeps = keeps; events = events }) x y s
+Owes tellers (Some Help) x y s = Tells HELP.now Done x y s
+Owes tellers (Some Version) x y s = Tells VERSION.now Done x y s
 
 -- Only the words that need it touch the source, and the devices.
 abbrev pub IsReplay : Option Words → Type 0

@@ -10,7 +10,7 @@ use Rattle.sl_reader.specs.ScriptReading.{ReadsScript}
 use Rattle.sl_reader.specs.declared.live_lines.LiveLine.{LiveLine}
 use Rattle.sl_reader.specs.declared.script_reading.ScriptEnd.{ScriptEnd}
 use Rattle.sl_live_play.specs.DifferenceLines.{differ_text}
-use Rattle.sl_live_play.specs.LiveOwed.{Differing}
+use Rattle.sl_live_play.specs.LiveOwed.{Differing, Tellers}
 use Rattle.sl_live_run.specs.declared.compare.LiveDiffer.{LiveDiffer}
 use Rattle.sl_report.specs.Languages.{whole_language}
 use Rattle.sl_run.specs.declared.header.Header.{Header}
@@ -66,15 +66,15 @@ pub record HasItsCause (w : Option Words) (x y : Outside) (s : Status) : Type 0 
   -- records of a live machine differ: the case that is put out holds
   pub differs : s ≡ Differs → (live : IsLive w) × SomeDiffer live.1.keeps x y
 
-abbrev pub StatusesHaveCauses : Type 0
-StatusesHaveCauses = (w : Option Words) (x y : Outside) (s : Status) → Owes w x y s → HasItsCause w x y s
+abbrev pub StatusesHaveCauses : {A P : Type 0} → Tellers A P → Type 0
+StatusesHaveCauses tellers = (w : Option Words) (x y : Outside) (s : Status) → Owes tellers w x y s → HasItsCause w x y s
 
 -- And where its cause stands, the status comes, if nothing cut the run short.
-pub record CausesHaveStatuses : Type 0 where
-  pub bad_words : (x y : Outside) (s : Status) → Owes None x y s → (s ≡ BadWords) ⊎ IsCutShort s
-  pub not_the_leader : (r : ResourceArg) (g : Sizes) (content : List ℕ) (x y : Outside) (s : Status) → Owes (Some (Direct (ReadLeader r g))) x y s
+pub record CausesHaveStatuses {A P : Type 0} (tellers : Tellers A P) : Type 0 where
+  pub bad_words : (x y : Outside) (s : Status) → Owes tellers None x y s → (s ≡ BadWords) ⊎ IsCutShort s
+  pub not_the_leader : (r : ResourceArg) (g : Sizes) (content : List ℕ) (x y : Outside) (s : Status) → Owes tellers (Some (Direct (ReadLeader r g))) x y s
       → x.disks r.path ≡ Some content → has_leader r g.sector content ≡ false → (s ≡ NotTheLeader) ⊎ (s ≡ AreaFault) ⊎ IsCutShort s
-  pub cant_be_upgraded : (r : ResourceArg) (g : Sizes) (content : List ℕ) (x y : Outside) (s : Status) → Owes (Some (Direct (Upgrade r g))) x y s
+  pub cant_be_upgraded : (r : ResourceArg) (g : Sizes) (content : List ℕ) (x y : Outside) (s : Status) → Owes tellers (Some (Direct (Upgrade r g))) x y s
       → x.disks r.path ≡ Some content → can_upgrade r g content ≡ false → (s ≡ NotTheLeader) ⊎ (s ≡ AreaFault) ⊎ IsCutShort s
 
 -- Nothing failed: neither the source nor the sink counts more faults than before.
@@ -83,13 +83,13 @@ pub record NothingFailed (x y : Outside) : Type 0 where
   pub sink : Rose x.sink_faults y.sink_faults → ⊥
 
 -- A schedule that is read and allowed from its first line to its last is done, if nothing fails and memory lasts; and no other schedule is.
-pub record AcceptedSchedulesEndWell : Type 0 where
-  pub well : (source : List ℕ) (x y : Outside) (s : Status) → Owes (Some Replay) x y s → x.left ≡ Some source → IsAccepted whole_language source → NothingFailed x y
+pub record AcceptedSchedulesEndWell {A P : Type 0} (tellers : Tellers A P) : Type 0 where
+  pub well : (source : List ℕ) (x y : Outside) (s : Status) → Owes tellers (Some Replay) x y s → x.left ≡ Some source → IsAccepted whole_language source → NothingFailed x y
       → (s ≡ Done) ⊎ (s ≡ NoMemory)
-  pub only : (source : List ℕ) (x y : Outside) (s : Status) → Owes (Some Replay) x y s → x.left ≡ Some source → s ≡ Done → IsAccepted whole_language source
+  pub only : (source : List ℕ) (x y : Outside) (s : Status) → Owes tellers (Some Replay) x y s → x.left ≡ Some source → s ≡ Done → IsAccepted whole_language source
 
 -- Any other is refused, if nothing fails and memory lasts; and none that is accepted is.
-pub record OtherSchedulesAreRefused : Type 0 where
-  pub well : (source : List ℕ) (x y : Outside) (s : Status) → Owes (Some Replay) x y s → x.left ≡ Some source → (IsAccepted whole_language source → ⊥) → NothingFailed x y
+pub record OtherSchedulesAreRefused {A P : Type 0} (tellers : Tellers A P) : Type 0 where
+  pub well : (source : List ℕ) (x y : Outside) (s : Status) → Owes tellers (Some Replay) x y s → x.left ≡ Some source → (IsAccepted whole_language source → ⊥) → NothingFailed x y
       → (s ≡ Refused) ⊎ (s ≡ NoMemory)
-  pub only : (source : List ℕ) (x y : Outside) (s : Status) → Owes (Some Replay) x y s → x.left ≡ Some source → s ≡ Refused → IsAccepted whole_language source → ⊥
+  pub only : (source : List ℕ) (x y : Outside) (s : Status) → Owes tellers (Some Replay) x y s → x.left ≡ Some source → s ≡ Refused → IsAccepted whole_language source → ⊥

@@ -6,7 +6,7 @@
 //! runs out, a front of the report. `gen` reads nothing: it draws its events as it plays them. `direct` takes one disk of the devices, does its action there, and gives the disk back.
 
 ghost use Rattle.sl_direct.specs.Actions.{IsAction};
-ghost use Rattle.sl_top.specs.Runs.{ActsOn, Generates, IsDirect, IsLive, IsReplay, Owes, PutsOut, Replays, RunsLive, place_in, place_of, said, said_from, told_from};
+ghost use Rattle.sl_top.specs.Runs.{ActsOn, Generates, IsDirect, IsLive, IsReplay, Owes, PutsOut, Replays, RunsLive, place_in, place_of, said, said_from, told_from, untold};
 ghost use Rattle.sl_top.specs.declared.status.Status.TheVariants.{WriteFault};
 ghost use Rattle.std.specs.Prelude.{IfOk, option_map, ◌≡◌, ◌≢◌, ◌≤◌};
 
@@ -99,7 +99,7 @@ fn live<
 >(rt: &R, alloc: Global, place: &Place, source: S, sink: K, devices: &mut D) -> (Status, S, K)
 where
     D::Area: Send,
-    ensures { RunsLive place.now.folder place.now.manner
+    ensures { RunsLive (record { content = D.Area.content; faults = D.Area.faults; acts = D.Spawner.acts }) place.now.folder place.now.manner
         (record { left = S.left source; source_faults = S.faults source; taken = K.taken sink; sink_faults = K.faults sink; disks = D.Devices.disks devices.old; device_faults = D.Devices.faults devices.old })
         (record { left = S.left result.1; source_faults = S.faults result.1; taken = K.taken result.2; sink_faults = K.faults result.2; disks = D.Devices.disks devices.new; device_faults = D.Devices.faults devices.new })
         result.0 }
@@ -137,7 +137,7 @@ pub fn run_offline<S: Source, K: Sink, D: Devices>(
     devices: &mut D,
 ) -> Status
     requires { IsLive (said words.now) → ⊥ }
-    ensures owes { Owes (said words.now)
+    ensures owes { Owes untold (said words.now)
         (record { left = S.left source.old; source_faults = S.faults source.old; taken = K.taken sink.old; sink_faults = K.faults sink.old; disks = D.disks devices.old; device_faults = D.faults devices.old })
         (record { left = S.left source.new; source_faults = S.faults source.new; taken = K.taken sink.new; sink_faults = K.faults sink.new; disks = D.disks devices.new; device_faults = D.faults devices.new })
         result }
@@ -235,7 +235,7 @@ pub fn run<
 ) -> (Status, S, K, D)
 where
     D::Area: Send,
-    ensures owes { Owes (said_from at_terminal words.now)
+    ensures owes { Owes (record { content = D.Area.content; faults = D.Area.faults; acts = D.Spawner.acts }) (said_from at_terminal words.now)
         (record { left = S.left source; source_faults = S.faults source; taken = K.taken sink; sink_faults = K.faults sink; disks = D.Devices.disks devices; device_faults = D.Devices.faults devices })
         (record { left = S.left result.1; source_faults = S.faults result.1; taken = K.taken result.2; sink_faults = K.faults result.2; disks = D.Devices.disks result.3; device_faults = D.Devices.faults result.3 })
         result.0 }

@@ -6,12 +6,12 @@ use Rattle.std.proofs.Common.{ap, sym, ◌∙◌}
 use Rattle.std.specs.Prelude.{option_map}
 
 pub returns-in-Err-clause-owes : goal.returns-in-Err-clause-owes
-returns-in-Err-clause-owes g c = nothing_done (said_from c.args.at_terminal c.args.words.now) _
+returns-in-Err-clause-owes g c = nothing_done _ (said_from c.args.at_terminal c.args.words.now) _
 
 pub returns-in-Ok-Some-clause-owes : goal.returns-in-Ok-Some-clause-owes
 returns-in-Ok-Some-clause-owes g c =
     let place = sym c.in-Ok-Some.ensures ∙ ap (λ o. option_map (λ p. (p.folder, p.manner)) o) c.in-Ok-Some.field-0-is in
-    owes_live (said_from c.args.at_terminal c.args.words.now) _ _ _ _ place c.live-status.ensures
+    owes_live _ (said_from c.args.at_terminal c.args.words.now) _ _ _ _ place c.live-status.ensures
 
 pub returns-in-Ok-Some-clause-devices : goal.returns-in-Ok-Some-clause-devices
 returns-in-Ok-Some-clause-devices g c =
@@ -31,4 +31,4 @@ run_offline-status-requires g c =
 pub returns-in-Ok-None-clause-owes : goal.returns-in-Ok-None-clause-owes
 returns-in-Ok-None-clause-owes g c =
     let place = sym c.in-Ok-None.ensures ∙ ap (λ o. option_map (λ p. (p.folder, p.manner)) o) c.in-Ok-None.field-0-is in
-    owes_from c.args.at_terminal (said c.args.words.now) _ _ _ place c.run_offline-status.ensures.owes
+    owes_from _ c.args.at_terminal (said c.args.words.now) _ _ _ place c.run_offline-status.ensures.owes

@@ -10,4 +10,4 @@ unreachable-requires g c =
     (c.in-Ok-Live.ensures.read ∙ ap (λ w. Some w) c.in-Ok-Live.field-0-is))
 
 pub returns-in-Err-NoMemory-clause-owes : goal.returns-in-Err-NoMemory-clause-owes
-returns-in-Err-NoMemory-clause-owes g c = nothing_done (said c.args.words.now) _
+returns-in-Err-NoMemory-clause-owes g c = nothing_done _ (said c.args.words.now) _
