@@ -28,19 +28,24 @@ use Rattle.sl_top.specs.declared.top.Asked.{Asked}
 use Rattle.sl_top.specs.declared.top.Place.{Place}
 use Rattle.sl_io.specs.FaultCauses.{Rose}
 use Rattle.sl_words.proofs.CaseLaws.{none_some, some_value}
-use Rattle.sl_words.proofs.Lists.{same_place_in}
-use Rattle.std.proofs.Common.{Bool, List, None, Option, Some, [], ap, refl, subst, sym, ℕ, ◌++◌, ◌||◌, ◌∙◌, ◌≡◌}
+use Rattle.sl_words.proofs.Lists.{there_is}
+use Rattle.std.proofs.Common.{Bool, List, None, Option, Some, [], ap, length, refl, subst, sym, ℕ, ◌++◌, ◌<◌, ◌||◌, ◌∙◌, ◌≡◌}
+use Rattle.std.proofs.lemmas.Option.{slice_get_within}
 use Rattle.std.specs.Io.KnownBytes.{Appends}
-use Rattle.std.specs.Prelude.{option_map}
+use Rattle.std.specs.Prelude.{option_map, slice_get}
 
 -- ---- histories
+
+-- A list has something at each place at which one of the same length has.
+at_place_of : {A B : Type 0} (xs : List A) (ys : List B) (k : ℕ) (y : B) → length xs ≡ length ys → slice_get ys k ≡ Some y → (x : A) × (slice_get xs k ≡ Some x)
+at_place_of xs ys k y same at = there_is xs k (subst (λ (n : ℕ). k < n) (sym same) (slice_get_within ys k y at))
 
 pub live_histories_are_good : {A P : Type 0} (tellers : Tellers A P) → LiveHistoriesAreGood tellers
 live_histories_are_good tellers h given hs l place site history at there =
     let it = l.histories.each place site history at there in
     let good = due_is_lawful (begun_with whole_commands l.begun.header site) _ it.whole.stood.setting it.whole.stood.stood.stands.past in
-    let had = same_place_in l.served.disks l.begun.sites place site (sym l.served.had.counted) at in
-    let left = same_place_in l.served.left hs place history (sym l.served.served.counted) there in
+    let had = at_place_of l.served.disks l.begun.sites place site l.served.had.counted at in
+    let left = at_place_of l.served.left hs place history l.served.served.counted there in
     record {
       lawful = good.0;
       caused = good.1;
