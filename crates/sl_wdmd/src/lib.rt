@@ -14,8 +14,10 @@
 //! - A move does to the connection of its own name what it says, and no name is there twice.
 #![tactic(auto)]
 
+mod connection;
 pub mod laws;
 mod lockspace;
 pub mod wdmd;
 
+pub use connection::Connection;
 pub use wdmd::Wdmd;

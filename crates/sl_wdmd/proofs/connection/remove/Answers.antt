@@ -1,4 +1,4 @@
-use Rattle.sl_machine.proofs.watchdog_connections.remove.Goals as goal
+use Rattle.sl_wdmd.proofs.connection.remove.Goals as goal
 use Rattle.std.proofs.Common.{rules}
 use Rattle.std.proofs.lemmas.Fn.{filter_same}
 

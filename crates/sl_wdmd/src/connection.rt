@@ -1,16 +1,14 @@
-//! The connections of a machine to its watchdog daemon.
+//! A connection, and what is done to those that stand in a list.
 
-ghost use Rattle.sl_trace.specs.WatchdogConnections.{after_move, renewed_connection, test_holds};
-ghost use Rattle.std.specs.Prelude.{bytes_eq, filter, fold, length, map, nat_le, not, ◌+◌, ◌<◌, ◌≡◌, ◌≤◌};
+ghost use Rattle.sl_trace.specs.WatchdogConnections.{connection_named, renewed_connection};
 ghost use Rattle.std.specs.List.{list_any};
+ghost use Rattle.std.specs.Prelude.{bytes_eq, filter, is_some, map, nat_le, not, ◌≡◌, ◌≤◌};
 ghost use Rattle.std.specs.Vec.{vec_capacity, vec_len};
 
-use crate::room::push_within;
 use sl_text::Name;
-use sl_trace::Move;
 use std::marker::Model;
 
-/// A connection: a lockspace's name, and the reading from which on the test fails.
+/// A connection: a lockspace's name, and the reading of the machine's clock, in milliseconds, from which on the test fails.
 #[derive(Clone, Copy)]
 pub struct Connection {
     pub name: Name,
@@ -32,7 +30,7 @@ impl Model for Connection {
 
 impl Connection {
     /// Whether it has this name.
-    fn is_named(&self, name: Name) -> bool
+    pub(crate) fn is_named(&self, name: Name) -> bool
         ensures { result ≡ bytes_eq self.now.name name }
     {
         self.name == name
@@ -56,7 +54,7 @@ impl Connection {
 }
 
 /// Those of a name expire later.
-fn renew(connections: &mut Vec<Connection>, name: Name, expiry: u64)
+pub(crate) fn renew(connections: &mut Vec<Connection>, name: Name, expiry: u64)
     ensures items { connections.new.items ≡ map (renewed_connection name expiry) connections.old.items }
     ensures len { vec_len connections.new ≡ vec_len connections.old }
     ensures room { vec_capacity connections.new ≡ vec_capacity connections.old }
@@ -67,7 +65,7 @@ fn renew(connections: &mut Vec<Connection>, name: Name, expiry: u64)
 }
 
 /// Those of a name go.
-fn remove(connections: &mut Vec<Connection>, name: Name)
+pub(crate) fn remove(connections: &mut Vec<Connection>, name: Name)
     ensures items { connections.new.items ≡ filter (λ c. not (bytes_eq c.name name)) connections.old.items }
     ensures len { vec_len connections.new ≤ vec_len connections.old }
     ensures room { vec_capacity connections.new ≡ vec_capacity connections.old }
@@ -75,38 +73,8 @@ fn remove(connections: &mut Vec<Connection>, name: Name)
     connections.retain(|connection| !connection.is_named(name));
 }
 
-/// What a move leaves. It takes no memory.
-fn make_move(connections: &mut Vec<Connection>, change: &Move)
-    requires { vec_len connections.old < vec_capacity connections.old }
-    ensures items { connections.new.items ≡ after_move connections.old.items change.now }
-    ensures len { vec_len connections.new ≤ vec_len connections.old + 1 }
-    ensures room { vec_capacity connections.old ≤ vec_capacity connections.new }
-{
-    match change {
-        Move::Register { lockspace, expiry } => push_within(
-            connections,
-            Connection {
-                name: *lockspace,
-                expiry: *expiry,
-            },
-        ),
-        Move::Renew { lockspace, expiry } => renew(connections, *lockspace, *expiry),
-        Move::Unregister { lockspace } => remove(connections, *lockspace),
-    }
-}
-
-/// What moves leave, one after another. They take no memory.
-pub fn make_moves(connections: &mut Vec<Connection>, moves: &[Move])
-    requires { vec_len connections.old + length moves.now ≤ vec_capacity connections.old }
-    ensures { connections.new.items ≡ fold after_move connections.old.items moves.now }
-{
-    for change in moves {
-        make_move(connections, change);
-    }
-}
-
 /// Whether some connection has expired.
-fn some_expired(connections: &[Connection], now: u64) -> bool
+pub(crate) fn some_expired(connections: &[Connection], now: u64) -> bool
     ensures { result ≡ list_any (λ c. nat_le c.expiry now) connections.now }
 {
     connections
@@ -114,9 +82,12 @@ fn some_expired(connections: &[Connection], now: u64) -> bool
         .any(|connection| connection.has_expired(now))
 }
 
-/// Whether the watchdog daemon's test holds: no connection has expired.
-pub fn test_holds(connections: &[Connection], now: u64) -> bool
-    ensures { result ≡ test_holds connections.now now }
+/// Whether some connection has this name.
+pub(crate) fn some_named(connections: &[Connection], name: Name) -> bool
+    ensures { result ≡ is_some (connection_named connections.now name) }
 {
-    !some_expired(connections, now)
+    connections
+        .iter()
+        .find(|connection| connection.is_named(name))
+        .is_some()
 }

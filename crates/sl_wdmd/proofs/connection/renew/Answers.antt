@@ -1,5 +1,5 @@
-use Rattle.sl_cell.proofs.MappedLists.{mapped_all, mapped_one}
-use Rattle.sl_cell.proofs.connections.renew.Goals as goal
+use Rattle.sl_wdmd.proofs.MappedLists.{mapped_all, mapped_one}
+use Rattle.sl_wdmd.proofs.connection.renew.Goals as goal
 use Rattle.sl_trace.specs.WatchdogConnections.{renewed_connection}
 use Rattle.std.proofs.Common.{arith}
 

@@ -1,5 +1,5 @@
-use Rattle.sl_machine.proofs.PlainFronts.{front_mapped}
-use Rattle.sl_machine.proofs.watchdog_connections.renew.Given as goal
+use Rattle.sl_wdmd.proofs.MappedLists.{front_mapped}
+use Rattle.sl_wdmd.proofs.connection.renew.Given as goal
 use Rattle.sl_trace.specs.WatchdogConnections.{renewed_connection}
 use Rattle.std.proofs.Common.{vec_len, ◌≡◌}
 use Rattle.std.specs.Vec.{vec_capacity}
