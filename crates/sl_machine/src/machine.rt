@@ -1,7 +1,5 @@
 //! A machine.
 
-ghost use Rattle.sl_world_state.specs.Daemons.{IsSoundOp};
-ghost use Rattle.sl_world_state.specs.declared.daemon.Most.{Most as MostOf};
 ghost use Rattle.sl_world_state.specs.Changes.{change_flight, crashed_machine, reset_machine, restarted_machine, started_machine, tested_machine};
 ghost use Rattle.sl_world_state.specs.Steps.{owned_machine};
 ghost use Rattle.sl_world_state.specs.KeptWorld.{FlightState, flight_in};
