@@ -4,7 +4,7 @@
 //! a record that changed has a writer that lives. The verify read must give the own claim: another's may have landed over it.
 
 ghost use Rattle.sl_area.specs.AreaSizes.{layout_of, sector_with};
-ghost use Rattle.sl_delta.specs.DeltaDecisions.{IsFitNext, after_deciding, after_join, after_join_read, after_join_write, after_verify, after_watch, claim_next, claim_waited, first_renewal, first_spelled, is_over_since, on_wake, time_next, watch_next, watched_in};
+ghost use Rattle.sl_delta.specs.DeltaDecisions.{IsFitNext, after_deciding, after_join, after_join_read, after_join_write, after_verify, after_watch, claim_waited, first_renewal, first_spelled, is_over_since, on_wake, time_next, watch_next, watched_in};
 ghost use Rattle.sl_delta.specs.OwnSector.{IsOwnRecord, answer_in, lease_of};
 ghost use Rattle.sl_trace.specs.DeltaDecisions.{claim_on, id_held, id_lost, next_after_first};
 ghost use Rattle.sl_words.specs.Bounds.{moments};

@@ -3,7 +3,7 @@
 ghost use Rattle.sl_delta.specs.OwnSector.{HasMoments, IsMade, IsOwnRecord, IsTold, OwnStands, after_answer, after_call, answer_in, heard, known_with, newest_made, newest_told, without_calls};
 ghost use Rattle.sl_host_state.specs.HeardInputs.{answered_at};
 ghost use Rattle.sl_sector.specs.Records.{Fits};
-ghost use Rattle.sl_trace.specs.Sessions.{given_number, is_join_call};
+ghost use Rattle.sl_trace.specs.Sessions.{is_join_call};
 ghost use Rattle.sl_trace.specs.declared.session.Session.{Session};
 ghost use Rattle.sl_text.specs.Names.{is_name};
 ghost use Rattle.sl_trace.specs.Traces.{Answered, Submitted, bytes_given};
@@ -13,7 +13,7 @@ ghost use Rattle.sl_words.specs.Bounds.{moments};
 ghost use Rattle.std.specs.Arc.{arc_value};
 ghost use Rattle.std.specs.Option.{option_copied, option_map_or};
 ghost use Rattle.sl_trace.specs.declared.effects.Purpose.TheVariants.{Joining};
-ghost use Rattle.std.specs.Prelude.{ℕ, cond, option_map, IfSome, IsTrue, List, None, Some, false, true, is_none, [], ◌<◌, ◌∷◌, ◌≡◌, ◌≤◌};
+ghost use Rattle.std.specs.Prelude.{ℕ, cond, option_map, IfSome, IsTrue, List, None, Some, false, true, ◌<◌, ◌∷◌, ◌≡◌, ◌≤◌};
 
 use crate::answer::SectorAnswer;
 use crate::purposes::{is_claim, is_delta, is_first_read, is_free, is_renewal, join_step_of};
@@ -29,20 +29,20 @@ use std::sync::Arc;
 /// What a session keeps of its calls on its id's sector.
 #[derive(Drop)]
 pub struct OwnSector {
-    pub(crate) timing: Timing,
-    pub(crate) geometry: Geometry,
-    pub(crate) host: Name,
-    pub(crate) lockspace: Name,
-    pub(crate) id: u32,
-    pub(crate) watched: Option<Arc<Image>>,
-    pub(crate) since: Option<u64>,
-    pub(crate) claim: Option<DeltaRec>,
-    pub(crate) newest: Option<JoinCall>,
-    pub(crate) generation: u64,
-    pub(crate) seq: u64,
-    pub(crate) renewed: u64,
-    pub(crate) busy: bool,
-    pub(crate) freed: bool,
+    pub timing: Timing,
+    pub geometry: Geometry,
+    pub host: Name,
+    pub lockspace: Name,
+    pub id: u32,
+    pub watched: Option<Arc<Image>>,
+    pub since: Option<u64>,
+    pub claim: Option<DeltaRec>,
+    pub newest: Option<JoinCall>,
+    pub generation: u64,
+    pub seq: u64,
+    pub renewed: u64,
+    pub busy: bool,
+    pub freed: bool,
 }
 
 impl Model for OwnSector {
@@ -228,26 +228,6 @@ impl OwnSector {
         ensures { (a : Answer) → self.new ≡ after_answer purpose.now a now self.old }
     {
         self.heard(now, is_delta(purpose), join_step_of(purpose).is_some());
-    }
-
-    /// Any of its calls was answered so.
-    pub(crate) fn told(&mut self, now: u64, purpose: &Purpose, answer: SectorAnswer)
-        requires { now < moments }
-        ensures { self.new ≡ after_answer purpose.now (answer_in answer) now self.old }
-    {
-        if is_first_read(purpose) {
-            self.take_first(now, answer);
-        } else {
-            self.take_answer(now, purpose);
-        }
-    }
-
-    /// The read of all delta sectors was answered.
-    pub(crate) fn surveyed(&mut self, now: u64)
-        requires { now < moments }
-        ensures { self.new ≡ heard now true false self.old }
-    {
-        self.heard(now, true, false);
     }
 
     /// What each answer changes.

@@ -1,41 +1,20 @@
 -- What is done to a map of names is what is done to the list of connections.
-use Rattle.sl_trace.specs.WatchdogConnections.{Connection, connection_named, renewed_connection}
+use Rattle.sl_trace.specs.WatchdogConnections.{Connection, renewed_connection}
 use Rattle.sl_wdmd.specs.KeptConnections.{all_connections, connection_of, connections_of}
 use Rattle.sl_wdmd.specs.Moves.{others}
 use Rattle.indexmap.proofs.CallerLemmas.{insert_entry-new}
 use Rattle.indexmap.specs.IndexMap.{IndexMap, get, insert_entry}
 use Rattle.sl_words.proofs.CaseLaws.{none_some}
-use Rattle.std.proofs.Common.{Bool, List, None, Option, Some, ap, append_assoc, bytes_eq, cond, false, is_some, map, not, refl, sym, true, [], ℕ, ◌++◌, ◌∙◌, nat_le, ◌||◌, ◌∷◌, ◌≡◌}
+use Rattle.std.proofs.Common.{Bool, List, None, Some, ap, append_assoc, bytes_eq, cond, false, map, not, refl, sym, true, [], ℕ, ◌++◌, ◌∙◌, nat_le, ◌||◌, ◌∷◌, ◌≡◌}
 use Rattle.std.proofs.lemmas.Map.{NonePasses}
 use Rattle.std.proofs.lemmas.List.Elements.{filter-append}
-use Rattle.std.proofs.lemmas.List.Folds.{find-append, list_any-append}
+use Rattle.std.proofs.lemmas.List.Folds.{list_any-append}
 use Rattle.std.proofs.lemmas.List.{append-nil, map-append}
 use Rattle.std.proofs.lemmas.Map.Entries.{none_past_head}
 use Rattle.std.proofs.lemmas.Map.Keys.{IsDistinct-tail}
 use Rattle.std.specs.Cmp.Lexicographic.{nat_list_eq_equiv}
 use Rattle.std.specs.List.{IsDistinct, list_any}
-use Rattle.std.specs.Option.{option_or}
 use Rattle.std.specs.Map.{keys_of, lookup, remove_entry, set_value, values_of}
-
--- The map has a key exactly where a connection has that name.
-named_in_map : (es : List (List ℕ × ℕ)) (name : List ℕ)
-    → is_some (lookup (bytes_eq name) es) ≡ is_some (connection_named (connections_of es) name)
-named_in_map [] name = refl
-named_in_map (e ∷ es) name = rw (nat_list_eq_equiv.symm name e.0) (elim (bytes_eq e.0 name)
-    as (λ b. is_some (cond b (Some e.1) (lookup (bytes_eq name) es)) ≡ is_some (cond b (Some (connection_of e)) (connection_named (connections_of es) name)))
-    [ true ↦ refl | false ↦ named_in_map es name ])
-
--- .. or stands behind the map.
-pub some_named : (es : List (List ℕ × ℕ)) (behind : List Connection) (name : List ℕ)
-    → (is_some (lookup (bytes_eq name) es) || is_some (connection_named behind name)) ≡ is_some (connection_named (all_connections es behind) name)
-some_named es behind name =
-    ap (λ b. b || is_some (connection_named behind name)) (named_in_map es name)
-    ∙ by (connection_named (connections_of es) name)
-    ∙ ap is_some (sym (find-append (λ c. bytes_eq c.name name) (connections_of es) behind))
-  where
-    by : (o : Option Connection) → (is_some o || is_some (connection_named behind name)) ≡ is_some (option_or o (connection_named behind name))
-    by None = refl
-    by (Some c) = refl
 
 -- One more entry is one more connection.
 connections_of_push : (es : List (List ℕ × ℕ)) (e : List ℕ × ℕ) → connections_of (es ++ e ∷ []) ≡ connections_of es ++ connection_of e ∷ []

@@ -1,8 +1,8 @@
 //! A connection, and what is done to those that stand in a list.
 
-ghost use Rattle.sl_trace.specs.WatchdogConnections.{connection_named, renewed_connection};
+ghost use Rattle.sl_trace.specs.WatchdogConnections.{renewed_connection};
 ghost use Rattle.std.specs.List.{list_any};
-ghost use Rattle.std.specs.Prelude.{bytes_eq, filter, is_some, map, nat_le, not, ◌≡◌, ◌≤◌};
+ghost use Rattle.std.specs.Prelude.{bytes_eq, filter, map, nat_le, not, ◌≡◌, ◌≤◌};
 ghost use Rattle.std.specs.Vec.{vec_capacity, vec_len};
 
 use sl_text::Name;
@@ -30,7 +30,7 @@ impl Model for Connection {
 
 impl Connection {
     /// Whether it has this name.
-    pub(crate) fn is_named(&self, name: Name) -> bool
+    fn is_named(&self, name: Name) -> bool
         ensures { result ≡ bytes_eq self.now.name name }
     {
         self.name == name
@@ -80,14 +80,4 @@ pub(crate) fn some_expired(connections: &[Connection], now: u64) -> bool
     connections
         .iter()
         .any(|connection| connection.has_expired(now))
-}
-
-/// Whether some connection has this name.
-pub(crate) fn some_named(connections: &[Connection], name: Name) -> bool
-    ensures { result ≡ is_some (connection_named connections.now name) }
-{
-    connections
-        .iter()
-        .find(|connection| connection.is_named(name))
-        .is_some()
 }

@@ -5,16 +5,16 @@
 //! the first, and what a lockspace was promised would be forgotten. A removal closes the gap and leaves the order of the others.
 
 ghost use Rattle.indexmap.specs.IndexMap.{IsUnique, get, insert_entry, spare, values};
-ghost use Rattle.sl_trace.specs.WatchdogConnections.{after_move, connection_named, given_connection, test_holds};
+ghost use Rattle.sl_trace.specs.WatchdogConnections.{after_move, given_connection, test_holds};
 ghost use Rattle.sl_wdmd.specs.KeptConnections.{all_connections, connections_of};
 ghost use Rattle.sl_wdmd.specs.Moves.{NoneExpired};
 ghost use Rattle.sl_words.specs.Bounds.{moments};
 ghost use Rattle.std.specs.List.{list_any};
 ghost use Rattle.std.specs.Map.{remove_entry, set_value};
-ghost use Rattle.std.specs.Prelude.{All, IfOk, IsTrue, None, OnErr, OnOk, bytes_eq, fold, is_some, length, map, max, nat_le, slice_get, true, [], ◌++◌, ◌+◌, ◌-◌, ◌<◌, ◌∷◌, ◌≡◌, ◌≤◌, ◌↔◌};
+ghost use Rattle.std.specs.Prelude.{All, IfOk, IsTrue, None, OnErr, OnOk, bytes_eq, fold, length, map, max, nat_le, slice_get, true, [], ◌++◌, ◌+◌, ◌-◌, ◌<◌, ◌∷◌, ◌≡◌, ◌≤◌, ◌↔◌};
 ghost use Rattle.std.specs.Vec.{vec_capacity, vec_len};
 
-use crate::connection::{Connection, remove, renew, some_expired, some_named};
+use crate::connection::{Connection, remove, renew, some_expired};
 use crate::lockspace::Lockspace;
 use indexmap::IndexMap;
 use sl_text::Name;
@@ -181,14 +181,6 @@ impl Wdmd {
         } else {
             self.behind.get(place - kept).copied()
         }
-    }
-
-    /// Whether there is a connection of this name.
-    #[tactic(auto, using(crate::proofs::KeptLaws::some_named))]
-    pub fn is_registered(&self, name: Name) -> bool
-        ensures { result ≡ is_some (connection_named self.now.connections name) }
-    {
-        self.expiries.contains_key(&Lockspace::named(name)) || some_named(&self.behind, name)
     }
 
     /// Adds a connection behind all others, where memory stands by.
