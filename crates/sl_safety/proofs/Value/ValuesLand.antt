@@ -52,8 +52,6 @@ descends_kept : (p : Landing → Bool) (ls : List Landing) → Descends ls → D
 descends_kept p [] h = tt
 descends_kept p (l ∷ ls) h = kept_by p l ls (p l) refl h.0 (descends_kept p ls h.1)
 
-)
-
 order_by : (l : Landing) (ls : List Landing) (i j : ℕ) (x y : Landing) (a b : Bool) → (i == length ls) ≡ a → (j == length ls) ≡ b → ((z : Landing) → Contains ls z → z.step < l.step)
     → elim a as (λ z. Option Landing) [ true ↦ Some l | false ↦ numbered_landing ls i ] ≡ Some x
     → elim b as (λ z. Option Landing) [ true ↦ Some l | false ↦ numbered_landing ls j ] ≡ Some y → i < j
