@@ -11,7 +11,7 @@ ghost use Rattle.sl_wdmd.specs.Moves.{NoneExpired};
 ghost use Rattle.sl_words.specs.Bounds.{moments};
 ghost use Rattle.std.specs.List.{list_any};
 ghost use Rattle.std.specs.Map.{remove_entry, set_value};
-ghost use Rattle.std.specs.Prelude.{All, IfOk, IsTrue, None, OnErr, OnOk, bytes_eq, fold, length, map, max, nat_le, slice_get, true, [], ◌++◌, ◌+◌, ◌-◌, ◌<◌, ◌∷◌, ◌≡◌, ◌≤◌, ◌↔◌};
+ghost use Rattle.std.specs.Prelude.{All, IfOk, IsTrue, None, OnErr, OnOk, bytes_eq, fold, length, map, max, nat_le, slice_get, true, [], ◌++◌, ◌+◌, ◌-◌, ◌<◌, ◌∷◌, ◌≡◌, ◌≤◌, ◌↔◌, ◌||◌};
 ghost use Rattle.std.specs.Vec.{vec_capacity, vec_len};
 
 use crate::connection::{Connection, remove, renew, some_expired};
@@ -114,6 +114,13 @@ fn has_expired(expiries: &IndexMap<Lockspace, u64>, now: u64) -> bool
     expiries.values().any(|expiry| *expiry <= now)
 }
 
+/// Whether one of two is so.
+fn either(one: bool, other: bool) -> bool
+    ensures { result ≡ (one || other) }
+{
+    one || other
+}
+
 /// The connection at a place of the map.
 fn kept_at(expiries: &IndexMap<Lockspace, u64>, place: usize) -> Option<Connection>
     ensures { result ≡ slice_get (connections_of expiries.now.entries) place }
@@ -213,7 +220,6 @@ impl Wdmd {
     }
 
     /// Removes the connection of this name; where there is none, nothing changes. The others keep their order. It takes no memory.
-    #[tactic(auto, using(crate::proofs::KeptLaws::unregistered))]
     pub fn unregister(&mut self, name: Name)
         ensures { self.new ≡ record self.old { connections = after_move self.old.connections (Move.Unregister name) } }
     {
@@ -255,11 +261,13 @@ impl Wdmd {
 
     /// The daemon's test: whether every connection's expiry is above this reading of the machine's clock, in milliseconds. A keepalive
     /// goes to the watchdog device only where it holds.
-    #[tactic(auto, using(crate::proofs::KeptLaws::any_expired))]
     pub fn test(&self, now: u64) -> bool
         ensures exact { result ≡ test_holds self.now.connections now }
         ensures every { IsTrue result ↔ NoneExpired self.now.connections now }
     {
-        !(has_expired(&self.expiries, now) || some_expired(&self.behind, now))
+        !either(
+            has_expired(&self.expiries, now),
+            some_expired(&self.behind, now),
+        )
     }
 }
