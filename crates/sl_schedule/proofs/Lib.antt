@@ -1,4 +1,5 @@
 pub mod WritingLaws
+pub mod LineLaws
 pub mod ReadLaws
 pub mod EventLaws
 pub mod HeaderReadLaws
