@@ -125,7 +125,7 @@ fn tell_written<R: Files>(rt: &R, told: &mut Told, path: &str) {
 /// How reading the empty file of the system ended.
 fn tell_empty<R: Files>(rt: &R, told: &mut Told) {
     match File::open(rt, "/dev/null") {
-        Ok(file) => told.word(read_word(&read_all(told.alloc, &mut ReadSource::new(file), 0))),
+        Ok(file) => told.word(read_word(&fill(&mut ReadSource::new(file), &mut [0; 1]))),
         Err(_) => told.need(false),
     }
 }
