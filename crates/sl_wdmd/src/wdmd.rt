@@ -161,6 +161,8 @@ impl Wdmd {
     /// Sees that there is memory for so many more. An `Err` is want of memory, and changes nothing.
     pub fn reserve(&mut self, room: usize) -> Result<(), AllocError>
         ensures ok { OnOk result (self.new ≡ record self.old { room = max self.old.room room }) }
+        ensures enough { OnOk result (room ≤ self.new.room) }
+        ensures connections { self.new.connections ≡ self.old.connections }
         ensures err { OnErr result (self.new ≡ self.old) }
     {
         if self.room < room {
