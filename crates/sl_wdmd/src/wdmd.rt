@@ -149,7 +149,8 @@ impl Wdmd {
     /// The connections that a daemon's given sessions have. An `Err` is want of memory.
     pub fn given(alloc: Global, timing: &Timing, given: &[Given]) -> Result<Wdmd, AllocError>
         requires { All (λ g. g.renewed < moments) given.now }
-        ensures { IfOk result (λ w. w ≡ record { connections = map (given_connection timing.now) given.now; room = 0 }) }
+        ensures exact { IfOk result (λ w. w ≡ record { connections = map (given_connection timing.now) given.now; room = 0 }) }
+        ensures connections { IfOk result (λ w. w.connections ≡ map (given_connection timing.now) given.now) }
     {
         let mut wdmd = Wdmd::new(alloc);
         for session in given {
