@@ -136,7 +136,7 @@ fn tell_missing<F: Read + Write + Seek + Drop>(told: &mut Told, area: &mut FileA
     told.number(area.faults());
 }
 
-/// A file that isn't there.
+/// What calls on the area of a file that isn't there come to: each is a fault.
 pub fn a_missing_file<R: Files>(rt: &R, told: &mut Told) {
     tell_missing(told, &mut FileArea::open(rt, "no_such_area"));
 }

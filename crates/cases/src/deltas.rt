@@ -89,7 +89,7 @@ fn read_text(told: &mut Told, step: JoinStep) {
     told.word(step_text(step));
 }
 
-/// A call.
+/// Tells the call that a step of a delta lease makes.
 fn call_text(told: &mut Told, call: &DeltaCall) {
     match call {
         DeltaCall::ReadOwn(step) => read_text(told, *step),
@@ -139,7 +139,7 @@ fn ended_text(told: &mut Told, word: &str, reply: &Reply) {
     told.word(reply_text(reply));
 }
 
-/// An outcome.
+/// Tells what a step of a delta lease has come to.
 fn outcome_text(told: &mut Told, outcome: &Outcome) {
     match outcome {
         Outcome::Joined { generation } => told.said("joined", *generation),
@@ -162,7 +162,7 @@ fn tell_out(told: &mut Told, out: &DeltaOut) {
     }
 }
 
-/// A stage.
+/// The word for a stage.
 fn stage_text(stage: Stage) -> &'static str {
     match stage {
         Stage::Looking => "looking",

@@ -259,7 +259,7 @@ const REFUSALS: [Refusal; 27] = [
     Refusal::PremiseLanding,
 ];
 
-/// The lines of all refusals.
+/// The last lines of reports, for each refusal one.
 pub fn refusals(told: &mut Told) {
     for why in &REFUSALS {
         refusal(told, 12, *why);

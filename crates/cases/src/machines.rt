@@ -8,7 +8,7 @@ use sl_time::{Clock, MemClock, Timing, TimingBad};
 use sl_trace::{Sent, Signal};
 use sl_wdmd::Wdmd;
 
-/// The times.
+/// Tells the times that follow from the four numbers.
 fn times(told: &mut Told, timing: &Timing) {
     told.said("renew", timing.renew());
     told.said("fail", timing.fail());

@@ -74,7 +74,7 @@ pub fn sector(told: &mut Told, text: &str) {
     record_text(told, read, again == sector);
 }
 
-/// .. of 4096 bytes.
+/// The text of a record's sector, of 4096 bytes.
 pub fn large(told: &mut Told, text: &str) {
     let sector = large_of(text);
     let mut again = sector;
@@ -116,7 +116,7 @@ pub fn leader_of(told: &mut Told, text: &str) {
     }
 }
 
-/// The value that a sector has.
+/// The value that a sector's bytes spell, with its version.
 pub fn value(told: &mut Told, text: &str) {
     let Some(record) = value_in(decode(&sector_of(text))) else {
         return told.word("none");

@@ -39,7 +39,7 @@ fn both_written(told: &mut Told, number: u64, short: u32) {
     told.short(short);
 }
 
-/// The number, and the short number.
+/// What a word is as a number, and as a short one.
 pub fn number(told: &mut Told, text: &str) {
     match (
         read_number(text.as_bytes()),
@@ -65,7 +65,7 @@ pub fn multiple(told: &mut Told, text: &str) {
     told.truth(0 < step && is_multiple(word(text, 1).as_bytes(), step));
 }
 
-/// Bytes as digits.
+/// The hex digits of bytes.
 pub fn digits(told: &mut Told, bytes: &[u8]) {
     let mut text = Vec::new(told.alloc);
     told.need(push_hex(&mut text, bytes).is_ok());
@@ -104,7 +104,7 @@ fn name_text(told: &mut Told, name: &Name) {
     told.need(done);
 }
 
-/// A name.
+/// Whether a word is a name, and the name as it is kept in place.
 pub fn name(told: &mut Told, text: &str) {
     match Name::new(text.as_bytes()) {
         Some(name) => name_text(told, &name),
@@ -112,14 +112,14 @@ pub fn name(told: &mut Told, text: &str) {
     }
 }
 
-/// .. of a path.
+/// Tells a path as it is kept in place: its length and its characters.
 fn path_text(told: &mut Told, path: &FilePath) {
     told.number(path.as_str().len() as u64);
     let done = write!(told.text, " bytes {path} {path:?}").is_ok();
     told.need(done);
 }
 
-/// A path.
+/// Whether a word is a path, and the path as it is kept in place.
 pub fn path(told: &mut Told, text: &str) {
     match FilePath::new(text.as_bytes()) {
         Some(path) => path_text(told, &path),
@@ -133,7 +133,7 @@ fn is_name_before(first: &[u8], second: &[u8]) -> Option<bool> {
     Some(first.is_before(&second))
 }
 
-/// .. paths.
+/// Whether a path comes before another, where these are paths.
 fn is_path_before(first: &[u8], second: &[u8]) -> Option<bool> {
     let (first, second) = (FilePath::new(first)?, FilePath::new(second)?);
     Some(first.is_before(&second))

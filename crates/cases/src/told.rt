@@ -12,7 +12,7 @@ pub struct Told {
 }
 
 impl Told {
-    /// Nothing yet.
+    /// Nothing is told yet, and nothing was wanting.
     pub fn new(alloc: Global) -> Told {
         Told {
             alloc,
@@ -21,7 +21,7 @@ impl Told {
         }
     }
 
-    /// What was told.
+    /// The text that was told. An `Err` is that memory, or something else, was wanting for it.
     pub fn whole(&self) -> Result<&str, AllocError> {
         if self.is_whole {
             Ok(self.text.as_str())
@@ -48,7 +48,7 @@ impl Told {
         self.need(done);
     }
 
-    /// Adds a word.
+    /// Adds a space and a word.
     pub fn word(&mut self, word: &str) {
         self.end(" ");
         self.end(word);
@@ -61,7 +61,7 @@ impl Told {
         self.need(done);
     }
 
-    /// Adds a number.
+    /// Adds a space and a number.
     pub fn number(&mut self, number: u64) {
         self.number_behind(" ", number);
     }
@@ -109,7 +109,7 @@ impl Told {
     }
 }
 
-/// Bytes as text.
+/// The bytes as text, or `no text` where they are none.
 fn shown(bytes: &[u8]) -> &str {
     std::str::from_utf8(bytes).unwrap_or("no text")
 }

@@ -92,7 +92,7 @@ pub fn sector_named(text: &str, name: &str) -> [u8; 512] {
     [0; 512]
 }
 
-/// Evidence.
+/// Tells what shows that an id's session is over, or that nothing does.
 fn evidence(told: &mut Told, over: Option<Evidence>) {
     match over {
         Some(Evidence::Newer { generation }) => told.said("newer", generation),

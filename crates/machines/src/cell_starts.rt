@@ -4,7 +4,7 @@ ghost use Rattle.sl_world_state.specs.Daemons.{begun_with};
 ghost use Rattle.sl_host_step.specs.HostServes.{whole_commands};
 ghost use Rattle.sl_run.specs.Headers.{IsHeader};
 ghost use Rattle.sl_run.specs.Lawful.{IsSetting};
-ghost use Rattle.std.specs.Prelude.{IfOk, IfSome};
+ghost use Rattle.std.specs.Prelude.{IfOk};
 
 use sl_io::MemSource;
 use sl_live_run::laws::sites_are_settings;
@@ -25,7 +25,7 @@ pub struct Begun {
     pub site: Site,
 }
 
-/// Reads a header.
+/// Reads the header of a script. An `Err` is that it has none, or want of memory.
 fn header_of(alloc: Global, script: &[u8]) -> io::Result<Header>
     ensures { IfOk result IsHeader }
 {

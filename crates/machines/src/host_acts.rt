@@ -16,7 +16,7 @@ const REFUSE: usize = 1_000_003;
 /// .. that none is any longer. This one isn't either.
 const ALLOW: usize = 1_000_033;
 
-/// What is done.
+/// What is done to a host in a case.
 #[derive(Drop)]
 pub enum Act {
     Give(Input),

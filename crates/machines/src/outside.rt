@@ -14,7 +14,7 @@ use sl_outside::Turn;
 /// The first and the last of some numbers.
 pub type Ends = (u32, u32);
 
-/// A case.
+/// A case: a live script, and what its disks, children and faults are planned to do.
 #[derive(Clone, Copy)]
 pub struct Case<'a> {
     /// The call that is held, and the one that it is held for.
@@ -28,7 +28,7 @@ pub struct Case<'a> {
     pub endless: bool,
     pub counted: bool,
     pub numbers: bool,
-    /// The script's name.
+    /// The name of the file that has the script.
     pub name: &'a str,
 }
 
@@ -69,7 +69,7 @@ fn turns(held: Option<Ends>, until: Option<Ends>) -> Option<(Turn, Turn)> {
     Some((turn(held?), turn(until?)))
 }
 
-/// The case of a line.
+/// The case that a line of words spells.
 pub fn read_case(line: &str) -> Case<'_> {
     let (held, line) = option(line, "held");
     let (until, line) = option(line, "until");

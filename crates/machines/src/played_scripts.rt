@@ -1,7 +1,5 @@
 //! A live script, played on disks in memory that all threads share, with children in memory and the clock of the system.
 
-ghost use Rattle.std.specs.Prelude.{◌≡◌};
-
 use crate::outside::{Case, Ends};
 use sl_io::{MemSink, MemSource};
 use sl_live_play::{LiveHost, Lived, Manner, play_live};
@@ -240,7 +238,7 @@ fn told_of<R: Clock + Wait + Threads + Eprint + Copy + Drop + Send + Sync>(
     Ok(text)
 }
 
-/// What comes of a case.
+/// Plays a case's script with machines in memory, and gives what was told, as text.
 pub fn told<R: Files + Clock + Wait + Threads + Eprint + AllocGlobal + Copy + Drop + Send + Sync>(
     rt: R,
     case: &Case<'_>,

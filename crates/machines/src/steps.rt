@@ -9,10 +9,10 @@ use sl_trace::{Answer, Input};
 use std::alloc::{AllocError, Global};
 use std::sync::Wait;
 
-/// A step.
+/// A step of a case: what is done to a cell, from which seat.
 #[derive(Clone, Copy)]
 pub struct Step<'a> {
-    /// The place of its seat.
+    /// The place of the seat from which it is done.
     pub seat: usize,
     pub reading: u32,
     pub act: &'a str,
@@ -26,12 +26,12 @@ pub struct Outcome {
 }
 
 impl Outcome {
-    /// A word.
+    /// What came of a step, in one word.
     pub fn word(word: &'static str) -> Outcome {
         Outcome { word, number: None }
     }
 
-    /// A number behind a word.
+    /// What came of a step, in a word and a number.
     pub fn counted(word: &'static str, number: u64) -> Outcome {
         Outcome {
             word,
@@ -49,7 +49,7 @@ fn place(letter: &str) -> usize {
     }
 }
 
-/// The step of a text.
+/// The step that a text spells; none where it spells none.
 pub fn read_step(text: &str) -> Option<Step<'_>> {
     let (seat, rest) = text.split_once(' ')?;
     let (reading, act) = rest.split_once(' ')?;
@@ -145,7 +145,7 @@ fn hand_out<D: Teller, J: Station, R: Wait>(
     }
 }
 
-/// What a step gives.
+/// Does a step to the cell from its seat, and tells what came of it.
 pub fn act<D: Teller, J: Station, R: Wait>(
     rt: &R,
     alloc: Global,

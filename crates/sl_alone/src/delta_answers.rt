@@ -61,7 +61,7 @@ impl DeltaLease {
         }
     }
 
-    /// Whether it has ended.
+    /// Whether the session has ended: refused, or gone.
     pub(crate) fn is_over(&self) -> bool
         ensures { result ≡ is_over self.now.standing }
     {

@@ -16,7 +16,7 @@ use crate::delta_steps::{DeltaCall, DeltaOut, Outcome};
 use sl_sector::DeltaRec;
 use sl_trace::{DeltaNext, JoinStep, Move, Purpose};
 
-/// The call's purpose.
+/// What the call is for, as the definitions name it; the job is 0, since a lease knows no job.
 pub(crate) fn purpose_of(call: &DeltaCall) -> Purpose
     ensures { result ≡ purpose_of call.now }
 {
@@ -35,7 +35,7 @@ pub(crate) fn purpose_of(call: &DeltaCall) -> Purpose
     }
 }
 
-/// The record that it writes.
+/// The delta record that the call writes; none of a read.
 pub(crate) fn record_in(call: &DeltaCall) -> Option<&DeltaRec>
     ensures { option_copied result ≡ record_in_call call.now }
 {
@@ -48,7 +48,7 @@ pub(crate) fn record_in(call: &DeltaCall) -> Option<&DeltaRec>
     }
 }
 
-/// The call that a decision makes.
+/// The one call that a decision makes, if it makes any.
 pub(crate) fn call_in(next: &DeltaNext) -> Option<DeltaCall>
     ensures exact { result ≡ call_in next.now }
     ensures fit { IsFitNext next.now → IfSome result (λ c. IfSome (record_in_call c) IsOwnRecord) }
@@ -78,7 +78,7 @@ pub(crate) fn call_in(next: &DeltaNext) -> Option<DeltaCall>
     }
 }
 
-/// What a decision comes to.
+/// What a decision ends: a joining, well or not, or a leaving.
 pub(crate) fn outcome_in(next: DeltaNext) -> Option<Outcome>
     ensures { result ≡ outcome_in next }
 {
@@ -115,7 +115,7 @@ pub(crate) fn standing_after(generation: u64, next: &DeltaNext, before: Standing
     }
 }
 
-/// The last renewal after a decision.
+/// The submission reading of the last renewal that was answered ok, after this decision.
 pub(crate) fn last_after(next: &DeltaNext, before: u64) -> u64
     ensures exact { result ≡ last_after next.now before }
     ensures bounds { before < moments → IsFitNext next.now → result < moments }
@@ -194,7 +194,7 @@ impl DeltaLease {
         }
     }
 
-    /// A call is submitted.
+    /// A call is submitted at this reading, and waits for its answer.
     pub(crate) fn call(&mut self, now: u64, call: &Option<DeltaCall>)
         requires moment { now < moments }
         requires fit { IfSome call.now (λ c. IfSome (record_in_call c) IsOwnRecord) }

@@ -29,16 +29,16 @@ use sl_trace::{Answer, DeltaNext, Move, Purpose, Stage};
 use std::alloc::{AllocError, Global};
 use std::marker::Model;
 
-/// How a session stands.
+/// How a session stands: before, in, or behind the time in which it is joined.
 #[derive(Clone, Copy)]
 pub enum Standing {
-    /// It joins.
+    /// Its joining goes on.
     Joins,
-    /// It is joined.
+    /// It is joined, and has not ended; it may be in recovery, or leave.
     Holds,
-    /// Its joining was refused.
+    /// Its joining was refused, and it makes no further call.
     Declined,
-    /// It has left.
+    /// It was joined, and has ended: it left, or its recovery is over.
     Gone,
 }
 
@@ -49,7 +49,7 @@ pub struct OpenDelta {
     pub made: u64,
 }
 
-/// A session's lease on an id.
+/// A session's lease on an id, in a fixed size: what of all its calls and answers its next step depends on.
 #[derive(Drop)]
 pub struct DeltaLease {
     pub(crate) own: OwnSector,
@@ -171,7 +171,7 @@ impl DeltaLease {
         late
     }
 
-    /// Whether it does.
+    /// Whether recovery begins at this reading by time: `fail` has passed since the last renewal's submission.
     fn is_late(&self, now: u64) -> bool
         ensures { result ≡ is_late now self.now }
     {
@@ -198,7 +198,7 @@ impl DeltaLease {
         }
     }
 
-    /// Time has passed.
+    /// A wake, at this reading; a renewal would have these bits.
     fn wake(&mut self, now: u64, bits: &Bitmap) -> DeltaOut
         requires { now < moments }
         ensures state { self.new ≡ step_from now (Wake bits.now) self.old }
@@ -403,7 +403,7 @@ impl DeltaLease {
     }
 }
 
-/// Nothing is given.
+/// What a step gives that makes nothing due.
 fn nothing_given() -> DeltaOut
     ensures { result ≡ nothing_given }
 {

@@ -38,7 +38,7 @@ pub(crate) fn stage_of(own: &OwnSector) -> Stage
     }
 }
 
-/// That of a joined session.
+/// The stage of a session that is joined, or was.
 pub(crate) fn standing_of(own: &OwnSector) -> Stage
     ensures { result ≡ stage_holding own.now }
 {

@@ -4,7 +4,7 @@ use sl_request::Bitmap;
 use sl_sector::DeltaRec;
 use sl_trace::{Answer, JoinStep, Move, Reply};
 
-/// What comes to a delta lease.
+/// What comes to a delta lease in a step: the time, an answer to its call, or that it is to leave.
 #[derive(Drop)]
 pub enum DeltaIn {
     /// Time has passed; a renewal that is due carries these bits.
@@ -17,36 +17,36 @@ pub enum DeltaIn {
     Leave,
 }
 
-/// A call on delta sectors.
+/// A call on delta sectors, at most one in a step. Its place follows from the lease.
 #[derive(Drop)]
 pub enum DeltaCall {
     /// The own sector is read, at this step of the joining.
     ReadOwn(JoinStep),
     /// It is written, at this step of the joining.
     WriteOwn { step: JoinStep, record: DeltaRec },
-    /// It is renewed.
+    /// A live record is written.
     RenewOwn(DeltaRec),
     /// The sectors of all ids are read.
     ReadAll,
-    /// The free record is written.
+    /// The free record is written: the lease's last call.
     FreeOwn(DeltaRec),
 }
 
-/// What a lease has come to.
+/// What a lease has come to, where its joining or its leaving ends by the step.
 #[derive(Drop)]
 pub enum Outcome {
     /// The session is joined under this generation.
     Joined { generation: u64 },
-    /// Its joining is refused.
+    /// The joining is refused, with this reply.
     NotJoined(Reply),
-    /// Its leaving is over.
+    /// The leaving is over: the job that left has this reply.
     Left(Reply),
 }
 
-/// What a step gives.
+/// What a step gives: at most one move of the connection, one call and one outcome, to be carried out by the caller.
 #[derive(Drop)]
 pub struct DeltaOut {
-    /// Recovery begins.
+    /// Recovery begins by this step: the session's holders have to stop.
     pub recovers: bool,
     pub moved: Option<Move>,
     pub call: Option<DeltaCall>,

@@ -88,7 +88,7 @@ fn noted(holder: Holder, sent: Sent) -> Holder
     }
 }
 
-/// Notes a signal at its process.
+/// Notes at the holder of this process what it was sent; at no other.
 pub fn note(holders: &mut [Holder], sent: Sent)
     ensures { holders.new ≡ map (due.noted sent) holders.old }
 {
@@ -97,7 +97,7 @@ pub fn note(holders: &mut [Holder], sent: Sent)
     }
 }
 
-/// Whether it is another process.
+/// Whether the holder is of another process than this.
 pub fn is_other(holder: &Holder, process: u32) -> bool
     ensures { result ≡ not (holder.now.process == process) }
 {

@@ -88,7 +88,7 @@ impl Recovery {
         keep_others(&mut self.holders, process);
     }
 
-    /// Whether no holder is left.
+    /// Whether no holder is left, so that the session may end.
     pub fn clear(&self) -> bool
         ensures { (grace : ℕ) (calls : List EscalateCall) → Stands grace self.now calls → IsTrue result ↔ (holders_left calls ≡ []) }
     {

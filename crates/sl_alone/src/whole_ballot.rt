@@ -18,7 +18,7 @@ use sl_ballot::{Limit, phase1_block, same_owner, value_of};
 use sl_sector::{Block, Owner};
 use std::marker::Model;
 
-/// What comes next in a ballot.
+/// What comes next in a ballot: a write or a read of blocks, or its end.
 #[derive(Clone, Copy)]
 pub enum Phase {
     /// The block of phase 1 is to be written.

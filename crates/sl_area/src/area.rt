@@ -12,7 +12,7 @@ pub trait Area: Drop {
     /// What the disk has, where the area tells it. One over the outside tells nothing.
     ghost content: { Self → Option (List ℕ) } = { λ _. None };
 
-    /// The faults so far.
+    /// How many calls have failed so far; it never falls. A call answers `Failed` only where it rose.
     ghost faults: { Self → ℕ };
 
     /// Reads so many sectors from a place on, which fill the buffer. It changes nothing, whether it fails or not; after a failure

@@ -39,7 +39,7 @@ impl<F: Read + Write + Seek> FileArea<F> {
         }
     }
 
-    /// The faults so far.
+    /// How many calls have failed so far: of the file, or past its end.
     pub fn faults(&self) -> u64
         ensures { result ≡ file_faults self.now }
     {

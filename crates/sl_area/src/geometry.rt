@@ -116,7 +116,7 @@ impl Geometry {
         Geometry::by_table(sector, area, hosts, true)
     }
 
-    /// Bytes of a sector.
+    /// How many bytes a sector has: 512 or 4096.
     pub fn sector(&self) -> u32
         ensures exact { result ≡ self.now.sector }
         ensures geometry { IsGeometry self.now }
@@ -124,7 +124,7 @@ impl Geometry {
         self.sector
     }
 
-    /// Bytes of an area.
+    /// How many bytes an area has: 1, 2, 4 or 8 times 2^20.
     pub fn area(&self) -> u64
         ensures exact { result ≡ self.now.area }
         ensures geometry { IsGeometry self.now }

@@ -48,14 +48,14 @@ impl MemArea {
         }
     }
 
-    /// What the disk has.
+    /// All bytes of the disk, as the writes so far have left them.
     pub fn content(&self) -> &[u8]
         ensures { result.now ≡ self.now.content }
     {
         &self.bytes
     }
 
-    /// The faults so far.
+    /// How many calls have failed so far: as planned, or past the disk's end.
     pub fn faults(&self) -> u64
         ensures { result ≡ self.now.calls.faults }
     {

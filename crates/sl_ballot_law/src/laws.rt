@@ -27,7 +27,7 @@ pub fn remainders_name_hosts()
     ensures { RemaindersNameHosts }
 {}
 
-/// The blocks of a host grow.
+/// The blocks of a host grow: an answered one is never below an earlier one, nor are two of one session.
 pub fn blocks_grow()
     ensures { BlocksGrow }
 {}
@@ -83,7 +83,7 @@ pub fn active_is_open()
     ensures { ActiveIsOpen }
 {}
 
-/// At most one exclusive grant stands.
+/// At most one exclusive grant stands, so all that stand at a step are of one session and one instance.
 pub fn one_exclusive()
     ensures { OneExclusive }
 {}

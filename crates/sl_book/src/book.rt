@@ -30,7 +30,7 @@ impl<E> Rule<Signed<E>, u64> for Law {
     ghost moves = { λ ask before after answer. Unit {0} };
 }
 
-/// Callers trade nothing.
+/// What a caller trades as it takes a step of the book: nothing.
 pub struct Nothing;
 
 impl<E> Gain<Signed<E>, u64> for Nothing {
@@ -39,7 +39,7 @@ impl<E> Gain<Signed<E>, u64> for Nothing {
     ghost after = { λ names about answer. ftrue };
 }
 
-/// A step that adds an element.
+/// The one step of a book: an element is added at its end.
 pub struct Add;
 
 impl<E> Play<Signed<E>, u64> for Add {
@@ -67,7 +67,7 @@ pub struct Opened<E> {
 }
 
 impl<E> Opened<E> {
-    /// A new book.
+    /// A new book with an empty log, to be named.
     pub fn new() -> Opened<E> {
         let (seen, mut first, _second) = Seen::open(Start::alone(), 0, 0);
         Opened {
@@ -124,14 +124,14 @@ impl<J: Shelf, E> Model for Front<J, E> {
 }
 
 impl<J: Shelf, E> Front<J, E> {
-    /// How many elements it has.
+    /// How many elements the front has: so much of the book somebody has seen.
     pub fn len(&self) -> u64
         ensures { result ≡ length self.now }
     {
         self.count
     }
 
-    /// A copy. It takes no memory.
+    /// The same front once more, to be kept elsewhere. It takes no memory.
     pub fn again(&self) -> Front<J, E>
         ensures { result ≡ self.now }
     {

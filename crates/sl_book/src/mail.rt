@@ -21,9 +21,9 @@ pub struct Broken;
 /// How much of the elements of its number a reader has read.
 #[derive(Clone, Copy)]
 pub enum Reading {
-    /// All of them.
+    /// All elements of its number that were posted.
     All,
-    /// The first ones, and not all.
+    /// The first of them, and not all.
     Part,
     /// They are not counted, or the reader has seen more of the log than the ledger.
     Apart,
@@ -217,7 +217,7 @@ impl<J: Shelf, E> Ledger<J, E> {
 }
 
 impl<J: Shelf, E> Posted<J, E> {
-    /// The element.
+    /// The element that was posted, to be read.
     pub fn element(&self) -> &E
         ensures { result.now ≡ self.now.element }
     {
@@ -238,7 +238,7 @@ impl<J: Shelf, E> Reader<J, E> {
         }
     }
 
-    /// Its number.
+    /// The number whose elements it reads.
     pub fn by(&self) -> u32
         ensures { result ≡ self.now.by }
     {

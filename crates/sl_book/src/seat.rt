@@ -46,7 +46,7 @@ impl<J: Shelf, E> Seat<J, E> {
         }
     }
 
-    /// Its number.
+    /// The number of the seat, which each element that it gives bears.
     pub fn by(&self) -> u32
         ensures { result ≡ self.now.by }
     {

@@ -1,8 +1,5 @@
 -- Where the memory for a step's replies is enough for each.
-use Rattle.sl_cell.proofs.ListFronts.{sum_front, sum_more}
-use Rattle.sl_cell.specs.Copies.{AreShort, lists_in, lists_of}
-use Rattle.sl_trace.specs.declared.effects.JobReply.{JobReply}
-use Rattle.std.proofs.Common.{arith, length, List, min, slice_index_or, suc, take, zero, ℕ, ◌+◌, ◌<◌, ◌≡◌, ◌≤◌}
+use Rattle.std.proofs.Common.{arith, min, suc, zero, ℕ, ◌+◌, ◌≡◌, ◌≤◌}
 
 -- One list of a and one of b elements, where there was memory for those before.
 pub enough : (a b m room first longest : ℕ) → m + min 1 (a + b) ≤ 1 → (m ≡ 0 → room ≡ first) → longest ≤ first → a ≤ longest → a ≤ room

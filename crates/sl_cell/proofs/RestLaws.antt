@@ -1,10 +1,10 @@
 -- What is kept of a history beside the daemon, as it goes on.
 use Rattle.sl_cell.proofs.LeadLaws.{calls_behind}
-use Rattle.sl_cell.specs.Cells.{Goes, GoesOf, IsRest, IsWaiting, other, queue_of}
+use Rattle.sl_cell.specs.Cells.{Goes, GoesOf, IsRest, IsWaiting, queue_of}
 use Rattle.sl_cell.specs.Parts.{IsLeft, calls_of, is_of}
 use Rattle.sl_cell.specs.Seats.{SeatState}
 use Rattle.sl_book.specs.Seats.{HasSeen}
-use Rattle.sl_cell.specs.Told.{IsTaken, Took, TookAll}
+use Rattle.sl_cell.specs.Told.{IsTaken}
 use Rattle.sl_cell.specs.declared.part.Part.TheVariants.{Delta, Resource}
 use Rattle.sl_cell.specs.declared.part.Part.{Part}
 use Rattle.sl_cell.specs.declared.queue.Queue.{Queue}
@@ -15,11 +15,11 @@ use Rattle.sl_cell.proofs.HistoryLaws.{trace_last}
 use Rattle.sl_book.specs.Logs.{entries}
 use Rattle.sl_cell.specs.Histories.{Signed, trace_of}
 use Rattle.sl_trace.specs.Traces.{Setting}
-use Rattle.sl_trace.specs.WatchdogConnections.{Connection, after_move, connections}
+use Rattle.sl_trace.specs.WatchdogConnections.{after_move, connections}
 use Rattle.sl_trace.specs.declared.effects.Call.{Call}
 use Rattle.sl_trace.specs.declared.effects.Effects.{Effects}
 use Rattle.sl_trace.specs.declared.effects.Entry.{Entry}
-use Rattle.std.proofs.Common.{List, None, Option, Some, ap, ap₂, append_assoc, arith, drop, filter, fold, length, length-append, refl, slice_get, subst, suc, sym, zero, [], ℕ, ◌++◌, ◌+◌, ◌-◌, ◌<◌, ◌∙◌, ◌∷◌, ◌≡◌, ◌≤◌}
+use Rattle.std.proofs.Common.{List, None, Option, Some, ap, ap₂, append_assoc, arith, drop, filter, fold, length, length-append, refl, slice_get, subst, suc, sym, zero, [], ℕ, ◌++◌, ◌+◌, ◌-◌, ◌∙◌, ◌∷◌, ◌≡◌, ◌≤◌}
 use Rattle.std.proofs.lemmas.List.{append-nil, drop-append-le, length-drop}
 use mathlib.Core.List.{IsPrefix}
 

@@ -2,19 +2,19 @@
 use Rattle.sl_book.proofs.SeatLaws.{mine_on as mine_more}
 use Rattle.sl_cell.specs.Leads.{IsEntry}
 use Rattle.sl_cell.specs.Parts.{calls_of, is_of}
-use Rattle.sl_book.specs.Seats.{HasSeen, IsMine}
+use Rattle.sl_book.specs.Seats.{IsMine}
 use Rattle.sl_cell.specs.Seats.{SeatState}
 use Rattle.sl_cell.specs.Told.{Gave}
 use Rattle.sl_cell.specs.declared.part.Part.{Part}
 use Rattle.sl_book.proofs.Fronts.{prefix_trans}
-use Rattle.sl_book.proofs.Givens.{entries_last, entries_length, entries_prefix, given_last, given_more, given_most, given_prefix, within_last, within_more, within_whole}
-use Rattle.sl_book.specs.Logs.{IsWithin, entries, given_by}
+use Rattle.sl_book.proofs.Givens.{entries_prefix}
+use Rattle.sl_book.specs.Logs.{entries}
 use Rattle.sl_cell.specs.Histories.{Signed}
 use Rattle.sl_trace.specs.declared.effects.Call.{Call}
 use Rattle.sl_trace.specs.declared.effects.Effects.{Effects}
 use Rattle.sl_trace.specs.declared.effects.Entry.{Entry}
 use Rattle.sl_trace.specs.declared.input.Input.{Input}
-use Rattle.std.proofs.Common.{List, [], ap, append_assoc, arith, filter, length, length-append, refl, subst, sym, ℕ, ◌++◌, ◌+◌, ◌∙◌, ◌∷◌, ◌≡◌, ◌≤◌}
+use Rattle.std.proofs.Common.{List, [], ap, append_assoc, filter, refl, subst, sym, ℕ, ◌++◌, ◌+◌, ◌∙◌, ◌∷◌, ◌≡◌}
 use mathlib.Core.List.{IsPrefix}
 
 -- ---- what it gave

@@ -27,7 +27,7 @@ impl<T> Model for Blank<T> {
 }
 
 impl<T> Blank<T> {
-    /// For none.
+    /// Room for a copy of no element. It takes no memory.
     pub(crate) fn new(alloc: Global) -> Blank<T> {
         Blank {
             items: Vec::new(alloc),
@@ -52,7 +52,7 @@ impl<T> Blank<T> {
 }
 
 impl<T: Copy> Blank<T> {
-    /// A copy of these.
+    /// A copy of these elements, in room that was taken for it before.
     pub(crate) fn copy(&mut self, alloc: Global, items: &[T]) -> Seq<T>
         requires { length items.now ≤ self.old }
         ensures copy { result ≡ items.now }

@@ -31,10 +31,10 @@ use std::marker::Model;
 #[derive(Clone, Copy)]
 pub struct Broken;
 
-/// Why an input was not applied.
+/// Why an input was not applied; the cell is as before.
 #[derive(Clone, Copy)]
 pub enum NotApplied {
-    /// It answers nothing that is open.
+    /// It answers no call and no start that is open, so it may not come.
     Unasked,
     /// For want of memory, or of numbers.
     NoMemory,
@@ -242,7 +242,7 @@ impl<D: Teller, J: Station> Lead<D, J> {
         })
     }
 
-    /// The front of its history.
+    /// The front of the machine's history: all entries that there have been.
     pub(crate) fn front(&self) -> &Front<J>
         ensures { result.now ≡ self.now.history }
     {

@@ -18,7 +18,7 @@ pub(crate) struct Queue {
 }
 
 impl Queue {
-    /// None, and none was taken.
+    /// An empty queue, from which no call was taken yet. It takes no memory.
     pub(crate) fn new(alloc: Global) -> Queue
         ensures calls { result.calls.items ≡ [] }
         ensures taken { result.taken ≡ 0 }
@@ -29,7 +29,7 @@ impl Queue {
         }
     }
 
-    /// How many were taken.
+    /// How many calls were taken since the beginning.
     pub(crate) fn taken(&self) -> u64
         ensures { result ≡ self.now.taken }
     {
@@ -54,7 +54,7 @@ impl Queue {
         put_each(&mut self.calls, part, made);
     }
 
-    /// The first one is taken.
+    /// Takes the call that has waited longest, if one waits.
     pub(crate) fn next(&mut self) -> Option<Call>
         requires { self.old.taken + length self.old.calls.items < 2 ^ 64 }
         ensures { Goes self.old self.new result }

@@ -18,7 +18,7 @@ pub(crate) struct Blanks {
 }
 
 impl Blanks {
-    /// For none.
+    /// Room for copies of no reply. It takes no memory.
     pub(crate) fn new(alloc: Global) -> Blanks {
         Blanks {
             replies: Blank::new(alloc),
@@ -36,7 +36,7 @@ impl Blanks {
         self.sessions.reserve(longest)
     }
 
-    /// A copy of these.
+    /// A copy of these replies, in room that was taken for it before.
     pub(crate) fn copy(&mut self, alloc: Global, replies: &[JobReply]) -> Seq<JobReply>
         requires { (longest : ℕ) × HasRoom (length replies.now) longest self.old × AreShort longest replies.now }
         ensures { result ≡ replies.now }

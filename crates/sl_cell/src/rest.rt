@@ -25,7 +25,7 @@ pub(crate) struct Rest {
 }
 
 impl Rest {
-    /// Of no entry.
+    /// What is left over of no entry: no call, no entry to hand out, and these connections.
     pub(crate) fn new(alloc: Global, connections: Wdmd) -> Rest
         ensures connections { result.connections.connections ≡ connections.connections }
         ensures delta { (result.delta.calls.items ≡ []) × (result.delta.taken ≡ 0) }

@@ -20,7 +20,7 @@ impl Station for Brand {
 /// An entry of a history, with the number of the thread that gave its input.
 pub type Signed = sl_book::Signed<Entry>;
 
-/// The book of a history.
+/// The book of a machine's history, which is kept nowhere: it is a list in the proofs alone.
 pub type Book<J> = sl_book::Book<J, Entry>;
 
 /// A book with an empty history, which is of no machine yet.

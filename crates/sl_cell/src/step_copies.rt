@@ -3,7 +3,7 @@
 ghost use Rattle.sl_cell.specs.Copies.{AreWithin};
 ghost use Rattle.sl_cell.specs.CopyRoom.{Holds};
 ghost use Rattle.sl_world_state.specs.declared.daemon.Most.{Most};
-ghost use Rattle.std.specs.Prelude.{length, OnOk, ℕ, ◌≡◌, ◌≤◌};
+ghost use Rattle.std.specs.Prelude.{OnOk, ℕ, ◌≡◌};
 
 use crate::copies::Blank;
 use crate::reply_copies::Blanks;
@@ -24,7 +24,7 @@ pub(crate) struct Spare {
 }
 
 impl Spare {
-    /// For nothing.
+    /// Room for the copies of no step. It takes no memory.
     pub(crate) fn new(alloc: Global) -> Spare {
         Spare {
             ends: Blank::new(alloc),

@@ -6,7 +6,7 @@ use Rattle.sl_cli.proofs.BuiltCommand.{Key, has_row_for, name_of, rows_for, rule
 use Rattle.sl_cli.proofs.Letters.{Known, behind, first_char, letter_cases}
 use Rattle.sl_cli.proofs.ReaderSteps.{At, Step, action_step, by_given, doomed, doomed_at_hyphen, place_behind_option, place_in, rest, taken, turn_fails, turn_passes, value_has, value_settled, value_twice, word_cases}
 use Rattle.sl_cli.proofs.ParserTurns as turns
-use Rattle.sl_cli.proofs.ParserTurns.{Fails, Pending, Plain, after, first_fails, later_fails, turn, unsettled, values_of, walk_at}
+use Rattle.sl_cli.proofs.ParserTurns.{Pending, Plain, first_fails, turn, unsettled, values_of, walk_at}
 use Rattle.sl_cli.specs.CommandWords.{Taken, Use, behind_hyphen, next_taken, option_named, use_of, with_option, with_use, with_value, with_word}
 use Rattle.sl_words.specs.Words.{choose, is_empty}
 use Rattle.std.proofs.Common.{Bool, List, None, Option, Some, [], ap, ap₂, drop, eqb, false, inl, inr, refl, subst, sym, true, ℕ, ◌++◌, ◌==◌, ◌≡◌, ◌∙◌, ◌∷◌}

@@ -100,7 +100,7 @@ fn push_each_session(out: &mut Vec<u8>, sessions: &[SessionOf]) -> Result<(), Al
     Ok(())
 }
 
-/// Adds the sessions.
+/// Adds `ok`, and each session behind a space: lockspace, id and generation, with colons between.
 #[tactic(auto, using(crate::proofs::LineLaws::words))]
 fn push_sessions(out: &mut Vec<u8>, sessions: &[SessionOf]) -> Result<(), AllocError>
     ensures ok { OnOk result (out.new.items ≡ out.old.items ++ spaced (codes "ok" ∷ map session_word sessions.now)) }

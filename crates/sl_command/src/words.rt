@@ -6,7 +6,7 @@ ghost use Rattle.sl_command.specs.OutputLines.{KeepsFronts, counted};
 use sl_text::number::push_number;
 use std::alloc::AllocError;
 
-/// Adds a byte.
+/// Adds a byte at the end. An `Err` is want of memory; what was there stays in front.
 #[tactic(auto, using(crate::proofs::LineLaws::front_stays))]
 pub(crate) fn push_byte(out: &mut Vec<u8>, byte: u8) -> Result<(), AllocError>
     ensures ok { OnOk result (out.new.items ≡ out.old.items ++ byte ∷ []) }
@@ -16,7 +16,7 @@ pub(crate) fn push_byte(out: &mut Vec<u8>, byte: u8) -> Result<(), AllocError>
     Ok(())
 }
 
-/// Adds a number.
+/// Adds a number's decimal digits. An `Err` is want of memory; what was there stays in front.
 #[tactic(auto, using(crate::proofs::LineLaws::front_stays))]
 pub(crate) fn push_decimal(out: &mut Vec<u8>, number: u64) -> Result<(), AllocError>
     ensures ok { OnOk result (out.new.items ≡ out.old.items ++ decimal number) }
@@ -25,7 +25,7 @@ pub(crate) fn push_decimal(out: &mut Vec<u8>, number: u64) -> Result<(), AllocEr
     push_number(out, number)
 }
 
-/// Adds a number behind a space.
+/// Adds a space and a number's decimal digits. An `Err` is want of memory; what was there stays in front.
 pub fn push_behind(out: &mut Vec<u8>, number: u64) -> Result<(), AllocError>
     ensures ok { OnOk result (out.new.items ≡ out.old.items ++ 32 ∷ decimal number) }
     ensures kept { KeepsFronts out.old.items out.new.items }
@@ -55,7 +55,7 @@ pub(crate) fn push_counted(out: &mut Vec<u8>, word: &str, numbers: &[u64]) -> Re
     push_each(out, numbers)
 }
 
-/// Adds a word behind a space.
+/// Adds a space and a word. An `Err` is want of memory; what was there stays in front.
 pub fn push_word(out: &mut Vec<u8>, word: &[u8]) -> Result<(), AllocError>
     ensures ok { OnOk result (out.new.items ≡ out.old.items ++ 32 ∷ word.now) }
     ensures kept { KeepsFronts out.old.items out.new.items }
@@ -73,7 +73,7 @@ pub fn push_part(out: &mut Vec<u8>, part: &[u8]) -> Result<(), AllocError>
     push_text(out, part)
 }
 
-/// Adds a number behind a colon.
+/// Adds a colon and a number's decimal digits. An `Err` is want of memory; what was there stays in front.
 pub fn push_number_part(out: &mut Vec<u8>, number: u64) -> Result<(), AllocError>
     ensures ok { OnOk result (out.new.items ≡ out.old.items ++ 58 ∷ decimal number) }
     ensures kept { KeepsFronts out.old.items out.new.items }
@@ -82,7 +82,7 @@ pub fn push_number_part(out: &mut Vec<u8>, number: u64) -> Result<(), AllocError
     push_decimal(out, number)
 }
 
-/// Adds a text.
+/// Adds the bytes of a text. An `Err` is want of memory; what was there stays in front.
 #[tactic(auto, using(crate::proofs::LineLaws::front_stays))]
 pub fn push_text(out: &mut Vec<u8>, text: &[u8]) -> Result<(), AllocError>
     ensures ok { OnOk result (out.new.items ≡ out.old.items ++ text.now) }

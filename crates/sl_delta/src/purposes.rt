@@ -7,7 +7,7 @@ ghost use Rattle.std.specs.Prelude.{◌≡◌};
 
 use sl_trace::{JoinStep, Purpose};
 
-/// The step of a joining's call.
+/// At which step of a joining the call is; none of any other call.
 pub(crate) fn join_step_of(purpose: &Purpose) -> Option<JoinStep>
     ensures { result ≡ join_step_of purpose.now }
 {

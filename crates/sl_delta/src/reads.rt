@@ -93,7 +93,7 @@ pub(crate) fn owner_in(sector: &Image) -> Option<DeltaOwner>
 }
 
 impl OwnSector {
-    /// A record of the lease.
+    /// A delta record of this lease, with the daemon's name, the lockspace and the id; the stamp is `now`.
     pub(crate) fn record(
         &self,
         state: DeltaState,

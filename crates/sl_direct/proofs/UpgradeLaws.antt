@@ -10,13 +10,9 @@ use Rattle.sl_direct.specs.Upgrades.{AreOld, PairsUp, ReadsBlock, ReadsBlocks, R
 use Rattle.sl_direct.specs.declared.action.Action.TheVariants.{Upgrade}
 use Rattle.sl_direct.specs.declared.action.Directed.TheVariants.{AreaFault, Done, NoMemory, NotTheLeader, TornBlock, WriteFault}
 use Rattle.sl_direct.specs.declared.action.Directed.{Directed}
-use Rattle.sha2.specs.Sha256.{sha256}
 use Rattle.sl_direct.specs.Lines.{has_names}
 use Rattle.sl_sector.specs.Records.{IsBlock, IsLeader}
-use Rattle.sl_sector.specs.SectorLayouts.{Spells, block_in}
 use Rattle.sl_sector.specs.declared.sector.Bad.{Bad}
-use Rattle.sl_sector.specs.declared.sector.Rec.TheVariants.{BlockIs, DeltaIs, LeaderIs, PairIs, PairLeaderIs, RequestIs, ValueIs}
-use Rattle.sl_sector.specs.declared.sector.Rec.{Rec}
 use Rattle.sl_words.proofs.CaseLaws.{none_some, some_value}
 use Rattle.sl_words.specs.Words.{choose}
 use Rattle.sl_sector.specs.declared.sector.Block.{Block}
@@ -25,9 +21,8 @@ use Rattle.sl_trace.specs.declared.command.ResourceArg.{ResourceArg}
 use Rattle.std.proofs.Common.{Bool, Err, List, None, Ok, Option, Result, Some, [], ap, append_assoc, arith, drop, get_or, inl, inr, length, refl, subst, suc, sym, take, take-append-drop, true, false, zero, ℕ, ◌<◌, ◌+◌, ◌++◌, ◌≡◌, ◌≤◌, ◌∙◌, ◌∷◌}
 use Rattle.std.proofs.lemmas.List.{append-nil, length-replicate, take-replicate}
 use Rattle.std.proofs.lemmas.List.Elements.{All-append, All-cons, All-nil}
-use Rattle.std.proofs.lemmas.Bool.{eqb-true}
 use Rattle.std.specs.Io.KnownBytes.{Keeps}
-use Rattle.std.specs.Prelude.{IfErr, IfOk, IfSome, IsErrAnd, OnErr, OnOk, replicate, ◌&&◌, ◌==◌}
+use Rattle.std.specs.Prelude.{IfErr, IfOk, IsErrAnd, OnErr, OnOk, replicate, ◌&&◌, ◌==◌}
 
 -- ---- what was read before
 

@@ -5,7 +5,6 @@ ghost use Rattle.sl_world_state.specs.Changes.{write_sector};
 ghost use Rattle.sl_world_state.specs.KeptWorld.{sector_in};
 ghost use Rattle.sl_run.specs.Headers.{IsHeader};
 ghost use Rattle.std.specs.Arc.{arc_value};
-ghost use Rattle.std.specs.Option.{option_copied};
 ghost use Rattle.std.specs.Prelude.{IfOk, IfSome, None, [], length, map, option_map, replicate, unwrap_or, ◌≡◌};
 
 use crate::initial::initial_record;
@@ -19,7 +18,7 @@ use std::alloc::{AllocError, Global};
 use std::marker::Model;
 use std::sync::Arc;
 
-/// The disks of a header's world.
+/// The disks of a header's world, each seen as its sectors; what nobody touched takes no memory.
 #[derive(Drop)]
 pub struct Disks {
     header: Header,
@@ -165,7 +164,7 @@ impl Disks {
         })
     }
 
-    /// The header of their world.
+    /// The header whose areas stand on these disks at moment 0.
     pub fn header(&self) -> &Header
         ensures exact { result.now ≡ self.now.header }
         ensures lawful { IsHeader self.now.header }

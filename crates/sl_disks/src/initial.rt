@@ -7,12 +7,10 @@
 ghost use Rattle.sl_area.specs.AreaSizes.{layout_of};
 ghost use Rattle.sl_area.specs.AreaLayout.{area_sectors, in_area};
 ghost use Rattle.sl_area.specs.AreaRecords.{fresh_block, fresh_block_at, fresh_delta, fresh_leader, fresh_pair, leader_record, no_request, no_value};
-ghost use Rattle.sl_run.specs.Headers.{IsHeader};
 ghost use Rattle.sl_run.specs.Worlds.{clock_reading, initial_delta, initial_of_lockspace, initial_of_resource, initial_record, member_delta};
-ghost use Rattle.sl_sector.specs.Records.{IsRecord};
 ghost use Rattle.sl_disks.specs.Initial.{clock_of, line_at, resource_at, session_of};
 ghost use Rattle.std.specs.Option.{option_copied};
-ghost use Rattle.std.specs.Prelude.{IfSome, find, length, nat_lt, ◌≡◌, ◌==◌, ◌&&◌, ◌<◌, ◌≤◌, ◌+◌, bytes_eq, [], ◌*◌};
+ghost use Rattle.std.specs.Prelude.{find, ◌≡◌, ◌==◌, ◌&&◌, ◌<◌, ◌≤◌, ◌+◌, bytes_eq, [], ◌*◌};
 
 use sl_area::Geometry;
 use sl_run::{FirstReading, Header, LockspaceLine, ResourceLine, SessionLine};
@@ -212,7 +210,7 @@ fn leader_record(geometry: Geometry, leader: Leader) -> Rec
     }
 }
 
-/// The cleared request.
+/// The request of a fresh area: it asks for nothing.
 fn no_request() -> Request
     ensures { result ≡ no_request }
 {
@@ -235,7 +233,7 @@ fn no_value() -> ValueRec
     }
 }
 
-/// No byte.
+/// The bytes of a fresh value: none.
 fn no_bytes() -> Data
     ensures { result ≡ [] }
 {

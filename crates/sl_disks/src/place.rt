@@ -35,7 +35,7 @@ impl Model for Place {
 /// The unit of a disk's size.
 const MEBIBYTE: u128 = 1 << 20;
 
-/// How many sectors a call has.
+/// How many sectors an operation is on: a write's is one.
 pub fn sectors_of(op: &Op) -> u32
     ensures { result ≡ refusals.sectors_of op.now }
 {

@@ -1,10 +1,9 @@
 //! The sectors of a disk, by their numbers.
 
-ghost use Rattle.sl_disks.specs.Disks.{TableState, is_sized, is_table, kept_at, kept_on, path_at, path_if, table_with, tables_with};
+ghost use Rattle.sl_disks.specs.Disks.{TableState, kept_at, kept_on, path_at, path_if, table_with, tables_with};
 ghost use Rattle.std.specs.Arc.{arc_value};
-ghost use Rattle.std.specs.List.{list_all};
 ghost use Rattle.std.specs.Option.{option_copied};
-ghost use Rattle.std.specs.Prelude.{IfOk, IfSome, None, OnOk, Some, [], slice_get, ◌^◌, length, map, option_map, replicate, slice_set, true, ◌++◌, ◌<◌, ◌==◌, ◌∷◌, ◌≡◌};
+ghost use Rattle.std.specs.Prelude.{IfOk, IfSome, None, OnOk, Some, [], slice_get, ◌^◌, length, map, option_map, replicate, slice_set, ◌++◌, ◌<◌, ◌∷◌, ◌≡◌};
 
 use sl_sector::Image;
 use sl_text::FilePath;
@@ -12,7 +11,7 @@ use std::alloc::{AllocError, Global};
 use std::marker::Model;
 use std::sync::Arc;
 
-/// A disk's path and its sectors.
+/// A disk's path, with the sectors that somebody has touched, by their places.
 #[derive(Drop)]
 pub struct Table {
     path: FilePath,
@@ -96,7 +95,7 @@ impl Table {
     }
 }
 
-/// The tables of disks, in order.
+/// The tables of all disks, in the order of the header's lines.
 #[derive(Drop)]
 pub struct Tables {
     items: Vec<Table>,
@@ -112,7 +111,7 @@ impl Model for Tables {
 }
 
 impl Tables {
-    /// No tables.
+    /// No disk's table. It takes no memory.
     pub fn new(alloc: Global) -> Tables
         ensures { result ≡ [] }
     {
@@ -121,7 +120,7 @@ impl Tables {
         }
     }
 
-    /// What takes memory for it.
+    /// The allocator by which the tables take memory, for another list of theirs.
     pub fn allocator(&self) -> Global {
         *self.items.allocator()
     }

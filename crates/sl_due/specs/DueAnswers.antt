@@ -1,4 +1,5 @@
--- What an answer makes due, by what its call was for.
+-- What an answer makes due, by what its call was for. A call of a job that has its reply already concludes nothing (`for_job`); a call of
+-- a session that was gone before the answer neither.
 use Rattle.sl_due.specs.CarriedDelta.{after_free, after_join_answer, after_renewal, after_survey}
 use Rattle.sl_due.specs.CarriedLease.{after_lease_answer, with_command}
 use Rattle.sl_due.specs.DueRequests.{after_request_read, after_see_request, after_value_read}

@@ -1,4 +1,9 @@
 -- What a command makes due: it is decided as data on the trace before its line, its refusals in order; then the decision is carried out.
+--
+-- 1. `decided`: the first refusal that holds, else what the command comes to (`Decision`). Refusals come in this order: the session (none,
+--    joining, recovering), the process, a holding in the way or missing, a call on the area without an answer, a limit.
+-- 2. `answer_line`: a command that is answered at once is seen together with its reply.
+-- 3. `carry_decision`: any other is seen, and then what it came to is done.
 use Rattle.sl_area.specs.AreaLayout.{delta_offset, value_offset}
 use Rattle.sl_due.specs.DueRecovery.{signal_and_refuse}
 use Rattle.sl_due.specs.CarriedLease.{carry_lease, grant_for, read_area}

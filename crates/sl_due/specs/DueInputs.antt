@@ -1,4 +1,11 @@
--- What an input makes due.
+-- What an input makes due (`take_input`):
+--
+-- 1. `Line`: the command is decided and carried out (`on_line`).
+-- 2. `Number`: nothing.
+-- 3. `Answer`: what comes next of what its call was for, if the call's session was there before it (`after_answer`).
+-- 4. `Exit`: the process's holdings end or become orphans, then its jobs are refused (`on_exit`).
+-- 5. `Spawned`: the job is answered; a start that failed ends the holding, and a term goes in place of a kill program (`on_spawned`).
+-- 6. `Wake`: nothing here; `on_wake` comes afterwards.
 use Rattle.sl_due.specs.DueAnswers.{after_answer}
 use Rattle.sl_due.specs.DueCommands.{on_line}
 use Rattle.sl_due.specs.Steps.{Step, add_end, add_grant, add_reply, add_signal, for_each, seen, when, with_input, with_some}

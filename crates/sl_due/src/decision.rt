@@ -3,17 +3,17 @@
 use sl_sector::ValueRec;
 use sl_trace::{Grant, LockspaceArg, Mode, Reply, ResourceArg, Session, Spot};
 
-/// What a command comes to.
+/// What a command comes to, as data, on the trace before its line; `carry_decision` then does it.
 #[derive(Drop)]
 pub enum Decision {
-    /// It is answered at once.
+    /// It is answered at once: refused, told, or done already.
     Replies(Reply),
     /// A session of this number begins with the read of its id's sector.
     Joins {
         session: u64,
         lockspace: LockspaceArg,
     },
-    /// The session is left.
+    /// The session begins to leave: its holders are told to stop, its other jobs refused.
     Leaves(Session),
     /// Work on the lease begins with a read of the area.
     ReadsArea {
@@ -25,7 +25,7 @@ pub enum Decision {
         session: Session,
         lver: u64,
     },
-    /// The holding ends.
+    /// The holding ends; where it was the last under its lease the area is written, and the reply waits for that.
     GivesUp {
         session: Session,
         holding: Grant,
@@ -46,13 +46,13 @@ pub enum Decision {
         session: Session,
         resource: ResourceArg,
     },
-    /// The value is written.
+    /// This value, with its version, is written under an exclusive holding.
     SetsValue {
         session: Session,
         spot: Spot,
         value: ValueRec,
     },
-    /// The value is read.
+    /// The value is read under a holding.
     GetsValue {
         session: Session,
         spot: Spot,

@@ -8,10 +8,9 @@ use Rattle.sl_world_state.specs.Refusals.{refusal_in}
 use Rattle.sl_world_state.specs.SaneWorlds.{WorldStands}
 use Rattle.sl_play.specs.PlayIsOwed.{EachStood}
 use Rattle.sl_play.specs.Plays.{Begins, HasHappened, IsBarred, PlayState, StaysAs}
-use Rattle.sl_report.specs.GeneratedSchedules.{IsGenerated, candidates, draw_of, gen_event, gen_header, gen_line, next_state}
+use Rattle.sl_report.specs.GeneratedSchedules.{IsGenerated, draw_of, gen_event, gen_header, gen_line, next_state}
 use Rattle.sl_report.specs.Reports.{Counts, count_event, end_line, no_counts, run_counts}
 use Rattle.sl_run.specs.EventChanges.{happens}
-use Rattle.sl_run.specs.Refusals.{may_happen}
 use Rattle.sl_run.specs.Runs.{AfterEachFront, Happening, world_after}
 use Rattle.sl_run.specs.Worlds.{World, world_with}
 use Rattle.sl_run.specs.declared.event.Event.TheVariants.{Pass}

@@ -5,7 +5,6 @@ use Rattle.sl_area.specs.Pairs.{needs_again, pairs_kept}
 use Rattle.sl_host_state.specs.HeardInputs.{hearing, heard_answer, is_heeded_by, job_hearing, kept_heard, lease_told, member_hearing, members_hearing, quiet_hearing, setting_of, shows_other_by, turn_heard}
 use Rattle.sl_host_state.specs.KeptState.{HostState, LeaseState, MemberState}
 use Rattle.sl_host_state.specs.MadeEffects.{is_lease_on, lowered}
-use Rattle.sl_host_state.specs.HostStands.{is_kept_of}
 use Rattle.sl_host_state.specs.declared.kept_parts.JobState.{JobState}
 use Rattle.sl_host_state.specs.declared.kept_parts.OpenCall.{OpenCall}
 use Rattle.sl_host_state.specs.declared.kept_parts.WaitingCall.{WaitingCall}
@@ -16,19 +15,18 @@ use Rattle.sl_member.proofs.HostsHear.{hosts_keep_the_same}
 use Rattle.sl_member.proofs.PartsHear.{parts_hear}
 use Rattle.sl_member.proofs.LeasesByPlace.{none_changed}
 use Rattle.sl_member.proofs.SpotOrder.{spot_is, spot_past}
-use Rattle.sl_member.specs.Laws.{IsAwaited, IsWaitingFor, area_of_call, heard_by_parts, open_for}
+use Rattle.sl_member.specs.Laws.{IsAwaited, area_of_call, heard_by_parts, open_for}
 use Rattle.sl_member.specs.Leases.{AreByPlace, changed_at, first_among, first_if_second, kept_shown, read_shown}
 use Rattle.sl_member.specs.Members.{IsKnown, RunOf, lease_changed, own_told}
 use Rattle.sl_member.specs.HostMembers.{AreApart, changed_member, member_with, side_with}
 use Rattle.sl_sector.specs.declared.sector.Block.{Block}
 use Rattle.sl_sector.specs.declared.sector.Leader.{Leader}
 use Rattle.sl_sector.specs.declared.sector.PairBlock.{PairBlock}
-use Rattle.sl_trace.specs.LeaseDecisions.{asked_again, first_step, part_read, read_of_step}
+use Rattle.sl_trace.specs.LeaseDecisions.{asked_again, first_step, part_read}
 use Rattle.sl_trace.specs.declared.effects.LeaseRead.TheVariants.{OfArea, OfBlock, OfFree, OfPhase1, OfPhase2}
 use Rattle.sl_trace.specs.declared.effects.LeaseRead.{LeaseRead}
-use Rattle.sl_trace.specs.declared.effects.LeaseStep.TheVariants.{ClearMode, FreeLeader, Phase1Read, Phase1Write, Phase2Read, Phase2Write, ReadAgain, ReadArea, ReadBeforeBlock, ReadBeforeFree, SetMode, TakeLeader}
+use Rattle.sl_trace.specs.declared.effects.LeaseStep.TheVariants.{Phase1Read, Phase2Read, ReadArea, ReadBeforeBlock, ReadBeforeFree}
 use Rattle.sl_trace.specs.Sessions.{is_renewal, is_survey_purpose, shows_other_in}
-use Rattle.sl_trace.specs.declared.session.Begun.{Begun}
 use Rattle.sl_tables.specs.Jobs.{changed}
 use Rattle.sl_time.specs.Times.{fail}
 use Rattle.sl_trace.specs.Leases.{is_second, is_spot_before, lease_step}
@@ -54,7 +52,7 @@ use Rattle.std.proofs.Common.{ap, arith, refl, subst, sym, true≢false, ◌∙�
 use Rattle.std.proofs.Math.Nat.{min-eq_left, min-eq_right, min-le_left}
 use Rattle.std.specs.Cmp.{nat_eq_equiv}
 use Rattle.std.specs.List.{AllByRecursion, list_any}
-use Rattle.std.specs.Prelude.{Bool, Contains, List, None, Option, Result, Some, [], cond, false, filter, find, is_some, map, min, not, option_and_then, true, unwrap_or, ℕ, ◌&&◌, ◌+◌, ◌==◌, ◌∷◌, ◌||◌, ◌≡◌, ◌≤◌}
+use Rattle.std.specs.Prelude.{Bool, Contains, List, None, Option, Result, Some, [], cond, false, filter, find, is_some, map, min, not, option_and_then, true, unwrap_or, ℕ, ◌&&◌, ◌+◌, ◌==◌, ◌∷◌, ◌||◌, ◌≡◌}
 
 none_true : {A : Type 0} → false ≡ true → A
 none_true h = absurd (true≢false (sym h))

@@ -1,5 +1,4 @@
 -- The sessions that a host begins with, one after another.
-use Rattle.sl_host_state.specs.KeptState.{MemberState}
 use Rattle.sl_host_state.specs.MadeEffects.{with_member}
 use Rattle.sl_member.specs.Members.{RunOf, blank_member}
 use Rattle.sl_member.specs.HostMembers.{member_with}
@@ -7,7 +6,7 @@ use Rattle.sl_trace.specs.Sessions.{given_session}
 use Rattle.sl_trace.specs.declared.session.Session.{Session}
 use Rattle.sl_trace.specs.declared.input.Given.{Given}
 use Rattle.sl_host.proofs.PassNotes.{front_all, front_more}
-use Rattle.sl_host.specs.NewHosts.{MayBeGiven, members_given, sessions_given}
+use Rattle.sl_host.specs.NewHosts.{members_given, sessions_given}
 use Rattle.sl_words.proofs.CaseLaws.{none_some, some_value}
 use Rattle.sl_words.specs.Orders.{is_text_before, put_in}
 use Rattle.sl_words.specs.Words.{greatest}
@@ -16,7 +15,7 @@ use Rattle.std.proofs.lemmas.Bool.Decides.{nat_tests}
 use Rattle.std.proofs.lemmas.List.Sums.{fold-append}
 use Rattle.std.proofs.lemmas.List.{length-map, length-take}
 use Rattle.std.specs.List.{AllByRecursion, enumerate_from}
-use Rattle.std.specs.Prelude.{Bool, List, None, Some, [], cond, false, find, fold, if◌then◌else◌, length, map, max, min, slice_get, take, true, ℕ, ◌+◌, ◌++◌, ◌<◌, ◌==◌, ◌∷◌, ◌≡◌, ◌≤◌}
+use Rattle.std.specs.Prelude.{Bool, List, None, Some, [], cond, false, fold, if◌then◌else◌, length, map, max, min, slice_get, take, true, ℕ, ◌+◌, ◌++◌, ◌<◌, ◌==◌, ◌∷◌, ◌≡◌, ◌≤◌}
 
 map_end : {A B : Type 0} (f : A → B) (xs : List A) (x : A) → map f (xs ++ x ∷ []) ≡ map f xs ++ f x ∷ []
 map_end f [] x = refl

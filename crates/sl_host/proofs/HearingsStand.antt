@@ -7,7 +7,7 @@ use Rattle.sl_trace.specs.declared.command.Command.{Command}
 use Rattle.sl_host.specs.Books.{BooksState, books_counting, host_of}
 use Rattle.std.proofs.Common.{ap, arith, refl, ◌∙◌}
 use Rattle.std.specs.List.{list_any}
-use Rattle.std.specs.Prelude.{Bool, List, Result, Some, [], cond, map, min, ℕ, ◌+◌, ◌-◌, ◌∷◌, ◌≡◌}
+use Rattle.std.specs.Prelude.{List, Result, Some, [], cond, map, min, ℕ, ◌+◌, ◌-◌, ◌∷◌, ◌≡◌}
 
 one_begun : (h : HostState) (now : ℕ) (m : MemberState) → begun_by h.config.timing now h.entries m ≡ member_begun (counted now h) m
 one_begun h now m =

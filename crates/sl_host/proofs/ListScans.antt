@@ -1,7 +1,7 @@
 -- A list looked through from the front.
 use Rattle.sl_host.proofs.PassNotes.{front_more}
 use Rattle.sl_words.proofs.CaseLaws.{none_some, some_value}
-use Rattle.std.proofs.Common.{ap, arith, refl, suc, sym, zero, ◌∙◌}
+use Rattle.std.proofs.Common.{ap, suc, sym, zero, ◌∙◌}
 use Rattle.std.proofs.lemmas.List.Folds.{find-append}
 use Rattle.std.proofs.lemmas.List.{take_all}
 use Rattle.std.specs.Option.{option_or}

@@ -1,5 +1,5 @@
 -- What a read tells a member's lease is told of the lease as it has heard it: what is kept of the first of two reads stays.
-use Rattle.sl_area.specs.AreaSizes.{Layout, Sizes, layout_of}
+use Rattle.sl_area.specs.AreaSizes.{Sizes, layout_of}
 use Rattle.sl_area.specs.Pairs.{pairs_kept}
 use Rattle.sl_host.proofs.AnswersTold.{number_of, the_member}
 use Rattle.sl_host.specs.HeardAnswers.{IsTold, first_to, is_over_in, lease_heard}

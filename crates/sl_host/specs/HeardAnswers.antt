@@ -35,7 +35,7 @@ use Rattle.sl_host.specs.BookQuestions.{state_in}
 use Rattle.sl_host.specs.ReplyJoinings.{writes_in}
 use Rattle.sl_words.specs.Words.{some_is}
 use Rattle.std.specs.List.{AllByRecursion}
-use Rattle.std.specs.Prelude.{Bool, Contains, IsTrue, List, None, Option, Some, cond, false, filter, find, is_some, nat_le, not, option_and_then, true, unwrap_or, [], ℕ, ◌&&◌, ◌+◌, ◌-◌, ◌==◌, ◌≡◌}
+use Rattle.std.specs.Prelude.{Bool, Contains, IsTrue, List, None, Option, Some, cond, false, filter, find, is_some, nat_le, not, option_and_then, true, unwrap_or, [], ℕ, ◌&&◌, ◌-◌, ◌==◌, ◌≡◌}
 
 -- ---- what is asked of it
 

@@ -8,9 +8,9 @@ ghost use Rattle.sl_tables.specs.Holdings.{fits};
 ghost use Rattle.sl_trace.specs.CountLimits.{most_children, most_holders};
 ghost use Rattle.sl_trace.specs.Traces.{is_orphan, is_shared};
 ghost use Rattle.sl_host.specs.BookQuestions.{alone, held_under, sought_on};
-ghost use Rattle.sl_words.specs.Words.{choose, least};
+ghost use Rattle.sl_words.specs.Words.{least};
 ghost use Rattle.std.specs.List.{list_any};
-ghost use Rattle.std.specs.Prelude.{filter, find, length, map, nat_le, not, option_and_then, option_map, ◌%◌, ◌&&◌, ◌+◌, ◌==◌, ◌≡◌};
+ghost use Rattle.std.specs.Prelude.{filter, find, length, map, nat_le, not, option_map, ◌%◌, ◌&&◌, ◌+◌, ◌≡◌};
 
 use crate::books::Books;
 use sl_due::Decision;
@@ -119,7 +119,7 @@ impl Books {
         }
     }
 
-    /// A holding in the way refuses.
+    /// The refusal by a holding in the way: of the asking process itself, or of another in a mode that does not go with what is asked.
     pub fn busy_refused(&self, at: &Spot, asking: Option<u32>, shared: bool) -> Option<Reply>
         ensures { result ≡ busy_refused (alone self.now) at.now asking shared }
     {
@@ -164,7 +164,7 @@ impl Books {
         }
     }
 
-    /// What a `set_killpath` comes to.
+    /// What a `set_killpath` comes to: the process must be able to act, and the count of programs has a limit.
     pub fn decide_killpath(&self, process: u32) -> Decision
         ensures { result ≡ killpath_decision (alone self.now) process }
     {
@@ -197,7 +197,7 @@ impl Books {
         })
     }
 
-    /// Whether the session has an orphan.
+    /// Whether the session has an orphan: nobody could be told to give it up, so it can't be left.
     #[tactic(auto, using(crate::proofs::QuestionsStand::orphans_under))]
     pub fn has_orphan(&self, session: u64) -> bool
         ensures { result ≡ list_any is_orphan (held_under session self.now.holdings) }

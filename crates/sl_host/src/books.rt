@@ -1,11 +1,10 @@
 //! What a host keeps besides its members: its configuration, numbers and tables, and the effects of the step in progress.
 
-ghost use Rattle.sl_host_state.specs.MadeEffects.{job_calling, job_starting, names_moved};
-ghost use Rattle.sl_tables.specs.Holdings.{fits};
+ghost use Rattle.sl_host_state.specs.MadeEffects.{job_calling};
 ghost use Rattle.sl_host_state.specs.HostStands.{kept_call, kept_waiting, sectors_of};
-ghost use Rattle.sl_trace.specs.Traces.{first_child, job_of, new_call, new_child, no_effects, same_place};
-ghost use Rattle.sl_host.specs.Books.{books_answering, books_calling, books_counting, books_ending, books_exiting, books_granting, books_hearing, books_lining, books_lowering, books_moving, books_numbering, books_replying, books_signalling, books_spawning, books_starting, ended_by, lver_in, submitted_in, value_in};
-ghost use Rattle.std.specs.Prelude.{Some, cond, filter, is_some, length, map, min, not, ◌&&◌, ◌+◌, ◌++◌, ◌-◌, ◌<◌, ◌==◌, ◌^◌, ◌∷◌, ◌≡◌, ◌≤◌};
+ghost use Rattle.sl_trace.specs.Traces.{first_child, job_of, new_call};
+ghost use Rattle.sl_host.specs.Books.{books_calling, books_counting, books_ending, books_exiting, books_granting, books_lining, books_lowering, books_moving, books_numbering, books_replying, books_signalling, books_spawning, books_starting, ended_by, lver_in, submitted_in, value_in};
+ghost use Rattle.std.specs.Prelude.{Some, cond, is_some, length, map, min, ◌+◌, ◌-◌, ◌<◌, ◌^◌, ◌≡◌, ◌≤◌};
 
 use crate::buffers::Buffers;
 use sl_area::Geometry;
@@ -111,7 +110,8 @@ impl Model for Books {
         × (b.made.left ≤ b.jobs.room) × (b.jobs.next ≤ b.next_job) × (b.next_job + b.made.left < 2 ^ 64) × (b.made.left ≤ b.programs.room) };
 }
 
-/// The types within a call.
+/// The types within a call. A body that carries a call over another one names them all (`_within`, which is nothing): the borrow check
+/// refuses it where one is not named there, with a message that calls itself a fault.
 type WithinCall = (
     (
         Op,
@@ -271,7 +271,7 @@ fn ended_by(end: &End) -> Sought
 }
 
 impl Books {
-    /// One more end.
+    /// Adds an end to the step's effects; the holding that it ends is held no more. It uses one of the room.
     #[tactic(auto, using(crate::proofs::BooksStand::ends_fit))]
     pub fn end(&mut self, end: End)
         requires { 0 < self.old.left }
@@ -281,7 +281,7 @@ impl Books {
         self.made.end(end);
     }
 
-    /// One more grant.
+    /// Adds a grant to the step's effects; it is held from here on. It uses one of the room.
     pub fn grant(&mut self, grant: Grant)
         requires { 0 < self.old.left }
         ensures { self.new ≡ books_granting grant self.old }
@@ -292,7 +292,7 @@ impl Books {
         self.granted += 1;
     }
 
-    /// One more signal.
+    /// Adds a signal to the step's effects. It uses one of the room.
     pub fn signal(&mut self, sent: Sent)
         requires { 0 < self.old.left }
         ensures { self.new ≡ books_signalling sent self.old }
@@ -300,7 +300,7 @@ impl Books {
         self.made.signal(sent);
     }
 
-    /// The number of the next child.
+    /// The process number of the next child: above all that processes outside may have.
     pub fn next_child(&self) -> u32
         ensures { result ≡ first_child + self.now.started }
     {
@@ -328,7 +328,7 @@ impl Books {
         self.made.start(start);
     }
 
-    /// One more move of a connection.
+    /// Adds a move of a connection to the step's effects; it stands from here on, or no more. It uses one of the room.
     pub fn move_on(&mut self, step: Move)
         requires { 0 < self.old.left }
         ensures { self.new ≡ books_moving step self.old }
@@ -356,14 +356,14 @@ impl Books {
         self.reading
     }
 
-    /// The sessions so far.
+    /// How many sessions there have been: the number of the next one.
     pub fn born(&self) -> u64
         ensures { result ≡ self.now.born }
     {
         self.born
     }
 
-    /// The number of the next call.
+    /// The number of the next call: calls are numbered on over all steps.
     pub fn next_call(&self) -> u64
         ensures { result ≡ self.now.first_call + length self.now.made.calls }
     {
@@ -437,7 +437,7 @@ impl Books {
         }
     }
 
-    /// One more step, at this reading.
+    /// A step begins, at this reading in milliseconds.
     pub fn count(&mut self, now: u64)
         requires { self.old.entries < 2 ^ 63 }
         ensures { self.new ≡ books_counting now self.old }

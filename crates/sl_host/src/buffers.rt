@@ -17,7 +17,8 @@ use std::alloc::{AllocError, Global};
 use std::marker::Model;
 use std::mem;
 
-/// The types within a call.
+/// The types within a call. A body that carries a call over another one names them all (`_within`, which is nothing): the borrow check
+/// refuses it where one is not named there, with a message that calls itself a fault.
 type WithinCall = (
     (Op, Purpose, Work, LeaseStep, LeaseRead, JoinStep),
     (
@@ -130,7 +131,7 @@ fn reserve_three<A, B, C>(
 }
 
 impl Buffers {
-    /// No effects, and no memory.
+    /// No effects, and no room for any. It takes no memory.
     pub fn none(alloc: Global) -> Buffers
         ensures { result ≡ no_buffers }
     {
@@ -182,14 +183,14 @@ impl Buffers {
             .any(|start| is_of(start, process))
     }
 
-    /// How many calls there are.
+    /// How many calls the step has made so far.
     pub fn calls(&self) -> u64
         ensures { result ≡ length self.now.made.calls }
     {
         self.calls.len() as u64
     }
 
-    /// One more end.
+    /// Adds an end, for which there is room.
     pub fn end(&mut self, end: End)
         requires { 0 < self.old.left }
         ensures made { self.new.made ≡ record self.old.made { ends = self.old.made.ends ++ end ∷ [] } }
@@ -200,7 +201,7 @@ impl Buffers {
         self.left -= 1;
     }
 
-    /// One more signal.
+    /// Adds a signal, for which there is room.
     pub fn signal(&mut self, sent: Sent)
         requires { 0 < self.old.left }
         ensures made { self.new.made ≡ record self.old.made { signals = self.old.made.signals ++ sent ∷ [] } }
@@ -211,7 +212,7 @@ impl Buffers {
         self.left -= 1;
     }
 
-    /// One more move.
+    /// Adds a move of a connection, for which there is room.
     pub fn move_on(&mut self, step: Move)
         requires { 0 < self.old.left }
         ensures made { self.new.made ≡ record self.old.made { moves = self.old.made.moves ++ step ∷ [] } }
@@ -222,7 +223,7 @@ impl Buffers {
         self.left -= 1;
     }
 
-    /// One more grant.
+    /// Adds a grant, for which there is room.
     pub fn grant(&mut self, grant: Grant)
         requires { 0 < self.old.left }
         ensures made { self.new.made ≡ record self.old.made { grants = self.old.made.grants ++ grant ∷ [] } }
@@ -233,7 +234,7 @@ impl Buffers {
         self.left -= 1;
     }
 
-    /// One more start.
+    /// Adds a start, for which there is room.
     pub fn start(&mut self, start: Start)
         requires { 0 < self.old.left }
         ensures made { self.new.made ≡ record self.old.made { starts = self.old.made.starts ++ start ∷ [] } }
@@ -244,7 +245,7 @@ impl Buffers {
         self.left -= 1;
     }
 
-    /// One more reply.
+    /// Adds a reply, for which there is room.
     pub fn reply(&mut self, reply: JobReply)
         requires { 0 < self.old.left }
         ensures made { self.new.made ≡ record self.old.made { replies = self.old.made.replies ++ reply ∷ [] } }
@@ -255,7 +256,7 @@ impl Buffers {
         self.left -= 1;
     }
 
-    /// One more call.
+    /// Adds a call, for which there is room; calls have a count of their own.
     pub fn call(&mut self, call: Call)
         requires { 0 < self.old.calls }
         ensures made { self.new.made ≡ record self.old.made { calls = self.old.made.calls ++ call ∷ [] } }

@@ -14,7 +14,7 @@ use sl_due::Decision;
 use sl_trace::{Reply, Spot};
 
 impl Host {
-    /// The sessions so far.
+    /// How many sessions there have been: the number of the next one.
     pub fn born(&self) -> u64
         ensures { result ≡ self.now.kept.born }
     {
@@ -57,7 +57,7 @@ impl Host {
         self.books.other_at(at, process)
     }
 
-    /// Whether the session has an orphan.
+    /// Whether the session has an orphan: nobody could be told to give it up, so it can't be left.
     pub fn has_orphan(&self, session: u64) -> bool
         ensures { result ≡ list_any is_orphan (held_under session self.now.kept.holdings) }
     {
@@ -78,7 +78,7 @@ impl Host {
         self.books.is_full_of_children()
     }
 
-    /// What a `set_killpath` comes to.
+    /// What a `set_killpath` comes to: the process must be able to act, and the count of programs has a limit.
     pub fn decide_killpath(&self, process: u32) -> Decision
         ensures { result ≡ killpath_decision (state_in self.now.kept) process }
     {

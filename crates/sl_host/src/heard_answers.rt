@@ -28,7 +28,7 @@ ghost use Rattle.sl_host.specs.Host.{Becomes, SameRun};
 ghost use Rattle.sl_words.specs.Bounds.{moments};
 ghost use Rattle.std.specs.List.{list_any};
 ghost use Rattle.std.specs.Option.{option_map_or};
-ghost use Rattle.std.specs.Prelude.{IfSome, IsTrue, List, Option, cond, filter, find, is_some, length, map, min, not, option_map, true, ℕ, ◌*◌, ◌+◌, ◌<◌, ◌==◌, ◌^◌, ◌≡◌};
+ghost use Rattle.std.specs.Prelude.{IfSome, IsTrue, Option, cond, filter, find, is_some, length, map, min, not, option_map, true, ◌*◌, ◌+◌, ◌<◌, ◌==◌, ◌^◌, ◌≡◌};
 
 use crate::books::{Books, job_of};
 use crate::host::{Host, WithinCall};
@@ -121,7 +121,7 @@ impl Books {
 }
 
 impl Host {
-    /// The open call of this number.
+    /// The call of this number, if it has no answer yet.
     pub fn open_call(&self, number: u64) -> Option<&OpenCall>
         ensures { option_map (λ c. c.now) result ≡ find (λ c. c.number == number) self.now.kept.unanswered }
     {
@@ -184,7 +184,7 @@ impl Host {
         self.books.rest_until(quiet_until);
     }
 
-    /// A read of all ids failed.
+    /// A read of all ids was answered failed: nothing was seen.
     pub fn hear_no_survey(&mut self, call: &OpenCall)
         requires may { MayHear self.old.kept call.now }
         requires purpose { call.now.purpose ≡ Survey }

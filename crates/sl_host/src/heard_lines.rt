@@ -95,7 +95,7 @@ impl Books {
 }
 
 impl Host {
-    /// The number of the next job.
+    /// The number of the next line, and so of its job.
     pub fn next_job(&self) -> u64
         ensures { result ≡ self.now.kept.next_job }
     {

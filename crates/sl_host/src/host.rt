@@ -38,7 +38,8 @@ impl Model for Host {
         × (most_lockspaces ≤ h.members.most) };
 }
 
-/// The types within a call.
+/// The types within a call. A body that carries a call over another one names them all (`_within`, which is nothing): the borrow check
+/// refuses it where one is not named there, with a message that calls itself a fault.
 pub(crate) type WithinCall = (
     (
         Op,
@@ -77,7 +78,7 @@ fn part_with(members: &mut Members, step: &Move)
 }
 
 impl Host {
-    /// One more end.
+    /// The step has one more end, and what it ends is held no more. It uses one of the room.
     pub fn end(&mut self, end: End)
         requires { 0 < self.old.left }
         ensures state { Becomes self.old self.new (with_end end) }
@@ -87,7 +88,7 @@ impl Host {
         self.books.end(end);
     }
 
-    /// One more grant.
+    /// The step has one more grant, which is held from here on. It uses one of the room.
     pub fn grant(&mut self, grant: Grant)
         requires { 0 < self.old.left }
         ensures state { Becomes self.old self.new (with_grant grant) }
@@ -97,7 +98,7 @@ impl Host {
         self.books.grant(grant);
     }
 
-    /// One more signal.
+    /// The step has one more signal. It uses one of the room.
     pub fn signal(&mut self, sent: Sent)
         requires { 0 < self.old.left }
         ensures state { Becomes self.old self.new (with_signal sent.process sent.signal) }

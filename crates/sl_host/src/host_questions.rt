@@ -60,21 +60,21 @@ impl Host {
         leases_of(&self.members)
     }
 
-    /// What it is made of.
+    /// What the host is made of: times, grace, sizes, machine and name.
     pub fn config(&self) -> &Config
         ensures { result.now ≡ self.now.kept.config }
     {
         &self.books.config
     }
 
-    /// What it keeps besides its members.
+    /// All that the host keeps but its members: calls, jobs, holdings, children, connections, numbers.
     pub fn books(&self) -> &Books
         ensures { result.now ≡ books_of self.now }
     {
         &self.books
     }
 
-    /// Its members.
+    /// The sessions whose lockspaces are in use, by the lockspaces' names.
     pub fn members(&self) -> &Members
         ensures members { result.now.members ≡ self.now.kept.members }
         ensures run { result.now.run ≡ record { timing = self.now.kept.config.timing; sizes = self.now.kept.config.sizes; host = self.now.kept.config.name } }
@@ -123,7 +123,7 @@ impl Host {
         }
     }
 
-    /// Whether a lockspace's connection stands.
+    /// Whether the connection of this lockspace to the watchdog daemon stands.
     pub fn is_connected(&self, lockspace: &Name) -> bool
         ensures { result ≡ list_any (λ n. bytes_eq n lockspace.now) self.now.kept.connected }
     {
@@ -143,7 +143,7 @@ impl Host {
         self.books.held(session, at, holder, mode)
     }
 
-    /// The number of the next child.
+    /// The process number of the next child: above all that processes outside may have.
     pub fn next_child(&self) -> u32
         ensures { result ≡ first_child + self.now.kept.started }
     {

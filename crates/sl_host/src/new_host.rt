@@ -7,7 +7,7 @@ ghost use Rattle.sl_host_state.specs.KeptState.{state_of};
 ghost use Rattle.sl_host_state.specs.MadeEffects.{with_member};
 ghost use Rattle.sl_host_state.specs.NewHost.{new_host};
 ghost use Rattle.sl_member.specs.Members.{blank_member};
-ghost use Rattle.sl_member.specs.HostMembers.{MembersState, member_with};
+ghost use Rattle.sl_member.specs.HostMembers.{member_with};
 ghost use Rattle.sl_trace.specs.Sessions.{given_session};
 ghost use Rattle.sl_text.specs.Names.{is_name};
 ghost use Rattle.sl_trace.specs.CountLimits.{most_lockspaces};

@@ -25,7 +25,7 @@ impl<T> Model for Notes<T> {
 }
 
 impl<T: Drop> Notes<T> {
-    /// Nothing, with no memory.
+    /// An empty list, without room. It takes no memory.
     pub fn new(alloc: Global) -> Notes<T>
         ensures { result ≡ record { items = []; most = 0 } }
     {
@@ -48,7 +48,7 @@ impl<T: Drop> Notes<T> {
         Ok(())
     }
 
-    /// Nothing is noted any more.
+    /// Forgets all notes; their memory stays.
     pub fn clear(&mut self)
         ensures { self.new ≡ record self.old { items = [] } }
     {

@@ -4,10 +4,9 @@ ghost use Rattle.sl_host_law.specs.Questions.Jobs.{is_of_process_in};
 ghost use Rattle.sl_tables.specs.Children.{child_of};
 ghost use Rattle.sl_tables.specs.Holdings.{fits, least_holder, sought_of};
 ghost use Rattle.sl_host.specs.ChosenJobs.{chosen_among, is_chosen, names_lockspace, names_process, noted_with};
-ghost use Rattle.sl_host.specs.Notes.{NotesState};
 ghost use Rattle.sl_host.specs.NextHolder.{above, orphan_on};
 ghost use Rattle.sl_words.specs.Words.{some_is};
-ghost use Rattle.std.specs.Prelude.{bytes_eq, cond, find, is_some, length, map, option_map, slice_get, [], ◌++◌, ◌<◌, ◌==◌, ◌∷◌, ◌≡◌, ◌≤◌};
+ghost use Rattle.std.specs.Prelude.{find, is_some, length, map, option_map, slice_get, ◌<◌, ◌==◌, ◌≡◌, ◌≤◌};
 
 use crate::books::Books;
 use crate::host::Host;
@@ -26,7 +25,8 @@ pub enum Chosen {
     OfProcess { process: u32 },
 }
 
-/// The types within a job.
+/// The types within a job. A body that carries a job over a call names them all (`_within`, which is nothing): the borrow check refuses
+/// it where one is not named there, with a message that calls itself a fault.
 type WithinJob = (
     Command,
     LockspaceArg,
@@ -166,7 +166,7 @@ impl Books {
 }
 
 impl Host {
-    /// Notes the numbers of its members.
+    /// Notes the numbers of its members, by which a pass goes: members may go while it is under way.
     pub fn note_members(&self, notes: &mut Notes<u64>)
         requires { length self.now.kept.members ≤ notes.old.most }
         ensures { notes.new ≡ record notes.old { items = map (λ m. m.who.number) self.now.kept.members } }
@@ -183,7 +183,7 @@ impl Host {
         self.books.note_jobs(chosen, notes);
     }
 
-    /// The running job of this number.
+    /// The job of this number, if it runs.
     pub fn job(&self, number: u64) -> Option<&JobState>
         ensures { option_map (λ j. j.now) result ≡ find (λ j. j.number == number) self.now.kept.jobs }
     {
@@ -202,14 +202,14 @@ impl Host {
         })
     }
 
-    /// The first holding of a process.
+    /// Of the holdings of a process, the one that was granted first.
     pub fn first_of(&self, process: u32) -> Option<&Grant>
         ensures { option_map (λ g. g.now) result ≡ find (fits (sought_of process)) self.now.kept.holdings }
     {
         self.books.holdings.find(&Sought::of(process))
     }
 
-    /// The child of this number.
+    /// The child of this number, if there was one.
     pub fn child(&self, process: u32) -> Option<&ChildState>
         ensures { option_map (λ k. child_of k.now) result ≡ find (λ k. k.process == process) self.now.kept.children }
     {
@@ -223,7 +223,7 @@ impl Host {
         self.books.entries
     }
 
-    /// The reading of the step before.
+    /// The clock's reading at the step before this one, in milliseconds.
     pub fn before(&self) -> u64
         ensures { result ≡ self.now.kept.before }
     {

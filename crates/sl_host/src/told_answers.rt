@@ -20,7 +20,7 @@ ghost use Rattle.sl_host.specs.HeardAnswers.{IsTold, first_to, is_over_in, lease
 ghost use Rattle.sl_host.specs.declared.told_answers.Told.TheVariants.{Gave};
 ghost use Rattle.sl_words.specs.Bounds.{moments};
 ghost use Rattle.std.specs.List.{list_any};
-ghost use Rattle.std.specs.Prelude.{IfSome, IsTrue, List, None, Option, Some, cond, filter, find, is_some, length, map, not, option_map, slice_get, true, ℕ, ◌*◌, ◌<◌, ◌==◌, ◌^◌, ◌≡◌, ◌≤◌};
+ghost use Rattle.std.specs.Prelude.{IfSome, IsTrue, List, None, Option, Some, filter, find, is_some, length, map, not, option_map, slice_get, true, ℕ, ◌*◌, ◌<◌, ◌^◌, ◌≡◌, ◌≤◌};
 
 use sl_delta::SectorAnswer;
 use sl_host_state::OpenCall;

@@ -35,7 +35,7 @@ use Rattle.std.proofs.Common.{ap, arith, refl, subst, sym, true≢false, ◌∙�
 use Rattle.std.proofs.lemmas.Bool.Decides.{Decides-eqb}
 use Rattle.std.proofs.lemmas.List.{length-map}
 use Rattle.std.specs.Cmp.{nat_eq_equiv}
-use Rattle.std.specs.Prelude.{Bool, Err, List, None, Option, Result, Some, [], cond, drop, false, filter, find, is_some, length, map, not, option_map, true, ℕ, ◌&&◌, ◌*◌, ◌+◌, ◌==◌, ◌∷◌, ◌≡◌, ◌≤◌}
+use Rattle.std.specs.Prelude.{Bool, Err, List, None, Option, Result, Some, [], cond, false, filter, find, is_some, length, map, not, option_map, true, ℕ, ◌&&◌, ◌+◌, ◌==◌, ◌∷◌, ◌≡◌, ◌≤◌}
 
 -- ---- where a member is there, and where not
 

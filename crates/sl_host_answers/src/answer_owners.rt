@@ -26,7 +26,7 @@ pub(crate) fn session_of(host: &Host, number: u64) -> Option<Session>
     }
 }
 
-/// The area of a call.
+/// The resource's area on which the call is.
 pub(crate) fn area_of(host: &Host, call: &OpenCall) -> Spot
     ensures { result ≡ spot_in (layout_of host.now.kept.config.sizes) call.now }
 {

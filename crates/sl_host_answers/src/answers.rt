@@ -95,7 +95,7 @@ fn hear_renewed(host: &mut Host, call: &OpenCall)
     answer_renewed(host, call);
 }
 
-/// A renewal failed.
+/// The write of a renewal was answered failed: it counts for nothing.
 fn hear_not_renewed(host: &mut Host, call: &OpenCall)
     requires may { MayAnswer host.old.kept call.now Failed }
     requires purpose { call.now.purpose ≡ Renewal }
@@ -120,7 +120,7 @@ fn hear_freed(host: &mut Host, call: &OpenCall, job: u64)
     answer_freed(host, call, job);
 }
 
-/// It failed.
+/// The free of a leaving was answered failed: the leaving is over all the same.
 fn hear_not_freed(host: &mut Host, call: &OpenCall, job: u64)
     requires may { MayAnswer host.old.kept call.now Failed }
     requires purpose { call.now.purpose ≡ Leaving job }
@@ -279,7 +279,7 @@ fn hear_look<S: Sectors>(host: &mut Host, call: &OpenCall, sectors: &S)
     answer_look(host, call, sectors);
 }
 
-/// It could not.
+/// A holder's look at a request failed: nothing comes of it.
 fn hear_no_look(host: &mut Host, call: &OpenCall)
     requires may { MayAnswer host.old.kept call.now Failed }
     requires purpose { call.now.purpose ≡ SeeRequest }
@@ -447,7 +447,7 @@ fn hear_written(host: &mut Host, call: &OpenCall)
     }
 }
 
-/// A call failed.
+/// A call was answered failed, whatever it was for.
 fn hear_failed(host: &mut Host, call: &OpenCall)
     requires may { MayAnswer host.old.kept call.now Failed }
     requires left { 3 ≤ host.old.left }

@@ -81,7 +81,7 @@ fn is_member(host: &Host, number: u64) -> bool
     }
 }
 
-/// The call of a job failed.
+/// The call was answered failed: its job is refused so, if it still runs.
 pub(crate) fn job_failed(host: &mut Host, call: &OpenCall, job: u64)
     requires { 1 ≤ host.old.left }
     ensures state { Becomes host.old host.new (at_member call.now.session (λ m. answering_job job call.now Failed (λ bytes x. x) (λ x. x))) }
@@ -93,7 +93,7 @@ pub(crate) fn job_failed(host: &mut Host, call: &OpenCall, job: u64)
     }
 }
 
-/// A request of it is written.
+/// The job's request was written: it is done, if it still runs.
 pub(crate) fn job_requested(host: &mut Host, call: &OpenCall, job: u64)
     requires { 1 ≤ host.old.left }
     ensures state { Becomes host.old host.new (at_member call.now.session (λ m. answering_job job call.now Written (λ bytes x. x) (with_reply job Done))) }
@@ -105,7 +105,7 @@ pub(crate) fn job_requested(host: &mut Host, call: &OpenCall, job: u64)
     }
 }
 
-/// A value of it is written.
+/// The job's value was written: it is done, if it still runs.
 pub(crate) fn job_set(host: &mut Host, call: &OpenCall, job: u64)
     requires { 1 ≤ host.old.left }
     ensures state { Becomes host.old host.new (at_member call.now.session (λ m. answering_job job call.now Written (λ bytes x. x) (with_reply job (set_reply_in call.now)))) }
@@ -117,7 +117,7 @@ pub(crate) fn job_set(host: &mut Host, call: &OpenCall, job: u64)
     }
 }
 
-/// A value is read for it.
+/// The job's value was read: it is told, or that its sector is torn, if the job still runs.
 pub(crate) fn job_value<S: Sectors>(host: &mut Host, call: &OpenCall, job: u64, sectors: &S)
     requires left { 1 ≤ host.old.left }
     requires cut { IsTrue (S.is_cut sectors.now host.old.kept.config.sizes.sector) }

@@ -197,7 +197,7 @@ fn next_read(
     }
 }
 
-/// After a write.
+/// What comes next for the lease where this write of it was answered ok, if its work goes on.
 fn next_write(
     host: &Host,
     at: &Spot,
@@ -217,7 +217,7 @@ fn next_write(
     }
 }
 
-/// After a failure.
+/// What comes next for the lease where this call of it was answered failed, if its work goes on.
 fn next_failure(
     host: &Host,
     at: &Spot,

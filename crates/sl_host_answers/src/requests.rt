@@ -74,7 +74,7 @@ pub struct Asked {
     pub request: Option<Request>,
 }
 
-/// Both are read.
+/// Leader and request, by the two sectors that were read.
 fn asked_of<S: Sectors>(host: &Host, sectors: &S) -> Asked
     requires cut { IsTrue (S.is_cut sectors.now host.now.kept.config.sizes.sector) }
     requires two { length (S.bytes sectors.now) ≡ 2 * host.now.kept.config.sizes.sector }

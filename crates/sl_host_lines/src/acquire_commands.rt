@@ -76,7 +76,7 @@ fn limit_reached(host: &Host, member: &Member, at: &Spot, program: bool) -> Opti
     None
 }
 
-/// A limit refuses.
+/// The refusal by a limit: a count of resources, holders or children that one more would pass.
 fn limit_refused(host: &Host, member: &Member, at: &Spot, program: bool) -> Option<Reply>
     ensures { result ≡ limit_refused (state_in host.now.kept) member.now.state at.now program }
 {

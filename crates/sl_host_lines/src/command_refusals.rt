@@ -13,7 +13,7 @@ use sl_member::Member;
 use sl_text::Name;
 use sl_trace::{Reply, ResourceArg, Spot};
 
-/// The area of a resource.
+/// The area that a resource's words name.
 pub(crate) fn spot_of(resource: &ResourceArg) -> Spot
     ensures { result ≡ spot_of resource.now }
 {

@@ -132,7 +132,7 @@ fn request_refused(host: &Host, member: &Member, at: &Spot) -> Option<Reply>
     host.pending_refused(at)
 }
 
-/// What a request comes to.
+/// What a `request` comes to: it needs an active session, and no unanswered call on the area.
 pub(crate) fn decide_request(host: &Host, resource: &ResourceArg) -> Decision
     requires { resource.now.offset % host.now.kept.config.sizes.area ≡ 0 }
     ensures { result ≡ with_member (member_named (state_in host.now.kept) resource.now.lockspace) (λ m. request_in (state_in host.now.kept) m resource.now) }

@@ -113,7 +113,7 @@ pub(crate) fn request(host: &mut Host, command: &Command, session: &Session, res
     );
 }
 
-/// A value is read.
+/// The line is a job, which reads the value's sector.
 pub(crate) fn get_value(host: &mut Host, command: &Command, session: &Session, at: &Spot)
     requires left { 1 ≤ host.old.left }
     requires calls { 1 ≤ host.old.calls }
@@ -134,7 +134,7 @@ pub(crate) fn get_value(host: &mut Host, command: &Command, session: &Session, a
     );
 }
 
-/// A value is written.
+/// The line is a job, which writes this value.
 pub(crate) fn set_value(
     host: &mut Host,
     command: &Command,

@@ -128,7 +128,7 @@ fn give(host: &mut Host, number: u64, job: u64, holding: &Grant)
     }
 }
 
-/// A holding is given up.
+/// The line is a job; the holding ends, and where it was the last under its lease the area is written, else the job is answered.
 pub(crate) fn give_up(host: &mut Host, command: &Command, session: &Session, holding: &Grant)
     requires left { 5 ≤ host.old.left }
     requires calls { 1 ≤ host.old.calls }

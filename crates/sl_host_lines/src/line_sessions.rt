@@ -14,7 +14,6 @@ ghost use Rattle.sl_trace.specs.CommandForms.{IsLockspaceArg};
 ghost use Rattle.sl_trace.specs.CountLimits.{most_lockspaces};
 ghost use Rattle.sl_trace.specs.declared.command.Command.TheVariants.{AddLockspace};
 ghost use Rattle.sl_host.specs.Host.{Becomes, SameRun, Spends};
-ghost use Rattle.sl_host.specs.Notes.{NotesState};
 ghost use Rattle.std.specs.Prelude.{None, length, option_map, ℕ, ◌+◌, ◌<◌, ◌≡◌, ◌≤◌};
 
 use crate::line_answers::begin;

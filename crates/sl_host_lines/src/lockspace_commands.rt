@@ -42,7 +42,7 @@ fn joined_refused(host: &Host, lockspace: &LockspaceArg) -> Option<Reply>
     }
 }
 
-/// What an `add_lockspace` comes to.
+/// What an `add_lockspace` comes to: a new session, unless its lockspace is in use, or one more would pass the limit.
 pub(crate) fn decide_add(host: &Host, lockspace: &LockspaceArg) -> Decision
     ensures { result ≡ add_in (state_in host.now.kept) lockspace.now }
 {
@@ -106,7 +106,7 @@ fn leaves(host: &Host, member: &Member) -> Decision
     Decision::Leaves(*member.who())
 }
 
-/// What a `rem_lockspace` comes to.
+/// What a `rem_lockspace` comes to: the session leaves, unless it is not active, has an orphan, or no seq is left for its free.
 pub(crate) fn decide_leave(host: &Host, lockspace: &LockspaceArg) -> Decision
     ensures { result ≡ with_member (member_of (state_in host.now.kept) lockspace.now) (λ m. leave_in (state_in host.now.kept) m) }
 {
@@ -128,7 +128,7 @@ fn tells_generation(member: &Member) -> Decision
     })
 }
 
-/// What an `inq_lockspace` comes to.
+/// What an `inq_lockspace` comes to: the generation of an active session.
 pub(crate) fn decide_inquiry(host: &Host, lockspace: &LockspaceArg) -> Decision
     ensures { result ≡ with_member (member_of (state_in host.now.kept) lockspace.now) (λ m. report_in m (Generation m.known.generation)) }
 {

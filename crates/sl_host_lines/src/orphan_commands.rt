@@ -2,11 +2,11 @@
 
 ghost use Rattle.sl_host_lines.specs.CommandRefusals.{first_refusal, release_orphan_in, releasing_orphan, take_over_in, taking_over};
 ghost use Rattle.sl_host_law.specs.Decisions.CommandDecisions.{holds_there, member_named, member_refusal, orphan_at, pending_refused, process_refused, with_member};
-ghost use Rattle.sl_trace.specs.Traces.{is_orphan, is_shared};
+ghost use Rattle.sl_trace.specs.Traces.{is_shared};
 ghost use Rattle.sl_trace.specs.declared.reply.Reply.TheVariants.{Busy, NoOrphan};
 ghost use Rattle.sl_host.specs.BookQuestions.{state_in};
 ghost use Rattle.sl_words.specs.Words.{choose, same_truth};
-ghost use Rattle.std.specs.Prelude.{[], not, option_and_then, option_map, true, ◌%◌, ◌∷◌, ◌≡◌};
+ghost use Rattle.std.specs.Prelude.{[], not, option_and_then, option_map, ◌%◌, ◌∷◌, ◌≡◌};
 
 use crate::command_refusals::{member_named, member_refusal, spot_of};
 use crate::held_on_area::orphan;
@@ -98,7 +98,7 @@ fn passes_on(member: &Member, held: Option<Grant>) -> Decision
     }
 }
 
-/// What a take-over comes to.
+/// What a take-over of the orphan by this process comes to; it makes no call, and meets no limit.
 pub(crate) fn decide_take_over(
     host: &Host,
     resource: &ResourceArg,

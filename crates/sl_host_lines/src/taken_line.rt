@@ -12,7 +12,6 @@ ghost use Rattle.sl_trace.specs.CommandForms.{IsCommand};
 ghost use Rattle.sl_trace.specs.declared.command.LockspaceArg.{LockspaceArg};
 ghost use Rattle.sl_host.specs.BookQuestions.{state_in};
 ghost use Rattle.sl_host.specs.Host.{Becomes, SameRun, Spends};
-ghost use Rattle.sl_host.specs.Notes.{NotesState};
 ghost use Rattle.std.specs.Prelude.{Ok, length, ℕ, ◌<◌, ◌≡◌, ◌≤◌};
 
 use crate::line_answers::{answer, get_value, read_area, request, set_value};

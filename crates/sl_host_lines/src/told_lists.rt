@@ -1,6 +1,5 @@
 //! What a command comes to that tells a list: of the joined sessions, or of what each id looks like to one of them.
 
-ghost use Rattle.sl_host_lines.specs.ListMemory.{ListsState};
 ghost use Rattle.sl_host_lines.specs.CommandRefusals.{report_in};
 ghost use Rattle.sl_host_lines.specs.ToldSessions.{session_in, sessions_in, state_seen, states_in};
 ghost use Rattle.sl_due.specs.declared.decision.Decision.TheVariants.{Replies};
@@ -81,7 +80,7 @@ fn sessions_of(members: &Members, list: Vec<SessionOf>) -> Vec<SessionOf>
     sessions
 }
 
-/// What a `status` comes to.
+/// What a `status` comes to: the joined sessions, in a list that has the memory for them.
 pub(crate) fn decide_status(host: &Host, lists: Lists) -> Decision
     requires { host.now.seats ≤ lists.sessions }
     ensures { result ≡ Replies (Sessions (sessions_told (state_in host.now.kept))) }
@@ -114,7 +113,7 @@ fn tells_states(host: &Host, member: &Member, lists: Lists) -> Decision
     Decision::Replies(Reply::Hosts(Seq::new(states)))
 }
 
-/// What a `host_status` comes to.
+/// What a `host_status` comes to: what each id looks like, in a list that has the memory for it.
 pub(crate) fn decide_states(host: &Host, lockspace: &LockspaceArg, lists: Lists) -> Decision
     requires { host.now.kept.config.sizes.hosts ≤ lists.states }
     ensures { result ≡ with_member (member_of (state_in host.now.kept) lockspace.now) (λ m. report_in m (Hosts (states_told (state_in host.now.kept) m))) }

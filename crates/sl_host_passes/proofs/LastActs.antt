@@ -1,5 +1,4 @@
 -- What is found of a session that holds nothing, and what its last act leaves of what is known.
-use Rattle.sl_delta.specs.DeltaDecisions.{IsFitNext}
 use Rattle.sl_area.specs.AreaSizes.{layout_of}
 use Rattle.sl_host_law.specs.Answers.CarriedDecisions.{carrying, own_sector, writing_own}
 use Rattle.sl_host_law.specs.Decisions.CommandDecisions.{held_of}
@@ -8,14 +7,14 @@ use Rattle.sl_host_law.specs.StepParts.Wakes.{delta_in}
 use Rattle.sl_host_law.specs.Questions.Members.{has_call_open}
 use Rattle.sl_host_law.specs.Steps.Passes.{at_member, member_numbered}
 use Rattle.sl_host_passes.proofs.RunsStay.{same_config, same_reading}
-use Rattle.sl_host_passes.specs.SessionFinish.{IsLast, ending_next, freeing_next, last_next, last_of, lasting_on, may_end_at}
+use Rattle.sl_host_passes.specs.SessionFinish.{IsLast, last_next, last_of, lasting_on, may_end_at}
 use Rattle.sl_host_passes.specs.PassPremises.{FinishKnown}
 use Rattle.sl_host_state.specs.KeptState.{HostKept, HostState, MemberState}
-use Rattle.sl_host_state.specs.MadeEffects.{has_write_open, is_ended_by_move, joining_calling, known_calling, leases_calling, member_calling, next_submitted, with_call, with_move}
+use Rattle.sl_host_state.specs.MadeEffects.{has_write_open, is_ended_by_move, joining_calling, known_calling, leases_calling, member_calling, next_submitted, with_move}
 use Rattle.sl_host_work.specs.NextDecisions.{IsPlain}
 use Rattle.sl_host_work.specs.SectorPlaces.{IsPlaced}
 use Rattle.sl_member.specs.Members.{MemberKept, RunOf, delta_lease}
-use Rattle.sl_words.proofs.Lists.{find_inside, in_map, kept_inside}
+use Rattle.sl_words.proofs.Lists.{in_map, kept_inside}
 use Rattle.sl_sector.specs.Bitmaps.{no_bits}
 use Rattle.sl_sector.specs.Records.{Fits}
 use Rattle.sl_sector.specs.declared.sector.DeltaRec.{DeltaRec}
@@ -40,7 +39,7 @@ use Rattle.sl_words.specs.Bounds.{moments}
 use Rattle.sl_words.specs.Words.{is_empty, least}
 use Rattle.std.proofs.Common.{ap, arith, refl, subst, sym, ◌∙◌}
 use Rattle.std.specs.List.{list_any}
-use Rattle.std.specs.Prelude.{Bool, Contains, Err, List, None, Option, Some, [], bytes_eq, cond, false, filter, find, is_some, map, min, nat_lt, not, true, ℕ, ◌&&◌, ◌+◌, ◌<◌, ◌==◌, ◌||◌, ◌∷◌, ◌≡◌}
+use Rattle.std.specs.Prelude.{Bool, Contains, Err, List, None, Option, Some, [], bytes_eq, cond, false, filter, is_some, map, min, nat_lt, not, true, ℕ, ◌&&◌, ◌+◌, ◌<◌, ◌==◌, ◌||◌, ◌∷◌, ◌≡◌}
 
 -- ---- nothing is held
 

@@ -1,19 +1,15 @@
 -- Parts of a step that take jobs and members away and add none, and leave holdings, and spots and numbers of leases, as they are.
-use Rattle.sl_area.specs.AreaSizes.{Layout, Sizes}
+use Rattle.sl_area.specs.AreaSizes.{Layout}
 use Rattle.sl_host_law.specs.StepParts.Signals.{over}
 use Rattle.sl_host_passes.specs.PassesLessen.{IsNoMore, leases_in}
 use Rattle.sl_host_state.specs.KeptState.{HostKept, HostState, LeaseState, MemberState}
-use Rattle.sl_host_state.specs.MadeEffects.{calling, has_write_open, is_ended_by_move, is_lease_on, job_calling, job_starting, joining_calling, known_calling, leases_calling, leases_working, member_answered, member_calling, member_replying, new_lease, value_calling, with_call, with_move, with_reply, with_signal, with_start, next_submitted}
+use Rattle.sl_host_state.specs.MadeEffects.{has_write_open, is_ended_by_move, is_lease_on, job_calling, job_starting, joining_calling, known_calling, leases_calling, leases_working, member_calling, member_replying, new_lease, value_calling, with_call, with_move, with_reply, with_signal, with_start, next_submitted}
 use Rattle.sl_host_state.specs.HostStands.{is_joining, pair_of}
-use Rattle.sl_host_state.specs.declared.kept_parts.JobState.{JobState}
-use Rattle.sl_host_state.specs.declared.kept_parts.TopNumber.{TopNumber}
 use Rattle.sl_trace.specs.Leases.{is_lease_call, is_on, spot_of_call, value_written}
 use Rattle.sl_words.proofs.Lists.{contains_cases, contains_first, contains_more, contains_none}
 use Rattle.sl_words.proofs.Numbers.{refl_le, trans_le}
 use Rattle.sl_trace.specs.Sessions.{is_join_done}
-use Rattle.sl_trace.specs.declared.session.Session.{Session}
 use Rattle.sl_trace.specs.Traces.{Submitted, same_spot}
-use Rattle.sl_trace.specs.declared.effects.Grant.{Grant}
 use Rattle.sl_trace.specs.declared.effects.Move.{Move}
 use Rattle.sl_trace.specs.declared.effects.Op.{Op}
 use Rattle.sl_trace.specs.declared.effects.Purpose.{Purpose}

@@ -7,11 +7,10 @@ use Rattle.sl_host_state.specs.declared.kept_parts.JobState.{JobState}
 use Rattle.sl_host_work.proofs.ListPasses.{drop_all, drop_next}
 use Rattle.sl_member.specs.HostMembers.{AreApart}
 use Rattle.sl_words.proofs.Lists.{contains_cases, contains_none, got_inside}
-use Rattle.sl_words.proofs.Numbers.{trans_le}
-use Rattle.std.proofs.Common.{ap, arith, inl, inr, refl, subst, sym, ◌∙◌}
+use Rattle.std.proofs.Common.{ap, arith, inl, inr, refl, sym, ◌∙◌}
 use Rattle.std.proofs.lemmas.List.Sums.{fold-append}
 use Rattle.std.specs.List.{AllByRecursion}
-use Rattle.std.specs.Prelude.{Bool, Contains, List, None, Option, Some, cond, drop, false, find, flat_map, length, map, min, slice_get, true, [], ℕ, ◌++◌, ◌+◌, ◌-◌, ◌==◌, ◌^◌, ◌∷◌, ◌≡◌, ◌≤◌}
+use Rattle.std.specs.Prelude.{Contains, List, Some, cond, drop, false, find, flat_map, length, map, min, slice_get, true, [], ℕ, ◌++◌, ◌+◌, ◌-◌, ◌==◌, ◌^◌, ◌∷◌, ◌≡◌, ◌≤◌}
 
 -- ---- a pass
 

@@ -2,7 +2,7 @@
 use Rattle.sl_host_law.specs.Answers.RefusalsFollow.{refusing, timing_out}
 use Rattle.sl_host_law.specs.StepParts.Ends.{removing}
 use Rattle.sl_host_law.specs.StepParts.Recoveries.{killing, recovering_in}
-use Rattle.sl_host_law.specs.StepParts.Refusals.{signalling_and_refusing, jobs_but, numbers_of, refusing_jobs}
+use Rattle.sl_host_law.specs.StepParts.Refusals.{signalling_and_refusing, jobs_but, numbers_of}
 use Rattle.sl_host_law.specs.StepParts.Signals.{over, sending, signalling, telling}
 use Rattle.sl_host_law.specs.Questions.Jobs.{is_overdue_in, joining_in}
 use Rattle.sl_host_law.specs.Questions.Members.{holders_in}
@@ -24,7 +24,7 @@ use Rattle.sl_trace.specs.declared.reply.Reply.TheVariants.{IoTimeout, Recoverin
 use Rattle.sl_trace.specs.declared.reply.Reply.{Reply}
 use Rattle.std.proofs.Common.{refl}
 use Rattle.std.specs.List.{list_any}
-use Rattle.std.specs.Prelude.{Bool, List, None, Option, Some, bytes_eq, cond, false, length, map, not, true, ℕ, ◌&&◌, ◌+◌, ◌-◌, ◌||◌, ◌≡◌}
+use Rattle.std.specs.Prelude.{Bool, List, None, Option, Some, bytes_eq, cond, false, length, map, not, true, ℕ, ◌&&◌, ◌+◌, ◌-◌, ◌||◌}
 
 told : (p : ℕ) (h : HostState) → Lessens h (telling p h)
 told p h = by (stopper_in h p) where

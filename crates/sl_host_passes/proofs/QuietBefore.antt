@@ -12,14 +12,14 @@ use Rattle.sl_host_passes.specs.PassPremises.{BegunBefore}
 use Rattle.sl_host_state.specs.StepQuestions.{begins_in, is_kill_due_in}
 use Rattle.sl_host_state.specs.HeardInputs.{begun, counted}
 use Rattle.sl_host_state.specs.KeptState.{HostState, MemberState}
-use Rattle.sl_host_state.specs.HostStands.{IsQuiet, job_moments, kill_moment, recovery_moment}
+use Rattle.sl_host_state.specs.HostStands.{IsQuiet, kill_moment, recovery_moment}
 use Rattle.sl_host_state.specs.declared.kept_parts.JobState.{JobState}
 use Rattle.sl_host_state.specs.declared.kept_parts.WaitingCall.{WaitingCall}
 use Rattle.sl_words.proofs.Lists.{contains_first, contains_more, find_inside}
 use Rattle.sl_trace.specs.declared.session.Begun.{Begun}
 use Rattle.sl_trace.specs.declared.effects.Signal.TheVariants.{Kill}
 use Rattle.sl_trace.specs.declared.reply.Reply.TheVariants.{IoTimeout}
-use Rattle.std.proofs.Common.{ap, arith, inl, inr, refl, subst, sym, ◌∙◌}
+use Rattle.std.proofs.Common.{ap, arith, inl, inr, refl, sym, ◌∙◌}
 use Rattle.std.specs.Prelude.{Bool, Contains, List, None, Option, Some, cond, false, map, nat_le, nat_lt, not, true, [], ℕ, ◌&&◌, ◌+◌, ◌-◌, ◌<◌, ◌==◌, ◌||◌, ◌∷◌, ◌≡◌, ◌≤◌}
 
 -- A pass that does nothing at each.

@@ -2,7 +2,7 @@
 use Rattle.sl_host_law.specs.StepParts.Recoveries.{recovering_in}
 use Rattle.sl_host_law.specs.StepParts.Refusals.{replying_to}
 use Rattle.sl_host_law.specs.StepParts.Signals.{over, sending}
-use Rattle.sl_host_law.specs.Steps.Passes.{at_member, member_numbered}
+use Rattle.sl_host_law.specs.Steps.Passes.{at_member}
 use Rattle.sl_host_passes.specs.PassesLessen.{holders_among}
 use Rattle.sl_host_state.specs.StepQuestions.{begins_in, stopper_in}
 use Rattle.sl_host_state.specs.KeptState.{HostKept, HostState, MemberState}
@@ -24,7 +24,7 @@ use Rattle.sl_host.specs.ChosenJobs.{chosen_among, is_chosen}
 use Rattle.sl_host.specs.declared.passes.Chosen.TheVariants.{OfLockspace}
 use Rattle.sl_words.proofs.CaseLaws.{none_some, some_value}
 use Rattle.sl_words.specs.Words.{choose}
-use Rattle.std.proofs.Common.{ap, arith, refl, subst, sym, ◌∙◌}
+use Rattle.std.proofs.Common.{ap, arith, refl, sym, ◌∙◌}
 use Rattle.std.proofs.lemmas.Bool.{eqb-true}
 use Rattle.std.proofs.lemmas.List.{length-map, map-id}
 use Rattle.std.specs.List.{list_any}

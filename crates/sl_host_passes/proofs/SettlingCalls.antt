@@ -1,6 +1,6 @@
 -- A settling makes one call, or none, and never writes the second phase: what is known of leases stays, and no lease comes or goes.
-use Rattle.sl_area.specs.AreaSizes.{IsGeometry, Layout, Sizes, layout_of}
-use Rattle.sl_area.specs.AreaLayout.{is_base, leader_offset}
+use Rattle.sl_area.specs.AreaSizes.{Layout, Sizes, layout_of}
+use Rattle.sl_area.specs.AreaLayout.{leader_offset}
 use Rattle.sl_area.specs.AreaRecords.{leader_record}
 use Rattle.sl_host_law.proofs.Calls.MemberCalls.SpotsMore.{one_spot, spot_itself}
 use Rattle.sl_host.proofs.AnswersTold.{the_member}
@@ -9,7 +9,6 @@ use Rattle.sl_host_law.proofs.SharedFacts.PlainOrders.{put_inside}
 use Rattle.sl_host_law.proofs.Steps.AreasLie.{placed}
 use Rattle.sl_host_law.specs.Answers.LeaseDecisions.{block_at, carrying_lease, read_from, record_at, sectors_read, turn_next}
 use Rattle.sl_host_law.specs.Answers.LeasesGoOn.{IsPlacedAt}
-use Rattle.sl_host_law.specs.Answers.WakingsFollow.{settling_at}
 use Rattle.sl_host_law.specs.Decisions.CommandDecisions.{held_on, is_active_member}
 use Rattle.sl_host_law.specs.StepParts.Signals.{over}
 use Rattle.sl_host_law.specs.StepParts.Wakes.{is_free_at}
@@ -23,10 +22,9 @@ use Rattle.sl_host_passes.proofs.WakingLessens.{top_stays}
 use Rattle.sl_host_passes.specs.PassesLessen.{SameLeases, leases_at}
 use Rattle.sl_host_passes.specs.PassPremises.{AreAreas, AreKnown, HasLeases, WakeKnown, spots_of}
 use Rattle.sl_host_state.specs.KeptState.{HostKept, HostState, LeaseState, MemberState}
-use Rattle.sl_host_state.specs.MadeEffects.{ballot_calling, calling, is_lease_on, joining_calling, known_calling, lease_calling, leases_calling, leases_working, member_calling, new_lease, next_submitted, value_calling, with_call}
-use Rattle.sl_host_state.specs.declared.kept_parts.TopNumber.{TopNumber}
+use Rattle.sl_host_state.specs.MadeEffects.{ballot_calling, is_lease_on, joining_calling, known_calling, lease_calling, leases_calling, leases_working, member_calling, new_lease, next_submitted, with_call}
 use Rattle.sl_host_work.proofs.NextLaws.{settles_named}
-use Rattle.sl_host_work.specs.LeaseQuestions.{IsOwned, MayAsk}
+use Rattle.sl_host_work.specs.LeaseQuestions.{IsOwned}
 use Rattle.sl_host_work.specs.NextDecisions.{writes_own_block}
 use Rattle.sl_host_work.specs.SectorPlaces.{IsArea, IsPlaced}
 use Rattle.sl_host_work.specs.TimedWork.{MaySettle}
@@ -35,7 +33,7 @@ use Rattle.sl_lease.specs.Bounds.{IsInstance}
 use Rattle.sl_lease.specs.Side.{is_named}
 use Rattle.sl_trace.specs.Ballots.{moded_block, phase1_block}
 use Rattle.sl_trace.specs.LeaseDecisions.{LeasePlace, begin_next, owes_block, phase1_next, settle_begin, settle_next, settle_owed, within_turn}
-use Rattle.sl_trace.specs.Leases.{LeaseKnown, Phase2_write, StepKind, block_of_record, block_written, is_at, is_lease_call, is_spot_before, kind_of_step, mode_gen_of, owed, own_known, same_kind, spot_of_call}
+use Rattle.sl_trace.specs.Leases.{LeaseKnown, Phase2_write, block_of_record, block_written, is_at, is_spot_before, kind_of_step, mode_gen_of, owed, own_known, same_kind, spot_of_call}
 use Rattle.sl_trace.specs.declared.lease.Aim.TheVariants.{Settles}
 use Rattle.sl_trace.specs.declared.lease.LeaseNext.TheVariants.{AnswerJob, BecomeExclusive, BecomeShared, GrantJob, Nothing, ReadFor, WriteBlock, WriteLeader}
 use Rattle.sl_trace.specs.declared.lease.LeaseNext.{LeaseNext}
@@ -50,7 +48,7 @@ use Rattle.sl_sector.specs.declared.sector.Rec.{Rec}
 use Rattle.sl_trace.specs.declared.session.Session.{Session}
 use Rattle.sl_trace.specs.Traces.{Submitted, is_shared, record_of, same_place, same_spot}
 use Rattle.sl_trace.specs.declared.effects.Grant.{Grant}
-use Rattle.sl_trace.specs.declared.effects.LeaseStep.TheVariants.{ClearMode, FreeLeader, Phase1Write, ReadBeforeBlock, ReadBeforeFree}
+use Rattle.sl_trace.specs.declared.effects.LeaseStep.TheVariants.{ClearMode, FreeLeader, Phase1Write, ReadBeforeBlock}
 use Rattle.sl_trace.specs.declared.effects.LeaseStep.{LeaseStep}
 use Rattle.sl_trace.specs.declared.effects.Op.TheVariants.{ReadSectors, WriteRecord}
 use Rattle.sl_trace.specs.declared.effects.Op.{Op}
@@ -69,7 +67,7 @@ use Rattle.std.proofs.lemmas.Bool.{eqb-true}
 use Rattle.std.proofs.lemmas.List.{length-map}
 use Rattle.std.specs.List.{list_any}
 use Rattle.std.specs.Option.{option_map_or, option_or}
-use Rattle.std.specs.Prelude.{Bool, Contains, Err, IfSome, IsTrue, List, None, Option, Some, [], cond, false, filter, find, is_none, is_some, length, map, nat_lt, not, option_and_then, option_map, true, unwrap_or, ℕ, ◌%◌, ◌&&◌, ◌+◌, ◌-◌, ◌<◌, ◌==◌, ◌^◌, ◌∷◌, ◌≡◌, ◌≤◌, ◌⊎◌}
+use Rattle.std.specs.Prelude.{Bool, Contains, Err, IfSome, IsTrue, List, None, Option, Some, [], cond, false, filter, find, is_none, is_some, length, map, nat_lt, not, option_and_then, option_map, true, unwrap_or, ℕ, ◌%◌, ◌&&◌, ◌-◌, ◌==◌, ◌^◌, ◌∷◌, ◌≡◌, ◌≤◌, ◌⊎◌}
 
 -- ---- what a settling decides
 

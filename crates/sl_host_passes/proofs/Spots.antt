@@ -3,12 +3,11 @@ use Rattle.sl_host_passes.specs.PassesLessen.{leases_among, leases_at, leases_in
 use Rattle.sl_host_state.specs.KeptState.{LeaseState, MemberState}
 use Rattle.sl_member.specs.HostMembers.{AreApart, member_with}
 use Rattle.sl_host.proofs.PassNotes.{front_all, front_more}
-use Rattle.sl_trace.specs.declared.effects.Spot.{Spot}
 use Rattle.std.proofs.Common.{ap, arith, refl, sym, ◌∙◌}
 use Rattle.std.proofs.lemmas.List.Sums.{sum_by-cons}
 use Rattle.std.specs.List.{AllByRecursion}
 use Rattle.std.specs.Option.{option_map_or}
-use Rattle.std.specs.Prelude.{Bool, List, None, Option, Some, [], cond, false, length, map, slice_get, take, true, ℕ, ◌++◌, ◌+◌, ◌==◌, ◌∷◌, ◌≡◌, ◌≤◌}
+use Rattle.std.specs.Prelude.{Bool, List, Some, [], cond, false, length, map, slice_get, take, true, ℕ, ◌++◌, ◌+◌, ◌==◌, ◌∷◌, ◌≡◌, ◌≤◌}
 
 leases_cons : (m : MemberState) (ms : List MemberState) → leases_in (m ∷ ms) ≡ length m.leases + leases_in ms
 leases_cons m ms = sum_by-cons (λ (s : MemberState). length s.leases) m ms

@@ -12,14 +12,12 @@ use Rattle.sl_host_passes.proofs.PartsLessen.{by_refusing, by_removing}
 use Rattle.sl_host_passes.proofs.RunsStay.{same_config, same_reading}
 use Rattle.sl_host_passes.specs.PassPremises.{AreKnown, WakeKnown}
 use Rattle.sl_host_state.specs.KeptState.{HostState, LeaseState, MemberState}
-use Rattle.sl_host_state.specs.MadeEffects.{with_call, with_move, with_reply}
+use Rattle.sl_host_state.specs.MadeEffects.{with_reply}
 use Rattle.sl_host_state.specs.HostStands.{top_mbal}
-use Rattle.sl_host_state.specs.declared.kept_parts.TopNumber.{TopNumber}
 use Rattle.sl_host_work.specs.LeaseQuestions.{IsOwned}
 use Rattle.sl_host_work.specs.SectorPlaces.{IsArea, IsPlaced}
 use Rattle.sl_host_work.specs.TimedWork.{ArePlaced}
 use Rattle.sl_lease.specs.LeaseQuestions.{TopStands}
-use Rattle.sl_lease.specs.Bounds.{IsInstance}
 use Rattle.sl_words.proofs.Lists.{find_inside}
 use Rattle.sl_sector.specs.declared.sector.DeltaRec.{DeltaRec}
 use Rattle.sl_sector.specs.declared.sector.DeltaState.TheVariants.{Live}
@@ -29,8 +27,6 @@ use Rattle.sl_trace.specs.declared.delta.DeltaNext.TheVariants.{Disconnect, EndL
 use Rattle.sl_trace.specs.declared.delta.DeltaNext.{DeltaNext}
 use Rattle.sl_trace.specs.declared.session.Session.{Session}
 use Rattle.sl_time.specs.Times.{fail}
-use Rattle.sl_trace.specs.Traces.{is_shared}
-use Rattle.sl_trace.specs.declared.effects.Grant.{Grant}
 use Rattle.sl_trace.specs.declared.effects.JoinStep.TheVariants.{ClaimWrite, FirstRenewal}
 use Rattle.sl_trace.specs.declared.effects.JoinStep.{JoinStep}
 use Rattle.sl_trace.specs.declared.effects.Move.TheVariants.{Register, Renew}
@@ -42,7 +38,7 @@ use Rattle.sl_host.specs.Host.{Becomes, HostView, SameRun}
 use Rattle.sl_words.specs.Bounds.{moments}
 use Rattle.sl_words.specs.Words.{is_empty}
 use Rattle.std.proofs.Common.{ap, refl, subst, sym, ◌∙◌}
-use Rattle.std.specs.Prelude.{Bool, Contains, IsTrue, List, None, Option, Some, cond, false, is_some, not, ℕ, ◌&&◌, ◌+◌, ◌<◌, ◌==◌, ◌≡◌}
+use Rattle.std.specs.Prelude.{Contains, IsTrue, None, Some, cond, is_some, not, ℕ, ◌&&◌, ◌+◌, ◌<◌, ◌==◌, ◌≡◌}
 
 -- ---- what is done on an id's sector
 

@@ -4,7 +4,7 @@ use Rattle.sl_host.specs.ChosenJobs.{chosen_among}
 use Rattle.sl_host.specs.declared.passes.Chosen.TheVariants.{All}
 use Rattle.std.proofs.Common.{ap, refl, ◌∙◌}
 use Rattle.std.proofs.lemmas.List.{length-map}
-use Rattle.std.specs.Prelude.{List, [], length, map, ℕ, ◌∷◌, ◌≡◌}
+use Rattle.std.specs.Prelude.{List, [], length, map, ◌∷◌, ◌≡◌}
 
 pub all_chosen : (js : List JobState) → chosen_among All js ≡ map (λ j. j.number) js
 all_chosen [] = refl

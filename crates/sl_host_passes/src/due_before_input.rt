@@ -12,7 +12,6 @@ ghost use Rattle.sl_host_law.specs.Steps.StepFunction.{before_taking};
 ghost use Rattle.sl_host_passes.specs.PassesLessen.{IsNoMore, holders_among};
 ghost use Rattle.sl_host_work.specs.KilledMembers.{holders_of_all};
 ghost use Rattle.sl_host.specs.Host.{Becomes, SameRun, Spends};
-ghost use Rattle.sl_host.specs.Notes.{NotesState};
 ghost use Rattle.std.specs.Prelude.{length, ◌*◌, ◌+◌, ◌≡◌, ◌≤◌};
 
 use sl_host::{Chosen, Host, Notes};

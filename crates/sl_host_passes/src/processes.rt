@@ -10,7 +10,6 @@ ghost use Rattle.sl_tables.specs.Children.{child_of};
 ghost use Rattle.sl_trace.specs.Traces.{no_process};
 ghost use Rattle.sl_host.specs.BookQuestions.{state_in};
 ghost use Rattle.sl_host.specs.Host.{Becomes, SameRun, Spends};
-ghost use Rattle.sl_host.specs.Notes.{NotesState};
 ghost use Rattle.std.specs.Prelude.{false, length, ◌*◌, ◌+◌, ◌==◌, ◌≡◌, ◌≤◌};
 
 use sl_host::{Host, Notes};

@@ -7,7 +7,6 @@ ghost use Rattle.sl_host_state.specs.HostStands.{IsQuiet, job_moments, kill_mome
 ghost use Rattle.sl_host_work.specs.KilledMembers.{unread};
 ghost use Rattle.sl_host.specs.BookQuestions.{state_in};
 ghost use Rattle.sl_host.specs.Host.{Becomes, SameRun, Spends};
-ghost use Rattle.sl_host.specs.Notes.{NotesState};
 ghost use Rattle.std.specs.Prelude.{find, flat_map, length, min, nat_le, ◌+◌, ◌-◌, ◌==◌, ◌^◌, ◌≡◌, ◌≤◌};
 
 use sl_host::{Chosen, Host, Notes};

@@ -5,7 +5,6 @@ ghost use Rattle.sl_host_passes.specs.PassesLessen.{IsNoMore};
 ghost use Rattle.sl_host_passes.specs.PassPremises.{BeginKnown};
 ghost use Rattle.sl_host_state.specs.HeardInputs.{begun};
 ghost use Rattle.sl_host.specs.Host.{Becomes, SameMost, Spends};
-ghost use Rattle.sl_host.specs.Notes.{NotesState};
 ghost use Rattle.std.specs.Prelude.{length, ◌*◌, ◌+◌, ◌<◌, ◌≡◌, ◌≤◌};
 
 use crate::due_before_input::before_input;

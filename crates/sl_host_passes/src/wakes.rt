@@ -13,8 +13,7 @@ ghost use Rattle.sl_host_passes.specs.PassesLessen.{IsNoMore, SameLeases, leases
 ghost use Rattle.sl_host_passes.specs.PassPremises.{AreAreas, HasLeases, WakeKnown, spots_of};
 ghost use Rattle.sl_member.specs.HostMembers.{AreApart, member_with};
 ghost use Rattle.sl_host.specs.Host.{Becomes, SameRun, Spends};
-ghost use Rattle.sl_host.specs.Notes.{NotesState};
-ghost use Rattle.std.specs.Prelude.{Some, length, map, [], ◌*◌, ◌+◌, ◌≡◌, ◌≤◌};
+ghost use Rattle.std.specs.Prelude.{Some, length, map, ◌*◌, ◌+◌, ◌≡◌, ◌≤◌};
 
 use sl_host::{Host, Notes};
 use sl_host_work::{join_by_time, renew, settle};

@@ -4,7 +4,7 @@
 use sl_text::FilePath;
 use sl_trace::{Command, JoinStep, LeaseStep, Purpose, Work};
 
-/// Version and seq of a value.
+/// The version of a value that a session wrote last: the instance it was held under, and how often it was written there.
 #[derive(Clone, Copy)]
 pub struct ValuePair {
     pub lver: u64,
@@ -25,7 +25,7 @@ pub struct OpenCall {
     pub lver: u64,
     /// Those of the value that it writes: the reply tells them.
     pub value: Option<ValuePair>,
-    /// Of its submission.
+    /// The clock's reading at which it was submitted.
     pub reading: u64,
 }
 
@@ -36,7 +36,7 @@ pub struct WaitingCall {
     pub reading: u64,
 }
 
-/// A job without a reply.
+/// A job that has no reply yet: its command, its child, and the call that it waits for.
 #[derive(Clone, Copy)]
 pub struct JobState {
     pub number: u64,
@@ -60,7 +60,7 @@ pub struct LeaseCall {
     pub turn: Option<u64>,
 }
 
-/// The greatest number of an instance.
+/// The greatest number of a ballot that a lease has seen in an instance.
 #[derive(Clone, Copy)]
 pub struct TopNumber {
     pub instance: u64,

@@ -1,25 +1,24 @@
 -- Whether an input may come is asked of what is kept.
 use Rattle.sl_host_law.proofs.SharedFacts.PlainLists.{each_of, found_some}
-use Rattle.sl_host_law.proofs.Replies.Answers.AnswerFindsItsCall.{IsOr, IsTheCall, in_reversed, the_call}
+use Rattle.sl_host_law.proofs.Replies.Answers.AnswerFindsItsCall.{IsOr, in_reversed, the_call}
 use Rattle.sl_host_law.proofs.Replies.PlainNumbers.{same_number}
 use Rattle.sl_host_state.specs.KeptState.{Config, HostState}
-use Rattle.sl_host_state.specs.HostStands.{HostStands, Keeps, is_there, kept_call, sectors_of}
+use Rattle.sl_host_state.specs.HostStands.{Keeps, is_there, kept_call, sectors_of}
 use Rattle.sl_host_state.specs.declared.kept_parts.OpenCall.{OpenCall}
 use Rattle.sl_host_step.specs.ExpectedInputs.{ExpectedIs, expected_in, is_answer_of}
 use Rattle.sl_words.proofs.Lists.{any_found, any_of, contains_cases, contains_map, contains_none, find_inside, head_is, kept, kept_inside, tail_is}
-use Rattle.sl_trace.specs.Traces.{Child, Setting, Submitted, Trace, children, first_child, is_answer_for, is_expected, is_starting, outstanding, submitted}
+use Rattle.sl_trace.specs.Traces.{Child, Setting, Submitted, Trace, children, first_child, is_answer_for, is_expected, outstanding, submitted}
 use Rattle.sl_trace.specs.declared.effects.Op.TheVariants.{ReadSectors, WriteRecord}
 use Rattle.sl_trace.specs.declared.effects.Op.{Op}
 use Rattle.sl_trace.specs.declared.input.Answer.TheVariants.{Failed, Read, Written}
 use Rattle.sl_trace.specs.declared.input.Answer.{Answer}
 use Rattle.sl_trace.specs.declared.input.Input.TheVariants.{Answer as Told, Exit, Line, Number, Spawned, Wake}
-use Rattle.sl_trace.specs.declared.input.Input.{Input}
 use Rattle.sl_words.proofs.CaseLaws.{is_false, not_both}
 use Rattle.sl_words.proofs.WordLaws.{and_true}
 use Rattle.sl_words.specs.Words.{some_is}
 use Rattle.std.proofs.Common.{ap, arith, inl, inr, refl, subst, suc, sym, zero, ◌∙◌}
 use Rattle.std.proofs.lemmas.List.{reverse-reverse}
-use Rattle.std.specs.List.{list_any, range_with_len}
+use Rattle.std.specs.List.{range_with_len}
 use Rattle.std.specs.Option.{option_map_or}
 use Rattle.std.specs.Prelude.{Bool, Contains, List, None, Option, Some, cond, false, filter, find, is_none, is_some, length, map, not, reverse, true, [], ℕ, ◌&&◌, ◌*◌, ◌+◌, ◌==◌, ◌||◌, ◌≡◌, ◌≤◌, ◌⊎◌, ◌∷◌}
 

@@ -14,7 +14,6 @@ use Rattle.sl_trace.specs.declared.effects.Effects.{Effects}
 use Rattle.sl_host.specs.BookQuestions.{state_in}
 use Rattle.sl_host_state.specs.KeptState.{HostKept, HostState, state_of}
 use Rattle.sl_host_step.specs.Moments.{AllDone, AtEnd, AtInput, HasCome, IsCalmed, IsOver, StepComes, made_due}
-use Rattle.sl_host_step.specs.HostServes.{ReadsWhole}
 use Rattle.sl_trace.specs.CommandForms.{command_in, forms}
 use Rattle.sl_area.specs.AreaSizes.{layout_of}
 use Rattle.sl_trace.specs.declared.command.Command.{Command}

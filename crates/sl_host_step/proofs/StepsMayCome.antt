@@ -5,9 +5,7 @@ use Rattle.sl_area.specs.AreaSizes.{layout_of}
 use Rattle.sl_due.specs.Due.{before_input, due_step}
 use Rattle.sl_due.specs.DueWake.{is_wake, on_wake}
 use Rattle.sl_due.specs.Steps.{Step, begin_step, when}
-use Rattle.sl_host_law.specs.Steps.StepFunction.{before_taking}
-use Rattle.sl_host_state.specs.HeardInputs.{begun}
-use Rattle.sl_host_state.specs.KeptState.{HostKept, HostState, Made, MemberState, state_of}
+use Rattle.sl_host_state.specs.KeptState.{HostKept, HostState, Made, state_of}
 use Rattle.sl_host_step.specs.Moments.{AllDone, AtEnd, AtInput, StepComes}
 use Rattle.sl_host_step.specs.HostServes.{ReadsWhole}
 use Rattle.sl_step_law.proofs.DueFollows.{inputs_come}
@@ -15,15 +13,15 @@ use Rattle.sl_step_law.proofs.HostsAreReady.{hosts_are_ready}
 use Rattle.sl_step_law.proofs.LastValues.{steps_are_taken_plainly}
 use Rattle.sl_step_law.proofs.MomentsAreKnown.{moments_are_known}
 use Rattle.sl_step_law.specs.LastValues.{ComesPlainly, IsByteInput}
-use Rattle.sl_step_law.specs.Moments.{IsMoment, taken_host, taken_step}
+use Rattle.sl_step_law.specs.Moments.{IsMoment, taken_step}
 use Rattle.sl_step_law.specs.ReadyHosts.{InputComes, IsReady}
 use Rattle.sl_trace.specs.CommandForms.{command_in, forms}
 use Rattle.sl_trace.specs.Traces.{Setting, Trace, is_expected}
 use Rattle.sl_trace.specs.declared.command.Command.{Command}
 use Rattle.sl_trace.specs.declared.input.Input.TheVariants.{Wake}
 use Rattle.sl_trace.specs.declared.input.Input.{Input}
-use Rattle.std.proofs.Common.{ap, arith, refl, subst, sym, ◌∙◌}
-use Rattle.std.specs.Prelude.{Contains, IsTrue, List, Result, Some, length, slice_get, true, ℕ, ◌<◌, ◌^◌, ◌≡◌}
+use Rattle.std.proofs.Common.{ap, subst, sym, ◌∙◌}
+use Rattle.std.specs.Prelude.{List, Result, true, ℕ, ◌≡◌}
 
 -- The step comes to the state that is kept.
 pub comes_plainly : (now : ℕ) (i : Input) (k : HostKept) (c : StepComes now i k) → ComesPlainly now i (state_of c.setting.read k) c.setting c.past

@@ -1,15 +1,15 @@
 -- Whether an input may come to a host between two steps, by what it keeps.
-use Rattle.sl_area.specs.AreaSizes.{Layout, layout_of}
-use Rattle.sl_host_state.specs.KeptState.{HostKept, HostState}
+use Rattle.sl_area.specs.AreaSizes.{Layout}
+use Rattle.sl_host_state.specs.KeptState.{HostState}
 use Rattle.sl_host_state.specs.HostStands.{HostStands}
 use Rattle.sl_host_state.specs.declared.kept_parts.OpenCall.{OpenCall}
-use Rattle.sl_trace.specs.Traces.{Child, Setting, Trace, is_expected}
+use Rattle.sl_trace.specs.Traces.{Setting, Trace, is_expected}
 use Rattle.sl_trace.specs.declared.input.Answer.TheVariants.{Failed, Read, Written}
 use Rattle.sl_trace.specs.declared.input.Answer.{Answer}
 use Rattle.sl_trace.specs.declared.input.Input.TheVariants.{Answer as Told, Exit, Line, Number, Spawned, Wake}
 use Rattle.sl_trace.specs.declared.input.Input.{Input}
 use Rattle.std.specs.Option.{option_map_or}
-use Rattle.std.specs.Prelude.{Bool, List, None, Option, Some, false, find, is_none, length, true, ℕ, ◌*◌, ◌==◌, ◌≡◌}
+use Rattle.std.specs.Prelude.{Bool, false, find, is_none, length, true, ◌*◌, ◌==◌, ◌≡◌}
 
 -- Whether an answer is one to this call: as many sectors as it asks, or that its write is done; any call may fail.
 abbrev pub is_answer_of : Layout → Answer → OpenCall → Bool

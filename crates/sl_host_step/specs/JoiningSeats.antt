@@ -10,7 +10,7 @@ use Rattle.sl_trace.specs.declared.command.Command.TheVariants.{AddLockspace}
 use Rattle.sl_trace.specs.declared.command.Command.{Command}
 use Rattle.sl_host.specs.Host.{HostView}
 use Rattle.sl_host.specs.MemberRun.{run_in}
-use Rattle.std.specs.Prelude.{IsTrue, None, Option, Some, ℕ, ◌≡◌}
+use Rattle.std.specs.Prelude.{IsTrue, None, Option, Some, ◌≡◌}
 
 -- What is asked of host and command.
 pub record MayBeSeated (k : HostKept) (c : Command) : Type 0 where

@@ -17,7 +17,7 @@ use Rattle.sl_trace.specs.declared.input.Input.{Input}
 use Rattle.sl_host.specs.BookQuestions.{state_in}
 use Rattle.sl_host.specs.Host.{HostView}
 use Rattle.sl_host.specs.Books.{AreFew}
-use Rattle.std.specs.Prelude.{List, Result, cond, true, ℕ, ◌≡◌}
+use Rattle.std.specs.Prelude.{List, Result, cond, ℕ, ◌≡◌}
 
 -- A step that may come: to what is kept, which stands for some trace.
 pub record StepComes (now : ℕ) (i : Input) (k : HostKept) : Type 0 where

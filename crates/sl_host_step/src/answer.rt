@@ -11,11 +11,11 @@ ghost use Rattle.sl_host_state.specs.KeptState.{HostKept};
 ghost use Rattle.sl_host_state.specs.declared.kept_parts.OpenCall.{OpenCall as OpenCallOf};
 ghost use Rattle.sl_host_step.specs.Moments.{AtEnd, AtInput, HasStepped, StepComes};
 ghost use Rattle.sl_host_step.specs.InputReach.{reach_at};
-ghost use Rattle.sl_host_step.specs.StepMemory.{EndsWith, HasLeft, ScratchState, Suffices};
+ghost use Rattle.sl_host_step.specs.StepMemory.{EndsWith, HasLeft, Suffices};
 ghost use Rattle.sl_host_step.specs.SpareRoom.{Rests, takes_more};
 ghost use Rattle.sl_host_step.specs.AwaitedCalls.{joins_at};
 ghost use Rattle.sl_sector.specs.SectorLayouts.{IsSectorSize};
-ghost use Rattle.sl_trace.specs.declared.input.Answer.TheVariants.{Failed as FailedOf, Read as ReadOf, Written as WrittenOf};
+ghost use Rattle.sl_trace.specs.declared.input.Answer.TheVariants.{Read as ReadOf};
 ghost use Rattle.sl_trace.specs.declared.input.Input.TheVariants.{Answer as Told};
 ghost use Rattle.sl_host.specs.BookQuestions.{state_in};
 ghost use Rattle.sl_host.specs.Host.{HostView};
@@ -156,7 +156,7 @@ fn step_bytes(
     step_heard(alloc, host, scratch, now, number, Heard::Sectors(&sectors))
 }
 
-/// A step at an answer.
+/// A step at the answer of this call, at reading `now`. An `Err` is want of memory or of numbers, and changes nothing.
 pub(crate) fn step_answer(
     alloc: Global,
     host: &mut Host,

@@ -14,7 +14,7 @@ fn are_bytes(bytes: &[u8])
     let _size = bytes.len();
 }
 
-/// Of an input.
+/// What an input's answer holds are bytes.
 pub(crate) fn is_byte_input(input: &Input)
     ensures { IsByteInput input.now }
 {
@@ -32,7 +32,7 @@ pub(crate) fn is_byte_input(input: &Input)
     }
 }
 
-/// Of sectors.
+/// What sectors hold are bytes.
 #[tactic(auto, using(crate::proofs::SpelledBytes::bytes_on, crate::proofs::SpelledBytes::bytes_so))]
 pub(crate) fn are_byte_sectors(sectors: &Images)
     ensures { IsTrue (list_all (λ b. nat_lt b 256) sectors.now.bytes) }

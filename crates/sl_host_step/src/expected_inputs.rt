@@ -4,7 +4,7 @@ ghost use Rattle.sl_area.specs.AreaSizes.{layout_of};
 ghost use Rattle.sl_host_step.specs.ExpectedInputs.{expected_in, is_answer_of};
 ghost use Rattle.sl_host.specs.BookQuestions.{state_in};
 ghost use Rattle.std.specs.Option.{option_map_or};
-ghost use Rattle.std.specs.Prelude.{false, find, is_none, length, ◌*◌, ◌==◌, ◌≡◌};
+ghost use Rattle.std.specs.Prelude.{false, find, is_none, ◌*◌, ◌==◌, ◌≡◌};
 
 use sl_host::Host;
 use sl_host_state::OpenCall;
@@ -39,7 +39,7 @@ fn is_starting(host: &Host, process: u32) -> bool
     }
 }
 
-/// Whether the input may come.
+/// Whether the input may come now: it answers an open call, and fits it, or a start; any other may come at any time.
 pub(crate) fn is_expected(host: &Host, input: &Input) -> bool
     ensures { result ≡ expected_in (state_in host.now.kept) input.now }
 {

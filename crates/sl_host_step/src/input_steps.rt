@@ -2,10 +2,8 @@
 
 ghost use Rattle.sl_world_state.specs.Daemons.{read_of};
 ghost use Rattle.sl_host_step.specs.Moments.{HasStepped, StepComes};
-ghost use Rattle.sl_host_step.specs.StepMemory.{ScratchState};
 ghost use Rattle.sl_host_step.specs.AwaitedCalls.{joins_at};
 ghost use Rattle.sl_host_step.specs.SpareRoom.{Rests, takes_more};
-ghost use Rattle.sl_host.specs.Host.{HostView};
 ghost use Rattle.std.specs.Prelude.{IfOk, IsOk, OnErr, OnOk, false, true, ◌≡◌};
 
 use crate::answer::{step_answer, step_images};

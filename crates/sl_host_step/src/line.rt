@@ -7,7 +7,7 @@ ghost use Rattle.sl_host_lines.specs.Seats.{HasSeat};
 ghost use Rattle.sl_host_state.specs.KeptState.{HostKept};
 ghost use Rattle.sl_host_step.specs.Moments.{AtEnd, AtInput, HasStepped, StepComes};
 ghost use Rattle.sl_host_step.specs.InputReach.{reach_of};
-ghost use Rattle.sl_host_step.specs.StepMemory.{EndsWith, HasLeft, ScratchState, Suffices};
+ghost use Rattle.sl_host_step.specs.StepMemory.{EndsWith, HasLeft, Suffices};
 ghost use Rattle.sl_host_step.specs.declared.step_memory.Reach.TheVariants.{Few};
 ghost use Rattle.sl_host_step.specs.JoiningSeats.{HasPlace, MayBeSeated};
 ghost use Rattle.sl_host_step.specs.SpareRoom.{Rests};
@@ -178,7 +178,7 @@ fn step_command(
     step_prepared(alloc, host, scratch, now, &mut seat, lists, command)
 }
 
-/// A step at a line.
+/// A step at a line, at reading `now`. An `Err` is want of memory or of numbers, and changes nothing.
 #[tactic(auto, using(crate::proofs::LinePremises::read_command, crate::proofs::LinePremises::read_column))]
 pub(crate) fn step_line(
     alloc: Global,

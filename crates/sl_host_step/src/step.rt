@@ -5,11 +5,9 @@
 //! may be due by time, else of one with the reach of its input. The states that a step comes to are `AtInput`, `AtEnd` and `AllDone` of
 //! specs/Moments.antt; what each part asks of its host is known there, by the laws of a host's step.
 
-ghost use Rattle.sl_area.specs.AreaSizes.{layout_of};
-ghost use Rattle.sl_host_passes.specs.PassesLessen.{IsNoMore};
 ghost use Rattle.sl_host_state.specs.KeptState.{HostKept};
 ghost use Rattle.sl_host_step.specs.Moments.{AllDone, AtEnd, AtInput, HasStepped, IsCalmed, IsOver, StepComes};
-ghost use Rattle.sl_host_step.specs.StepMemory.{EndsWith, HasLeft, HasRoom, IsFarEnough, ScratchState, Suffices};
+ghost use Rattle.sl_host_step.specs.StepMemory.{EndsWith, HasLeft, HasRoom, IsFarEnough, Suffices};
 ghost use Rattle.sl_host_step.specs.declared.step_memory.Reach.TheVariants.{All, Few};
 ghost use Rattle.sl_host_step.specs.declared.step_memory.Reach.{Reach as ReachOf};
 ghost use Rattle.sl_host_step.specs.SpareRoom.{Rests};
@@ -18,7 +16,7 @@ ghost use Rattle.sl_trace.specs.declared.input.Input.TheVariants.{Exit as ExitOf
 ghost use Rattle.sl_trace.specs.declared.input.Input.{Input as InputOf};
 ghost use Rattle.sl_host.specs.Books.{AreFew};
 ghost use Rattle.sl_host.specs.Host.{HostView, SameRun};
-ghost use Rattle.std.specs.Prelude.{IfOk, IsOk, List, OnErr, OnOk, false, length, nat_le, true, ℕ, ◌*◌, ◌<◌, ◌^◌, ◌≡◌, ◌≤◌};
+ghost use Rattle.std.specs.Prelude.{IfOk, IsOk, List, OnErr, OnOk, false, nat_le, true, ℕ, ◌<◌, ◌≡◌, ◌≤◌};
 
 use crate::step_memory::{Reach, Scratch, room};
 use sl_host::Host;
@@ -187,7 +185,7 @@ pub(crate) fn start(
     Ok(is_loud)
 }
 
-/// A wake.
+/// A step on a wake, at reading `now`. An `Err` is want of memory or of numbers, and changes nothing.
 pub(crate) fn step_wake(
     alloc: Global,
     host: &mut Host,
@@ -208,7 +206,7 @@ pub(crate) fn step_wake(
     Ok(conclude(alloc, host, scratch, is_loud))
 }
 
-/// An exit.
+/// A step at the exit of a process. An `Err` is want of memory or of numbers, and changes nothing.
 pub(crate) fn step_exit(
     alloc: Global,
     host: &mut Host,
@@ -230,7 +228,7 @@ pub(crate) fn step_exit(
     Ok(conclude(alloc, host, scratch, is_loud))
 }
 
-/// The answer to a start.
+/// A step at the answer to a child's start. An `Err` is want of memory or of numbers, and changes nothing.
 pub(crate) fn step_start(
     alloc: Global,
     host: &mut Host,

@@ -14,7 +14,7 @@ ghost use Rattle.sl_host_step.specs.HostServes.{IsIdle};
 ghost use Rattle.sl_lease.specs.Reads.{HasPlaces};
 ghost use Rattle.sl_trace.specs.Traces.{no_effects};
 ghost use Rattle.sl_host.specs.BookQuestions.{leases_in};
-ghost use Rattle.std.specs.Prelude.{IfOk, IsOk, OnErr, OnOk, false, length, min, true, ◌<◌, ◌≡◌, ◌≤◌};
+ghost use Rattle.std.specs.Prelude.{IsOk, OnErr, OnOk, false, length, min, true, ◌<◌, ◌≡◌, ◌≤◌};
 
 use sl_area::Geometry;
 use sl_host::{Buffers, Host, Notes};
@@ -135,7 +135,7 @@ struct Counts {
 }
 
 impl Counts {
-    /// Of this host.
+    /// How many jobs, holdings, leases and sessions a host has.
     fn of(host: &Host) -> Counts
         ensures { result ≡ counts_of host.now }
     {
@@ -183,7 +183,7 @@ impl Counts {
         ROOM_END.min(of_tables + 4 * self.seats + 16)
     }
 
-    /// So many calls.
+    /// So many calls a step makes at most, by these counts.
     fn calls(self) -> usize
         ensures { result ≡ min room_end (calls_within self.leases self.seats) }
     {
@@ -201,7 +201,7 @@ pub(crate) fn left_for(host: &Host) -> usize
     Counts::of(host).effects()
 }
 
-/// So many calls.
+/// How many calls a step makes at most, by the leases and sessions there are.
 pub(crate) fn calls_for(host: &Host) -> usize
     ensures { result ≡ calls_for host.now }
 {

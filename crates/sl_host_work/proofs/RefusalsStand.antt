@@ -11,7 +11,7 @@ use Rattle.sl_host_state.specs.KeptState.{HostKept, HostState, MemberState}
 use Rattle.sl_host_state.specs.MadeEffects.{has_write_open, with_reply}
 use Rattle.sl_host_state.specs.declared.kept_parts.JobState.{JobState}
 use Rattle.sl_host_state.specs.declared.kept_parts.WaitingCall.{WaitingCall}
-use Rattle.sl_host_work.specs.Stops.{overdue_of, parted_with, recovering_of, refusing_by, stopped_of, stopping, stopping_cost}
+use Rattle.sl_host_work.specs.Stops.{overdue_of, parted_with, recovering_of, stopped_of, stopping, stopping_cost}
 use Rattle.sl_host_work.specs.declared.recoveries.Stopped.{Stopped}
 use Rattle.sl_trace.specs.Jobs.{lockspace_named}
 use Rattle.sl_words.proofs.Lists.{filter_both, find_inside}
@@ -22,7 +22,7 @@ use Rattle.sl_words.proofs.CaseLaws.{none_some, some_value}
 use Rattle.sl_words.specs.Words.{choose, some_is}
 use Rattle.std.proofs.Common.{ap, refl, sym, ◌∙◌}
 use Rattle.std.proofs.lemmas.Bool.{eqb-true}
-use Rattle.std.specs.Prelude.{Bool, List, None, Option, Some, bytes_eq, cond, false, filter, find, map, not, option_and_then, option_map, true, ℕ, ◌&&◌, ◌==◌, ◌≡◌}
+use Rattle.std.specs.Prelude.{Bool, List, None, Option, Some, bytes_eq, cond, false, find, map, not, option_and_then, true, ℕ, ◌==◌, ◌≡◌}
 
 -- ---- what code finds
 

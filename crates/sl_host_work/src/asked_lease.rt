@@ -76,7 +76,7 @@ fn lease_on<'a>(member: &'a Member, at: &Spot, blank: &'a Lease) -> &'a Lease
     }
 }
 
-/// What a settling does next.
+/// What a settling of the member's lease on this area does first, by what the lease owes.
 pub fn settling_next(host: &Host, member: &Member, at: &Spot) -> LeaseNext
     requires run { member.now.run.sizes ≡ host.now.kept.config.sizes }
     requires may { MayAsk (state_in host.now.kept) member.now.state at.now (kept_blocks (lease_at member.now.state at.now)) }

@@ -54,7 +54,7 @@ fn expiry(host: &Host, renewed: u64) -> u64
     renewed + host.config().timing.fail()
 }
 
-/// It is read.
+/// The own sector is read. It uses one call of the room.
 fn read_own(host: &mut Host, who: &Session, purpose: Purpose)
     requires calls { 1 ≤ host.old.calls }
     requires moment { host.old.kept.reading < moments }
@@ -73,7 +73,7 @@ fn read_own(host: &mut Host, who: &Session, purpose: Purpose)
     );
 }
 
-/// It is written.
+/// The own sector is written with this record. It uses one call of the room.
 pub(crate) fn write_own(host: &mut Host, who: &Session, purpose: Purpose, written: DeltaRec)
     requires calls { 1 ≤ host.old.calls }
     requires moment { host.old.kept.reading < moments }
@@ -250,7 +250,7 @@ fn end_leaving(host: &mut Host, who: &Session, job: u64, reply: Reply)
     }
 }
 
-/// What was decided is done.
+/// What a session's delta lease decided is done: at most one move, one reply and one call.
 pub fn carry(host: &mut Host, who: &Session, next: DeltaNext)
     requires left { 2 ≤ host.old.left }
     requires calls { 1 ≤ host.old.calls }

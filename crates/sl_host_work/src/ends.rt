@@ -13,7 +13,7 @@ use sl_host::{Host, Notes};
 use sl_text::Name;
 use sl_trace::{Grant, Move, Spot, end_of, orphan_of};
 
-/// A connection that stands is removed.
+/// The lockspace's connection is removed, if it stands.
 pub fn remove_connection(host: &mut Host, lockspace: &Name)
     requires { 1 ≤ host.old.left }
     ensures state { Becomes host.old host.new (removing lockspace.now) }

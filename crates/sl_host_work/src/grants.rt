@@ -152,7 +152,7 @@ fn held_otherwise(host: &Host, who: &Session, at: &Spot, process: u32, mode: Mod
     }
 }
 
-/// The process that a command names.
+/// The process that the command names; none where its words have none.
 pub fn process_named(command: &Command) -> Option<u32>
     ensures { result ≡ process_named command.now }
 {
@@ -235,7 +235,7 @@ pub(crate) fn grant_job(host: &mut Host, who: &Session, work: &Work, mode: Mode,
     }
 }
 
-/// The job is answered.
+/// The job that the work is for has this reply; a settling has no job.
 pub(crate) fn answer_job(host: &mut Host, work: &Work, reply: Reply)
     requires left { 1 ≤ host.old.left }
     requires plain { is_join_done reply ≡ false }

@@ -4,8 +4,7 @@
 ghost use Rattle.sl_area.specs.AreaSizes.{layout_of};
 ghost use Rattle.sl_area.specs.AreaLayout.{block_offset, block_place};
 ghost use Rattle.sl_area.specs.AreaRecords.{block_record, leader_record};
-ghost use Rattle.sl_host_law.specs.Answers.LeaseDecisions.{block_at, carrying_lease, read_from, reading, record_at, sectors_read, turn_next, writing_block, writing_leader};
-ghost use Rattle.sl_host_law.specs.Steps.Leases.{lease_at};
+ghost use Rattle.sl_host_law.specs.Answers.LeaseDecisions.{block_at, carrying_lease, read_from, reading, record_at, sectors_read, writing_block, writing_leader};
 ghost use Rattle.sl_host_law.specs.Steps.Passes.{member_numbered};
 ghost use Rattle.sl_host_work.specs.LeaseQuestions.{IsTurned};
 ghost use Rattle.sl_host_state.specs.KeptState.{MemberState};

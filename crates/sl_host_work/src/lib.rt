@@ -1,8 +1,10 @@
-//! What a host does with what was decided, as code: each function here is one of the functions of `sl_host_law` on a host's state, over its effects.
+//! What a host does with what was decided, as code: each function here is one of the functions of `sl_host_law` on a host's state, over
+//! its effects. Room for these was taken before, so none of it can fail; each clause tells how much room it uses at most.
 //!
-//! `delta` carries what the holder of an id's sector is to do. `asked_lease` is what a lease does next, `lease_work` carries it, with the grants of
-//! `grants`. `wakings` has what is due to a session by time. `signals`, `refusals`, `recoveries` and `ends` have recoveries, kills, refused joinings and
-//! the ends of holdings.
+//! - `delta`: what the holder of an id's sector is to do (`DeltaNext`): a call, a move of its connection, a reply.
+//! - `asked_lease`: what a lease does next (`LeaseNext`); `lease_work` carries it out, with the grants and conversions of `grants`.
+//! - `wakings`: what time makes due to one session: its joining, its renewal, its settlings, its end.
+//! - `recoveries`, `signals`, `refusals`, `ends`: recoveries and kills, who is told to stop, which jobs are refused, which holdings end.
 #![tactic(auto)]
 
 mod asked_lease;

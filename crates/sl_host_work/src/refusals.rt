@@ -13,7 +13,6 @@ ghost use Rattle.sl_host_work.specs.RefusalReplies.{reply_of};
 ghost use Rattle.sl_trace.specs.Sessions.{is_join_done};
 ghost use Rattle.sl_host.specs.ChosenJobs.{chosen_among};
 ghost use Rattle.sl_host.specs.Host.{Becomes, SameRun, Spends};
-ghost use Rattle.sl_host.specs.Notes.{NotesState};
 ghost use Rattle.sl_host.specs.declared.passes.Chosen.TheVariants.{OfLockspace, OfProcess};
 ghost use Rattle.sl_words.specs.Words.{some_is};
 ghost use Rattle.std.specs.Prelude.{Some, false, find, length, ◌+◌, ◌==◌, ◌≡◌, ◌≤◌};
@@ -58,7 +57,7 @@ fn refuse_noted(host: &mut Host, numbers: &Notes<u64>, refusal: Refusal)
     }
 }
 
-/// Those jobs are refused.
+/// The running jobs that were chosen are refused, by number, each with this refusal's reply.
 pub fn refuse_chosen(host: &mut Host, numbers: &mut Notes<u64>, chosen: &Chosen, refusal: Refusal)
     requires room { length host.old.kept.jobs ≤ numbers.old.most }
     requires left { length (chosen_among chosen.now host.old.kept.jobs) ≤ host.old.left }

@@ -1,6 +1,6 @@
 //! Signals to holders: a process whose kill program is set has it started in place of a term.
 
-ghost use Rattle.sl_host_law.specs.StepParts.Signals.{over, sending, telling};
+ghost use Rattle.sl_host_law.specs.StepParts.Signals.{sending, telling};
 ghost use Rattle.sl_host_work.specs.Holders.{SameButSignals, holders_under, signalling_all};
 ghost use Rattle.sl_host.specs.Host.{Becomes, SameRun, Spends};
 ghost use Rattle.std.specs.Prelude.{length, ◌-◌, ◌<◌, ◌≡◌, ◌≤◌};
@@ -8,7 +8,7 @@ ghost use Rattle.std.specs.Prelude.{length, ◌-◌, ◌<◌, ◌≡◌, ◌≤�
 use sl_host::Host;
 use sl_trace::{Sent, Signal, Start};
 
-/// A process is told to stop.
+/// A process is told to stop: by its kill program, as a child, or else by a term.
 pub fn tell(host: &mut Host, process: u32)
     requires { 0 < host.old.left }
     ensures state { Becomes host.old host.new (telling process) }

@@ -27,7 +27,7 @@ pub fn lockspaces_are_areas()
     ensures { LockspacesAreAreas }
 {}
 
-/// A joined session stays so.
+/// A joined session stays joined in the state of its id, to the end of the run.
 pub fn joined_stays()
     ensures { JoinedStays }
 {}

@@ -27,7 +27,7 @@ pub fn one_is_over()
     ensures { OneIsOver }
 {}
 
-/// Over is final.
+/// Over is final: a session of an id that is over stays so, whatever comes.
 pub fn over_is_final()
     ensures { OverIsFinal }
 {}
@@ -37,7 +37,7 @@ pub fn evidence_means_over()
     ensures { EvidenceMeansOver }
 {}
 
-/// A generation names one joined session.
+/// A generation names one joined session of an id, so evidence against it is evidence against that session.
 pub fn generation_names_one()
     ensures { GenerationNamesOne }
 {}
@@ -59,7 +59,7 @@ pub fn nobody_else_writes()
 
 // ---- the invariant, for an induction of the world's own
 
-/// The invariant holds at a start.
+/// The invariant holds where every session of an id has done nothing, or is joined with its record there.
 pub fn start_holds()
     ensures { StartHolds }
 {}
@@ -89,7 +89,7 @@ pub fn quiet_keeps()
     ensures { QuietKeeps }
 {}
 
-/// Each step keeps it.
+/// Each step of an id keeps the invariant.
 pub fn step_keeps()
     ensures { StepKeeps }
 {}
@@ -158,7 +158,7 @@ pub fn shorter_silence_fails()
     ensures { ShorterSilenceFails }
 {}
 
-/// Counterexample: the silence of a claim.
+/// Counterexample: the silence of a claim taken for evidence, though its writer may still join.
 #[tactic(auto, using(crate::proofs::ExampleRuns::silent_claim))]
 pub fn silent_claim_fails()
     ensures { SilentClaimFails }

@@ -27,14 +27,14 @@ impl Model for FaultCount {
 }
 
 impl FaultCount {
-    /// No fault yet.
+    /// A count at 0.
     pub fn new() -> FaultCount
         ensures { result ≡ 0 }
     {
         FaultCount { count: 0 }
     }
 
-    /// The faults so far.
+    /// How many faults were counted; it never falls.
     pub fn get(&self) -> u64
         ensures { result ≡ self.now }
     {

@@ -56,14 +56,14 @@ impl MemSink {
         })
     }
 
-    /// The bytes taken.
+    /// The bytes taken so far, in the order in which they came.
     pub fn taken(&self) -> &[u8]
         ensures { result.now ≡ self.now.taken }
     {
         &self.taken
     }
 
-    /// The bytes taken.
+    /// The bytes taken, and the end of the sink.
     pub fn into_taken(self) -> Vec<u8>
         ensures { result.items ≡ self.taken }
     {
@@ -77,7 +77,7 @@ impl MemSink {
         self.room
     }
 
-    /// The faults so far.
+    /// How many writes have failed, each as it was planned.
     pub fn faults(&self) -> u64
         ensures { result ≡ self.now.calls.faults }
     {

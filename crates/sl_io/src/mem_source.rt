@@ -14,7 +14,7 @@ use crate::planned::PlannedFaults;
 use crate::source::Source;
 use std::marker::Model;
 
-/// Bytes in memory, read in pieces.
+/// Bytes in memory, which come in pieces of planned lengths, with reads that fail as planned.
 #[derive(Drop)]
 pub struct MemSource {
     bytes: Vec<u8>,
@@ -68,14 +68,14 @@ impl MemSource {
         }
     }
 
-    /// The bytes left.
+    /// The bytes that were not read yet.
     pub fn left(&self) -> &[u8]
         ensures { result.now ≡ self.now.left }
     {
         &self.bytes[self.at..]
     }
 
-    /// The faults so far.
+    /// How many reads have failed, each as it was planned.
     pub fn faults(&self) -> u64
         ensures { result ≡ self.now.calls.faults }
     {

@@ -70,7 +70,7 @@ impl PlannedFaults {
         self.made
     }
 
-    /// The faults so far.
+    /// How many calls have failed: those that were planned, and those that were raised beside them.
     pub fn faults(&self) -> u64
         ensures { result ≡ self.now.faults }
     {

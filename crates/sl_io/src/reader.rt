@@ -25,7 +25,7 @@ impl<R: Read> ReadSource<R> {
         }
     }
 
-    /// The faults so far.
+    /// How many reads have failed so far, but for interrupted ones, which are tried again.
     pub fn faults(&self) -> u64
         ensures { result ≡ reader_faults self.now }
     {

@@ -11,7 +11,7 @@ pub trait Sink {
     /// The bytes taken so far, where the sink tells them. One over the outside tells none.
     ghost taken: { Self → Option (List ℕ) } = { λ _. None };
 
-    /// The faults so far.
+    /// How many writes have failed so far; it never falls. A write answers `Failed` only where it rose.
     ghost faults: { Self → ℕ };
 
     /// Takes bytes from the front of the piece, and answers how many: at least one, if there is one, and never more than there are. A

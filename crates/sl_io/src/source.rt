@@ -11,7 +11,7 @@ pub trait Source {
     /// The bytes left, where the source tells them. One over the outside tells none.
     ghost left: { Self → Option (List ℕ) } = { λ _. None };
 
-    /// The faults so far.
+    /// How many reads have failed so far; it never falls. A read answers `Failed` only where it rose.
     ghost faults: { Self → ℕ };
 
     /// Reads the next bytes into the front of the buffer, and answers how many. 0 for a buffer that isn't empty is the end: where the

@@ -29,7 +29,7 @@ impl<W: Write> WriteSink<W> {
         }
     }
 
-    /// The faults so far.
+    /// How many writes and flushes have failed so far, but for interrupted ones, which are tried again.
     pub fn faults(&self) -> u64
         ensures { result ≡ writer_faults self.now }
     {

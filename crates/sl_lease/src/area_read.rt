@@ -3,7 +3,7 @@
 //! The leader, then its names, then the blocks are looked at, and the first that isn't right refuses. A torn block may hide a later
 //! instance, so an acquire begins none beside it. Where all is right, the leader and the blocks tell which instance begins, or who holds
 //! the resource.
-ghost use Rattle.sl_lease.specs.LeaseQuestions.{TopStands, area_asked, owner_over, top_beside};
+ghost use Rattle.sl_lease.specs.LeaseQuestions.{area_asked, owner_over, top_beside};
 ghost use Rattle.sl_lease.specs.Bounds.{IsRead};
 ghost use Rattle.sl_lease.specs.Side.{known_with, place_of};
 ghost use Rattle.sl_lease.specs.Steps.{IsFitNext};

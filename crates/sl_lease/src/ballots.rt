@@ -14,7 +14,7 @@ ghost use Rattle.sl_trace.specs.Leases.{shared_elsewhere};
 ghost use Rattle.sl_trace.specs.declared.lease.LeaseNext.TheVariants.{WriteLeader};
 ghost use Rattle.sl_sector.specs.declared.sector.Block.{Block};
 ghost use Rattle.sl_words.specs.Words.{present, some_is};
-ghost use Rattle.std.specs.Prelude.{Bool, IsTrue, List, Option, find, length, ℕ, ◌<◌, ◌^◌, ◌≡◌};
+ghost use Rattle.std.specs.Prelude.{Bool, IsTrue, List, Option, find, ℕ, ◌<◌, ◌≡◌};
 
 use crate::kept_changes::is_ahead;
 use crate::lease::Lease;
@@ -177,7 +177,7 @@ impl Lease {
         }
     }
 
-    /// After the read of phase 1.
+    /// What is decided where the read of phase 1 is answered, by these blocks and what stops the ballot in them, if anything.
     pub(crate) fn after_phase1<E: Evidence>(
         &self,
         side: &Side,
@@ -286,7 +286,7 @@ impl Lease {
         }
     }
 
-    /// After the read of phase 2.
+    /// What is decided where the read of phase 2 is answered, by these blocks and what stops the ballot in them, if anything.
     pub(crate) fn after_phase2<E: Evidence>(
         &self,
         side: &Side,

@@ -5,13 +5,13 @@
 //! the run's hosts (`Blocks`), takes it at the start, and writes each read's blocks over it: a read takes no memory. With pairs there is a
 //! list of these too, and one stands by that a lease keeps of a first read until its second is answered.
 
-ghost use Rattle.sl_area.specs.AreaSizes.{IsGeometry, Layout, Sizes, layout_of, program_digest};
+ghost use Rattle.sl_area.specs.AreaSizes.{Layout, Sizes, layout_of, program_digest};
 ghost use Rattle.sl_area.specs.AreaLayout.{leader_of, leader_spelled, read_at};
 ghost use Rattle.sl_area.specs.Pairs.{pair_back, pair_front, pairs_kept};
 ghost use Rattle.sl_host_state.specs.HeardInputs.{is_area_step, turn_heard};
 ghost use Rattle.sl_lease.specs.LeaseQuestions.{leader_given, read_given};
 ghost use Rattle.sl_lease.specs.Changes.{shows_blocks};
-ghost use Rattle.sl_lease.specs.Reads.{CanRead, HasGiven, HasPlaces, HasRead, behind, blocks_of_pairs, blocks_to, host_block, is_asked_again, is_torn_to, kept_to, leader_with, merged_with, pairs_to, sectors_read};
+ghost use Rattle.sl_lease.specs.Reads.{CanRead, HasGiven, HasPlaces, HasRead, behind, blocks_of_pairs, blocks_to, host_block, is_asked_again, is_torn_to, kept_to, leader_with, merged_with, sectors_read};
 ghost use Rattle.sl_sector.specs.Records.{Fits, IsBlock, IsLeader, IsPair, IsRecord};
 ghost use Rattle.sl_sector.specs.SectorLayouts.{IsSectorSize, decoded};
 ghost use Rattle.sl_trace.specs.LeaseDecisions.{first_step, part_read, read_of_step};
@@ -33,7 +33,7 @@ use std::marker::Model;
 
 /// Sectors that a read gave, one after another.
 pub trait Sectors {
-    /// Their bytes.
+    /// The bytes of all these sectors, one behind the other.
     ghost bytes: { Self → List ℕ };
 
     /// Whether they are cut into sectors of this size.
@@ -48,7 +48,7 @@ pub trait Sectors {
         ensures rules { IfOk result IsRecord };
 }
 
-/// Sectors as bytes.
+/// Sectors that lie in memory as bytes, cut at a sector's size.
 #[derive(Clone, Copy)]
 pub struct SectorBytes<'a> {
     pub bytes: &'a [u8],
@@ -266,7 +266,7 @@ impl Blocks {
         Ok(())
     }
 
-    /// The blocks.
+    /// The blocks of hosts 1 to N, each if the read gave one.
     pub fn as_slice(&self) -> &[Option<Block>]
         ensures exact { result.now ≡ self.now.blocks }
         ensures rules { All (λ o. IfSome o IsBlock) result.now }

@@ -72,7 +72,7 @@ impl Lease {
         self.waiting = None;
     }
 
-    /// The write that waits is done.
+    /// The write that waits was answered ok: what it wrote now counts as standing.
     pub fn write_answered(&mut self)
         ensures { self.new ≡ after_write self.old }
     {

@@ -98,7 +98,7 @@ impl Lease {
         }
     }
 
-    /// The area.
+    /// The resource's area on which the lease works.
     pub fn spot(&self) -> Spot
         ensures { result ≡ self.now.spot }
     {

@@ -11,7 +11,7 @@ pub trait Evidence {
         ensures { result ≡ over self.now id generation };
 }
 
-/// What is held under a lease.
+/// What is held under a lease now: a fact of the holdings, which the lease does not keep itself.
 #[derive(Clone, Copy)]
 pub struct Held {
     /// Whether a process holds the resource shared.

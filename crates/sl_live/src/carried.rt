@@ -11,7 +11,7 @@
 ghost use Rattle.sl_book.specs.Logs.{entries};
 ghost use Rattle.sl_cell.specs.Told.{IsTested};
 ghost use Rattle.sl_live.specs.CarriedOut.{HasSignalled, IsTakenStart, is_childless};
-ghost use Rattle.sl_live.specs.Turns.{Does, GivesUp, Guards, Looks, MakesTurn, TellsStart, doomed, is_lapsed, kill_of};
+ghost use Rattle.sl_live.specs.Turns.{Does, GivesUp, Guards, Looks, MakesTurn, TellsStart, doomed, kill_of};
 ghost use Rattle.sl_outside.specs.Acts.{Tells};
 ghost use Rattle.sl_world_state.specs.Daemons.{read_of};
 ghost use Rattle.std.specs.Prelude.{Bool, IfOk, IfSome, IsSomeAnd, IsTrue, OnErr, OnOk, is_some, length, map, true, [], ℕ, ◌&&◌, ◌+◌, ◌==◌, ◌||◌, ◌≡◌, ◌≤◌};

@@ -66,7 +66,7 @@ fn mark(awaited: &mut [Awaited], signals: &[Sent])
     }
 }
 
-/// The start, marked.
+/// The start, marked: it is not made, or its child is killed as it comes.
 fn doomed(waiting: Awaited) -> Awaited
     ensures { result ≡ doomed waiting }
 {
@@ -208,7 +208,7 @@ impl<P: Spawner> Children<P> {
         self.spawner.starter()
     }
 
-    /// The spawner.
+    /// The spawner back, when the machine's run is over.
     pub(crate) fn into_spawner(self) -> P
         ensures { result ≡ self.spawner }
     {

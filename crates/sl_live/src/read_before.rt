@@ -54,7 +54,7 @@ pub struct ReadBefore {
 }
 
 impl ReadBefore {
-    /// Nothing was read.
+    /// A reader that has read nothing yet. It takes no memory.
     pub fn new(alloc: Global) -> ReadBefore {
         ReadBefore {
             last: Vec::new(alloc),

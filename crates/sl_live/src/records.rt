@@ -5,7 +5,7 @@ ghost use Rattle.sl_sector.specs.declared.sector.DeltaState.TheVariants.{Free as
 ghost use Rattle.sl_text.specs.Names.{is_data, is_name};
 ghost use Rattle.sl_words.specs.Words.{all_zero};
 ghost use Rattle.std.specs.List.{list_all};
-ghost use Rattle.std.specs.Prelude.{IsSomeAnd, IsTrue, None, nat_lt, replicate, ◌≡◌, ◌≤◌, ◌↔◌};
+ghost use Rattle.std.specs.Prelude.{IsSomeAnd, IsTrue, None, nat_lt, replicate, ◌≡◌, ◌↔◌};
 
 use sl_sector::{Block, DeltaRec, DeltaState, Leader, PairBlock, Rec, Request, ValueRec};
 use sl_text::{Data, Name};
@@ -163,7 +163,7 @@ fn is_value(value: &ValueRec) -> bool
         && is_data(&value.bytes)
 }
 
-/// Whether a record keeps its rules.
+/// Whether a record keeps the rules of its kind, so that there are bytes that spell it.
 pub(crate) fn is_record(written: &Rec) -> bool
     ensures { IsTrue result ↔ IsRecord written.now }
 {

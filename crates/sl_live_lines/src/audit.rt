@@ -150,14 +150,14 @@ impl Audit {
         self.first_open()
     }
 
-    /// How many replies were told.
+    /// How many replies to lines were told so far.
     pub fn replies(&self) -> u64
         ensures { (t : Telling) → (a : AlongState) → (h : List EntryOf) → IsAudit t a h self.now → result ≡ count_replies a h }
     {
         self.replies
     }
 
-    /// How many entries came.
+    /// How many entries of the history were looked at so far.
     pub fn entries(&self) -> u64
         ensures { (t : Telling) → (a : AlongState) → (h : List EntryOf) → IsAudit t a h self.now → result ≡ length h }
     {

@@ -16,7 +16,7 @@ pub enum GivenLine {
     ForLocks(Bytes),
 }
 
-/// Whether an input gives a line.
+/// Whether an input gives a line of the script, a command or one for lvmlockd.
 pub(crate) fn has_line(input: &Input) -> bool
     ensures { result ≡ is_some (line_given input.now) }
 {

@@ -19,14 +19,14 @@ use sl_text::write::push_line;
 use sl_trace::{Entry, JobReply, Reply};
 use std::alloc::AllocError;
 
-/// How a live script ended.
+/// How a live script ended, as its last line tells it.
 #[derive(Clone, Copy)]
 pub enum Ending {
-    /// It was read to its end.
+    /// It was read to its end, and no line was refused.
     Whole,
     /// The line with this number was refused.
     Refused { number: u64, why: Refusal },
-    /// A read failed.
+    /// A read of it failed, so its end is not known.
     Cut,
 }
 

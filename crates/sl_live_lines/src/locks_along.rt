@@ -155,7 +155,7 @@ impl Along {
         }
     }
 
-    /// Whether a line for lvmlockd runs.
+    /// Whether a line for lvmlockd runs: it has no reply yet.
     pub fn runs_line(&self) -> bool
         ensures { result ≡ runs_line self.now }
     {

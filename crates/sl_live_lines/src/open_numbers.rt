@@ -2,7 +2,6 @@
 
 ghost use Rattle.sl_live_lines.specs.AuditedHistory.{opened_at};
 ghost use Rattle.sl_words.specs.Words.{some_is};
-ghost use Rattle.std.specs.List.{list_any};
 ghost use Rattle.std.specs.Prelude.{IfNone, IfSome, None, OnOk, Some, cond, ℕ, ◌==◌, ◌≡◌};
 
 use indexmap::IndexMap;
@@ -15,7 +14,7 @@ pub(crate) struct Open {
 }
 
 impl Open {
-    /// None.
+    /// No number is open. It takes no memory.
     pub(crate) fn new(alloc: Global) -> Open
         ensures { (n : ℕ) → opened_at result n ≡ None }
     {

@@ -12,7 +12,7 @@ pub(crate) struct Bell {
 }
 
 impl Bell {
-    /// A bell that never rang.
+    /// A bell that never rang: whoever waits for a ring waits.
     pub(crate) fn new() -> Bell {
         Bell {
             moves: Mutex::new(0),
@@ -20,7 +20,7 @@ impl Bell {
         }
     }
 
-    /// Wakes those who wait.
+    /// Wakes all threads that wait at the bell.
     pub(crate) fn ring<R: Wait>(&self, rt: &R) {
         let mut moves = self.moves.lock(rt);
         *moves = moves.wrapping_add(1);
@@ -32,7 +32,7 @@ impl Bell {
         *self.moves.lock(rt)
     }
 
-    /// Waits for a ring since then.
+    /// Waits until the bell has rung more often than it had when `seen` was read.
     pub(crate) fn wait_past<R: Wait>(&self, rt: &R, seen: u64) {
         self.moved
             .wait_while(rt, self.moves.lock(rt), |moves| *moves == seen);

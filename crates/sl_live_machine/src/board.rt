@@ -7,14 +7,14 @@ use sl_trace::{Effects, JobReply, Purpose, Reply};
 use std::alloc::{AllocError, Global};
 use std::collections::VecDeque;
 
-/// How far a machine is.
+/// How far a machine is: its threads go on only while it runs.
 #[derive(Clone, Copy, PartialEq, Eq)]
 pub(crate) enum Stage {
-    /// Its threads make turns.
+    /// The threads make their turns.
     Runs,
-    /// Nothing is left to be done.
+    /// All is done: the threads end.
     Over,
-    /// There was no memory.
+    /// There was no memory: the threads end, and the run has no whole history.
     Failed,
 }
 
@@ -22,12 +22,12 @@ pub(crate) enum Stage {
 #[derive(Drop)]
 pub(crate) enum Next {
     Line(GivenLine),
-    /// None is there yet.
+    /// No line is there, but one may still come.
     Wait,
     End,
 }
 
-/// For whom there is news.
+/// Which threads have something to do since the last turn.
 #[derive(Clone, Copy)]
 pub(crate) struct News {
     pub delta: bool,
@@ -56,12 +56,12 @@ impl News {
     }
 }
 
-/// What the threads tell one another.
+/// What a machine's threads tell one another, under one lock.
 #[derive(Drop)]
 pub(crate) struct Board {
-    /// Lines to be given.
+    /// Lines of the script that are to be given, in their order.
     lines: VecDeque<GivenLine>,
-    /// No line comes any more.
+    /// Whether the script has no further line.
     closed: bool,
     /// The number of the next line's job. While a line for lvmlockd runs, no other line comes, and its asks take the numbers behind its own.
     next_job: u64,
@@ -70,7 +70,7 @@ pub(crate) struct Board {
     /// The job of the ask whose reply a line for lvmlockd waits for, and that reply, once it has come.
     asked: Option<u64>,
     heard: Option<Reply>,
-    /// Turns that are under way.
+    /// How many turns are under way.
     turns: u64,
     /// Calls that were made, and that were answered.
     made: u64,
@@ -78,7 +78,7 @@ pub(crate) struct Board {
     /// Starts that were ordered, and that came to something.
     ordered: u64,
     started: u64,
-    /// The children that run.
+    /// The numbers of the children that run.
     running: Vec<u32>,
     /// The children whose exit was noted before their start.
     ended: Vec<u32>,
@@ -146,12 +146,12 @@ impl Board {
         self.is_quiet()
     }
 
-    /// There was no memory.
+    /// There was no memory: the machine is given up, and its threads end.
     pub(crate) fn fail(&mut self) {
         self.stage = Stage::Failed;
     }
 
-    /// The next line, whose turn begins.
+    /// The next line of the script, whose turn begins with it; else that none is there yet, or that none comes any more.
     pub(crate) fn next_line(&mut self) -> Next {
         if self.stage != Stage::Runs {
             return Next::End;
@@ -182,7 +182,7 @@ impl Board {
         self.heard.take()
     }
 
-    /// The line for lvmlockd is answered.
+    /// The line for lvmlockd is answered, so the next may be given.
     pub(crate) fn end_line(&mut self) {
         self.asked = None;
     }

@@ -13,7 +13,7 @@ pub struct Mail<T: Shelf> {
 }
 
 impl<T: Shelf> Mail<T> {
-    /// No line.
+    /// No line was put yet.
     pub fn new(alloc: Global) -> Mail<T> {
         Mail {
             lines: Mutex::new(VecDeque::new(alloc)),

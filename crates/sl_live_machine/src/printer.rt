@@ -11,7 +11,7 @@ ghost use Rattle.sl_live_lines.specs.declared.given_lines.GivenLine.{GivenLine a
 ghost use Rattle.sl_live_machine.specs.Printing.{IsPrinting, Meets, line_of};
 ghost use Rattle.sl_book.specs.Logs.{entries};
 ghost use Rattle.sl_trace.specs.declared.effects.Entry.{Entry as EntryOf};
-ghost use Rattle.std.specs.Prelude.{IfOk, IsFalse, IsTrue, List, None, OnOk, Some, [], ℕ, ◌++◌, ◌+◌, ◌∷◌, ◌≡◌};
+ghost use Rattle.std.specs.Prelude.{IfOk, IsFalse, IsTrue, List, None, OnOk, Some, [], ◌++◌, ◌+◌, ◌∷◌, ◌≡◌};
 
 use crate::mail::Mail;
 use crate::room::Room;

@@ -108,7 +108,7 @@ impl Post {
         }
     }
 
-    /// No line comes any more.
+    /// The script has ended: no line comes any more.
     pub fn close<R: Wait>(&self, rt: &R) {
         let quiet = self.board.lock(rt).close();
         self.lines.ring(rt);
@@ -123,17 +123,17 @@ impl Post {
         self.ring_all(rt);
     }
 
-    /// Whether there was no memory.
+    /// Whether the machine was given up for want of memory.
     pub fn has_failed<R: Wait>(&self, rt: &R) -> bool {
         self.board.lock(rt).stage() == Stage::Failed
     }
 
-    /// Whether threads are to go on.
+    /// Whether the machine runs, so that its threads are to go on.
     pub(crate) fn runs<R: Wait>(&self, rt: &R) -> bool {
         self.board.lock(rt).stage() == Stage::Runs
     }
 
-    /// The bell of a part's worker.
+    /// The bell at which the worker of this part waits for calls.
     pub(crate) fn worker(&self, part: Part) -> &Bell {
         match part {
             Part::Delta => &self.delta,
@@ -141,7 +141,7 @@ impl Post {
         }
     }
 
-    /// The next line, whose turn begins.
+    /// The next line of the script, whose turn begins with it; else that none is there yet, or that none comes any more.
     pub(crate) fn next_line<R: Wait>(&self, rt: &R) -> Next {
         self.board.lock(rt).next_line()
     }
@@ -165,7 +165,7 @@ impl Post {
         heard
     }
 
-    /// The line for lvmlockd is answered.
+    /// The line for lvmlockd is answered, so the next may be given.
     pub(crate) fn end_line<R: Wait>(&self, rt: &R) {
         self.board.lock(rt).end_line();
     }

@@ -29,7 +29,7 @@ pub(crate) struct Starter<P: Spawner> {
 }
 
 impl<P: Spawner> Starter<P> {
-    /// One that took no start.
+    /// A starter that has taken no start yet.
     pub(crate) fn new(spawner: P) -> Starter<P>
         ensures spawner { result.spawner ≡ spawner }
         ensures killed { result.killed ≡ false }

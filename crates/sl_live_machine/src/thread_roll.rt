@@ -12,9 +12,9 @@ const LONGEST: u64 = 10;
 /// What is known of the threads of a run.
 #[derive(Clone, Copy, PartialEq, Eq)]
 enum Count {
-    /// So many are not there yet.
+    /// So many threads have not come to the roll yet.
     Missing(u64),
-    /// They won't all come.
+    /// Some thread could not be started, so not all will come.
     GivenUp,
 }
 
@@ -44,7 +44,7 @@ pub struct Roll {
 }
 
 impl Roll {
-    /// For so many threads.
+    /// A roll for so many threads, of which none has come.
     pub fn new(threads: u64) -> Roll {
         Roll {
             count: Mutex::new(Count::Missing(threads)),

@@ -37,7 +37,7 @@ use std::sync::Wait;
 use std::thread::{Threads, join};
 use std::time;
 
-/// The clocks of a machine's threads.
+/// The clocks of a machine's threads: each reads its own.
 #[derive(Drop)]
 pub struct Clocks<C: Clock> {
     pub ticks: C,
@@ -85,7 +85,7 @@ impl<'a> Stand<'a> {
     }
 }
 
-/// The ticker.
+/// The thread that wakes the daemon, again and again.
 fn ticker<D: Teller, J: Station, R: Wait + time::Clock, C: Clock, P: Spawner>(
     rt: &R,
     room: &Room<D, J, P>,
@@ -98,7 +98,7 @@ fn ticker<D: Teller, J: Station, R: Wait + time::Clock, C: Clock, P: Spawner>(
     stand.ended(rt, tick(rt, room, stand.post, clock))
 }
 
-/// The line thread.
+/// The thread that gives the script's lines, and what lvmlockd's locks ask.
 fn line_thread<D: Teller, J: Station, R: Wait + time::Clock, C: Clock, P: Spawner>(
     rt: &R,
     room: &Room<D, J, P>,
@@ -166,7 +166,7 @@ fn starter_thread<D: Teller, J: Station, R: Wait + time::Clock, C: Clock, P: Spa
     StarterEnd { seat, starter }
 }
 
-/// The device thread.
+/// The thread that tests the connections and keeps the device alive.
 fn device_thread<D: Teller, J: Station, R: Wait + time::Clock, C: Clock, P: Spawner, V: Device>(
     rt: &R,
     room: &Room<D, J, P>,
@@ -220,7 +220,7 @@ fn worker_seat<
     stand.ended(rt, work(rt, room, stand.post, gate, part, clock, disks))
 }
 
-/// A worker.
+/// The thread that makes the sector calls of its part, and gives their answers.
 fn worker<D: Teller, J: Station, R: Wait + time::Clock, C: Clock, P: Spawner, A: Area, G: Gate>(
     rt: &R,
     room: &Room<D, J, P>,
@@ -240,7 +240,7 @@ fn worker<D: Teller, J: Station, R: Wait + time::Clock, C: Clock, P: Spawner, A:
     Worked { seat, disks }
 }
 
-/// Both workers.
+/// Runs both workers, each in a thread of its own.
 fn workers<
     D: Teller + Send,
     J: Station + Send + Sync,

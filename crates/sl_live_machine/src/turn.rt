@@ -14,7 +14,7 @@ use sl_trace::{Effects, Input};
 use std::alloc::AllocError;
 use std::sync::Wait;
 
-/// What was given.
+/// What was given in a turn: the kind of its input.
 #[derive(Clone, Copy)]
 pub(crate) enum Happened {
     Woke,
@@ -25,7 +25,7 @@ pub(crate) enum Happened {
 }
 
 impl Happened {
-    /// What this input tells.
+    /// The kind of an input.
     pub(crate) fn of(input: &Input) -> Happened
         ensures { result ≡ happened_of input.now }
     {

@@ -6,7 +6,6 @@ use Rattle.sl_world_state.specs.SaneWorlds.{ReadsCommands}
 use Rattle.sl_live_run.specs.Grounds.{IsGroundOf, IsSiteOf}
 use Rattle.sl_live_run.specs.Laws.{SitesAreSettings}
 use Rattle.sl_live_run.specs.declared.ground.Ground.{Ground}
-use Rattle.sl_live_run.specs.declared.ground.Prepared.{Prepared}
 use Rattle.sl_live_play.specs.LiveOwed.{Beginnings}
 use Rattle.sl_words.proofs.Lists.{got_index, there_is}
 use Rattle.sl_outside.specs.declared.act.Act.{Act}
@@ -16,7 +15,7 @@ use Rattle.sl_run.specs.declared.header.Header.{Header}
 use Rattle.sl_text.specs.Forms.{Form}
 use Rattle.sl_trace.specs.declared.command.Command.{Command}
 use Rattle.sl_words.proofs.CaseLaws.{none_some, some_value}
-use Rattle.std.proofs.Common.{List, None, Option, Some, [], map, refl, subst, suc, sym, zero, ℕ, ◌+◌, ◌∙◌, ◌∷◌, ◌≡◌}
+use Rattle.std.proofs.Common.{List, Option, Some, [], map, refl, subst, suc, sym, zero, ℕ, ◌+◌, ◌∙◌, ◌∷◌, ◌≡◌}
 use Rattle.std.proofs.lemmas.List.{length-map}
 use Rattle.std.specs.Prelude.{All, slice_get}
 

@@ -6,7 +6,7 @@ ghost use Rattle.sl_host_step.specs.StepMemory.{most_of};
 ghost use Rattle.sl_host_step.specs.HostServes.{Serves, whole_commands};
 ghost use Rattle.sl_host_step.specs.AwaitedCalls.{joins_at};
 ghost use Rattle.sl_trace.specs.Traces.{Setting, Trace};
-ghost use Rattle.std.specs.Prelude.{IfOk, IsOk, OnErr, OnOk, false, ◌∷◌, ◌≡◌, ◌≤◌};
+ghost use Rattle.std.specs.Prelude.{IfOk, IsOk, OnErr, false, ◌∷◌, ◌≡◌, ◌≤◌};
 
 use sl_cell::Teller;
 use sl_host_step::HostDaemon;

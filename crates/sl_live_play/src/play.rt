@@ -47,7 +47,7 @@ pub struct Manner {
     pub events: bool,
 }
 
-/// How a live script ended.
+/// How a live script ended; each goes with a status of its own.
 #[derive(Clone, Copy, Debug, PartialEq, Eq)]
 pub enum Lived {
     /// It was read to its end; all that is told and the last line are put out.
@@ -68,16 +68,12 @@ pub enum Lived {
 }
 
 /// Gives the disks of all machines back.
-fn give_all_back<V: LiveDevices>(
-    remains: Vec<Remains<V::Area, V::Spawner>>,
-    devices: &mut V,
-) {
+fn give_all_back<V: LiveDevices>(remains: Vec<Remains<V::Area, V::Spawner>>, devices: &mut V) {
     for Remains {
         delta,
         resource,
         spawners: _,
-    } in remains
-    {
+    } in remains {
         give_back(delta, resource, devices);
     }
 }

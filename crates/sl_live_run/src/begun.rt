@@ -25,7 +25,7 @@ pub(crate) struct Begun<C: Clock, P: Spawner, V: Device, A: Area, O: Press, T: S
 }
 
 impl<C: Clock, P: Spawner, V: Device, A: Area, O: Press, T: Shelf> Begun<C, P, V, A, O, T> {
-    /// No machine yet.
+    /// A list of machines that have begun, still without one. It takes no memory.
     fn new(alloc: Global) -> Begun<C, P, V, A, O, T>
         ensures { result.machines.items ≡ [] }
     {

@@ -9,16 +9,16 @@ use sl_run::{Disk, Header};
 use sl_text::FilePath;
 use std::alloc::{AllocError, Global};
 
-/// Why a folder can't be entered.
+/// Why the folder of live machines can't be entered.
 #[derive(Clone, Copy)]
 pub enum NoEntry {
     /// It can't be opened, or can't be locked.
     AreaFault,
-    /// Another program has taken it.
+    /// Another program that runs has taken it.
     InUse,
     /// A disk of the header stands there already: the one with this path.
     DiskThere { path: FilePath },
-    /// There is no memory.
+    /// There is no memory to look.
     NoMemory,
 }
 

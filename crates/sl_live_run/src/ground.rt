@@ -32,13 +32,13 @@ pub struct Ground<V: LiveDevices> {
     pub gate: V::Gate,
 }
 
-/// Why a live run can't begin.
+/// Why a live run can't begin: its disks can't be made, or there is no memory.
 #[derive(Clone, Copy, Debug, PartialEq, Eq, Error)]
 pub enum NoGround {
     /// A disk can't be made, or a sector of an area can't be written.
     #[error("area fault")]
     AreaFault,
-    /// There is no memory.
+    /// There is no memory for its beginning.
     #[error("out of memory")]
     NoMemory,
 }

@@ -1,7 +1,5 @@
 //! What stands in the areas of a disk at moment 0, written through an area of it: each of their sectors once, and no other.
 
-ghost use Rattle.sl_area.specs.AreaSizes.{layout_of};
-ghost use Rattle.sl_direct.specs.FreshAreas.{resource_writes};
 ghost use Rattle.sl_direct.specs.HalfDone.{Wrote};
 ghost use Rattle.sl_live_run.specs.Areas.{delta_write, delta_writes, lockspace_writes_at, lockspaces_on, resource_writes_at, resources_on};
 ghost use Rattle.sl_run.specs.Headers.{IsHeader};

@@ -14,7 +14,7 @@ use sl_text::number::push_number;
 use sl_trace::Mode;
 use std::alloc::AllocError;
 
-/// The process that holds for lvmlockd.
+/// The process by which lvmlockd holds its locks: above all others, and below all children.
 pub(crate) const LOCK_PROCESS: u32 = 1_000_000;
 
 /// Where the area of a group's lockspace begins.
@@ -25,7 +25,7 @@ const FIRST_AREA: u64 = 0;
 pub enum Ask {
     /// That the group's lockspace is joined under this id.
     Join { group: Name, id: u32 },
-    /// That it is left.
+    /// That the lockspace of the volume group is left, under this id.
     Leave { group: Name, id: u32 },
     Acquire { lock: Lock, mode: Mode },
     Release { lock: Lock },
@@ -121,7 +121,7 @@ fn push_resource(
     Ok(())
 }
 
-/// Where a lock's area begins.
+/// Where a lock's area begins on the disk of its volume group, in bytes.
 pub(crate) fn offset_of(geometry: &Geometry, lock: &Lock) -> u64
     ensures { result ≡ lock.now.number * geometry.now.area }
 {

@@ -33,7 +33,7 @@ const MOST_HOSTS: u64 = 2000;
 /// Areas begin below this offset.
 const BASES: u64 = 1_000_000_000_000;
 
-/// What a line does.
+/// What a line asks lvmlockd for: to join or leave a group, to take or give up a lock, or to tell something.
 #[derive(Clone, Copy)]
 pub enum Kind {
     Start { group: Name, id: u32 },
@@ -46,7 +46,7 @@ pub enum Kind {
     Inform,
 }
 
-/// What a line says.
+/// What a line for lvmlockd says, once it was read.
 #[derive(Drop)]
 pub struct LockLine {
     pub kind: Kind,

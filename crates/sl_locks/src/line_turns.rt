@@ -173,7 +173,7 @@ impl LvmLocks {
         }
     }
 
-    /// A line comes.
+    /// A line comes: it is answered at once, or its first ask is due.
     #[tactic(auto, unfolding(sl_run::specs::Lvm::lvm_turn))]
     pub(crate) fn take_line(&mut self, text: &[u8]) -> Answer
         requires { has_room self.old ≡ true }

@@ -33,7 +33,7 @@ impl Model for Lock {
 }
 
 impl Lock {
-    /// Whether two locks are one.
+    /// Whether two locks are one: the same number in the same volume group.
     pub fn is_same(&self, other: &Lock) -> bool
         ensures { result ≡ names.same_lock self.now other.now }
     {
@@ -97,7 +97,7 @@ impl Model for SeenValue {
 }
 
 impl SeenValue {
-    /// Whether it is of this group.
+    /// Whether it is the value of this volume group's lock.
     pub fn is_of(&self, group: Name) -> bool
         ensures { result ≡ bytes_eq self.now.group group }
     {

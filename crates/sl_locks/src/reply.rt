@@ -4,7 +4,7 @@ ghost use Rattle.sl_locks.specs.Replies.{held_words, line_text};
 ghost use Rattle.sl_run.specs.Lvm.{held_lock_word};
 ghost use Rattle.sl_text.specs.Forms.{spaced};
 ghost use Rattle.sl_trace.specs.EffectTexts as texts;
-ghost use Rattle.std.specs.Prelude.{OnErr, OnOk, codes, map, ◌++◌, ◌∷◌, ◌≡◌};
+ghost use Rattle.std.specs.Prelude.{OnOk, codes, map, ◌++◌, ◌∷◌, ◌≡◌};
 
 use crate::lock::HeldLock;
 use sl_command::push_reply_text;
@@ -12,7 +12,7 @@ use sl_text::Seq;
 use sl_trace::{Mode, Reply};
 use std::alloc::AllocError;
 
-/// The reply to a line.
+/// What lvmlockd answers to a line.
 #[derive(Drop)]
 pub enum LineReply {
     /// As the host replied, or as it would.

@@ -24,7 +24,7 @@ use std::alloc::{AllocError, Global};
 /// What the last ask of the line that runs was for.
 #[derive(Clone, Copy)]
 pub enum Stage {
-    /// A join or a leaving.
+    /// A lockspace is joined or left.
     Moving,
     /// An acquire, how often it was asked again, and whether the value is read after it.
     Acquiring {
@@ -33,15 +33,15 @@ pub enum Stage {
         again: u32,
         compares: bool,
     },
-    /// The read of the value.
+    /// A lock was taken, and the group's value is read, to be compared with the one seen last.
     Reading {
         lock: Lock,
     },
-    /// Its write, before the release.
+    /// The group's value is written, before its lock is released.
     Writing {
         lock: Lock,
     },
-    /// A release.
+    /// A lock is released: it is held no more, however that is answered.
     Releasing {
         lock: Lock,
     },
@@ -107,14 +107,14 @@ impl LvmLocks {
         self.spare.reserve(self.held.len())
     }
 
-    /// Whether a line runs.
+    /// Whether a line runs: it has no reply yet, and no other may come.
     pub fn has_line(&self) -> bool
         ensures { result ≡ is_some (locks_of self.now).line }
     {
         self.line.is_some()
     }
 
-    /// Whether an ask is due.
+    /// Whether an ask is due: it is the next thing to happen on its machine.
     #[tactic(auto, using(crate::proofs::StepLaws::due))]
     pub fn has_ask(&self) -> bool
         ensures { result ≡ is_some (locks_of self.now).due }
@@ -198,7 +198,7 @@ impl LvmLocks {
         None
     }
 
-    /// The line is answered.
+    /// The line that runs is answered with this reply, under its number; then none runs.
     pub(crate) fn tell(&mut self, reply: LineReply) -> Answer
         ensures changed { self.new ≡ record self.old { stage = None; line = None; asked = None; due = None } }
         ensures told { result ≡ option_map (λ n. (n, reply)) self.old.line }

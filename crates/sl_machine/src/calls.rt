@@ -21,7 +21,7 @@ use sl_sector::Image;
 use std::alloc::{AllocError, Global};
 use std::sync::Arc;
 
-/// What a write leaves, and where.
+/// What a write leaves of a sector, and at which place.
 #[derive(Drop)]
 pub struct Landing {
     pub place: Option<Place>,
@@ -114,7 +114,7 @@ impl<L: LockTable> Kept<L> {
         }
     }
 
-    /// Bytes of a sector.
+    /// How many bytes a sector has: 512 or 4096.
     #[tactic(auto, unfolding(crate::specs::KeptParts::kept_state))]
     pub fn sector(&self) -> u32
         ensures { result ≡ (kept_state L.locks self.now).header.geometry.sector }

@@ -1,7 +1,6 @@
 //! Why an event may not happen, by all that is kept.
 
 ghost use Rattle.sl_world_state.specs.Changes.{torn_by};
-ghost use Rattle.sl_world_state.specs.KeptWorld.{machine_in};
 ghost use Rattle.sl_world_state.specs.Refusals.{is_shaped_in, on_flight_in, on_kept, writes_in};
 ghost use Rattle.sl_machine.specs.CallWrites.{LeavesTorn};
 ghost use Rattle.sl_machine.specs.KeptParts.{kept_state};

@@ -1,12 +1,10 @@
 //! A call in flight.
 
 ghost use Rattle.sha2.specs.Sha256.{sha256};
-ghost use Rattle.sl_area.specs.AreaSizes.{layout_of, sector_with};
 ghost use Rattle.sl_world_state.specs.Daemons.{IsSoundOp};
 ghost use Rattle.sl_world_state.specs.Changes.{cut_flight, disowned, stays_open};
 ghost use Rattle.sl_world_state.specs.KeptWorld.{FlightState};
 ghost use Rattle.sl_world_state.specs.Refusals.{lands, left_in};
-ghost use Rattle.sl_world_state.specs.ShownWorlds.{write_in};
 ghost use Rattle.sl_world_state.specs.Steps.{new_flight};
 ghost use Rattle.sl_machine.specs.Flights.{ended_flight, grown_flight, late_cut};
 ghost use Rattle.sl_run.specs.Headers.{IsHeader};
@@ -145,14 +143,14 @@ impl Flight {
         }
     }
 
-    /// Its number.
+    /// The number of its call, by which answers find it.
     pub fn number(&self) -> u64
         ensures { result ≡ self.now.number }
     {
         self.number
     }
 
-    /// Where its first sector lies.
+    /// The place of its first sector; none where the call does not lie on a disk.
     pub fn place(&self) -> Option<Place>
         ensures { result ≡ self.now.place }
     {
@@ -166,35 +164,35 @@ impl Flight {
         self.write.is_some()
     }
 
-    /// How many sectors it has sampled.
+    /// How many of its sectors were sampled so far; of a write none.
     pub fn samples(&self) -> u64
         ensures { result ≡ self.now.samples }
     {
         self.samples
     }
 
-    /// How many it has not.
+    /// How many of its sectors are still to be sampled.
     pub fn left(&self) -> u64
         ensures { result ≡ left_in self.now }
     {
         u64::from(self.sectors).saturating_sub(self.samples)
     }
 
-    /// Whether it has not taken effect.
+    /// Whether it has not taken effect: a write that may still land, or a read.
     pub fn is_flying(&self) -> bool
         ensures { result ≡ self.now.flying }
     {
         self.flying
     }
 
-    /// Whether it took effect whole.
+    /// Whether it is a write that took effect whole.
     pub fn has_landed(&self) -> bool
         ensures { result ≡ self.now.landed }
     {
         self.landed
     }
 
-    /// Whether it took effect in part.
+    /// Whether it is a write that took effect in part.
     pub fn is_torn(&self) -> bool
         ensures { result ≡ self.now.torn }
     {
@@ -222,7 +220,7 @@ impl Flight {
         self.write.is_some() && self.flying
     }
 
-    /// Whether it is in flight still.
+    /// Whether it is in flight still: its daemon runs, or it may land.
     pub fn stays_open(&self) -> bool
         ensures { result ≡ stays_open self.now }
     {
@@ -264,7 +262,7 @@ impl Flight {
         Ok(())
     }
 
-    /// Its way ends so.
+    /// A write lands, is torn or is dropped.
     pub fn end(&mut self, outcome: Outcome)
         ensures { self.new ≡ ended_flight outcome self.old }
     {
@@ -281,14 +279,14 @@ impl Flight {
         };
     }
 
-    /// Its daemon has ended.
+    /// Its daemon has ended: nobody waits for its answer, but a write may still land.
     pub fn disown(&mut self)
         ensures { self.new ≡ disowned self.old }
     {
         self.own = false;
     }
 
-    /// Its machine has gone down.
+    /// Its machine has gone down at this moment: a write may land for `land` longer.
     pub fn cut(&mut self, moment: u64)
         ensures { self.new ≡ cut_flight moment self.old }
     {

@@ -17,7 +17,7 @@ ghost use Rattle.sl_world_state.specs.Steps.{new_flight};
 ghost use Rattle.sl_run.specs.Headers.{IsHeader};
 ghost use Rattle.sl_trace.specs.declared.effects.Call.{Call as CallOf};
 ghost use Rattle.sl_words.specs.Words.{least, some_is};
-ghost use Rattle.std.specs.List.{list_all, range_with_len, remove};
+ghost use Rattle.std.specs.List.{range_with_len, remove};
 ghost use Rattle.std.specs.Option.{option_copied};
 ghost use Rattle.std.specs.Prelude.{Contains, IfSome, None, OnErr, OnOk, Some, [], false, filter, filter_map, flat_map, fold, length, map, not, option_and_then, slice_get, true, ◌&&◌, ◌+◌, ◌==◌, ◌<◌, ◌^◌, ◌∷◌, ◌≡◌, ◌≤◌};
 ghost use Rattle.std.specs.VecDeque.{deque_capacity, deque_len};
@@ -89,7 +89,7 @@ fn least_ended(items: &VecDeque<Flight>) -> Option<u64>
     least
 }
 
-/// The oldest call.
+/// The call in flight that was submitted first.
 fn oldest(items: &VecDeque<Flight>) -> Option<&Flight>
     ensures { option_copied result ≡ oldest items.now.items }
 {
@@ -267,7 +267,7 @@ impl Flights {
         }
     }
 
-    /// The number of the next call.
+    /// The number of the machine's next call, above all before, whichever daemon made them.
     pub fn next(&self) -> u64
         ensures { result ≡ self.now.next }
     {

@@ -15,7 +15,7 @@ pub struct Heard {
     pub numbered: bool,
 }
 
-/// What is taken of an input.
+/// What a machine takes of an input: a call that is answered, a child that has started or exited, or nothing.
 pub fn hear(input: &Input) -> Heard
     ensures { result ≡ heard_of input.now }
 {
@@ -37,7 +37,7 @@ pub fn hear(input: &Input) -> Heard
     }
 }
 
-/// What answers nothing.
+/// What is taken of an input that answers neither a call nor a start; whether it takes a line's number.
 fn numbered(numbered: bool) -> Heard
     ensures { result ≡ record { answered = None; spawned = None; numbered = numbered } }
 {

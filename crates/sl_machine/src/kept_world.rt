@@ -50,7 +50,7 @@ pub fn place_of(count: usize, machine: u32) -> Option<usize>
 }
 
 impl<L: LockTable> Kept<L> {
-    /// The header of the world.
+    /// The header of the world, whose machines these are.
     #[tactic(auto, unfolding(crate::specs::KeptParts::kept_state))]
     pub fn header(&self) -> &Header
         ensures exact { result.now ≡ (kept_state L.locks self.now).header }
@@ -59,7 +59,7 @@ impl<L: LockTable> Kept<L> {
         self.disks.header()
     }
 
-    /// A machine, if there is one.
+    /// The machine of this number, from 1 on, if there is one.
     pub fn machine(&self, machine: u32) -> Option<&Machine<L>>
         ensures { option_map (machine_state L.locks) (option_copied result) ≡ machine_in (kept_state L.locks self.now) machine }
     {
@@ -79,7 +79,7 @@ impl<L: LockTable> Kept<L> {
         }
     }
 
-    /// The daemon of a machine ends.
+    /// The daemon of a machine ends; its connections, holdings and writes in flight stay.
     pub fn crash(&mut self, machine: u32)
         ensures { kept_state L.locks self.new ≡ change_machine_in machine (crashed_machine) (kept_state L.locks self.old) }
     {
@@ -102,7 +102,7 @@ impl<L: LockTable> Kept<L> {
         Ok(())
     }
 
-    /// A machine comes up.
+    /// A machine comes up, without a daemon, and its watchdog counts from now.
     pub fn restart(&mut self, machine: u32)
         ensures { kept_state L.locks self.new ≡ change_machine_in machine (restarted_machine (kept_state L.locks self.old).moment) (kept_state L.locks self.old) }
     {

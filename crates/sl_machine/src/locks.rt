@@ -15,7 +15,7 @@ use std::alloc::{AllocError, Global};
 
 /// lvmlockd's locks on a machine, with the line that runs.
 pub trait LockTable: Drop {
-    /// What they are.
+    /// The locks, with the line that runs, as the definitions have them.
     ghost locks: { Self → Locks };
 
     /// Whether they have room for one step more.
@@ -25,11 +25,11 @@ pub trait LockTable: Drop {
     fn fresh(alloc: Global, header: &Header) -> Self
         ensures { locks result ≡ fresh_locks header.now };
 
-    /// Whether a line runs.
+    /// Whether a line runs: it has no reply yet.
     fn has_line(&self) -> bool
         ensures { result ≡ is_some (locks self.now).line };
 
-    /// Whether an ask is due.
+    /// Whether an ask is due: it is the next thing to happen.
     fn has_ask(&self) -> bool
         ensures { result ≡ is_some (locks self.now).due };
 

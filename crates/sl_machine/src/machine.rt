@@ -37,9 +37,9 @@ pub struct Machine<L: LockTable> {
     pub up: bool,
     /// A daemon ran since the last restart.
     pub used: bool,
-    /// One runs.
+    /// Whether a daemon runs there.
     pub runs: bool,
-    /// In thousandths of a millisecond.
+    /// What its clock shows, in thousandths of a millisecond.
     pub clock: u64,
     /// The moment on which the last keepalive rests.
     pub kept: u64,
@@ -56,7 +56,7 @@ pub struct Machine<L: LockTable> {
 }
 
 impl<L: LockTable> Machine<L> {
-    /// What its clock shows.
+    /// What its clock shows, in whole milliseconds.
     #[tactic(auto, unfolding(crate::specs::Machines::machine_state))]
     pub fn reading(&self) -> u64
         ensures { result ≡ reading_of (machine_state L.locks self.now).clock }
@@ -97,7 +97,7 @@ impl<L: LockTable> Machine<L> {
         }
     }
 
-    /// A daemon begins.
+    /// A daemon begins, without entries; lvmlockd's locks are fresh.
     #[tactic(auto, unfolding(crate::specs::Machines::machine_state))]
     pub fn start(&mut self, alloc: Global, header: &Header)
         ensures { machine_state L.locks self.new ≡ started_machine header.now (machine_state L.locks self.old) }

@@ -1,12 +1,12 @@
 //! The names that daemons had.
 
-ghost use Rattle.indexmap.specs.IndexSet.{IsUnchanged, contains, spare};
+ghost use Rattle.indexmap.specs.IndexSet.{contains, spare};
 ghost use Rattle.std.proofs.Common.{ap};
 ghost use Rattle.std.specs.Cmp.{partial_equiv_from_equiv};
 ghost use Rattle.std.specs.Cmp.Lexicographic.{bytes_decides, nat_list_eq_equiv};
 ghost use Rattle.std.specs.Hash as fed;
 ghost use Rattle.std.specs.List.{list_any};
-ghost use Rattle.std.specs.Prelude.{OnOk, bytes_eq, false, reverse, ◌<◌, ◌∷◌, ◌≡◌};
+ghost use Rattle.std.specs.Prelude.{bytes_eq, false, reverse, ◌<◌, ◌∷◌, ◌≡◌};
 
 use indexmap::IndexSet;
 use sl_text::Name;
@@ -54,7 +54,7 @@ impl Hash for DaemonName {
     }
 }
 
-/// Whether a daemon had this name.
+/// Whether some daemon of the world, on whatever machine, had this name.
 pub fn has_name(names: &IndexSet<DaemonName>, name: Name) -> bool
     ensures { result ≡ list_any (bytes_eq name) (reverse names.now.keys) }
 {

@@ -3,7 +3,7 @@
 //! A write of its process that was in flight then may land for `land` longer, so till then what it held is used still. At a reset what lingers
 //! no more is dropped, so that a machine keeps no more than it held within the last `land`, however often it is reset.
 
-ghost use Rattle.sl_run.specs.Worlds.{Lingering as LingeringOf, lingers};
+ghost use Rattle.sl_run.specs.Worlds.{lingers};
 ghost use Rattle.std.specs.Prelude.{IfOk, filter, map, ◌++◌, ◌≡◌};
 
 use sl_trace::Grant;
@@ -14,7 +14,7 @@ use std::marker::Model;
 #[derive(Clone, Copy)]
 pub struct Lingering {
     pub held: Grant,
-    /// The moment of the reset.
+    /// The moment of the reset, in milliseconds.
     pub reset: u64,
 }
 

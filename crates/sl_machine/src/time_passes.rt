@@ -38,7 +38,7 @@ fn advance<L: LockTable>(machines: &mut Vec<Machine<L>>, time: u64, growths: &Op
 }
 
 impl<L: LockTable> Kept<L> {
-    /// Time passes.
+    /// So many milliseconds pass, and each clock grows, by as many or by its own thousandths. No premise may stand against it.
     pub fn pass(&mut self, time: u64, growths: &Option<Seq<u64>>)
         requires { first_that (refusing.pass_tests_in (kept_state L.locks self.old) time growths.now) ≡ None }
         ensures { kept_state L.locks self.new ≡ passed_in time growths.now (kept_state L.locks self.old) }

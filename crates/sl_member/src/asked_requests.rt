@@ -6,9 +6,8 @@
 ghost use Rattle.sl_host_state.specs.HeardInputs.{asked_at};
 ghost use Rattle.sl_member.specs.AskedRequests.{bits_within, is_asked_within};
 ghost use Rattle.sl_time.specs.Times.{fail};
-ghost use Rattle.sl_words.specs.Words.{some_is};
 ghost use Rattle.std.specs.Option.{option_map_or};
-ghost use Rattle.std.specs.Prelude.{IfOk, None, Some, length, max, nat_lt, replicate, slice_index_or, slice_set, ◌+◌, ◌-◌, ◌<◌, ◌≡◌, ◌≤◌};
+ghost use Rattle.std.specs.Prelude.{IfOk, None, Some, max, nat_lt, replicate, slice_index_or, slice_set, ◌+◌, ◌-◌, ◌<◌, ◌≡◌, ◌≤◌};
 
 use sl_request::Bitmap;
 use sl_sector::HostId;

@@ -14,7 +14,7 @@ use sl_host_state::ValuePair;
 use sl_sector::{DeltaRec, Rec};
 use sl_trace::{Call, LeaseStep, Op, Purpose, Spot, Work};
 
-/// The delta record that is written.
+/// The delta record that the operation writes; none of a read, nor of a write of another record.
 pub(crate) fn delta_of(op: &Op) -> Option<&DeltaRec>
     ensures { option_copied result ≡ option_and_then delta_of_record (record_of op.now) }
 {

@@ -198,7 +198,7 @@ fn set_values(
 }
 
 impl Leases {
-    /// None.
+    /// No lease, and no room for one. It takes no memory.
     pub fn new(alloc: Global) -> Leases
         ensures { result ≡ record { leases = []; room = 0 } }
     {
@@ -236,7 +236,7 @@ impl Leases {
         self.items.len()
     }
 
-    /// The lease at this place.
+    /// The lease at this place, in the order of their areas.
     pub fn nth(&self, place: usize) -> &Lease
         requires { place < length self.now.leases }
         ensures { slice_get self.now.leases place ≡ Some result.now }

@@ -19,7 +19,7 @@ ghost use Rattle.sl_lease.specs.Bounds.{IsSession};
 ghost use Rattle.sl_lease.specs.Changes.{after_failure, after_write};
 ghost use Rattle.sl_member.specs.AskedRequests.{bits_within};
 ghost use Rattle.sl_member.specs.Leases.{begins_lease, first_among, kept_shown, read_shown};
-ghost use Rattle.sl_member.specs.Members.{IsKnown, IsOwnCall, RunOf, blank_member, delta_lease, kept_called, leaving_begun, lease_changed, own_of, own_told, owner_in, recovery_begun, renewal_counted, renewing_after, renewing_told, seen_in, side_in};
+ghost use Rattle.sl_member.specs.Members.{IsKnown, IsOwnCall, blank_member, delta_lease, kept_called, leaving_begun, lease_changed, own_of, own_told, owner_in, recovery_begun, renewal_counted, renewing_after, renewing_told, seen_in, side_in};
 ghost use Rattle.sl_member.specs.SeenSessions.{is_asked_by, shows_other_by};
 ghost use Rattle.sl_member.specs.HostMembers.{late_by};
 ghost use Rattle.sl_sector.specs.Records.{Fits};
@@ -34,7 +34,7 @@ ghost use Rattle.sl_watch.specs.Summaries.{bare, state_by};
 ghost use Rattle.sl_watch.specs.ToldLooks.{told_all};
 ghost use Rattle.sl_watch.specs.Watches.{kept_at};
 ghost use Rattle.sl_words.specs.Bounds.{moments};
-ghost use Rattle.std.specs.Prelude.{IfOk, IfSome, IsTrue, None, OnErr, OnOk, Some, bytes_eq, false, find, is_none, is_some, length, max, nat_le, not, option_map, slice_get, true, ℕ, ◌&&◌, ◌*◌, ◌+◌, ◌<◌, ◌==◌, ◌^◌, ◌≡◌, ◌≤◌};
+ghost use Rattle.std.specs.Prelude.{IfOk, IfSome, IsTrue, None, OnErr, OnOk, Some, bytes_eq, false, find, is_none, is_some, length, max, nat_le, option_map, true, ℕ, ◌&&◌, ◌*◌, ◌+◌, ◌<◌, ◌==◌, ◌^◌, ◌≡◌, ◌≤◌};
 
 use crate::asked_requests::Asked;
 use crate::calls::delta_of;
@@ -208,7 +208,7 @@ impl Member {
 
     // ---- what it is
 
-    /// Which session it is.
+    /// Which session the member is: its number, lockspace, id and place.
     pub fn who(&self) -> &Session
         ensures { result.now ≡ self.now.state.who }
     {
@@ -222,21 +222,21 @@ impl Member {
         self.who.lockspace.as_slice() == lockspace.as_slice()
     }
 
-    /// Whether it is joined.
+    /// Whether it has joined, and has not ended.
     pub fn is_joined(&self) -> bool
         ensures { result ≡ self.now.state.joined }
     {
         self.joined
     }
 
-    /// Whether its joining was refused.
+    /// Whether its joining was refused: then it is a member only until its last write is answered.
     pub fn is_refused(&self) -> bool
         ensures { result ≡ self.now.state.refused }
     {
         self.refused
     }
 
-    /// Joined, neither in recovery nor leaving.
+    /// Whether it is joined and neither in recovery nor leaving: only then do its leases go on.
     pub fn is_active(&self) -> bool
         ensures { result ≡ (self.now.state.joined && is_none self.now.state.renewing.recovery && is_none self.now.state.leaving) }
     {
@@ -261,7 +261,7 @@ impl Member {
         }
     }
 
-    /// How its leaving began.
+    /// How its leaving began; none where it does not leave.
     pub fn leaving(&self) -> Option<Begun>
         ensures { result ≡ self.now.state.leaving }
     {
@@ -290,7 +290,7 @@ impl Member {
         }
     }
 
-    /// For whom its leases are kept.
+    /// The sizes, the lockspace and the session, by its generation, for which its leases decide.
     pub fn side(&self) -> Side
         ensures exact { result ≡ side_in self.now }
         ensures session { self.now.state.joined ≡ true → IsSession self.now.run.sizes result.me }
@@ -356,7 +356,7 @@ impl Member {
         is_asked(&self.geometry, self.who.id, sectors)
     }
 
-    /// Its leases, to be read.
+    /// Its leases, by their areas; with room for those that may come in this step.
     pub fn leases(&self) -> &Leases
         ensures { result.now ≡ record { leases = self.now.state.leases; room = self.now.room } }
     {
@@ -455,7 +455,8 @@ impl Member {
         self.own.first_answered(now, answer);
     }
 
-    /// Another call of it was answered.
+    /// A call of it was answered at this reading, by whatever answer: so much of it the member keeps. (A joining's first read is kept
+    /// with its sector.)
     pub fn own_answered(&mut self, now: u64, purpose: &Purpose)
         requires moment { now < moments }
         requires later { is_join_call FirstRead purpose.now ≡ false }
@@ -496,14 +497,14 @@ impl Member {
         self.renewing = renewing_after(self.renewing, self.joined, counts, shows, begun);
     }
 
-    /// Its recovery begins.
+    /// Its recovery begins: its leases go on no more.
     pub fn recovers(&mut self, begun: Begun)
         ensures { self.new ≡ record self.old { state = recovery_begun begun self.old.state } }
     {
         self.renewing.recovery = Some(begun);
     }
 
-    /// Its leaving begins, for this job.
+    /// Its leaving begins, for this job: its leases go on no more.
     pub fn leaves(&mut self, begun: Begun, job: u64)
         ensures { self.new ≡ record self.old { state = leaving_begun begun job self.old.state } }
     {
@@ -519,7 +520,7 @@ impl Member {
         self.joined = true;
     }
 
-    /// Its joining was refused.
+    /// Its joining is refused; nothing of it goes on.
     pub fn refuses(&mut self)
         ensures { self.new ≡ record self.old { state = record self.old.state { refused = true } } }
     {

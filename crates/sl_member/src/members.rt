@@ -37,7 +37,7 @@ use sl_trace::{Begun, Call, LeaseStep, LockspaceArg, Purpose, Session, Spot};
 use std::alloc::{AllocError, Global};
 use std::marker::Model;
 
-/// The members of a host.
+/// The members of a host: the sessions whose lockspaces are in use, by the lockspaces' names, with room for some more.
 #[derive(Drop)]
 pub struct Members {
     timing: Timing,
@@ -185,7 +185,7 @@ fn is_any_left(items: &[Member], lockspace: &LockspaceArg) -> bool
 }
 
 impl Members {
-    /// None, of this run.
+    /// No member, and no room for one, of a run with these times and sizes. It takes no memory.
     pub fn new(alloc: Global, timing: &Timing, geometry: &Geometry, host: Name) -> Members
         ensures { result ≡ record { run = record { timing = timing.now; sizes = geometry.now; host = host }; members = []; most = 0; room = 0 } }
     {
@@ -199,7 +199,7 @@ impl Members {
         }
     }
 
-    /// The sizes of sectors and areas.
+    /// The sizes of sectors and areas, in bytes, of the whole run.
     pub fn geometry(&self) -> Geometry
         ensures { result ≡ self.now.run.sizes }
     {
@@ -262,7 +262,7 @@ impl Members {
         self.items.len()
     }
 
-    /// The member at this place.
+    /// The member at this place, in the order of lockspaces' names.
     pub fn nth(&self, place: usize) -> &Member
         requires { place < length self.now.members }
         ensures { slice_get self.now.members place ≡ Some result.now.state }
@@ -320,7 +320,7 @@ impl Members {
         }
     }
 
-    /// The member of this number goes.
+    /// The member of this number, if there is one, is a member no more.
     pub fn remove(&mut self, number: u64)
         ensures { self.new ≡ record self.old { members = filter (λ s. not (number == s.who.number)) self.old.members } }
     {
@@ -365,7 +365,7 @@ impl Members {
         }
     }
 
-    /// Another call of it was answered.
+    /// A call of the member of this number was answered at this reading, by whatever answer: so much of it the member keeps.
     pub fn own_answered(&mut self, number: u64, now: u64, purpose: &Purpose)
         requires moment { now < moments }
         requires later { is_join_call FirstRead purpose.now ≡ false }
@@ -421,7 +421,7 @@ impl Members {
         }
     }
 
-    /// Its recovery begins.
+    /// The recovery of the member of this number begins.
     pub fn recovers(&mut self, number: u64, begun: Begun)
         ensures { self.new ≡ record self.old { members = changed_member number (recovery_begun begun) self.old.members } }
     {
@@ -431,7 +431,7 @@ impl Members {
         }
     }
 
-    /// Its leaving begins, for this job.
+    /// The leaving of the member of this number begins, for this job.
     pub fn leaves(&mut self, number: u64, begun: Begun, job: u64)
         ensures { self.new ≡ record self.old { members = changed_member number (leaving_begun begun job) self.old.members } }
     {
@@ -452,7 +452,7 @@ impl Members {
         }
     }
 
-    /// Its joining was refused.
+    /// The joining of the member of this number is refused.
     pub fn refuses(&mut self, number: u64)
         ensures { self.new ≡ record self.old { members = changed_member number (λ s. record s { refused = true }) self.old.members } }
     {

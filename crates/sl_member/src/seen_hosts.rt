@@ -4,7 +4,7 @@ ghost use Rattle.sl_member.specs.SeenSessions.{evidence_of, over_by};
 ghost use Rattle.sl_area.specs.AreaSizes.{layout_of};
 ghost use Rattle.sl_area.specs.AreaLayout.{read_at};
 ghost use Rattle.sl_watch.specs.ToldLooks.{told_all, told_at};
-ghost use Rattle.std.specs.Prelude.{IsTrue, Some, length, ◌&&◌, ◌*◌, ◌+◌, ◌-◌, ◌<◌, ◌≡◌, ◌≤◌};
+ghost use Rattle.std.specs.Prelude.{IsTrue, length, ◌&&◌, ◌*◌, ◌+◌, ◌-◌, ◌<◌, ◌≡◌, ◌≤◌};
 
 use sl_area::Geometry;
 use sl_lease::{Evidence, Sectors};

@@ -67,7 +67,7 @@ fn asks<S: Sectors>(geometry: &Geometry, id: HostId, sectors: &S, from: HostId) 
     }
 }
 
-/// Whether one of them has it.
+/// Whether some host's delta record among these sectors has the bit of this id: it asks for something that the id holds.
 pub(crate) fn is_asked<S: Sectors>(geometry: &Geometry, id: HostId, sectors: &S) -> bool
     requires id { (1 ≤ id) × (id ≤ geometry.now.hosts) }
     requires cut { IsTrue (S.is_cut sectors.now geometry.now.sector) }

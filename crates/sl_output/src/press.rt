@@ -24,7 +24,7 @@ impl Press for Brand {
 /// A piece, with the number of the thread that put it.
 pub type Signed = sl_book::Signed<Bytes>;
 
-/// The book of the pieces.
+/// The book of the pieces that were put, which is kept nowhere: it is a list in the proofs alone.
 pub type Book<O> = sl_book::Book<O, Bytes>;
 
 /// A book without pieces, which is of no output yet.

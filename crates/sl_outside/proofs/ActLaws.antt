@@ -3,7 +3,7 @@ use Rattle.sl_outside.specs.Acts.{Tells}
 use Rattle.sl_outside.specs.declared.act.Act.{Act}
 use Rattle.std.proofs.Common.{arith, refl}
 use Rattle.std.specs.Option.{ForSome}
-use Rattle.std.specs.Prelude.{List, None, Option, Some, length, [], ℕ, ◌∷◌, ◌≡◌}
+use Rattle.std.specs.Prelude.{List, None, Option, Some, length, [], ◌∷◌, ◌≡◌}
 
 pub unasked_tells : (told : Option (List Act)) → ForSome told (λ acts. length acts ≡ 0) → Tells told []
 unasked_tells None so = tt

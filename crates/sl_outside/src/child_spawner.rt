@@ -13,7 +13,7 @@ use std::alloc::Global;
 use std::marker::Model;
 use std::process::{Processes, SystemProcess};
 
-/// Child programs of the system.
+/// The child programs of the system that a machine has, by the machine's own numbers.
 #[derive(Drop)]
 pub struct ChildSpawner<R> {
     rt: R,
@@ -31,7 +31,7 @@ impl<R> Model for ChildSpawner<R> {
 }
 
 impl<R> ChildSpawner<R> {
-    /// No child yet, and no fault.
+    /// A spawner without a child, with its count of faults at 0.
     pub fn new(rt: R, alloc: Global) -> ChildSpawner<R>
         ensures { result ≡ record { running = []; faults = 0 } }
     {
@@ -43,7 +43,7 @@ impl<R> ChildSpawner<R> {
         }
     }
 
-    /// The faults so far.
+    /// How many of its calls have failed so far; it never falls.
     pub fn faults(&self) -> u64
         ensures { result ≡ self.now.faults }
     {

@@ -16,7 +16,7 @@ pub trait Devices: Drop {
     /// The path of the disk that is out, where the devices tell what it has.
     ghost lent: { Self → Option (List ℕ) } = { λ _. None };
 
-    /// The faults so far.
+    /// How many disks were taken back on which a call had failed; it never falls.
     ghost faults: { Self → ℕ };
 
     /// Hands out the disk at a path to a worker of a machine. The area has counted no fault; where there is no such disk, each of its

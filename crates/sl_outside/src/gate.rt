@@ -5,11 +5,11 @@ pub trait Gate {
     /// A worker of this machine is about to make this call.
     fn enter(&self, machine: u32, call: u64);
 
-    /// It has made it.
+    /// The worker has made the call of this number, and leaves the gate.
     fn left(&self, machine: u32, call: u64);
 }
 
-/// A gate that holds nothing.
+/// The gate of a run of the program: it holds no call.
 #[derive(Clone, Copy)]
 pub struct OpenGate;
 

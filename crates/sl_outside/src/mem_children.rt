@@ -10,10 +10,10 @@ ghost use Rattle.std.specs.Prelude.{IfOk, IfSome, length, [], ◌++◌, ◌-◌,
 use std::alloc::{AllocError, Global};
 use std::marker::Model;
 
-/// A child in memory.
+/// A child in memory: it runs no program, and exits as planned.
 #[derive(Clone, Copy)]
 pub struct MemChild {
-    /// Its process number.
+    /// The machine's number of the child.
     pub process: u32,
     /// The number of the poll from which on it has exited; polls are numbered from 1.
     pub ends: u64,
@@ -50,7 +50,7 @@ impl MemChildren {
         })
     }
 
-    /// No child, and no room.
+    /// No child, and no room for one. It takes no memory.
     pub(crate) fn none(alloc: Global) -> MemChildren
         ensures { result ≡ record { items = []; room = 0 } }
     {

@@ -32,7 +32,7 @@ pub struct MemPlan {
     /// At which poll after it was taken in a child exits by itself, by the number of the start; the last goes for all later starts, and with
     /// none no child exits by itself. A 0 stands for 1.
     pub lives: Vec<u64>,
-    /// Whether a term does nothing.
+    /// Whether a term does nothing to its children: only a kill ends them.
     pub deaf: bool,
     /// The starts that fail, counted from 1.
     pub failing: Vec<u64>,
@@ -59,7 +59,7 @@ impl Model for ToStart {
     ghost invariant = { λ s. Tells (told s.acts) [] };
 }
 
-/// Runs children in memory.
+/// A spawner whose children are in memory; it notes what it was asked to do.
 #[derive(Drop)]
 pub struct MemSpawner {
     alloc: Global,
@@ -158,7 +158,7 @@ impl MemSpawner {
         }
     }
 
-    /// The faults so far.
+    /// How many of its calls have failed, as planned or for want of room.
     pub fn faults(&self) -> u64
         ensures { result ≡ self.now.starts.faults }
     {

@@ -22,14 +22,14 @@ impl PlannedSpawner {
         Ok(PlannedSpawner { machine, spawner })
     }
 
-    /// The machine that it is for.
+    /// The number of the machine whose spawner it is.
     pub fn machine(&self) -> u32
         ensures { result ≡ self.now.machine }
     {
         self.machine
     }
 
-    /// The spawner.
+    /// The spawner itself, which goes by the plan of its machine.
     pub fn into_spawner(self) -> MemSpawner
         ensures { IsFresh result }
     {

@@ -100,21 +100,21 @@ impl Model for Running {
 }
 
 impl Running {
-    /// The child under its number.
+    /// A program that runs, with the machine's number of it.
     pub(crate) fn new(process: u32, program: Program) -> Running
         ensures { result ≡ process }
     {
         Running { process, program }
     }
 
-    /// Its process number.
+    /// The machine's number of the child.
     pub(crate) fn process(&self) -> u32
         ensures { result ≡ self.now }
     {
         self.process
     }
 
-    /// Whether it has exited.
+    /// Whether the program has exited; it is asked of the system.
     pub(crate) fn has_exited(&mut self) -> bool
         ensures { self.new ≡ self.old }
     {

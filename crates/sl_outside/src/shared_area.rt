@@ -2,7 +2,7 @@
 //!
 //! Each worker has an area of its own of it, with a count of its own and a plan of its own; each call takes the disk's lock for the copy.
 //! Nothing is told of the disk, since another thread may write to it at any time.
-ghost use Rattle.std.specs.Prelude.{None, [], ◌≡◌};
+ghost use Rattle.std.specs.Prelude.{None, ◌≡◌};
 ghost use Rattle.sl_io.specs.FaultCauses.{HasCause};
 
 use sl_area::{Area, MemArea, Place};
@@ -38,7 +38,7 @@ impl<R: Wait> SharedArea<R> {
         }
     }
 
-    /// The faults so far.
+    /// How many calls of this area have failed so far, as planned.
     pub fn faults(&self) -> u64
         ensures { result ≡ self.now.faults }
     {

@@ -1,6 +1,6 @@
 //! The children in memory of live machines: a start may take its time, and how many children run at once, over all machines, is counted.
 ghost use Rattle.sl_outside.specs.MemSpawners.{numbers, told};
-ghost use Rattle.std.specs.Prelude.{OnErr, OnOk, [], ◌++◌, ◌∷◌, ◌≡◌, ◌≤◌};
+ghost use Rattle.std.specs.Prelude.{◌≡◌};
 
 use crate::mem_spawner::MemSpawner;
 use crate::spawner::Spawner;
@@ -37,7 +37,7 @@ impl<R: Wait + Copy> Census<R> {
         })
     }
 
-    /// The same census once more.
+    /// The same count, for one more spawner.
     pub fn share(&self) -> Result<Census<R>, AllocError> {
         Ok(Census {
             rt: self.rt,
@@ -45,7 +45,7 @@ impl<R: Wait + Copy> Census<R> {
         })
     }
 
-    /// The most that ran at once.
+    /// The greatest number of children that ever ran at once, over all spawners that share it.
     pub fn most(&self) -> usize {
         self.counts.lock(&self.rt).most
     }

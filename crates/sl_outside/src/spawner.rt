@@ -14,7 +14,7 @@ use sl_trace::Signal;
 /// A start may take any time, as where the program lies on storage that hangs. So it is made by a spawner of its own (`starter`), while no lock is
 /// held, and the child that it gives is then taken in. No other call waits for anything, so all others may be made while a lock is held.
 pub trait Spawner: Drop {
-    /// The faults so far.
+    /// How many of its calls have failed so far; it never falls.
     ghost faults: { Self → ℕ };
 
     /// The children that were taken in and are not yet told as exited, in that order.

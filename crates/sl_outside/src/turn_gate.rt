@@ -9,7 +9,7 @@ use std::sync::{Arc, Mutex, Wait};
 use std::thread::sleep;
 use std::time::{Clock, Duration};
 
-/// A sector call of a machine.
+/// A sector call, by its machine and its number.
 #[derive(Clone, Copy, PartialEq, Eq)]
 pub struct Turn {
     pub machine: u32,

@@ -69,7 +69,7 @@ impl<R> Model for SystemWords<R> {
 }
 
 impl<R: Files + Clock> SystemWords<R> {
-    /// For the name of a machine.
+    /// Bits of the system, for the name of this machine's daemon.
     pub fn new(rt: R, machine: u32) -> SystemWords<R>
         ensures { result ≡ machine }
     {

@@ -1,6 +1,6 @@
 -- A run is reported from its end.
 use mathlib.Core.List.{append_assoc}
-use Rattle.sl_play.specs.RunEndings.{AsksLeadBack, BreaksOff, EndsFinish, EventsLeadBack, Finishes, LeadingIsChained, LeadsBack, MayCome}
+use Rattle.sl_play.specs.RunEndings.{AsksLeadBack, EndsFinish, EventsLeadBack, LeadingIsChained, LeadsBack, MayCome}
 use Rattle.sl_words.proofs.Lists.{head_is, tail_is}
 use Rattle.sl_report.specs.OwedReports.{IsFrontOf}
 use Rattle.sl_report.specs.Languages.{Language}

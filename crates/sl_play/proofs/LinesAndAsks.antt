@@ -1,19 +1,18 @@
 -- Lines and asks: what is left behind them is left before.
-use Rattle.sl_world_state.specs.Daemons.{Stood, program_of}
-use Rattle.sl_world_state.specs.KeptWorld.{KeptState}
-use Rattle.sl_world_state.specs.SaneWorlds.{ReadsCommands, WorldStands}
+use Rattle.sl_world_state.specs.Daemons.{program_of}
+use Rattle.sl_world_state.specs.SaneWorlds.{WorldStands}
 use Rattle.sl_play.proofs.EndsFinish.{asks_lead_back, ends_finish, events_lead_back, leading_is_chained}
-use Rattle.sl_play.specs.RunEndings.{Finishes, LeadsBack}
+use Rattle.sl_play.specs.RunEndings.{LeadsBack}
 use Rattle.sl_play.specs.PlayIsOwed.{EachStood}
 use Rattle.sl_play.specs.declared.step_counts.PlayError.{PlayError}
-use Rattle.sl_play.specs.Plays.{AsksLeft, Begins, GoesOn, Happened, HasAsked, HasHappened, HaveAsked, IsAsking, IsBarred, IsPlaying, PlayState, PlaysOn, StandsFor, StaysAs, StopsAt, TakesLines}
+use Rattle.sl_play.specs.Plays.{AsksLeft, Begins, GoesOn, Happened, HasAsked, HasHappened, HaveAsked, IsAsking, IsBarred, IsPlaying, PlayState, PlaysOn, StopsAt, TakesLines}
 use Rattle.sl_report.specs.Languages.{Language, is_skipped, whole_language}
 use Rattle.sl_report.specs.ReadLines.{event_in}
-use Rattle.sl_report.specs.Reports.{Counts, count_event, event_lines, no_counts}
-use Rattle.sl_report.specs.Schedules.{At_line, EventLine, NoAsk, NumberedLine, event_line, event_or_syntax, last_lines, line_refusal}
+use Rattle.sl_report.specs.Reports.{Counts, event_lines, no_counts}
+use Rattle.sl_report.specs.Schedules.{EventLine, NumberedLine, event_line, event_or_syntax, line_refusal}
 use Rattle.sl_run.specs.Inputs.{asking}
 use Rattle.sl_run.specs.EventChanges.{happens}
-use Rattle.sl_run.specs.Refusals.{may_happen, refusal_of}
+use Rattle.sl_run.specs.Refusals.{refusal_of}
 use Rattle.sl_run.specs.Headers.{IsHeader}
 use Rattle.sl_run.specs.Worlds.{World, world_with}
 use Rattle.sl_run.specs.declared.event.Event.TheVariants.{GiveAsk}
@@ -23,18 +22,16 @@ use Rattle.sl_run.specs.declared.header.Header.{Header}
 use Rattle.sl_run_law.proofs.WorldsGoOn.{event_goes}
 use Rattle.sl_sound.proofs.Reports.EventsAskFew.{asks_end, events_ask_few}
 use Rattle.sl_sound.proofs.Reports.OneReport.{begins_fair, begins_unasked}
-use Rattle.sl_sound.specs.Reports.EventsAskFew.{AsksOn, IsFair}
+use Rattle.sl_sound.specs.Reports.EventsAskFew.{AsksOn}
 use Rattle.sl_text.specs.Forms.{Form, as_bytes}
 use Rattle.sl_trace.specs.Traces.{Setting, Trace}
 use Rattle.sl_trace.specs.declared.command.Command.{Command}
 use Rattle.sl_trace.specs.declared.effects.Effects.{Effects}
-use Rattle.sl_world.specs.AllowedEvents.{StandsForSome}
 use Rattle.sl_world_law.proofs.FirstStanding.{each_stood}
 use Rattle.sl_world_law.proofs.TellingIsKept.{asks_are_kept}
-use Rattle.sl_world_law.specs.WorldsStand.{Comes}
 use Rattle.sl_world_law.specs.ToldEvents.{asking_in}
 use Rattle.std.specs.Option.{option_to_list}
-use Rattle.std.proofs.Common.{Bool, List, None, Option, Some, [], ap, arith, false, refl, subst, suc, sym, true, zero, ℕ, ◌++◌, ◌+◌, ◌-◌, ◌<◌, ◌∙◌, ◌∷◌, ◌≡◌, ◌≤◌}
+use Rattle.std.proofs.Common.{Bool, List, None, Option, Some, [], ap, arith, false, refl, subst, suc, sym, true, zero, ℕ, ◌++◌, ◌+◌, ◌-◌, ◌∙◌, ◌∷◌, ◌≡◌, ◌≤◌}
 use Rattle.std.specs.Prelude.{Err, IfOk, Ok, Result, is_none}
 
 -- ---- events

@@ -6,7 +6,7 @@ use Rattle.sl_play.specs.RunEndings.{BreaksOff, Finishes, LeadsBack}
 use Rattle.sl_play.specs.PlayIsOwed.{EachStood}
 use Rattle.sl_play.specs.Plays.{Begins, GoesOn, IsPlaying, PlayState, PlaysOn, StopsAt, TakesLines}
 use Rattle.sl_play.proofs.ReportsShift.{shift, shift_finish}
-use Rattle.sl_play.specs.Replays.{All, Breaks, Chokes, Ends, Lacks, LeadsFrom, MayPlay, Moved, Nothing, Of_events, Of_header, Part, Puts, Replays, ReportsAll, ReportsComplete, ReportsFront, ReportsLines, Running, Stops, played_language}
+use Rattle.sl_play.specs.Replays.{All, Breaks, Chokes, Ends, Lacks, LeadsFrom, MayPlay, Moved, Nothing, Of_events, Of_header, Part, Puts, Replays, ReportsAll, ReportsFront, Running, Stops, played_language}
 use Rattle.sl_play.specs.declared.replay.Played.TheVariants.{Done, NoMemory, ReadFault, Refused, WriteFault}
 use Rattle.sl_play.specs.declared.replay.Played.{Played}
 use Rattle.sl_report.specs.OwedReports.{FrontOf, In_header, IsFrontOf, MayHaveBeen, Of_nothing, Of_report, ReplayOf}
@@ -15,7 +15,7 @@ use Rattle.sl_report.specs.ReadLines.{header_line_in}
 use Rattle.sl_report.specs.Reports.{Counts, end_line, no_counts}
 use Rattle.sl_report.specs.HeaderLines.{HeaderLine, header_of}
 use Rattle.sl_report.specs.RefusalLines.{refusal_line}
-use Rattle.sl_report.specs.Schedules.{At_end, At_line, Ending, EventLine, HeaderReading, Header_read, Header_refused, NumberedLine, default_area, default_sector, event_line, event_lines_of, header_line_refusal, is_begin, last_lines, line_refusal, numbered_from, numbered_lines, read_header, status_of, with_line}
+use Rattle.sl_report.specs.Schedules.{At_end, At_line, Ending, EventLine, HeaderReading, Header_read, Header_refused, NumberedLine, default_area, default_sector, event_line, event_lines_of, header_line_refusal, is_begin, line_refusal, numbered_from, numbered_lines, read_header, status_of, with_line}
 use Rattle.sl_run.specs.Headers.{IsHeader}
 use Rattle.sl_run.specs.Worlds.{Program, World, world_with}
 use Rattle.sl_run.specs.declared.event.Refusal.{Refusal}

@@ -1,6 +1,5 @@
 -- What is owed of a source whose lines were followed from the header's world on.
-use Rattle.sl_play.specs.RunEndings.{BreaksOff, Finishes}
-use Rattle.sl_play.specs.PlayIsOwed.{EachStood, PlayIsOwed}
+use Rattle.sl_play.specs.PlayIsOwed.{PlayIsOwed}
 use Rattle.sl_report.specs.OwedReports.{In_events, Of_events}
 use Rattle.sl_trace.specs.Traces.{Setting, Trace}
 use Rattle.std.proofs.Common.{refl}

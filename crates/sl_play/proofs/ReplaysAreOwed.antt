@@ -1,7 +1,6 @@
 -- What a replay owes, by its status.
-use Rattle.sl_play.specs.Replays.{Breaks, Chokes, Ends, IsOwed, Lacks, Replays, ReplaysAreOwed, Stops}
+use Rattle.sl_play.specs.Replays.{Breaks, Chokes, Ends, Lacks, ReplaysAreOwed, Stops}
 use Rattle.sl_play.specs.declared.replay.Played.TheVariants.{Done, NoMemory, ReadFault, Refused, WriteFault}
-use Rattle.sl_play.specs.declared.replay.Played.{Played}
 use Rattle.sl_run.specs.declared.header.Header.{Header}
 use Rattle.sl_text.specs.Forms.{Form}
 use Rattle.sl_trace.specs.Traces.{Setting, Trace}

@@ -1,6 +1,5 @@
 -- What is left behind a line, with its report behind that of the lines before it.
-use Rattle.sl_play.specs.RunEndings.{BreaksOff, Finishes, LeadsBack}
-use Rattle.sl_report.specs.OwedReports.{IsFrontOf}
+use Rattle.sl_play.specs.RunEndings.{Finishes, LeadsBack}
 use Rattle.sl_report.specs.Languages.{Language}
 use Rattle.sl_report.specs.Reports.{Counts, run_counts, run_lines}
 use Rattle.sl_report.specs.Schedules.{Ending, EventLine, last_lines}

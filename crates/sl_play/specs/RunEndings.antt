@@ -16,7 +16,7 @@ use Rattle.sl_run.specs.declared.event.Event.{Event}
 use Rattle.sl_run.specs.declared.event.Refusal.{Refusal}
 use Rattle.sl_text.specs.Forms.{as_bytes}
 use Rattle.sl_trace.specs.declared.effects.Effects.{Effects}
-use Rattle.std.specs.Prelude.{Err, IsTrue, List, Ok, Some, true, [], ℕ, ◌++◌, ◌∷◌, ◌≡◌}
+use Rattle.std.specs.Prelude.{Err, List, Ok, Some, true, [], ℕ, ◌++◌, ◌∷◌, ◌≡◌}
 
 -- ---- what is left
 

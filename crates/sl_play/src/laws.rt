@@ -18,7 +18,7 @@ pub fn asks_lead_back<D: Daemon>()
     ensures { AsksLeadBack (EachStood D.stands) }
 {}
 
-/// .. and so behind one after another.
+/// The lines that lead a header go along one behind the other, too.
 pub fn leading_is_chained<D: Daemon>()
     ensures { LeadingIsChained (EachStood D.stands) }
 {}

@@ -1,12 +1,12 @@
 //! A schedule's line played: its event, and the asks behind it.
 
-ghost use Rattle.sl_play.specs.Plays.{GoesOn, HaveAsked, IsAsking, IsPlaying, PlaysOn, AsksLeft, TakesLines, state_of};
+ghost use Rattle.sl_play.specs.Plays.{GoesOn, IsAsking, IsPlaying, PlaysOn, AsksLeft, TakesLines, state_of};
 ghost use Rattle.sl_report.specs.Languages.{whole_language};
 ghost use Rattle.sl_report.specs.Schedules as schedules;
 ghost use Rattle.sl_run.specs.Worlds as worlds;
 ghost use Rattle.sl_schedule.specs.Lines.{line_seen};
 ghost use Rattle.std.specs.Option.{option_to_list};
-ghost use Rattle.std.specs.Prelude.{IfOk, Ok, OnOk, [], ℕ, ◌∷◌, ◌≡◌};
+ghost use Rattle.std.specs.Prelude.{IfOk, Ok, OnOk, [], ℕ, ◌∷◌};
 
 use crate::play::Play;
 use crate::step_counts::PlayError;

@@ -54,14 +54,14 @@ impl<D: Daemon, L: LockTable> Play<D, L> {
         })
     }
 
-    /// The world, to be asked.
+    /// The world as it stands now, to be asked.
     pub fn world(&self) -> &World<D, L>
         ensures { result.now ≡ self.now.world }
     {
         &self.world
     }
 
-    /// What was counted so far.
+    /// What was counted of the events so far, for the last line.
     pub fn counts(&self) -> &Counts
         ensures { result.now ≡ (state_of L.locks self.now).counts }
     {

@@ -22,7 +22,7 @@ use sl_schedule::{Counts, push_end_line, push_refusal_line};
 use sl_world_state::Daemon;
 use std::alloc::{AllocError, Global};
 
-/// How a replay ended.
+/// How a replay ended; each goes with a status of its own.
 #[derive(Clone, Copy, Debug, PartialEq, Eq)]
 pub enum Played {
     /// The source was read to its end, and each line's event happened; the report is whole.

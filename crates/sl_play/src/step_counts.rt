@@ -38,7 +38,7 @@ impl From<AllocError> for PlayError {
     }
 }
 
-/// All counts at 0.
+/// The counts of a run without events.
 pub fn no_counts() -> Counts
     ensures { result ≡ reports.no_counts }
 {

@@ -4,7 +4,7 @@ ghost use Rattle.sl_reader.specs.HeaderBegins.{HeaderBreaks, HeaderIsRead};
 ghost use Rattle.sl_reader.specs.LineReads.{EndStands, Gives, no_line};
 ghost use Rattle.sl_reader.specs.declared.reader.ReadError.TheVariants.{Failed as HasFailed};
 ghost use Rattle.sl_io.specs.FaultCauses.{Rose};
-ghost use Rattle.std.specs.Prelude.{Err, IfOk, List, OnErr, false, [], ℕ, ◌≡◌, ◌≤◌};
+ghost use Rattle.std.specs.Prelude.{Err, IfOk, List, OnErr, [], ℕ, ◌≡◌, ◌≤◌};
 
 use crate::reader::{LineReader, Next, ReadError};
 use sl_io::Source;

@@ -3,7 +3,7 @@
 use sl_run::Refusal;
 use sl_text::Bytes;
 
-/// A line of a live script.
+/// What a line of a live script says, or why it says nothing.
 #[derive(Clone, Drop)]
 pub enum LiveLine {
     /// The text is given to the machine; the next line is read after its reply.
@@ -18,14 +18,14 @@ pub enum LiveLine {
     Refused { number: u64, why: Refusal },
 }
 
-/// Why there is no line.
+/// Why a script has no further line.
 #[derive(Clone, Copy, Debug, PartialEq, Eq)]
 pub enum NoLine {
-    /// A line is refused.
+    /// A line was refused, at which the script ends.
     Refused,
-    /// A read failed.
+    /// A read of the script failed.
     ReadFault,
-    /// There is no memory.
+    /// There is no memory for a line.
     NoMemory,
 }
 

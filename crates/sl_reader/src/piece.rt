@@ -41,7 +41,7 @@ fn feed_in(bytes: &[u8]) -> Option<usize>
 }
 
 impl Piece {
-    /// Nothing.
+    /// An empty buffer.
     pub fn new() -> Piece
         ensures { result ≡ [] }
     {
@@ -52,7 +52,7 @@ impl Piece {
         }
     }
 
-    /// The bytes.
+    /// The bytes that were not taken away yet.
     fn left(&self) -> &[u8]
         ensures exact { result.now ≡ self.now }
         ensures few { length result.now ≤ 4096 }
@@ -75,7 +75,7 @@ impl Piece {
         }
     }
 
-    /// Takes so many bytes away.
+    /// Takes so many bytes away at the front: they were read.
     pub fn pass(&mut self, count: usize)
         requires { count ≤ length self.old }
         ensures exact { self.new ≡ drop count self.old }

@@ -22,25 +22,25 @@ const GREATEST_SOURCE: u64 = 1_000_000_000;
 /// The most bytes of a line, without its line feed.
 const LONGEST_LINE: usize = 4096;
 
-/// What comes next in a source.
+/// What comes next in a source, once it was read so far.
 #[derive(Clone, Copy)]
 pub enum Next {
-    /// A line.
+    /// A whole line, within its limit of length; `line` has it.
     Line,
-    /// The source's end.
+    /// The source has ended: no line is left.
     End,
     /// A line that is refused before it is read: it is longer than 4096 bytes (`Syntax`), or holds a byte past the greatest number of bytes
     /// that a schedule may have (`LimitBytes`).
     Refused(Refusal),
 }
 
-/// Why nothing was read.
+/// Why nothing was read: the outside, or memory, was wanting. The lines before it were read.
 #[derive(Clone, Copy, Debug, PartialEq, Eq, Error)]
 pub enum ReadError {
-    /// A read failed.
+    /// A read of the source failed, which its count of faults tells.
     #[error("the input failed")]
     Failed,
-    /// There is no memory.
+    /// There is no memory for a line.
     #[error("out of memory")]
     NoMemory,
 }
@@ -72,9 +72,9 @@ impl From<Failed> for ReadError {
 enum Taken {
     /// All of the piece belongs to it.
     More,
-    /// It ends there.
+    /// The line ends in the piece.
     Line,
-    /// It is refused.
+    /// The line is refused by a byte of the piece, for this.
     Refused(Refusal),
 }
 
@@ -133,7 +133,7 @@ impl LineReader {
         })
     }
 
-    /// The line that was read last.
+    /// The line that was read last, with its number.
     pub fn line(&self) -> Line<'_>
         ensures { line_seen result ≡ line_of self.now }
     {

@@ -9,20 +9,20 @@ use sl_io::Source;
 use sl_run::Refusal;
 use std::alloc::Global;
 
-/// Why a script ended.
+/// Why a script ended, and where.
 #[derive(Clone, Copy)]
 pub enum ScriptEnd {
     /// The source was read to its end.
     End,
     /// The line of this number is refused.
     Refused { number: u64, why: Refusal },
-    /// A read failed.
+    /// A read of the source failed.
     ReadFault,
-    /// There was no memory.
+    /// There was no memory for a line.
     NoMemory,
 }
 
-/// What came next.
+/// What came next in a script: a line that says something, or that there is none.
 #[derive(Drop)]
 pub(crate) enum Came {
     /// The line of this number says this, or is refused for what it says.
@@ -30,7 +30,7 @@ pub(crate) enum Came {
         number: u64,
         said: Result<LiveLine, Refusal>,
     },
-    /// None is left.
+    /// The source has ended: no line is left.
     End,
     /// The line of this number is refused before it is read.
     Refused {

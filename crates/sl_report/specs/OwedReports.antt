@@ -1,4 +1,10 @@
 -- What the program promises of the bytes that it reads and writes.
+--
+-- 1. Of the run: `SoundRun`, `GoodRun`.
+-- 2. Of a whole source: `ReplayOf`, its report and status.
+-- 3. Of bytes that were read, where the source may go on: `MayHaveBeen`, and `FrontOf` where reading, writing or memory failed.
+-- 4. Both, by the status: `ReplayOwed`; and that the report is the one that is computed: `ReplayHeadline`, `Headline`.
+-- 5. Of the schedule that a seed gives: `GenOf`, `GenHeadline`.
 use Rattle.sl_due.specs.Due.{IsHostTrace}
 use Rattle.sl_due.specs.IdleJobs.{NoIdleJob}
 use Rattle.sl_run.specs.Caused.{IsCaused}

@@ -1,4 +1,8 @@
 -- What is written for an event, and the counts of the last line.
+--
+-- Of each step: its effects in the order of their classes, but not the reply to an ask; then the reply to lvmlockd's line, if it has come
+-- (`step_lines`). Behind all steps of a `test`, whether it held (`test_lines`). The counts are of events but for asks, calls, grants,
+-- replies that are not ok, and grants that left a conflict.
 use Rattle.sl_run.specs.Conflicts.{Holding, has_conflict, holding, world_uses}
 use Rattle.sl_run.specs.EventChanges.{happens, number_of_step}
 use Rattle.sl_run.specs.Inputs.{input_of, is_ask, machine_of}

@@ -3,7 +3,7 @@
 //! What is kept is the bytes as the record has them: 250, each below 256. Else a record with them would break its rules, and two
 //! bitmaps with the same hosts' bits could be different bytes.
 
-ghost use Rattle.std.specs.Prelude.{false, length, true, ◌-◌, ◌/◌, ◌≡◌, ◌≤◌};
+ghost use Rattle.std.specs.Prelude.{false, length, true, ◌-◌, ◌/◌, ◌≡◌};
 ghost use Rattle.sl_request.specs.BitmapLaws.{ChangesBit, IsHost};
 ghost use Rattle.sl_sector.specs.Bitmaps as bitmaps;
 ghost use Rattle.sl_sector.specs.Records.{AreBytes};
@@ -59,7 +59,7 @@ fn are_bytes(bytes: &[u8])
 }
 
 impl Bitmap {
-    /// No bit is set.
+    /// A bitmap in which no host's bit is set.
     pub fn none() -> Bitmap
         ensures { result ≡ bitmaps.no_bits }
     {
@@ -68,7 +68,7 @@ impl Bitmap {
         }
     }
 
-    /// The bits of these bytes.
+    /// The bitmap of a delta record, as it was read.
     pub fn from_bytes(bytes: [u8; 250]) -> Bitmap
         ensures { result ≡ bytes }
     {

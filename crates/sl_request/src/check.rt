@@ -15,7 +15,7 @@ use thiserror::Error;
 pub enum Act {
     /// It asks the holder for the resource.
     Set,
-    /// It takes back what was asked.
+    /// It takes back what was asked; it is always taken.
     Clear,
 }
 
@@ -23,7 +23,7 @@ pub enum Act {
 #[derive(Clone, Copy, Debug, PartialEq, Eq, Error)]
 #[error("the request is not above the held lver {held}, or below the stored lver {stored}")]
 pub struct RequestOld {
-    /// The leader's lver.
+    /// The instance of the leader, which the holder has.
     pub held: u64,
     /// The lver of the request that stands.
     pub stored: u64,

@@ -1,4 +1,14 @@
--- What an event changes in a world.
+-- What an event changes in a world, in this order:
+--
+-- 1. `first_change`: what the event does by itself: time passes, a call is sampled, lands, is torn or dropped, a machine goes down or
+--    comes up.
+-- 2. `close_answered`: the call that the event's input answers is no longer in flight.
+-- 3. `after_effects`: what the effects of the daemon's step make: connections, calls, holdings, and the locks whose holdings have ended.
+--    Where no daemon takes the event the machine's own effects (`own_effects`) do so.
+-- 4. `with_entry`, `locks_after`: the daemon's trace is longer by the entry, and lvmlockd's locks take their turn.
+--
+-- `happens` is all of it. After each of `first_change` and the steps one number of a step is used up (`next_step`), so whatever happens
+-- has a stamp of its own.
 use Rattle.sl_area.specs.AreaSizes.{sector_with}
 use Rattle.sl_run.specs.Locks.{fresh_locks, left_locks, locks_after}
 use Rattle.sl_run.specs.Worlds.{Course, Daemon, Dropped, Fate, In_flight, Landed, Machine, Sampling, Stamp, Torn, World, change_machine, daemons_on, flight_of, is_in_flight, is_write_course, landed_at, lingering_now, machine_at, new_daemon, next_numbers, reading_now, sector_size, setting_of, stamp_now}

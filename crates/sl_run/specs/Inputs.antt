@@ -1,4 +1,6 @@
--- The input that an event gives to a running daemon, and the asks that lvmlockd's locks owe one another.
+-- The input that an event gives to a running daemon (`input_at`): none where no daemon runs, and none of an event that is about clocks,
+-- disks or the machine alone. And the asks that lvmlockd's locks owe: the first machine with one (`asking`) is served before anything else
+-- happens.
 use Rattle.sl_run.specs.Worlds.{Course, Machine, World, content, flight_of, machine_at, sector_size}
 use Rattle.sl_run.specs.declared.event.Event.TheVariants.{AnswerCall, Crash, Do, DropWrite, ExitOf, GiveAsk, GiveCommand, GiveLvm, Land, Pass, Reset, Restart, Sample, SpawnedOf, StartDaemon, Tear, Test, WakeUp}
 use Rattle.sl_run.specs.declared.event.Event.{Event}

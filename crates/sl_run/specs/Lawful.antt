@@ -1,4 +1,10 @@
--- All that is asked of a daemon's trace.
+-- All that is asked of a daemon's trace, and of what it is made of.
+--
+-- 1. `Orderly`: what holds at each moment of a step, whatever of it is still to come. Safety rests on this alone.
+-- 2. `Lawful`: beside, what is done by the end of each entry: what an exit leaves, and what recovery and leaving ask.
+-- 3. `IsSetting`: what a daemon may be made of.
+--
+-- That a trace is so is said of each entry with those before it, so each front of a lawful trace is lawful (`LawLaws`).
 use Rattle.sl_area.specs.AreaSizes.{IsGeometry, Sizes, layout_with}
 use Rattle.sl_area.specs.AreaLayout.{is_base}
 use Rattle.sl_run.specs.LawfulArea.{LawfulArea}

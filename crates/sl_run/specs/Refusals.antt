@@ -1,4 +1,5 @@
--- What an event needs: its tests, and the first that it fails.
+-- What an event needs: its tests, and the first that it fails. First its form (`is_shaped`), then the machine, then whether it is up or
+-- has a daemon, then the call and its place, then what is left to do of it, then the premise. `event_tests` has them event by event.
 use Rattle.sl_trace.specs.Jobs.{process_named}
 use Rattle.sl_run.specs.Lvm.{lock_process}
 use Rattle.sl_run.specs.Worlds.{Course, Machine, World, first_that, flight_of, is_in_flight, is_landed, is_of_running, is_torn_fate, is_write_course, machine_at, mebibyte, names_of, sector_size}

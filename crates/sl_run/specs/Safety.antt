@@ -1,4 +1,13 @@
 -- What holds after every event of a run whose traces are orderly.
+--
+-- 1. Of ids and time (`DeltaInvariant`): `FlightsCovered`, `EvidenceIsTrue`, `OneForEachId`, `GenerationsRise`, `OwnSectorIsAlone`,
+--    `OwnSectorStands`, `ReadsNoOther`.
+-- 2. Of blocks and leaders (`LeaseInvariant`), which uses the first by its sentences alone: `Agreement`, `OneWinner`, `SharedModeStands`,
+--    `SharedModeStood`.
+-- 3. So no two holdings conflict (`SafeRun`).
+--
+-- A session is named by its machine, its daemon's place and its own (`SessionId`), and found in a world (`Found`); `is_over` says when
+-- nothing of it can act any more.
 use Rattle.sl_area.specs.AreaSizes.{record_in}
 use Rattle.sl_area.specs.AreaLayout.{block_offset, is_base, pair_offset}
 use Rattle.sl_area.specs.Pairs.{later_pair}

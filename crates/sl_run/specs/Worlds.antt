@@ -1,5 +1,15 @@
--- The world: the moment, the machines, and for each place what landed there, in order. Beside what an executed world needs it keeps
--- the history that a proof asks for: when each thing happened, and all calls, landings and resets of the past.
+-- The world: the moment, the machines, and for each place what landed there, in order. Beside what an executed world needs it keeps the
+-- history that a proof asks for: when each thing happened, and all calls, landings and resets of the past.
+--
+-- What becomes of a call (`Course`), by its `Fate` and whether it is answered:
+--
+--     read:   In_flight, sampled sector by sector ------------------------> answered
+--     write:  In_flight --> Landed ---------------------------------------> answered ok, or failed
+--                      \--> Torn -----------------------------------------> answered failed
+--                      \--------------------------------------------------> answered failed; it may not land any more
+--                      \--> Dropped: its daemon has ended, and it never lands
+--
+-- Of a daemon that has ended a write is in flight until it has landed, was torn or was dropped, and a read not at all (`is_open`).
 use Rattle.sl_area.specs.AreaSizes.{Layout, layout_of, layout_with, program_digest, sector_with}
 use Rattle.sl_area.specs.AreaLayout.{area_sectors, in_area}
 use Rattle.sl_area.specs.AreaRecords.{fresh_block_at, fresh_delta, fresh_leader, leader_record, no_request, no_value}

@@ -4,21 +4,21 @@ use sl_area::Geometry;
 use sl_text::{FilePath, Name, Seq};
 use sl_time::Timing;
 
-/// A machine's first reading.
+/// What a machine's clock shows at moment 0, in milliseconds; 0 where no line says.
 #[derive(Clone, Copy)]
 pub struct FirstReading {
     pub machine: u32,
     pub reading: u64,
 }
 
-/// A disk of zeros.
+/// A disk, 1 to 64 times 2^20 bytes long; it has zeros but for the areas that stand on it.
 #[derive(Clone, Copy)]
 pub struct Disk {
     pub path: FilePath,
     pub mebibytes: u64,
 }
 
-/// An initialised lockspace.
+/// A lockspace, whose area begins at this offset in bytes and is initialised at moment 0.
 #[derive(Clone, Copy)]
 pub struct LockspaceLine {
     pub name: Name,
@@ -26,7 +26,7 @@ pub struct LockspaceLine {
     pub offset: u64,
 }
 
-/// An initialised resource.
+/// A resource, whose area begins at this offset in bytes and is initialised at moment 0.
 #[derive(Clone, Copy)]
 pub struct ResourceLine {
     pub lockspace: Name,
@@ -44,7 +44,8 @@ pub struct SessionLine {
     pub name: Name,
 }
 
-/// The world at moment 0.
+/// The world at moment 0: the times of the run, `grace` in milliseconds between term and kill, 1 to 16 machines, and what stands on the
+/// disks.
 #[derive(Drop)]
 pub struct Header {
     pub timing: Timing,

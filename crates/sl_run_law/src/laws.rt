@@ -25,7 +25,7 @@ pub fn worlds_go_on()
     ensures { WorldsGoOn }
 {}
 
-/// So does a run.
+/// A run does so too, as its events do one after another.
 pub fn runs_go_on()
     ensures { RunsGoOn }
 {}
@@ -35,7 +35,7 @@ pub fn machines_go_on()
     ensures { MachinesGoOn }
 {}
 
-/// So it is along a run.
+/// Along a run, too, calls stay with what they have sampled, and so do resets and daemons that ended.
 pub fn machines_go_on_in_runs()
     ensures { MachinesGoOnInRuns }
 {}
@@ -45,7 +45,7 @@ pub fn daemons_go_on()
     ensures { DaemonsGoOn }
 {}
 
-/// So it is along a run.
+/// Along a run, too, daemons stay in their places, and their traces grow in front.
 pub fn daemons_go_on_in_runs()
     ensures { DaemonsGoOnInRuns }
 {}
@@ -55,7 +55,7 @@ pub fn fates_stay()
     ensures { FatesStay }
 {}
 
-/// So it is along a run.
+/// Along a run, too, a fate changes only from in flight.
 pub fn fates_stay_in_runs()
     ensures { FatesStayInRuns }
 {}
@@ -65,7 +65,7 @@ pub fn answers_stay()
     ensures { AnswersStay }
 {}
 
-/// So it is along a run.
+/// Along a run, too, an answer once given stays.
 pub fn answers_stay_in_runs()
     ensures { AnswersStayInRuns }
 {}

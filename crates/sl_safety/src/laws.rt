@@ -37,7 +37,7 @@ pub fn shared_modes_stand()
     ensures { SharedModesStand }
 {}
 
-/// .. and of the order of instances.
+/// The history of each resource keeps all rules of the order of instances.
 pub fn histories_keep_instances()
     ensures { HistoriesKeepInstances }
 {}

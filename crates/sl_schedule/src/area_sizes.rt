@@ -85,7 +85,7 @@ pub(crate) fn roomy(paired: bool, most: u32) -> u32
     if paired { most / 2 } else { most }
 }
 
-/// The bytes of an area.
+/// How many bytes an area has, by the header's sizes.
 pub(crate) fn area_of(sizes: &Geometry) -> u64
     ensures exact { result ≡ sizes.now.area }
     ensures some { 0 < result }

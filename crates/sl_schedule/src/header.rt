@@ -38,11 +38,11 @@ const MOST_HOSTS: u32 = 2000;
 /// What one more line makes of a header.
 #[derive(Drop)]
 pub enum Added {
-    /// More lines must follow.
+    /// The header goes on: more lines must follow.
     More,
-    /// The header is whole.
+    /// The line was `begin`, and this is the whole header.
     Begun(Header),
-    /// The line is refused.
+    /// The line may not stand there, for this reason; the header is as before.
     Refused(Refusal),
 }
 

@@ -35,7 +35,7 @@ pub struct AreaSizes {
     pub mebibytes: u64,
 }
 
-/// A line of a header.
+/// What a line of a header says, by its first word.
 #[derive(Clone, Copy)]
 pub enum HeaderLine {
     /// Whether each host's block has a pair of sectors.

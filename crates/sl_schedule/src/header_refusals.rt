@@ -22,7 +22,7 @@ const MOST_DRIFT: u64 = 100;
 /// The bytes of a mebibyte.
 const MEBIBYTE: u64 = 1_048_576;
 
-/// Whether times are past their limits.
+/// The first of the times, in milliseconds and thousandths, that is out of its range, if one is.
 #[tactic(auto, unfolding(sl_report::specs::HeaderRefusals::header_tests))]
 pub fn times_refusal(times: &Times) -> Option<Refusal>
     ensures exact { (h : HeaderOf) → result ≡ first_that (header_tests h (TimeLine times.now.io times.now.fire times.now.land times.now.rho times.now.grace)) }
@@ -95,7 +95,7 @@ fn is_lockspace(line: &LockspaceLine, name: &Name) -> bool
     line.name == *name
 }
 
-/// Whether a lockspace has the name.
+/// Whether one of these lockspaces has the name.
 pub fn is_known(lockspaces: &[LockspaceLine], name: &Name) -> bool
     ensures { result ≡ list_any (λ l. bytes_eq l.name name.now) lockspaces.now }
 {
@@ -134,7 +134,7 @@ fn has_resource_at(resources: &[ResourceLine], path: &FilePath, offset: u64) -> 
         .any(|line| is_resource_at(line, path, offset))
 }
 
-/// Whether an area begins there.
+/// Whether an area of one of these lines begins at this place already.
 pub fn is_taken(
     lockspaces: &[LockspaceLine],
     resources: &[ResourceLine],
@@ -154,7 +154,7 @@ fn is_resource(line: &ResourceLine, other: &ResourceLine) -> bool
     line.lockspace == other.lockspace && line.name == other.name
 }
 
-/// Whether the resource has a line.
+/// Whether one of these lines names the same resource of the same lockspace already.
 pub fn has_resource(resources: &[ResourceLine], other: &ResourceLine) -> bool
     ensures { result
         ≡ list_any (λ q. bytes_eq q.lockspace other.now.lockspace && bytes_eq q.name other.now.name) resources.now }

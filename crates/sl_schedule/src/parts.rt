@@ -27,7 +27,7 @@ pub fn is_verb(word: &[u8], verb: &[u8]) -> bool
     is_same(verb, word)
 }
 
-/// Reads the number of a process.
+/// Reads the number of a process, from 1 on; an `Err` is the column of a word that is none.
 pub fn next_process(words: &mut Words) -> Result<u32, usize>
     ensures exact { result ≡ next_part reads.process_part words.old }
     ensures left { words.new ≡ left_after result words.old }
@@ -76,7 +76,7 @@ fn ok_of(word: &[u8]) -> Option<bool>
     None
 }
 
-/// Reads `ok` or `failed`.
+/// Reads `ok` or `failed`; an `Err` is the column of any other word.
 pub fn next_ok(words: &mut Words) -> Result<bool, usize>
     ensures exact { result ≡ next_part reads.ok_part words.old }
     ensures left { words.new ≡ left_after result words.old }
@@ -97,7 +97,7 @@ fn version_of(word: &[u8]) -> Option<bool>
     None
 }
 
-/// Reads a version.
+/// Reads the version of the language, which says whether blocks have pairs; an `Err` is the column of any other word.
 pub fn next_version(words: &mut Words) -> Result<bool, usize>
     ensures exact { result ≡ next_part reads.version_part words.old }
     ensures left { words.new ≡ left_after result words.old }

@@ -19,11 +19,11 @@ use std::marker::Model;
 /// What the last line of a report counts.
 #[derive(Clone, Copy, Debug, PartialEq, Eq)]
 pub struct Counts {
-    /// The events that happened.
+    /// How many events happened; an ask of lvmlockd's locks is none.
     pub events: u64,
-    /// The calls that were submitted.
+    /// How many sector calls were submitted, by all daemons.
     pub calls: u64,
-    /// The leases that were granted.
+    /// How many holdings were granted, those of orphans and conversions too.
     pub grants: u64,
     /// The commands that were answered with a refusal.
     pub refusals: u64,

@@ -21,7 +21,7 @@ pub struct SeenChild {
 }
 
 impl Heard {
-    /// What the input answers.
+    /// What an input answers: a call, a child's start or exit, or nothing.
     pub fn of(input: &Input) -> Heard
         ensures { result ≡ heard_in input.now }
     {
@@ -32,7 +32,7 @@ impl Heard {
         }
     }
 
-    /// Whether the call is answered.
+    /// Whether the input answers this call.
     pub fn answers(self, call: &SectorCall) -> bool
         ensures { result ≡ is_heard self call.now }
     {
@@ -42,7 +42,7 @@ impl Heard {
         }
     }
 
-    /// The child then.
+    /// What is seen of the child once the input was heard.
     pub fn after(self, child: SeenChild) -> SeenChild
         ensures { result ≡ seen_after self child }
     {

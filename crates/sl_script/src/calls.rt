@@ -60,7 +60,8 @@ fn call_of(number: u64, path: FilePath, offset: u64, op: Op, sector: u32) -> Opt
     }
 }
 
-/// The types within a call.
+/// The types within a call. A body that carries a call over another one names them all (`_within`, which is nothing): the borrow check
+/// refuses it where one is not named there, with a message that calls itself a fault.
 type WithinCall = (
     (Purpose, Work, LeaseStep, LeaseRead, JoinStep),
     (
@@ -77,7 +78,7 @@ type WithinCall = (
 );
 
 impl NewCalls {
-    /// None yet.
+    /// No call yet; the first one will have the number `next`, at sectors of so many bytes.
     pub fn new(alloc: Global, next: u64, sector: u32) -> NewCalls
         ensures { result ≡ record { next = next; sector = sector; items = [] } }
     {
@@ -105,7 +106,7 @@ impl NewCalls {
         Ok(())
     }
 
-    /// The calls.
+    /// The calls, in the order of their numbers.
     pub fn into_seq(self) -> Seq<Call>
         ensures { AreCalls self.next self.sector result }
     {

@@ -1,11 +1,9 @@
 //! The script as a daemon of a world.
 
-ghost use Rattle.sl_world_state.specs.Daemons.{IsNumbered, IsStep, MayCome, begun_with, entry_of, read_of, text_for_locks};
 ghost use Rattle.sl_play.specs.Headers.HeaderLaw.{whole_commands};
 ghost use Rattle.sl_run.specs.Refusals.{is_for_locks};
 ghost use Rattle.sl_script.specs.ScriptStates.{Follows, are_open, is_due, most_of, starts_wait};
-ghost use Rattle.sl_trace.specs.Traces.{Setting, Trace, is_expected};
-ghost use Rattle.std.specs.Prelude.{IfOk, Ok, OnErr, [], find, option_copied, true, ◌<◌, ◌==◌, ◌^◌, ◌∷◌, ◌≡◌};
+ghost use Rattle.std.specs.Prelude.{Ok, find, option_copied, true, ◌<◌, ◌==◌, ◌≡◌};
 
 use crate::answered_inputs::{Heard, SeenChild};
 use crate::draft::MOST;

@@ -17,7 +17,7 @@ use std::alloc::{AllocError, Global};
 /// How many effects of a class a step makes at most.
 pub const MOST: usize = 32;
 
-/// What was read so far.
+/// The effects that were read so far for a step, each class with its limit.
 #[derive(Drop)]
 pub struct Draft {
     ends: Vec<End>,

@@ -17,7 +17,7 @@ pub struct Asked {
     pub op: Op,
 }
 
-/// `PATH OFFSET SECTORS`
+/// A read, spelled `PATH OFFSET SECTORS`; an `Err` is the column of the first word that does not fit.
 pub fn read(words: &mut Words<'_>) -> Result<Asked, usize>
     ensures { IfOk result (λ a. IsSoundOp a.op) }
 {
@@ -31,7 +31,7 @@ pub fn read(words: &mut Words<'_>) -> Result<Asked, usize>
     })
 }
 
-/// `PATH OFFSET RECORD`
+/// A write, spelled `PATH OFFSET RECORD`; an `Err` is as above.
 pub fn write(words: &mut Words<'_>) -> Result<Asked, usize>
     ensures { IfOk result (λ a. IsSoundOp a.op) }
 {
@@ -82,7 +82,7 @@ pub(crate) fn grant(words: &mut Words<'_>) -> Result<Grant, usize> {
     })
 }
 
-/// `PROCESS RESOURCE`
+/// An end, spelled `PROCESS RESOURCE`; an `Err` is as above.
 pub(crate) fn end(words: &mut Words<'_>) -> Result<End, usize> {
     let process = words.positive_short_number()?;
     let resource = resource(words)?;
@@ -95,7 +95,7 @@ pub(crate) fn end(words: &mut Words<'_>) -> Result<End, usize> {
     })
 }
 
-/// `PROCESS term`, or `kill`
+/// A signal, spelled `PROCESS term` or `PROCESS kill`; an `Err` is as above.
 pub(crate) fn signal(words: &mut Words<'_>) -> Result<Sent, usize> {
     let process = words.positive_short_number()?;
     let signal = if words.skip(b"kill") {
@@ -127,7 +127,7 @@ pub(crate) fn moved(words: &mut Words<'_>) -> Result<Move, usize> {
     }
 }
 
-/// `JOB REPLY`
+/// A reply, spelled `JOB REPLY`; an `Err` is as above.
 pub(crate) fn replied(words: &mut Words<'_>) -> Result<JobReply, usize> {
     Ok(JobReply {
         job: words.number()?,

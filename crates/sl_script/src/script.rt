@@ -2,7 +2,6 @@
 
 ghost use Rattle.sl_script.specs.MadeSteps.{AreMade, most_made};
 ghost use Rattle.sl_script.specs.ScriptStates.{after_step, child_next, is_heard, new_seen, seen_after};
-ghost use Rattle.sl_trace.specs.declared.effects.Effects.{Effects as Made};
 ghost use Rattle.std.specs.Prelude.{IfOk, OnErr, filter, length, map, not, [], ◌++◌, ◌+◌, ◌<◌, ◌^◌, ◌≡◌, ◌≤◌};
 
 use crate::answered_inputs::{Heard, SeenChild};
@@ -134,21 +133,21 @@ impl Script {
         Ok(())
     }
 
-    /// The calls that have no answer.
+    /// The script's calls that have no answer yet.
     pub(crate) fn open_calls(&self) -> &[Call]
         ensures { result.now ≡ self.now.open_calls }
     {
         &self.open_calls
     }
 
-    /// The children.
+    /// The children that the script has started.
     pub(crate) fn children(&self) -> &[SeenChild]
         ensures { result.now ≡ self.now.children }
     {
         &self.children
     }
 
-    /// The bytes of a sector.
+    /// How many bytes a sector has.
     pub(crate) fn sector(&self) -> u32
         ensures { result ≡ self.now.sector }
     {
@@ -186,7 +185,7 @@ impl Script {
         Ok(())
     }
 
-    /// A step that hears this.
+    /// A step that hears this, with the effects that were drafted for it. An `Err` is want of memory, and changes nothing.
     pub(crate) fn go_on(&mut self, heard: Heard) -> Result<Effects, AllocError>
         requires { self.old.next < 2 ^ 63 }
         ensures ok { IfOk result (λ fx. (self.new ≡ after_step heard fx self.old) × AreMade self.old.next self.old.sector (child_next self.old) fx) }

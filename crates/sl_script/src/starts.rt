@@ -30,7 +30,7 @@ impl Model for NewStarts {
 }
 
 impl NewStarts {
-    /// None yet.
+    /// No start yet; the first one will have this number.
     pub fn new(alloc: Global, next: u64) -> NewStarts
         ensures { result ≡ record { next = next; items = [] } }
     {
@@ -57,7 +57,7 @@ impl NewStarts {
         Ok(())
     }
 
-    /// The children.
+    /// The starts, in the order of their numbers.
     pub fn into_seq(self) -> Seq<Start>
         ensures { AreStarts self.next result }
     {

@@ -1,6 +1,6 @@
 //! Which bits of a bitmap are set.
 
-ghost use Rattle.std.specs.Prelude.{IfOk, OnOk, [], if◌then◌else◌, ◌∷◌, ◌%◌, ◌+◌, ◌/◌, ◌<◌, ◌==◌, ◌^◌, ◌++◌, ◌≡◌, ◌≤◌};
+ghost use Rattle.std.specs.Prelude.{IfOk, OnOk, [], if◌then◌else◌, ◌∷◌, ◌%◌, ◌+◌, ◌/◌, ◌<◌, ◌==◌, ◌^◌, ◌++◌, ◌≡◌};
 ghost use Rattle.sl_sector.specs.Bitmaps as bitmaps;
 
 use std::alloc::{AllocError, Global};

@@ -12,10 +12,10 @@ use crate::fields::{
 use crate::frame::{begin, finish};
 use crate::sector::{Bad, Block};
 
-/// The record's number.
+/// The number that stands for a block in a sector's bytes.
 pub(crate) const BLOCK_KIND: u32 = 3;
 
-/// Where the fields end.
+/// The offset behind the last field: from here on to the check all is zero.
 pub(crate) const BLOCK_END: usize = 60;
 
 impl Block {

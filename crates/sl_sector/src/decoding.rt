@@ -4,7 +4,7 @@
 //! it, and the digest is only computed where all else is right.
 
 ghost use Rattle.sha2.specs.Sha256.{sha256};
-ghost use Rattle.std.specs.Prelude.{IfOk, IfSome, Ok, OnErr, bytes_eq, length, not, position, take, ◌==◌, ◌+◌, ◌-◌, ◌<◌, ◌^◌, ◌≡◌, ◌≤◌};
+ghost use Rattle.std.specs.Prelude.{IfOk, IfSome, Ok, OnErr, bytes_eq, length, not, position, take, ◌==◌, ◌+◌, ◌-◌, ◌<◌, ◌≡◌, ◌≤◌};
 ghost use Rattle.sl_sector.specs.FieldBytes as spec;
 ghost use Rattle.sl_sector.specs.SectorLayouts as spelling;
 ghost use Rattle.sl_sector.specs.SectorLayouts.{IsSectorSize, IsTorn, Spells, decoded, magic};

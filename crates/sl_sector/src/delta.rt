@@ -1,7 +1,7 @@
 //! The delta record's bytes: who has an id, and since when.
 
 ghost use Rattle.sha2.specs.Sha256.{sha256};
-ghost use Rattle.std.specs.Prelude.{IfSome, [], drop, length, not, take, unwrap_or, ◌++◌, ◌+◌, ◌∷◌, ◌||◌, ◌≡◌, ◌≤◌};
+ghost use Rattle.std.specs.Prelude.{IfSome, [], drop, length, not, take, unwrap_or, ◌++◌, ◌+◌, ◌||◌, ◌≡◌, ◌≤◌};
 ghost use Rattle.sl_words.specs.Words.{all_zero, choose};
 ghost use Rattle.sl_sector.specs.FieldBytes as spec;
 ghost use Rattle.sl_sector.specs.FieldBytes.{ReadsField};
@@ -10,17 +10,17 @@ ghost use Rattle.sl_sector.specs.SectorLayouts.{IsSectorSize, delta_of, delta_ru
 ghost use Rattle.sl_sector.specs.declared.sector.Rec.TheVariants.{DeltaIs};
 
 use crate::fields::{
-    NAME_SIZE, all_hold, are_zeros, both, implies, is_host, is_number, name_at, name_field, put,
-    put_name, put_u32, put_u64, put_zeros, rule, u32_at, u64_at,
+    all_hold, are_zeros, both, implies, is_host, is_number, name_at, name_field, put, put_name,
+    put_u32, put_u64, rule, u32_at, u64_at,
 };
 use crate::frame::{begin, finish};
 use crate::sector::{Bad, DeltaRec, DeltaState};
 use sl_text::Name;
 
-/// The record's number.
+/// The number that stands for a delta record in a sector's bytes.
 pub(crate) const DELTA_KIND: u32 = 1;
 
-/// Where the fields end.
+/// The offset behind the last field: from here on to the check all is zero.
 pub(crate) const DELTA_END: usize = 386;
 
 /// What each stamp stays below.
@@ -118,7 +118,7 @@ fn host_at(sector: &[u8], at: u32, unused: bool) -> Result<Option<Name>, Bad>
     }
 }
 
-/// The bitmap.
+/// The 250 bytes of the bitmap, which are the record's last field.
 fn bitmap_at(sector: &[u8]) -> [u8; 250]
     requires { 512 ≤ length sector.now }
     ensures { result ≡ take 250 (drop 136 sector.now) }

@@ -5,7 +5,7 @@
 
 ghost use Rattle.std.specs.Int.{is_in_range};
 ghost use Rattle.std.specs.List.{prefix_len};
-ghost use Rattle.std.specs.Prelude.{length, replicate, take, ◌&&◌, ◌||◌, ◌++◌, ◌+◌, ◌≡◌, ◌≤◌, ◌∷◌, ◌==◌, not, []};
+ghost use Rattle.std.specs.Prelude.{length, replicate, take, ◌&&◌, ◌||◌, ◌++◌, ◌+◌, ◌≡◌, ◌≤◌, ◌==◌, not};
 ghost use Rattle.sl_words.specs.Bounds as bounds;
 ghost use Rattle.sl_words.specs.Words.{all_zero, choose, same_truth};
 ghost use Rattle.sl_sector.specs.FieldBytes as spec;
@@ -16,13 +16,13 @@ use crate::sector::Bad;
 use byteorder::{BigEndian, ByteOrder};
 use sl_text::Name;
 
-/// The most hosts of any run.
+/// The most hosts of any run, so the greatest id that a record may name.
 pub(crate) const MOST_HOSTS: u32 = 2000;
 
 /// What each generation, seq, lver and mbal stays below.
 const RECORD_NUMBERS: u64 = 1 << 63;
 
-/// Bytes of a name's field.
+/// How many bytes the field of a name has; behind a shorter name stand zeros.
 pub(crate) const NAME_SIZE: usize = 48;
 
 /// The number in the four bytes at this offset.
@@ -56,7 +56,7 @@ pub(crate) fn are_zeros(bytes: &[u8]) -> bool
     bytes.iter().all(|byte| *byte == 0)
 }
 
-/// The 48 bytes at this offset.
+/// The field of a name at this offset: 48 bytes.
 pub(crate) fn name_field(bytes: &[u8], at: usize) -> &[u8]
     requires { at + 48 ≤ length bytes.now }
     ensures { result.now ≡ spec.name_field bytes.now at }

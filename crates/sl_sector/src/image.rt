@@ -12,19 +12,19 @@ use sl_text::Bytes;
 use std::alloc::AllocError;
 use std::marker::Model;
 
-/// What a sector is kept as.
+/// What a sector is kept as: its bytes are worked out, with their digest, only where somebody asks for them.
 #[derive(Drop)]
 pub(crate) enum Content {
-    /// The sector that spells this record.
+    /// The sector that spells this record: the record alone is kept.
     Spelled(Rec),
-    /// These bytes, and what they spell.
+    /// Bytes as they are, beside what they spell.
     Raw {
         bytes: Bytes,
         found: Result<Rec, Bad>,
     },
 }
 
-/// A sector, seen as its bytes.
+/// A sector of a disk, seen as its bytes, and kept with what they spell, so that a read decodes nothing.
 #[derive(Drop)]
 pub struct Image {
     size: u32,
@@ -43,7 +43,7 @@ impl Model for Image {
 }
 
 impl Image {
-    /// How many bytes it has.
+    /// How many bytes the sector has: 512 or 4096.
     #[tactic(auto, using(crate::proofs::ImageLaws::is_long))]
     pub fn size(&self) -> u32
         ensures { result ≡ length self.now }

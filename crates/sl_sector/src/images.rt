@@ -35,7 +35,7 @@ impl Model for Images {
 }
 
 impl Images {
-    /// No sectors, of this size.
+    /// An empty list of sectors of this size, in bytes.
     pub fn new(alloc: Global, size: u32) -> Images
         requires { IsSectorSize size }
         ensures { result ≡ record { size = size; bytes = [] } }
@@ -57,7 +57,7 @@ impl Images {
         Ok(())
     }
 
-    /// How many bytes each has.
+    /// How many bytes each sector has: 512 or 4096.
     pub fn size(&self) -> u32
         ensures { result ≡ self.now.size }
     {

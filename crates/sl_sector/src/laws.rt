@@ -7,7 +7,7 @@ ghost use Rattle.sha2.specs.Sha256.{sha256};
 ghost use Rattle.sl_sector.specs.Laws as laws;
 ghost use Rattle.sl_sector.specs.SectorLayouts.{IsDigest};
 
-/// Bytes spell at most one record.
+/// Bytes spell at most one record: who reads a sector knows what was written.
 #[tactic(auto, using(crate::proofs::PublicLaws::one_record))]
 pub fn one_record()
     ensures { laws.OneRecord }

@@ -2,7 +2,7 @@
 //! same fields: a program for the one kind of areas finds no leader in the other.
 
 ghost use Rattle.sha2.specs.Sha256.{sha256};
-ghost use Rattle.std.specs.Prelude.{length, take, ◌+◌, ◌≡◌, ◌≤◌};
+ghost use Rattle.std.specs.Prelude.{length, take, ◌≡◌, ◌≤◌};
 ghost use Rattle.sl_sector.specs.Records.{IsLeader};
 ghost use Rattle.sl_sector.specs.SectorLayouts.{IsSectorSize, leader_fields, leader_of, leader_rules, spelling, under_rules};
 ghost use Rattle.sl_sector.specs.declared.sector.Rec.TheVariants.{LeaderIs, PairLeaderIs};
@@ -14,13 +14,13 @@ use crate::fields::{
 use crate::frame::{begin, finish};
 use crate::sector::{Bad, Leader};
 
-/// The record's number.
+/// The number that stands for a leader in a sector's bytes.
 pub(crate) const LEADER_KIND: u32 = 2;
 
 /// The record's number where blocks have pairs.
 pub(crate) const PAIR_LEADER_KIND: u32 = 7;
 
-/// Where the fields end.
+/// The offset behind the last field: from here on to the check all is zero.
 pub(crate) const LEADER_END: usize = 132;
 
 impl Leader {

@@ -12,10 +12,10 @@ use crate::fields::{both, is_number, name_at, put_name, put_u64, rule, u64_at};
 use crate::frame::finish;
 use crate::sector::{Bad, Block, PairBlock};
 
-/// The record's number.
+/// The number that stands for a block of a pair in a sector's bytes.
 pub(crate) const PAIR_KIND: u32 = 6;
 
-/// Where the fields end.
+/// The offset behind the last field: from here on to the check all is zero.
 pub(crate) const PAIR_END: usize = 164;
 
 impl PairBlock {

@@ -10,10 +10,10 @@ use crate::fields::{MOST_HOSTS, agree, both, is_number, put_u32, put_u64, u32_at
 use crate::frame::{begin, finish};
 use crate::sector::{Bad, Request};
 
-/// The record's number.
+/// The number that stands for a request in a sector's bytes.
 pub(crate) const REQUEST_KIND: u32 = 4;
 
-/// Where the fields end.
+/// The offset behind the last field: from here on to the check all is zero.
 pub(crate) const REQUEST_END: usize = 24;
 
 impl Request {

@@ -16,7 +16,7 @@ use std::alloc::AllocError;
 /// As long are the texts of most records at most: only one with many bits is longer.
 const MOST_TEXT: usize = 256;
 
-/// A leader's state.
+/// How a leader's state is told: `held` or `free`.
 fn held_word(held: bool) -> &'static str
     ensures { result.now ≡ texts.held_word held }
 {

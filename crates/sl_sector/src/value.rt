@@ -11,7 +11,7 @@ use crate::frame::{begin, finish};
 use crate::sector::{Bad, ValueRec};
 use sl_text::Data;
 
-/// The record's number.
+/// The number that stands for a value in a sector's bytes.
 pub(crate) const VALUE_KIND: u32 = 5;
 
 /// Where the bytes begin; the fields end with them.

@@ -27,7 +27,7 @@ impl Model for Area {
 }
 
 impl Area {
-    /// The area at this place.
+    /// The area at this place, as a key that is compared in few steps.
     pub(crate) fn at(spot: Spot) -> Area
         ensures { result ≡ spot }
     {

@@ -3,7 +3,7 @@
 ghost use Rattle.sl_host_state.specs.HostStands.{is_there};
 ghost use Rattle.sl_tables.specs.Children.{IsLeft, child_of, children_left};
 ghost use Rattle.sl_trace.specs.declared.input.Input.TheVariants.{Exit as ExitOf, Spawned as SpawnedOf};
-ghost use Rattle.std.specs.Prelude.{OnErr, OnOk, find, true, length, max, option_map, [], ◌+◌, ◌++◌, ◌-◌, ◌<◌, ◌==◌, ◌^◌, ◌∷◌, ◌≡◌, ◌≤◌};
+ghost use Rattle.std.specs.Prelude.{OnErr, OnOk, find, true, length, max, option_map, [], ◌+◌, ◌++◌, ◌-◌, ◌<◌, ◌==◌, ◌∷◌, ◌≡◌, ◌≤◌};
 
 use crate::rising::Rising;
 use std::alloc::{AllocError, Global};
@@ -72,7 +72,7 @@ impl Model for Children {
 }
 
 impl Children {
-    /// None.
+    /// An empty table, without room. It takes no memory.
     pub fn new(alloc: Global) -> Children
         ensures { result ≡ record { children = []; next = 0; room = 0; gaps = 0 } }
     {

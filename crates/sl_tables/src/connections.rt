@@ -33,7 +33,7 @@ fn is_same(one: &Name, other: &Name) -> bool
 }
 
 impl Connections {
-    /// None.
+    /// An empty table, without room. It takes no memory.
     pub fn new(alloc: Global) -> Connections
         ensures { result ≡ record { names = []; room = 0 } }
     {
@@ -62,7 +62,7 @@ impl Connections {
         self.names.iter().any(|one| is_same(one, name))
     }
 
-    /// One more connection stands.
+    /// The connection of this lockspace stands from now on. It uses one of the room.
     pub fn put(&mut self, name: Name)
         requires { 0 < self.old.room }
         ensures { self.new ≡ record { names = self.old.names ++ name ∷ []; room = self.old.room - 1 } }

@@ -1,6 +1,6 @@
 //! An index: of each key the number of an element, so that none of those which have the key has a number below it.
 
-ghost use Rattle.indexmap.specs.IndexMap.{get, index_map_len, spare};
+ghost use Rattle.indexmap.specs.IndexMap.{get, spare};
 ghost use Rattle.sl_words.specs.Words.{some_is};
 ghost use Rattle.std.specs.Prelude.{IsSome, None, Some, cond, unwrap_or, ◌+◌, ◌<◌, ◌==◌, ◌≡◌, ◌≤◌};
 

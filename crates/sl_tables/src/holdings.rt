@@ -4,7 +4,7 @@
 //! is noted it ends at once. From there on it goes through what was granted later: of an area with one holder, or of a process with one
 //! holding, it finds that first.
 
-ghost use Rattle.indexmap.specs.IndexMap.{get, index_map_len, spare};
+ghost use Rattle.indexmap.specs.IndexMap.{get, spare};
 ghost use Rattle.sl_tables.specs.Holdings.{AreLed, Leads, first_at, first_of, fits, holder_in, is_held_at, is_holder, is_in_mode, is_of_process, least_holder, noted_first, sooner, sought_at, sought_of, without_first};
 ghost use Rattle.sl_tables.specs.Rising.{AreRising, found_in, items_of};
 ghost use Rattle.sl_trace.specs.Traces.{same_spot, spot_of_grant};
@@ -73,7 +73,7 @@ fn is_in(mode: Mode, grant: &Grant) -> bool
 }
 
 impl Sought {
-    /// Those on this area.
+    /// All holdings of the resource on this area.
     pub fn at(spot: Spot) -> Sought
         ensures { result ≡ sought_at spot }
     {
@@ -85,7 +85,7 @@ impl Sought {
         }
     }
 
-    /// Those of this process.
+    /// All holdings of this process.
     pub fn of(process: u32) -> Sought
         ensures { result ≡ sought_of process }
     {
@@ -306,7 +306,7 @@ impl Model for Holdings {
 }
 
 impl Holdings {
-    /// None.
+    /// An empty table, without room. It takes no memory.
     pub fn new(alloc: Global) -> Holdings
         ensures { result ≡ record { held = []; next = 0; room = 0 } }
     {
@@ -347,7 +347,7 @@ impl Holdings {
         self.held.put(number, grant);
     }
 
-    /// The first of those sought.
+    /// Of the holdings sought, the one that was granted first.
     pub fn find(&self, sought: &Sought) -> Option<&Grant>
         ensures { option_map (λ g. g.now) result ≡ find (fits sought.now) self.now.held }
     {
@@ -367,7 +367,7 @@ impl Holdings {
         }
     }
 
-    /// The least process of those sought.
+    /// The least number of a process that has one of the holdings sought; an orphan has none.
     pub fn least_holder(&self, sought: &Sought) -> Option<u32>
         ensures { result ≡ least_holder sought.now self.now.held }
     {

@@ -6,7 +6,7 @@ ghost use Rattle.indexmap.specs.IndexMap.{set_value_at};
 ghost use Rattle.sl_tables.specs.Jobs.{changed, ungranted, waiting, weight};
 ghost use Rattle.sl_tables.specs.Rising.{altered};
 ghost use Rattle.std.specs.Option.{option_or};
-ghost use Rattle.std.specs.Prelude.{OnErr, OnOk, Option, Some, cond, filter, find, length, map, max, not, option_map, slice_get, vec_capacity, vec_len, [], ◌+◌, ◌++◌, ◌-◌, ◌<◌, ◌==◌, ◌^◌, ◌∷◌, ◌≡◌, ◌≤◌, ℕ};
+ghost use Rattle.std.specs.Prelude.{OnErr, OnOk, Option, Some, filter, find, length, max, not, option_map, slice_get, vec_capacity, vec_len, [], ◌+◌, ◌++◌, ◌-◌, ◌<◌, ◌==◌, ◌^◌, ◌∷◌, ◌≡◌, ◌≤◌, ℕ};
 
 use crate::rising::{Rising, place_of};
 use sl_host_state::{JobState, WaitingCall};
@@ -76,7 +76,8 @@ impl Rising<JobState> {
     }
 }
 
-/// The types within a job.
+/// The types within a job. A body that carries a job over a call names them all (`_within`, which is nothing): the borrow check refuses
+/// it where one is not named there, with a message that calls itself a fault.
 type WithinJob = (
     Command,
     LockspaceArg,
@@ -110,7 +111,7 @@ impl Model for Jobs {
 }
 
 impl Jobs {
-    /// No job.
+    /// An empty table, without room. It takes no memory.
     pub fn new(alloc: Global) -> Jobs
         ensures { result ≡ record { jobs = []; next = 0; room = 0; gaps = 0 } }
     {
@@ -130,7 +131,7 @@ impl Jobs {
         self.jobs.reserve(room)
     }
 
-    /// Closes all gaps.
+    /// Closes all gaps that jobs which are over have left, so that their places serve again.
     pub fn pack(&mut self)
         ensures { self.new ≡ record self.old { gaps = 0 } }
     {

@@ -2,7 +2,7 @@
 
 ghost use Rattle.indexmap.specs.IndexMap.{spare};
 ghost use Rattle.sl_trace.specs.KillPrograms.{with_program, without_program};
-ghost use Rattle.std.specs.Prelude.{OnErr, OnOk, Some, filter, find, length, max, nat_eq, not, option_map, [], ◌+◌, ◌-◌, ◌<◌, ◌==◌, ◌≡◌, ◌≤◌};
+ghost use Rattle.std.specs.Prelude.{OnErr, OnOk, Some, filter, find, length, max, nat_eq, not, option_map, [], ◌-◌, ◌<◌, ◌==◌, ◌≡◌, ◌≤◌};
 
 use indexmap::IndexMap;
 use sl_text::FilePath;
@@ -44,7 +44,7 @@ impl Model for Programs {
 }
 
 impl Programs {
-    /// None.
+    /// An empty table, without room. It takes no memory.
     pub fn new(alloc: Global) -> Programs
         ensures { result ≡ record { programs = []; room = 0 } }
     {
@@ -73,7 +73,7 @@ impl Programs {
         self.programs.len()
     }
 
-    /// The kill program of a process.
+    /// The program that is started in place of a term to this process, if one was set.
     pub fn get(&self, process: u32) -> Option<&FilePath>
         ensures { option_map (λ p. p.now) result ≡ option_map (λ k. k.program) (find (λ k. k.process == process) self.now.programs) }
     {
@@ -92,7 +92,7 @@ impl Programs {
         }
     }
 
-    /// The process has none any more.
+    /// The process's kill program goes, if it has one.
     pub fn remove(&mut self, process: u32)
         ensures { self.new ≡ record self.old { programs = without_program (Some process) self.old.programs } }
     {

@@ -100,7 +100,8 @@ impl Rising<OpenCall> {
     }
 }
 
-/// The types within a call.
+/// The types within a call. A body that carries a call over another one names them all (`_within`, which is nothing): the borrow check
+/// refuses it where one is not named there, with a message that calls itself a fault.
 type WithinCall = (
     Purpose,
     Work,

@@ -69,7 +69,7 @@ fn count_below<T>(slots: &[(u64, Option<T>)], number: u64) -> usize
     low
 }
 
-/// The slot of a number.
+/// The slot in which this number stands, found by bisection; a gap keeps its number.
 #[tactic(auto, using(crate::proofs::Places::place_there, crate::proofs::Places::place_none))]
 pub(crate) fn place_of<T>(slots: &[(u64, Option<T>)], number: u64) -> Option<usize>
     requires { AreRising slots.now }
@@ -145,7 +145,7 @@ fn replace_in<T: Drop>(slots: &mut Vec<(u64, Option<T>)>, index: usize, item: T)
 }
 
 impl<T: Drop> Rising<T> {
-    /// Nothing.
+    /// An empty table, without room. It takes no memory.
     pub fn new(alloc: Global) -> Rising<T>
         ensures { result ≡ record { items = []; next = 0; room = 0; gaps = 0 } }
     {
@@ -157,7 +157,7 @@ impl<T: Drop> Rising<T> {
         }
     }
 
-    /// Closes all gaps.
+    /// Closes all gaps that removed elements have left, so that their places serve again.
     #[tactic(auto, using(crate::proofs::SlotsStand::items_kept, crate::proofs::SlotsStand::no_gaps, crate::proofs::SlotsStand::below_kept, crate::proofs::SlotsStand::rising_kept))]
     pub fn pack(&mut self)
         ensures { self.new ≡ record self.old { gaps = 0 } }
@@ -255,7 +255,7 @@ impl<T: Drop> Rising<T> {
         let _next = self.next;
     }
 
-    /// Above which number the next is.
+    /// A number that is above all numbers of the table: the next element's is at least this.
     pub fn next(&self) -> u64
         ensures { result ≡ self.now.next }
     {

@@ -2,7 +2,7 @@
 
 ghost use Rattle.std.specs.Char.{digit_char, digit_value};
 ghost use Rattle.std.specs.List.{list_all};
-ghost use Rattle.std.specs.Prelude.{length, slice_index, true, vec_capacity, vec_len, IsTrue, IfOk, IfSome, OnErr, OnOk, ◌%◌, ◌*◌, ◌+◌, ◌++◌, ◌/◌, ◌<◌, ◌≡◌, ◌≤◌};
+ghost use Rattle.std.specs.Prelude.{length, true, vec_capacity, vec_len, IfOk, IfSome, OnErr, OnOk, ◌%◌, ◌*◌, ◌+◌, ◌++◌, ◌/◌, ◌<◌, ◌≡◌, ◌≤◌};
 ghost use Rattle.sl_text.specs.Numbers as numbers;
 ghost use Rattle.sl_words.specs.Words.{choose};
 

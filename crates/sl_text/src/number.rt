@@ -6,7 +6,7 @@
 ghost use Rattle.std.specs.Char.{digit_value, is_ascii_digit};
 ghost use Rattle.std.specs.Int.{is_in_range};
 ghost use Rattle.std.specs.List.{list_all};
-ghost use Rattle.std.specs.Prelude.{true, decimal, length, vec_capacity, vec_len, min, nat_lt, IsTrue, IfSome, IfNone, OnOk, OnErr, ◌≡◌, ◌^◌, ◌+◌, ◌*◌, ◌-◌, ◌<◌, ◌++◌, ◌&&◌, ◌==◌, ◌%◌, ◌≤◌};
+ghost use Rattle.std.specs.Prelude.{true, decimal, length, vec_capacity, vec_len, min, nat_lt, IsTrue, IfSome, OnOk, OnErr, ◌≡◌, ◌^◌, ◌+◌, ◌*◌, ◌-◌, ◌<◌, ◌++◌, ◌&&◌, ◌==◌, ◌%◌, ◌≤◌};
 ghost use Rattle.sl_words.specs.Words.{choose};
 ghost use Rattle.sl_text.specs.Numbers as numbers;
 

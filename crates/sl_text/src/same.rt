@@ -4,7 +4,7 @@
 ghost use Rattle.std.specs.List.{starts_with};
 ghost use Rattle.std.specs.Prelude.{bytes_eq, nat_eq, ◌≡◌};
 
-/// Whether two texts are the same.
+/// Whether two texts have the same bytes. It compares lengths first, then byte by byte.
 #[tactic(auto, using(crate::proofs::SameTexts::other_length))]
 pub fn is_same(a: &[u8], b: &[u8]) -> bool
     ensures { result ≡ bytes_eq a.now b.now }

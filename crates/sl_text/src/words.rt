@@ -101,7 +101,7 @@ pub type Words<'a> = Pieces<'a, b' '>;
 pub type Parts<'a> = Pieces<'a, b':'>;
 
 impl<'a, const SEPARATOR: u8> Pieces<'a, SEPARATOR> {
-    /// All pieces of the text.
+    /// A reader at the first piece of the text. A text without a separator is one piece, and so is the empty one.
     pub fn new(text: &'a [u8]) -> Pieces<'a, SEPARATOR>
         ensures { result ≡ unread SEPARATOR text.now }
     {

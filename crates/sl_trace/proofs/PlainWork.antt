@@ -4,8 +4,6 @@ use Rattle.sl_area.specs.AreaSizes.{Layout}
 use Rattle.sl_area.specs.Pairs.{BlocksRead, blocks_of}
 use Rattle.sl_area.specs.TornLeader.{leader_read}
 use Rattle.sl_area.specs.AreaLayout.{blocks_in, leader_of}
-use Rattle.sl_sector.specs.declared.sector.Block.{Block}
-use Rattle.sl_sector.specs.declared.sector.Leader.{Leader}
 use Rattle.sl_trace.proofs.PlainReads.{blocks_plain, leader_plain, once_plain}
 use Rattle.sl_trace.specs.LeaseDecisions.{LeasePlace, after_bytes, after_read, asked_again, first_step, heard, owes_block, part_read, read_of_step, refuses_block, settle_begin, settle_next, within_turn}
 use Rattle.sl_trace.specs.Leases.{LeaseKnown, owed}
@@ -17,7 +15,7 @@ use Rattle.sl_trace.specs.declared.lease.LeaseNext.TheVariants.{ReadFor}
 use Rattle.sl_trace.specs.declared.lease.LeaseNext.{LeaseNext}
 use Rattle.sl_words.specs.Bounds.{is_number}
 use Rattle.std.proofs.Common.{ap, ◌∙◌}
-use Rattle.std.specs.Prelude.{Bool, List, None, Option, Some, false, not, true, ℕ, ◌&&◌, ◌+◌, ◌≡◌}
+use Rattle.std.specs.Prelude.{List, None, Option, Some, false, not, true, ℕ, ◌&&◌, ◌+◌, ◌≡◌}
 
 pub within_plain : (p : LeasePlace) (k : LeaseKnown) (aim : Aim) (next : LeaseNext) → p.layout.paired ≡ false → within_turn p k aim next ≡ next
 unfolding within_turn

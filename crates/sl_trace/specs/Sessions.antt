@@ -1,5 +1,15 @@
 -- The sessions of a trace: when each begins, joins, recovers, leaves and ends. A session is named by its place among the daemon's
 -- sessions, those of the setting first; a session of a run also by its machine and daemon. Generations and names are never identity.
+--
+-- Of each session these are asked, as a count of entries, so that "before" and "after" are numbers:
+--
+-- 1. `joined_after`: its joining's job was answered ok; at once for a session of the setting.
+-- 2. `refused_after`: its joining's job was answered otherwise.
+-- 3. `recovery_of`: the entry in which recovery began, by time or by a read of all ids that shows another in its place.
+-- 4. `leaving_job`: the `rem_lockspace` that began its leaving.
+-- 5. `removed_after`: its connection was removed once it had joined; `ended_after`: that, or it was refused.
+--
+-- `stage_of` is the state of the joining between them; `is_joined`, `is_active`, `is_present` are what the decisions ask.
 use Rattle.sl_area.specs.AreaLayout.{delta_of}
 use Rattle.sl_sector.specs.declared.sector.DeltaRec.{DeltaRec}
 use Rattle.sl_sector.specs.declared.sector.Owner.{Owner}

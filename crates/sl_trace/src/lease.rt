@@ -41,15 +41,15 @@ pub enum Aim {
 /// What a lease does next: at most one call, or one reply, or a grant, or the conversion of a holding with the call that it then owes.
 #[derive(Drop)]
 pub enum LeaseNext {
-    /// Nothing.
+    /// Nothing is due: the work is over, or waits for a later wake.
     Nothing,
     /// The blocks of all hosts are read, or the whole area, by the step.
     ReadFor(LeaseStep),
-    /// The own block is written.
+    /// The own block is written, for this step.
     WriteBlock { step: LeaseStep, block: Block },
-    /// The leader is written.
+    /// The leader is written, for this step.
     WriteLeader { step: LeaseStep, leader: Leader },
-    /// The job is answered.
+    /// The job has this reply, and its work is over.
     AnswerJob(Reply),
     /// The job is granted the resource in this mode, under this instance.
     GrantJob { mode: Mode, lver: u64 },

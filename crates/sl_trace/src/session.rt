@@ -6,7 +6,7 @@ use sl_text::{FilePath, Name};
 #[derive(Clone, Copy)]
 pub struct Session {
     pub number: u64,
-    /// Its joining's job, or none.
+    /// The job of its joining; none for a session that the setting gives.
     pub job: Option<u64>,
     pub lockspace: Name,
     pub id: u32,

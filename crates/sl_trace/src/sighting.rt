@@ -6,9 +6,9 @@ use sl_text::Bytes;
 /// One look at an id's sector: readings before and after, and the bytes.
 #[derive(Drop)]
 pub struct Sighting {
-    /// The submission's.
+    /// The reading at which the look was submitted: the sector was sampled no earlier.
     pub before: u64,
-    /// The answer's.
+    /// The reading at which it was answered: the sector was sampled no later.
     pub after: u64,
     pub bytes: Bytes,
 }
@@ -18,10 +18,10 @@ pub struct Sighting {
 pub struct Run {
     pub spelled: DeltaRec,
     pub bytes: Bytes,
-    /// The reading after its first sighting.
+    /// The reading at which its first sighting was answered: from there on it is known to have stood.
     pub since: u64,
-    /// The reading before its last.
+    /// The reading at which its last sighting was submitted: up to there it is known to have stood.
     pub latest: u64,
-    /// Whether a sighting came before it.
+    /// Whether an earlier sighting found something else.
     pub changed: bool,
 }

@@ -5,22 +5,22 @@
 pub enum Stage {
     /// It reads its id's sector and watches it.
     Looking,
-    /// The deciding read was submitted.
+    /// The deciding read was submitted: it is to find what was watched.
     Deciding,
     /// The claim was submitted and isn't answered ok.
     Claiming,
     /// The claim was answered ok, and a wait has begun.
     Waiting,
-    /// The verify read was submitted.
+    /// The verify read was submitted: it is to find the own claim.
     Verifying,
-    /// The first renewal was submitted.
+    /// The first renewal was submitted: its answer ok joins the session.
     FirstRenewing,
-    /// Joined.
+    /// It is joined, and renews.
     Standing,
-    /// Its free was submitted.
+    /// It leaves, and its free was submitted.
     Freeing,
-    /// Its joining was refused.
+    /// Its joining was refused; a write of it may still be unanswered.
     Refused,
-    /// It was joined, and has ended.
+    /// It was joined, and its connection was removed.
     Ended,
 }

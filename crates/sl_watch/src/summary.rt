@@ -35,7 +35,7 @@ fn freed_with(newest: Gen, freed: bool, delta: &DeltaRec) -> bool
 }
 
 impl Summary {
-    /// No sighting.
+    /// The summary of an id that nobody has looked at.
     pub(crate) fn blank() -> Summary
         ensures { result ≡ nothing_seen }
     {

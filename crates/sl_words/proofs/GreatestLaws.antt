@@ -1,6 +1,6 @@
 -- The greatest of numbers.
-use Rattle.std.proofs.Common.{arith, length, ◌<◌, ◌+◌}
-use Rattle.std.specs.Prelude.{Contains, List, max, refl, slice_index_or, suc, zero, [], ℕ, ◌∷◌, ◌≡◌, ◌≤◌}
+use Rattle.std.proofs.Common.{arith, length, ◌<◌}
+use Rattle.std.specs.Prelude.{List, refl, slice_index_or, suc, zero, [], ℕ, ◌∷◌, ◌≡◌, ◌≤◌}
 use Rattle.sl_words.specs.Laws.{GreatestIsMost}
 use Rattle.sl_words.specs.Words.{greatest}
 

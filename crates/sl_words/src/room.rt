@@ -39,7 +39,7 @@ impl<T: Drop> Room<T> {
 }
 
 impl<T> Room<T> {
-    /// Nothing, with no memory.
+    /// An empty list without room. It takes no memory.
     pub fn empty(alloc: Global) -> Room<T>
         ensures { result ≡ record { items = []; room = 0 } }
     {
@@ -89,7 +89,7 @@ impl<T> Room<T> {
         self.room
     }
 
-    /// How many there are.
+    /// How many elements the list has, its room not counted.
     pub fn len(&self) -> usize
         ensures exact { result ≡ length self.now.items }
         ensures few { result + self.now.room < 2 ^ 32 }
@@ -104,7 +104,7 @@ impl<T> Room<T> {
         &self.items
     }
 
-    /// The elements.
+    /// The elements, with the memory that was left for more.
     pub fn into_vec(self) -> Vec<T>
         ensures { result.items ≡ self.items }
     {

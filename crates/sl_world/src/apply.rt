@@ -23,7 +23,7 @@ use sl_run::{Event, Refusal};
 use sl_world_state::Daemon;
 use std::alloc::AllocError;
 
-/// Why an event isn't applied.
+/// Why an event was not applied; the world is as before.
 #[derive(Drop)]
 pub enum ApplyError {
     Refused(Refusal),

@@ -59,7 +59,7 @@ impl<'a> Use<'a> {
         }
     }
 
-    /// What lingers there.
+    /// The use that a holding of a machine makes which lingers behind a reset.
     fn lingering(machine: usize, lingering: &'a Lingering) -> Use<'a>
         ensures { result ≡ conflicts.lingering_holding machine lingering.now }
     {
@@ -363,7 +363,7 @@ impl<D: Daemon, L: LockTable> World<D, L> {
         }
     }
 
-    /// What lingers now.
+    /// The moment and `land`, by which it is told what lingers still.
     #[tactic(auto, unfolding(sl_machine::specs::KeptParts::kept_state))]
     fn lately(&self) -> Lately
         ensures moment { result.moment ≡ (kept_state L.locks self.now.kept).moment }

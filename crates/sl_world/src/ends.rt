@@ -1,6 +1,6 @@
 //! Processes that exit, and machines that go down: what no daemon takes the machine does itself.
 
-ghost use Rattle.sl_world_state.specs.Inputs.{input_in, own_in};
+ghost use Rattle.sl_world_state.specs.Inputs.{own_in};
 ghost use Rattle.sl_world_state.specs.KeptWorld.{MachineState, machine_in};
 ghost use Rattle.sl_world_state.specs.Steps.{taken_kept};
 ghost use Rattle.sl_machine.specs.KeptParts.{kept_state};

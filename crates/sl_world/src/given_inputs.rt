@@ -30,7 +30,7 @@ fn ask_of<L: LockTable>(kept: &Kept<L>, machine: u32) -> Result<Bytes, AllocErro
 }
 
 impl<D: Daemon, L: LockTable> World<D, L> {
-    /// The daemon is woken.
+    /// The daemon of a machine is woken. An `Err` is that of the daemon: want of memory or of numbers; it changes nothing.
     pub(crate) fn wake(&mut self, machine: u32, told: &mut StepTold) -> Result<(), AllocError>
         requires { IsAllowed D.commands D.stands (kept_state L.locks self.old.kept) self.old.hosts (WakeUp machine) }
         ensures ok { OnOk result (ComesTold D.commands D.stands (kept_state L.locks self.old.kept) self.old.hosts (WakeUp machine) (kept_state L.locks self.new.kept) self.new.hosts told.new) }
@@ -39,7 +39,7 @@ impl<D: Daemon, L: LockTable> World<D, L> {
         self.give(machine, Input::Wake, told)
     }
 
-    /// A command line is given.
+    /// A command line is given to the daemon of a machine. An `Err` is as above.
     pub(crate) fn command(
         &mut self,
         machine: u32,
@@ -53,7 +53,7 @@ impl<D: Daemon, L: LockTable> World<D, L> {
         self.give(machine, Input::Line(text), told)
     }
 
-    /// A line is given to lvmlockd.
+    /// A line is given to lvmlockd on a machine, and its number to the daemon. An `Err` is as above.
     pub(crate) fn lvm_line(
         &mut self,
         machine: u32,

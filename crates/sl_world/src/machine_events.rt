@@ -14,7 +14,7 @@ use sl_world_state::Daemon;
 use std::alloc::AllocError;
 
 impl<D: Daemon, L: LockTable> World<D, L> {
-    /// Time passes.
+    /// Time passes, which the world allows. An `Err` is want of memory, and changes nothing.
     pub(crate) fn pass(&mut self, time: u64, growths: &Option<Seq<u64>>) -> Result<(), AllocError>
         requires { IsAllowed D.commands D.stands (kept_state L.locks self.old.kept) self.old.hosts (Pass time growths.now) }
         ensures ok { OnOk result (ComesTold D.commands D.stands (kept_state L.locks self.old.kept) self.old.hosts (Pass time growths.now) (kept_state L.locks self.new.kept) self.new.hosts nothing_told) }
@@ -54,7 +54,7 @@ impl<D: Daemon, L: LockTable> World<D, L> {
         Ok(())
     }
 
-    /// The watchdog daemon's test is made.
+    /// The watchdog daemon's test is made, and keeps the device alive where it holds. An `Err` is as above.
     pub(crate) fn test(&mut self, machine: u32) -> Result<(), AllocError>
         requires { IsAllowed D.commands D.stands (kept_state L.locks self.old.kept) self.old.hosts (Test machine) }
         ensures ok { OnOk result (ComesTold D.commands D.stands (kept_state L.locks self.old.kept) self.old.hosts (Test machine) (kept_state L.locks self.new.kept) self.new.hosts nothing_told) }
@@ -64,7 +64,7 @@ impl<D: Daemon, L: LockTable> World<D, L> {
         Ok(())
     }
 
-    /// A machine comes up.
+    /// A machine that was down comes up. An `Err` is as above.
     pub(crate) fn restart(&mut self, machine: u32) -> Result<(), AllocError>
         requires { IsAllowed D.commands D.stands (kept_state L.locks self.old.kept) self.old.hosts (Restart machine) }
         ensures ok { OnOk result (ComesTold D.commands D.stands (kept_state L.locks self.old.kept) self.old.hosts (Restart machine) (kept_state L.locks self.new.kept) self.new.hosts nothing_told) }
@@ -74,7 +74,7 @@ impl<D: Daemon, L: LockTable> World<D, L> {
         Ok(())
     }
 
-    /// The daemon of a machine ends.
+    /// The daemon of a machine ends. An `Err` is as above.
     pub(crate) fn crash(&mut self, machine: u32) -> Result<(), AllocError>
         requires { IsAllowed D.commands D.stands (kept_state L.locks self.old.kept) self.old.hosts (Crash machine) }
         ensures ok { OnOk result (ComesTold D.commands D.stands (kept_state L.locks self.old.kept) self.old.hosts (Crash machine) (kept_state L.locks self.new.kept) self.new.hosts nothing_told) }

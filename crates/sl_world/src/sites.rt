@@ -4,7 +4,7 @@ ghost use Rattle.sl_world_state.specs.FirstKept as first_kept;
 ghost use Rattle.sl_run.specs.Worlds as worlds;
 ghost use Rattle.sl_world_law.specs.WorldsStand as standing;
 ghost use Rattle.std.specs.Option.{option_copied, option_to_list};
-ghost use Rattle.std.specs.Prelude.{IfOk, OnOk, bytes_eq, filter_map, find, ◌++◌, ◌==◌, ◌≡◌};
+ghost use Rattle.std.specs.Prelude.{IfOk, OnOk, bytes_eq, find, ◌++◌, ◌==◌, ◌≡◌};
 
 use sl_disks::clock_reading;
 use sl_run::{Header, LockspaceLine, SessionLine};

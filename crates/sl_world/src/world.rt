@@ -17,7 +17,7 @@ use sl_locks::StepTold;
 use sl_machine::{Kept, LockTable, hear, lock_input_of};
 use sl_trace::Input;
 use sl_world_state::Daemon;
-use std::alloc::{AllocError, Global};
+use std::alloc::AllocError;
 
 /// A world: what is kept, and the daemons that run.
 #[derive(Drop)]

@@ -30,7 +30,7 @@ use Rattle.sl_trace.specs.declared.input.Input.TheVariants.{Answer as Told, Exit
 use Rattle.sl_trace.specs.declared.input.Input.{Input}
 use Rattle.sl_words.proofs.CaseLaws.{none_some, one_value, true_is_false}
 use Rattle.sl_words.proofs.WordLaws.{and_true, choose_some}
-use Rattle.sl_words.specs.Words.{first_of_list, some_is}
+use Rattle.sl_words.specs.Words.{some_is}
 use Rattle.std.proofs.Common.{ap, ap₂, arith, refl, subst, sym, ◌∙◌}
 use Rattle.std.proofs.lemmas.Bool.Decides.{Decides-eqb, nat_tests}
 use Rattle.std.proofs.lemmas.Bool.{and_from}

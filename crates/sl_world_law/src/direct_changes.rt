@@ -7,7 +7,7 @@ pub fn quiet_events()
     ensures { QuietEvents }
 {}
 
-/// So at a reset.
+/// At a reset, too, where no daemon takes the event, there is only what it changes first.
 pub fn resets_are_quiet()
     ensures { ResetsAreQuiet }
 {}

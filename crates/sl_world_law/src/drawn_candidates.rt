@@ -7,7 +7,7 @@ pub fn questions_stand()
     ensures { QuestionsStand }
 {}
 
-/// The event that is drawn.
+/// The event that a generator draws is told by what is kept of the world.
 pub fn draws_are_kept()
     ensures { DrawsAreKept }
 {}

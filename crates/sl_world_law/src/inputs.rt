@@ -8,7 +8,7 @@ pub fn inputs_are_kept()
     ensures { InputsAreKept }
 {}
 
-/// What the machine itself does.
+/// What the machine itself does, at an exit without a daemon or a reset, is told by what is kept of it.
 pub fn own_effects_are_kept()
     ensures { OwnEffectsAreKept }
 {}

@@ -54,7 +54,7 @@ pub fn each_stood<D: Daemon>()
     ensures { EachStood D.commands D.stands }
 {}
 
-/// Session lines make settings of daemons.
+/// The session lines of a header make settings that a daemon may have.
 pub fn first_settings()
     ensures { FirstSettings }
 {}

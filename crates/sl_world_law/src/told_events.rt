@@ -2,7 +2,7 @@
 
 ghost use Rattle.sl_world_law.specs.ToldEvents.{AsksAreKept, ConflictsAreCounted, ConflictsOfParts, OneMoreConflict, TellingIsKept, UsesAreKept};
 
-/// Steps, tests and conflicts.
+/// What is told of a step, of a test and of conflicts is told by what is kept of the world.
 pub fn telling_is_kept()
     ensures { TellingIsKept }
 {}
@@ -22,12 +22,12 @@ pub fn one_more_conflict()
     ensures { OneMoreConflict }
 {}
 
-/// So a step's conflicts are counted.
+/// So a step's conflicts are counted grant by grant, by what is kept.
 pub fn conflicts_are_counted()
     ensures { ConflictsAreCounted }
 {}
 
-/// Where uses stand is no matter.
+/// Conflicts among uses are the same in whatever order the uses stand.
 pub fn conflicts_of_parts()
     ensures { ConflictsOfParts }
 {}

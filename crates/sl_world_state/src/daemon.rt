@@ -38,7 +38,8 @@ pub struct Most {
     pub calls: usize,
 }
 
-/// A daemon that a world runs.
+/// What a world, or a live machine, knows of the daemons that run in it: numbers in turn, records where something is written, no more
+/// effects than were said before. Nothing here says what a daemon must do.
 pub trait Daemon: Drop {
     ghost use Rattle.sl_world_state.specs.declared.daemon.Most.{Most};
 

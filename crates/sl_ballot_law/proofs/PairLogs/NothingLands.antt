@@ -1,10 +1,10 @@
 -- At the step at which a write is answered ok nothing lands: so what stood in the sectors before stands there.
 use Rattle.sl_ballot_law.proofs.PairLogs.RegistersAreRead.{pairs_have_blocks}
-use Rattle.sl_ballot_law.specs.PairLogs.Logs.{At_first, IsLog, Left, Log, NoLanding, SectorAt, WritesTo}
+use Rattle.sl_ballot_law.specs.PairLogs.Logs.{At_first, IsLog, Left, Log, NoLanding, SectorAt}
 use Rattle.sl_ballot_law.specs.Pairs.State.{Stored, later}
 use Rattle.sl_words.proofs.CaseLaws.{one_value}
 use Rattle.sl_words.proofs.OrderLaws.{less_or_same}
-use Rattle.std.proofs.Common.{ap, arith, inl, inr, refl, subst, sym, ◌∙◌}
+use Rattle.std.proofs.Common.{ap, arith, inl, inr, subst, ◌∙◌}
 use Rattle.std.proofs.lemmas.Bool.{cases_lt}
 use Rattle.std.specs.Prelude.{Bool, Option, Some, false, true, ℕ, ◌+◌, ◌<◌, ◌≡◌, ◌≤◌, ◌⊎◌}
 

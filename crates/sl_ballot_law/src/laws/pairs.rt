@@ -25,7 +25,7 @@ ghost use Rattle.sl_ballot_law.specs.Pairs.Leaders.{BallotsEndAgain, LeadersAreB
 ghost use Rattle.sl_ballot_law.specs.Pairs.Shows.{PairsShowNewest};
 ghost use Rattle.sl_ballot_law.specs.Pairs.Theorems.{BlockChanges, InvariantHolds, NoneIsTorn, OnceIsRegister, OwnReadIsCurrent, PairHasBlock, QuietIsShown, RunsOfTwoAreRuns, StepKeeps, StoodIsNewest, TwiceIsRegister};
 
-/// Each step keeps the invariant.
+/// Each step of a pair, by its writers or by the disk, keeps the invariant.
 pub fn step_keeps()
     ensures { StepKeeps }
 {}

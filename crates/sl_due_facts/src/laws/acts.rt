@@ -12,7 +12,7 @@ pub fn decisions_are_theirs()
     ensures { DecisionsAreTheirs }
 {}
 
-/// Each call is of a session.
+/// Each call is of a session of its daemon, by its number.
 pub fn hosts_own_their_calls()
     ensures { HostsOwnTheirCalls }
 {}

@@ -51,7 +51,7 @@ pub fn watch_facts_begin()
     ensures { WatchFactsBegin }
 {}
 
-/// And before the first entry.
+/// Before the first entry, too: no joining has read anything yet.
 pub fn nothing_was_read()
     ensures { NothingWasRead }
 {}
@@ -76,7 +76,7 @@ pub fn renewed_surveys_are_lawful()
     ensures { RenewedSurveysAreLawful }
 {}
 
-/// And that after a joining.
+/// The look at all ids with which a session joins is lawful.
 pub fn joined_surveys_are_lawful()
     ensures { JoinedSurveysAreLawful }
 {}
@@ -86,7 +86,7 @@ pub fn looks_are_lawful()
     ensures { LooksAreLawful }
 {}
 
-/// So is a further read.
+/// A further read of a watch is lawful: the first found a record, and the same has stood since.
 pub fn watches_are_lawful()
     ensures { WatchesAreLawful }
 {}

@@ -16,6 +16,7 @@ pub fn causes_are_kept()
     ensures { CausesAreKept is_explained }
 {}
 
+/// So it is once a step has begun.
 pub fn causes_begin()
     ensures { CausesBegin is_explained }
 {}
@@ -25,6 +26,7 @@ pub fn replies_run()
     ensures { RepliesRun }
 {}
 
+/// So it is once a step has begun.
 pub fn replies_run_begin()
     ensures { RepliesRunBegin }
 {}

@@ -16,7 +16,7 @@ pub fn traces_hold()
     ensures { TracesHold }
 {}
 
-/// So it is lawful.
+/// So each trace of steps that are due is lawful.
 pub fn traces_are_lawful()
     ensures { TracesAreLawful }
 {}

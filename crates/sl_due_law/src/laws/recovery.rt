@@ -13,6 +13,7 @@ pub fn denials_are_kept()
     ensures { DenialsAreKept }
 {}
 
+/// So it is once a step has begun.
 pub fn denials_begin()
     ensures { DenialsBegin }
 {}
@@ -42,6 +43,7 @@ pub fn partings_are_kept()
     ensures { PartingsAreKept }
 {}
 
+/// So it is once a step has begun: no connection was removed yet.
 pub fn partings_begin()
     ensures { PartingsBegin }
 {}

@@ -7,6 +7,7 @@ pub fn ends_are_lawful()
     ensures { EndsAreLawful }
 {}
 
+/// So it is once a step has begun: nothing has ended yet.
 pub fn ends_begin()
     ensures { EndsBegin }
 {}

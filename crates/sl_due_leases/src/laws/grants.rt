@@ -20,7 +20,7 @@
 //! an exit would refuse its job, and its start was told (`Grants::Values::ReadsBack`). So the value that is told then is the last
 //! (`Grants::Values::ValuesAreTold`); nothing else tells one (`Grants::Values::NothingIsTold`).
 
-ghost use Rattle.sl_due_leases.specs.Grants.GrantLaws.{ActivesAreKept, ActivesBegin, EndsAreLawful, ExitsAreLawful, ExitsBegin, GrantingBegins, GrantingIsLawful, GrantsAreLawful, GrantsStand, OrphansAreLawful, OrphansBegin, WorkFactsAreKept, WorkFactsBegin};
+ghost use Rattle.sl_due_leases.specs.Grants.GrantLaws.{ActivesAreKept, ActivesBegin, ExitsAreLawful, ExitsBegin, GrantingBegins, GrantingIsLawful, GrantsAreLawful, GrantsStand, OrphansAreLawful, OrphansBegin, WorkFactsAreKept, WorkFactsBegin};
 ghost use Rattle.sl_due_leases.specs.Grants.ModeLaws.{ModesAreLawful, ModesBegin};
 ghost use Rattle.sl_due_leases.specs.Grants.ValueLaws.{ValueFactsAreKept, ValueFactsBegin, ValuesAreLawful, ValuesBegin};
 
@@ -39,6 +39,7 @@ pub fn exits_are_lawful()
     ensures { ExitsAreLawful }
 {}
 
+/// So it is once a step has begun.
 pub fn exits_begin()
     ensures { ExitsBegin }
 {}
@@ -53,6 +54,7 @@ pub fn orphans_are_lawful()
     ensures { OrphansAreLawful }
 {}
 
+/// So it is once a step has begun: nothing was granted yet.
 pub fn orphans_begin()
     ensures { OrphansBegin }
 {}
@@ -67,6 +69,7 @@ pub fn actives_are_kept()
     ensures { ActivesAreKept }
 {}
 
+/// So they are once a step has begun.
 pub fn actives_begin()
     ensures { ActivesBegin }
 {}
@@ -76,6 +79,7 @@ pub fn granting_is_lawful()
     ensures { GrantingIsLawful }
 {}
 
+/// So it is once a step has begun: nothing was granted yet.
 pub fn granting_begins()
     ensures { GrantingBegins }
 {}
@@ -85,6 +89,7 @@ pub fn modes_are_lawful()
     ensures { ModesAreLawful }
 {}
 
+/// So it is once a step has begun: nothing was granted or written yet.
 pub fn modes_begin()
     ensures { ModesBegin }
 {}
@@ -94,6 +99,7 @@ pub fn value_facts_are_kept()
     ensures { ValueFactsAreKept }
 {}
 
+/// It holds once a step has begun.
 pub fn value_facts_begin()
     ensures { ValueFactsBegin }
 {}
@@ -103,6 +109,7 @@ pub fn values_are_lawful()
     ensures { ValuesAreLawful }
 {}
 
+/// So it is once a step has begun: nothing was written or told yet.
 pub fn values_begin()
     ensures { ValuesBegin }
 {}

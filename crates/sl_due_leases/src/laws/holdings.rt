@@ -21,6 +21,7 @@ pub fn moments_are_kept()
     ensures { MomentsAreKept }
 {}
 
+/// So it is once a step has begun, which counts as a wake.
 pub fn moments_begin()
     ensures { MomentsBegin }
 {}

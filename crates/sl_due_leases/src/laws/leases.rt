@@ -12,12 +12,12 @@ pub fn blocks_are_lawful()
     ensures { BlocksAreLawful }
 {}
 
-/// And a leader.
+/// A leader that a lease writes is lawful: its ballot ended with the session, or it frees what the session won.
 pub fn leaders_are_lawful()
     ensures { LeadersAreLawful }
 {}
 
-/// Each act keeps the laws.
+/// Each act keeps the laws of areas, blocks and leaders.
 pub fn lease_laws_are_kept()
     ensures { LeaseLawsAreKept }
 {}

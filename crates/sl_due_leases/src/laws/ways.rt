@@ -7,17 +7,17 @@ pub fn answers_fit()
     ensures { AnswersFit }
 {}
 
-/// So does what a settling decides.
+/// What a settling decides fits the calls before it.
 pub fn settlings_fit()
     ensures { SettlingsFit }
 {}
 
-/// And a release.
+/// What a release decides fits the calls before it.
 pub fn releases_fit()
     ensures { ReleasesFit }
 {}
 
-/// And where a conversion begins.
+/// What a conversion begins with fits the calls before it.
 pub fn conversions_fit()
     ensures { ConversionsFit }
 {}
@@ -62,7 +62,7 @@ pub fn turns_rest()
     ensures { TurnsRest }
 {}
 
-/// Each act keeps the numbers.
+/// Each act keeps what is known of the numbers that leases have written.
 pub fn number_facts_are_kept()
     ensures { NumberFactsAreKept }
 {}

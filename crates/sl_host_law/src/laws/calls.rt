@@ -21,7 +21,7 @@ pub fn steps_begin()
     ensures { StepsBegin }
 {}
 
-/// One more start is taken.
+/// The host after a start of a child stands for the step with it.
 pub fn starts_are_taken()
     ensures { StartsAreTaken }
 {}

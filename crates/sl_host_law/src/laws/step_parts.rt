@@ -17,7 +17,7 @@ pub fn signals_are_taken()
     ensures { SignalsAreTaken }
 {}
 
-/// Jobs are refused one after another.
+/// Jobs are refused one after another, by number, and the host stands for the step in which they are.
 pub fn refusals_are_taken()
     ensures { RefusalsAreTaken }
 {}

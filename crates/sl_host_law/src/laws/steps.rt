@@ -50,7 +50,7 @@ pub fn steps_follow()
     ensures { StepsFollow }
 {}
 
-/// A new host is sound.
+/// A new host is sound: nothing that it keeps is out of its bounds.
 pub fn new_hosts_are_sound()
     ensures { NewHostsAreSound }
 {}

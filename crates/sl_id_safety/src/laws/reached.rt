@@ -7,7 +7,7 @@ pub fn ids_go_on()
     ensures { IdsGoOn }
 {}
 
-/// So its state is reached.
+/// So the state of each id, after every event, is one that the steps of an id reach.
 pub fn ids_are_reached()
     ensures { IdsAreReached }
 {}

@@ -8,17 +8,17 @@ pub fn join_reads_are_own()
     ensures { JoinReadsAreOwn }
 {}
 
-/// What stands behind a deciding read.
+/// Behind a deciding read stands what the session read first: a free record, or one that it watched for long enough.
 pub fn deciding_reads_have_watched()
     ensures { DecidingReadsHaveWatched }
 {}
 
-/// What stands behind a claim.
+/// Behind a claim stands a deciding read, which showed what was watched.
 pub fn claims_have_decided()
     ensures { ClaimsHaveDecided }
 {}
 
-/// What stands behind a verify read.
+/// Behind a verify read stands the claim, answered ok long enough before.
 pub fn verify_reads_have_claimed()
     ensures { VerifyReadsHaveClaimed }
 {}
@@ -38,7 +38,7 @@ pub fn sessions_follow()
     ensures { SessionsFollow }
 {}
 
-/// At first one record stands there.
+/// At first one record stands in an id's sector: a session's of the header, or a free one.
 pub fn ids_start()
     ensures { IdsStart }
 {}

@@ -7,32 +7,32 @@ pub fn between_is_bounded()
     ensures { BetweenIsBounded }
 {}
 
-/// What changes nothing of an id.
+/// Where an event changes nothing of an id but the moment, and with it which sessions are over, the id goes on by its steps.
 pub fn quiet_changes_go_on()
     ensures { QuietChangesGoOn }
 {}
 
-/// A write lands, is torn or is dropped.
+/// Where a write lands, is torn or is dropped the id goes on by its steps.
 pub fn landings_go_on()
     ensures { LandingsGoOn }
 {}
 
-/// A read is sampled.
+/// Where a read is sampled the id goes on by its steps.
 pub fn samplings_go_on()
     ensures { SamplingsGoOn }
 {}
 
-/// A daemon or its machine ends.
+/// Where a daemon or its machine ends the id goes on by its steps.
 pub fn endings_go_on()
     ensures { EndingsGoOn }
 {}
 
-/// What a machine does by itself.
+/// Where no daemon takes the event, in what the machine does by itself, the id goes on by its steps.
 pub fn own_steps_go_on()
     ensures { OwnStepsGoOn }
 {}
 
-/// An entry of a daemon.
+/// Over an entry of a daemon the id goes on by its steps.
 pub fn entries_go_on()
     ensures { EntriesGoOn }
 {}

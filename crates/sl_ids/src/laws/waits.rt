@@ -94,17 +94,17 @@ pub fn guarded_is_bounded()
 
 // ---- the waits
 
-/// The verify read comes late enough.
+/// The verify read comes late enough: whoever acted as the claim landed is over by then.
 pub fn verify_waits()
     ensures { VerifyWaits }
 {}
 
-/// The deciding read comes late enough.
+/// The deciding read comes late enough: the writer of what was watched is over by then.
 pub fn watch_waits()
     ensures { WatchWaits }
 {}
 
-/// A silence is long enough.
+/// A silence is long enough: the session whose record stood still is over.
 pub fn silence_is_long()
     ensures { SilenceIsLong }
 {}

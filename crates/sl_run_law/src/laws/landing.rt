@@ -2,12 +2,12 @@
 
 ghost use Rattle.sl_run_law.specs.Landing.Landings.{DoneWritesHaveLanded, LandedWritesAreThere, LandingsAreSectors, LandingsComeInOrder, WritesLandOnce};
 
-/// The newest landing stands first.
+/// Landings stand in the order of their steps, the newest first.
 pub fn landings_come_in_order()
     ensures { LandingsComeInOrder }
 {}
 
-/// A write lands once at most.
+/// A write lands once at most, whole or torn.
 pub fn writes_land_once()
     ensures { WritesLandOnce }
 {}
@@ -22,7 +22,7 @@ pub fn done_writes_have_landed()
     ensures { DoneWritesHaveLanded }
 {}
 
-/// What lands are whole sectors.
+/// What lands are whole sectors, at whole sectors of its disk.
 pub fn landings_are_sectors()
     ensures { LandingsAreSectors }
 {}

@@ -12,7 +12,7 @@ pub fn resources_hold_leases()
     ensures { ResourcesHoldLeases }
 {}
 
-/// Outside the header's areas nothing lands.
+/// Outside the header's areas nothing lands: there the disks stay as they were.
 pub fn nothing_lands_elsewhere()
     ensures { NothingLandsElsewhere }
 {}

@@ -10,7 +10,7 @@ pub fn clocks_drift()
     ensures { ClocksDrift }
 {}
 
-/// So it is along a run.
+/// Along a run, too, a clock grows within the drift of the time that passes.
 pub fn clocks_drift_in_runs()
     ensures { ClocksDriftInRuns }
 {}

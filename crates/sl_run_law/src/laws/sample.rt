@@ -2,7 +2,7 @@
 
 ghost use Rattle.sl_run_law.specs.Sample.Samples.{DoneReadsAreWhole, SampledAreSectors, SamplesAreLandings, SamplesComeInOrder};
 
-/// Each sample shows the newest landing.
+/// Each sample of a read shows the landing that was the newest at its place then.
 pub fn samples_are_landings()
     ensures { SamplesAreLandings }
 {}

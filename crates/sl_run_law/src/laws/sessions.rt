@@ -12,7 +12,7 @@ pub fn calls_are_made()
     ensures { CallsAreMade }
 {}
 
-/// An answered call never changes.
+/// An answered call never changes: whatever comes later, it has this answer.
 pub fn answers_stay()
     ensures { AnswersStay }
 {}
@@ -22,7 +22,7 @@ pub fn ended_are_silent()
     ensures { EndedAreSilent }
 {}
 
-/// A session keeps its number.
+/// A session keeps its number among its daemon's sessions.
 pub fn sessions_stay()
     ensures { SessionsStay }
 {}

@@ -10,7 +10,7 @@ pub fn ended_ballots_end()
     ensures { EndedBallotsEnd }
 {}
 
-/// Leaders are written by winners.
+/// Each leader is written by the session with which an own ballot of its instance ended before.
 pub fn leaders_follow_ballots()
     ensures { LeadersFollowBallots }
 {}

@@ -39,7 +39,7 @@ pub fn uses_are_held()
     ensures { UsesAreHeld }
 {}
 
-/// Uses of one machine don't conflict.
+/// Uses of one machine don't conflict: of one daemon by its laws, of several since what lingers is nobody's any more.
 pub fn one_machine_agrees()
     ensures { OneMachineAgrees }
 {}

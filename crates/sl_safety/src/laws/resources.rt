@@ -4,7 +4,7 @@ ghost use Rattle.sl_safety.specs.Resources.Orders.{BlocksLandInOrder, ReadsShowN
 ghost use Rattle.sl_safety.specs.Resources.HistoryLaws.{HistoriesAreRegisters, HistoriesGoUp, HistoriesNumberAbove};
 ghost use Rattle.sl_safety.specs.Resources.Reads.{ReadsAreGiven};
 
-/// Its blocks are registers.
+/// The blocks of a resource's history are registers, which need not be atomic.
 pub fn histories_are_registers()
     ensures { HistoriesAreRegisters }
 {}
@@ -24,7 +24,7 @@ pub fn histories_go_up()
     ensures { HistoriesGoUp }
 {}
 
-/// Numbers of ballots are above 0.
+/// Numbers of ballots are above 0, so a block of zeros has begun none.
 pub fn histories_number_above()
     ensures { HistoriesNumberAbove }
 {}

@@ -33,7 +33,7 @@ pub fn histories_are_in_order()
     ensures { HistoriesAreInOrder }
 {}
 
-/// Evidence means over.
+/// In the history of a resource evidence against a session means that it is over.
 pub fn histories_have_true_evidence()
     ensures { HistoriesHaveTrueEvidence }
 {}

@@ -3,7 +3,7 @@
 ghost use Rattle.sl_sound.specs.Reports.EventsAskFew.{AsksEnd, EventsAskFew};
 ghost use Rattle.sl_sound.specs.Reports.ReportLaws.{AcceptedSchedulesEndWell, OwedIsHeadline, ReportsAreRuns, RunsHaveOneReport};
 
-/// Few asks follow an event.
+/// Few asks of lvmlockd follow one event, so a report's lines come to an end.
 pub fn events_ask_few()
     ensures { EventsAskFew }
 {}

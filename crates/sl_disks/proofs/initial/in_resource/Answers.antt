@@ -3,7 +3,7 @@ use Rattle.sl_area.specs.AreaRecords.{leader_record}
 use Rattle.sl_disks.proofs.FirstRecords.{block_first, leader_first, nothing_first, request_first, value_first}
 use Rattle.sl_disks.proofs.initial.in_resource.Goals as goal
 use Rattle.sl_sector.specs.declared.sector.Rec.TheVariants.{RequestIs, ValueIs}
-use Rattle.std.proofs.Common.{ap, arith, eq-eqb, false, ne_eqb, sym, ◌+◌, ◌==◌, ◌∙◌, ◌≡◌, ◌≤◌}
+use Rattle.std.proofs.Common.{ap, arith, eq-eqb, false, ne_eqb, sym, ◌+◌, ◌∙◌, ◌≤◌}
 
 pub returns-then-number-eq0 : goal.returns-then-number-eq0
 returns-then-number-eq0 c =

@@ -4,7 +4,7 @@ use Rattle.sl_host.proofs.FoundInList.{none_found, one_found}
 use Rattle.sl_host.proofs.ListScans.{find_here, find_more, find_none}
 use Rattle.sl_host.proofs.told_answers.shows_any.Goals as goal
 use Rattle.sl_host.specs.HeardAnswers.{shows_at}
-use Rattle.std.proofs.Common.{Bool, arith, sym, ◌∙◌}
+use Rattle.std.proofs.Common.{Bool, arith, sym}
 
 pub loop-place-preserved : goal.loop-place-preserved
 loop-place-preserved g c =

@@ -2,7 +2,6 @@ use Rattle.sl_area.specs.AreaSizes.{Sizes, layout_of}
 use Rattle.sl_area.specs.Pairs.{pairs_kept}
 use Rattle.sl_host.proofs.AnswersTold.{again_paired}
 use Rattle.sl_host.proofs.told_answers.tell_lease_read.Goals as goal
-use Rattle.sl_host.specs.HeardAnswers.{turn_to}
 use Rattle.sl_lease.specs.Reads.{HasRead}
 use Rattle.sl_member.specs.Leases.{kept_shown, read_shown}
 use Rattle.sl_member.specs.Members.{lease_changed}

@@ -1,9 +1,7 @@
-use Rattle.sl_host_state.specs.KeptState.{MemberState}
-use Rattle.sl_member.specs.HostMembers.{MembersState, changed_member}
 use Rattle.sl_host.proofs.AnswersTold.{no_owner, request_off}
 use Rattle.sl_host.proofs.told_answers.tell_request.Goals as goal
 use Rattle.sl_host.specs.HeardAnswers.{request_heard}
-use Rattle.std.proofs.Common.{ap, arith, refl, subst, sym, ◌∙◌, ◌≡◌}
+use Rattle.std.proofs.Common.{ap, arith, ◌∙◌}
 
 pub returns-else-owner-ge1 : goal.returns-else-owner-ge1
 returns-else-owner-ge1 c =

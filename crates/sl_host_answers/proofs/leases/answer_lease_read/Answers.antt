@@ -4,7 +4,7 @@ use Rattle.sl_host_answers.specs.Facts.{ToldKnown}
 use Rattle.sl_host_state.specs.KeptState.{state_of}
 use Rattle.sl_trace.specs.declared.effects.Spot.{Spot}
 use Rattle.sl_trace.specs.declared.input.Answer.TheVariants.{Read}
-use Rattle.std.proofs.Common.{List, subst, sym, ℕ, ◌∙◌}
+use Rattle.std.proofs.Common.{subst, sym, ◌∙◌}
 
 pub next_read-requires-clause-known : goal.next_read-requires-clause-known
 next_read-requires-clause-known c =

@@ -7,8 +7,7 @@ use Rattle.sl_host_passes.proofs.RefusedJobsGo.{holders_as_among}
 use Rattle.sl_host_passes.proofs.due_before_input.recover_all.Goals as goal
 use Rattle.sl_host_passes.specs.PassesLessen.{holders_among}
 use Rattle.sl_host_state.specs.KeptState.{state_of}
-use Rattle.std.proofs.Common.{ap, arith, sym, ◌≡◌, ◌∙◌}
-use Rattle.std.specs.Prelude.{map}
+use Rattle.std.proofs.Common.{ap, arith, ◌∙◌}
 
 pub recover_noted-requires-clause-left : goal.recover_noted-requires-clause-left
 recover_noted-requires-clause-left c =

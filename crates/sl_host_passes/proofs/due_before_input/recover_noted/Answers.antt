@@ -11,7 +11,7 @@ use Rattle.sl_host_state.specs.KeptState.{HostState, state_of}
 use Rattle.sl_host_work.proofs.ListPasses.{drop_next, over_end, over_next}
 use Rattle.sl_host_work.specs.KilledMembers.{count_under}
 use Rattle.std.proofs.Common.{ap, arith, refl, sym, ◌≡◌, ◌∙◌}
-use Rattle.std.specs.Prelude.{Err, drop, length, ◌+◌}
+use Rattle.std.specs.Prelude.{Err, drop, length}
 
 pub loop-place-init : goal.loop-place-init
 loop-place-init c = record { comes = λ read. refl; run = same_run c.args.host.now; held = refl; most = refl; jobs = c.requires.room; room = c.requires.left; spent = omega arith; calls = omega arith }

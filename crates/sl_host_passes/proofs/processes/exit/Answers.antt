@@ -1,4 +1,4 @@
-use Rattle.sl_host_law.specs.StepParts.Exits.{exiting, leaving, refusing_of}
+use Rattle.sl_host_law.specs.StepParts.Exits.{leaving, refusing_of}
 use Rattle.sl_host_passes.proofs.ProcessesStand.{chosen_few, exits_so, leaving_jobs, left_few, held_few}
 use Rattle.sl_host_passes.proofs.processes.exit.Goals as goal
 use Rattle.sl_host_state.specs.HeardInputs.{heard_exit}
@@ -6,7 +6,6 @@ use Rattle.sl_host_state.specs.KeptState.{HostState, state_of}
 use Rattle.sl_host_work.specs.ProcessHoldings.{HoldsOnce, held_by}
 use Rattle.sl_trace.specs.Traces.{no_process, orphans_left}
 use Rattle.sl_trace.specs.declared.effects.Grant.{Grant}
-use Rattle.sl_host.specs.ChosenJobs.{chosen_among}
 use Rattle.sl_host.specs.Host.{Becomes, HostView}
 use Rattle.sl_host.specs.declared.passes.Chosen.TheVariants.{OfProcess}
 use Rattle.std.proofs.Common.{ap, arith, subst, sym, ◌∙◌}

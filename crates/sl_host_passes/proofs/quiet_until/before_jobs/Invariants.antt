@@ -1,7 +1,7 @@
 use Rattle.sl_host_passes.proofs.quiet_until.before_jobs.Given as goal
 use Rattle.sl_host_passes.specs.NextMoment.{found_moments, least_by}
 use Rattle.sl_host_work.specs.KilledMembers.{unread}
-use Rattle.std.proofs.Common.{drop, find, flat_map, ℕ, ◌==◌, ◌≡◌}
+use Rattle.std.proofs.Common.{drop, find, flat_map, ◌==◌, ◌≡◌}
 
 -- the jobs from this place on are still to come
 abbrev pub invariant-loop-place : goal.invariant-loop-place

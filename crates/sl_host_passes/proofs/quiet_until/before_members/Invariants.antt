@@ -2,7 +2,7 @@ use Rattle.sl_host_passes.proofs.quiet_until.before_members.Given as goal
 use Rattle.sl_host_passes.specs.NextMoment.{least_by}
 use Rattle.sl_host_state.specs.HostStands.{member_moments}
 use Rattle.sl_host_work.specs.KilledMembers.{unread}
-use Rattle.std.proofs.Common.{drop, flat_map, ℕ, ◌-◌, ◌^◌, ◌≡◌}
+use Rattle.std.proofs.Common.{drop, flat_map, ◌-◌, ◌^◌, ◌≡◌}
 
 -- the members from this place on are still to come
 abbrev pub invariant-loop-place : goal.invariant-loop-place

@@ -4,15 +4,14 @@ use Rattle.sl_host_passes.proofs.quiet_until.calm.Goals as goal
 use Rattle.sl_host_passes.specs.NextMoment.{found_moments, least_by, next_moment}
 use Rattle.sl_host_passes.specs.PassPremises.{JobsApart}
 use Rattle.sl_host_state.specs.HeardInputs.{quiet_to}
-use Rattle.sl_host_state.specs.KeptState.{HostKept, HostState, state_of}
+use Rattle.sl_host_state.specs.KeptState.{HostState, state_of}
 use Rattle.sl_host_state.specs.HostStands.{IsQuiet, job_moments, member_moments}
 use Rattle.sl_host_work.specs.KilledMembers.{unread}
 use Rattle.sl_host.specs.ChosenJobs.{chosen_among}
-use Rattle.sl_host.specs.Host.{Becomes, HostView}
-use Rattle.sl_host.specs.Notes.{NotesState}
+use Rattle.sl_host.specs.Host.{HostView}
 use Rattle.sl_host.specs.declared.passes.Chosen.TheVariants.{All}
 use Rattle.std.proofs.Common.{ap, subst, sym, ◌∙◌}
-use Rattle.std.specs.Prelude.{Err, List, find, flat_map, map, ℕ, ◌-◌, ◌==◌, ◌^◌, ◌≡◌}
+use Rattle.std.specs.Prelude.{Err, List, find, flat_map, ℕ, ◌-◌, ◌==◌, ◌^◌, ◌≡◌}
 
 -- What was found is the next moment.
 found : (old noted : HostView) (ns : List ℕ) (members next : ℕ) → JobsApart old.kept → noted ≡ old → ns ≡ chosen_among All old.kept.jobs

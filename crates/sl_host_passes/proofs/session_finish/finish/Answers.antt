@@ -1,6 +1,6 @@
 use Rattle.sl_host_law.specs.StepParts.Ends.{finishing}
 use Rattle.sl_host_law.specs.StepParts.Signals.{over}
-use Rattle.sl_host_law.specs.Steps.Passes.{at_member, for_members}
+use Rattle.sl_host_law.specs.Steps.Passes.{at_member}
 use Rattle.sl_host_passes.proofs.session_finish.finish.Goals as goal
 use Rattle.sl_host_state.specs.KeptState.{MemberState, state_of}
 use Rattle.std.proofs.Common.{ap, arith, ◌∙◌}

@@ -4,7 +4,7 @@ use Rattle.sl_host_passes.proofs.QuietBefore.{quiet_before}
 use Rattle.sl_host_passes.proofs.step_beginning.begin_step.Goals as goal
 use Rattle.sl_host_passes.specs.PassesLessen.{IsNoMore}
 use Rattle.sl_host_state.specs.HeardInputs.{begun}
-use Rattle.sl_host_state.specs.KeptState.{HostState, state_of}
+use Rattle.sl_host_state.specs.KeptState.{state_of}
 use Rattle.sl_host.specs.Host.{Becomes, HostView}
 use Rattle.std.proofs.Common.{ap, arith, sym, ◌∙◌}
 use Rattle.std.specs.Prelude.{length, ℕ, ◌<◌, ◌≡◌}

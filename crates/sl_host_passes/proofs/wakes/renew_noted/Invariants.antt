@@ -6,7 +6,7 @@ use Rattle.sl_host_passes.specs.PassPremises.{WakeKnown}
 use Rattle.sl_host_state.specs.KeptState.{state_of}
 use Rattle.sl_trace.specs.declared.command.Command.{Command}
 use Rattle.sl_host.specs.Host.{SameRun}
-use Rattle.std.proofs.Common.{List, Result, drop, length, ℕ, ◌*◌, ◌+◌, ◌≡◌, ◌≤◌}
+use Rattle.std.proofs.Common.{List, Result, drop, length, ℕ, ◌+◌, ◌≡◌, ◌≤◌}
 
 -- those from this place on are still to come
 abbrev pub invariant-loop-place : goal.invariant-loop-place

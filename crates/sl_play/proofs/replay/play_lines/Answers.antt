@@ -6,7 +6,7 @@ use Rattle.sl_play.specs.declared.replay.Played.TheVariants.{NoMemory, ReadFault
 use Rattle.sl_report.specs.Schedules.{NumberedLine}
 use Rattle.sl_schedule.specs.Lines.{line_seen}
 use Rattle.sl_reader.specs.LineReads.{Reads, line_of}
-use Rattle.std.proofs.Common.{None, Some, ap, arith, refl, subst, sym, take, ◌∙◌}
+use Rattle.std.proofs.Common.{None, Some, ap, arith, subst, take}
 use Rattle.std.specs.Io.KnownBytes.{Appends}
 use Rattle.std.specs.Prelude.{Err}
 

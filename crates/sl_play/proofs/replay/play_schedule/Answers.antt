@@ -2,7 +2,7 @@
 use Rattle.sl_play.proofs.LinesPlayed.{good_header, header_breaks, header_lacks, header_out, nothing_read, replays_later}
 use Rattle.sl_play.proofs.replay.play_schedule.Goals as goal
 use Rattle.sl_reader.specs.HeaderBegins.{HeaderIsRead}
-use Rattle.std.proofs.Common.{ap, arith, refl, subst, ◌≤◌}
+use Rattle.std.proofs.Common.{ap, arith, subst, ◌≤◌}
 use Rattle.std.specs.Prelude.{Err}
 
 pub returns-in-Err : goal.returns-in-Err

@@ -14,7 +14,7 @@ use Rattle.sl_host.specs.Books.{BooksState, host_of}
 use Rattle.sl_host.specs.HeardAnswers.{IsTold, MayHear, first_to, is_over_in, lease_heard, others_in, turn_to}
 use Rattle.sl_host.specs.Host.{HostView}
 use Rattle.sl_host.proofs.host.Host.hear_lease_read.Goals as goal
-use Rattle.std.proofs.Common.{IsTrue, List, ap, filter, length, not, subst, sym, ◌*◌, ◌∙◌, ◌≡◌}
+use Rattle.std.proofs.Common.{List, ap, filter, not, subst, sym, ◌∙◌, ◌≡◌}
 
 pub returns-clause-state : goal.returns-clause-state
 returns-clause-state g c read =

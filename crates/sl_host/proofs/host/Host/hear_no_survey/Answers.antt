@@ -6,11 +6,10 @@ use Rattle.sl_host_state.specs.HeardInputs.{heard_answer}
 use Rattle.sl_host_state.specs.KeptState.{MemberState, state_of}
 use Rattle.sl_member.specs.HostMembers.{MembersState, changed_member}
 use Rattle.sl_host.specs.Books.{BooksState, host_of}
-use Rattle.sl_host.specs.HeardAnswers.{MayHear, begun_at, is_over_in, others_in, own_heard, request_heard, survey_heard}
-use Rattle.sl_host.proofs.HostStands.{same_run}
+use Rattle.sl_host.specs.HeardAnswers.{MayHear, is_over_in, others_in}
 use Rattle.sl_host.specs.Host.{HostView}
 use Rattle.sl_host.proofs.host.Host.hear_no_survey.Goals as goal
-use Rattle.std.proofs.Common.{List, ap, arith, filter, not, subst, sym, ◌∙◌, ◌≡◌}
+use Rattle.std.proofs.Common.{List, ap, filter, not, subst, sym, ◌∙◌, ◌≡◌}
 
 pub returns-clause-state : goal.returns-clause-state
 returns-clause-state c read =

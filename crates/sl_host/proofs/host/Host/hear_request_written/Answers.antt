@@ -4,7 +4,7 @@ use Rattle.sl_host_state.specs.HeardInputs.{heard_answer}
 use Rattle.sl_host_state.specs.KeptState.{MemberState, state_of}
 use Rattle.sl_member.specs.HostMembers.{MembersState, changed_member}
 use Rattle.sl_host.specs.Books.{BooksState, host_of}
-use Rattle.sl_host.specs.HeardAnswers.{MayHear, begun_at, is_over_in, others_in, own_heard, request_heard, survey_heard}
+use Rattle.sl_host.specs.HeardAnswers.{MayHear, is_over_in, others_in, request_heard}
 use Rattle.sl_host.specs.Host.{HostView}
 use Rattle.sl_host.proofs.host.Host.hear_request_written.Goals as goal
 use Rattle.std.proofs.Common.{List, ap, filter, not, subst, sym, ◌∙◌, ◌≡◌}

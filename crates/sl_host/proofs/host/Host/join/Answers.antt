@@ -2,7 +2,7 @@ use Rattle.sl_area.specs.AreaSizes.{Sizes, layout_of}
 use Rattle.sl_host_state.specs.KeptState.{HostState, MemberState, state_of}
 use Rattle.sl_host_state.specs.MadeEffects.{with_joining, with_member}
 use Rattle.sl_member.specs.Members.{IsOwnCall, RunOf, blank_member, member_called}
-use Rattle.sl_member.specs.HostMembers.{changed_member, member_with}
+use Rattle.sl_member.specs.HostMembers.{changed_member}
 use Rattle.sl_trace.specs.Sessions.{joining_session}
 use Rattle.sl_trace.specs.CountLimits.{most_lockspaces}
 use Rattle.sl_trace.specs.Traces.{Submitted, new_call}
@@ -14,7 +14,7 @@ use Rattle.sl_host.proofs.host.Host.join.Goals as goal
 use Rattle.sl_host.specs.Books.{books_calling, kept_of, submitted_in}
 use Rattle.sl_host.specs.Host.{HostView}
 use Rattle.sl_host.specs.MemberRun.{run_in}
-use Rattle.std.proofs.Common.{List, None, ap, arith, length, subst, sym, ℕ, ◌+◌, ◌-◌, ◌<◌, ◌≡◌, ◌∙◌, ◌≤◌}
+use Rattle.std.proofs.Common.{List, ap, arith, length, subst, sym, ℕ, ◌+◌, ◌-◌, ◌≡◌, ◌∙◌, ◌≤◌}
 
 pub calling-requires-clause-own : goal.calling-requires-clause-own
 calling-requires-clause-own c =

@@ -1,9 +1,9 @@
 -- Asks come to pass until none is due.
-use Rattle.sl_play.proofs.LinesAndAsks.{asks_done, asks_more, none_asked, some_left, unbarred}
+use Rattle.sl_play.proofs.LinesAndAsks.{asks_done, asks_more, some_left, unbarred}
 use Rattle.sl_play.proofs.play.Play.take_asks.Goals as goal
 use Rattle.sl_play.specs.Plays.{Answers, state_of}
 use Rattle.sl_run.specs.declared.event.Event.TheVariants.{GiveAsk}
-use Rattle.std.proofs.Common.{arith, subst, sym, ◌-◌, ◌<◌, ◌∙◌, ◌≤◌}
+use Rattle.std.proofs.Common.{arith, subst, sym, ◌-◌, ◌∙◌, ◌≤◌}
 
 pub asking-requires : goal.asking-requires
 asking-requires g c =
