@@ -33,7 +33,7 @@ fn span(alloc: Global, ends: Option<Ends>) -> Result<Vec<u64>, AllocError> {
 
 /// How long the children of the third machine live, in looks of 16 milliseconds: longer than a session goes on without a renewal, and its
 /// device, and than another host waits before it counts that session as over.
-const LONG: u64 = 300;
+const LONG: u64 = 600;
 
 /// The spawner of a machine, whose children exit by themselves at this look, or never, and then are deaf to a term; and of which these starts
 /// fail.

@@ -47,9 +47,9 @@ use Rattle.sl_words.proofs.Lists.{got_index, there_is}
 use Rattle.sl_words.proofs.Places.{Came, PlacedBehind, Stood, placed_behind}
 use Rattle.sl_world_state.specs.Daemons.{begun_with}
 use Rattle.sl_world_state.specs.declared.daemon.Site.{Site}
-use Rattle.std.proofs.Common.{List, ap, ap₂, arith, inl, inr, length, map, refl, slice_index_or, subst, suc, sym, zero, ◌++◌, ◌+◌, ◌<◌, ◌∙◌, ◌∷◌, ◌≡◌, ◌⊎◌, [], ℕ}
+use Rattle.std.proofs.Common.{List, ap, ap₂, arith, inl, inr, length, map, refl, slice_index_or, subst, suc, sym, zero, ◌++◌, ◌+◌, ◌<◌, ◌∙◌, ◌∷◌, ◌≡◌, ◌⊎◌, [], ℕ, take}
 use Rattle.std.proofs.lemmas.List.Sums.{sum_by-cons}
-use Rattle.std.proofs.lemmas.List.{length-map, map-append}
+use Rattle.std.proofs.lemmas.List.{length-map, map-append, take-append-le, take_all}
 use Rattle.std.specs.List.{concat, sum_by}
 use Rattle.std.specs.Prelude.{All, Bool, Err, IfErr, IfOk, IfSome, IsOk, None, Ok, Option, Result, Some, false, option_map, slice_get}
 use mathlib.Core.List.{IsPrefix}
@@ -70,6 +70,12 @@ map_got : {A B : Type 0} (f : A → B) (xs : List A) (k : ℕ) (x : A) → slice
 map_got f [] k x at = absurd (none_some x at)
 map_got f (y ∷ xs) zero x at = ap Some (ap f (some_value y x at))
 map_got f (y ∷ xs) (suc k) x at = map_got f xs k x at
+
+-- A list's elements that were lent and come back, as many as there were, stand in its place.
+pub lent_back : {T : Type 0} (xs lent new behind : List T) (len : ℕ) → len ≡ length xs → lent ≡ xs → length new ≡ length lent → take len (new ++ behind) ≡ new
+lent_back {T} xs lent new behind len whole same kept =
+    let so : len ≡ length new = whole ∙ ap length (sym same) ∙ sym kept in
+    take-append-le len new behind (omega (arith, so)) ∙ take_all len new (omega (arith, so))
 
 -- What a call left, beside what it was given.
 pub changed_on : {T : Type 0} (R : T → T → Type 0) (x x' y y' : T) → x' ≡ x → y' ≡ y → R x' y' → R x y
@@ -529,6 +535,14 @@ pub begun_all : {B S : Type 0} (bs : List (Option B)) (ps qs : List S) (of_ready
 begun_all {B} {S} bs ps qs of_ready so same = so ∙ ap (λ (xs : List S). map (λ b. Some b) (map of_ready xs)) same
 
 -- ---- behind the run
+
+-- One machine more that has run.
+pub ran_more : {C P V A O T : Type 0} (ms : List (Machine C P V A O T)) (m : Machine C P V A O T) (rans now : List (Ran O T A P)) (r : Ran O T A P)
+    → map (λ (x : Machine C P V A O T). x.ran) ms ≡ map (λ (x : Ran O T A P). Some x) rans → m.ran ≡ Some r → now ≡ rans ++ r ∷ []
+    → map (λ (x : Machine C P V A O T). x.ran) (ms ++ m ∷ []) ≡ map (λ (x : Ran O T A P). Some x) now
+ran_more {C} {P} {V} {A} {O} {T} ms m rans now r so is pushed =
+    map-append (λ (x : Machine C P V A O T). x.ran) ms (m ∷ []) ∙ ap₂ (λ xs y. xs ++ y ∷ []) so is ∙ sym (map-append (λ (x : Ran O T A P). Some x) rans (r ∷ []))
+    ∙ ap (map (λ (x : Ran O T A P). Some x)) (sym pushed)
 
 pub rans_all : {C P V A O T : Type 0} (ms all : List (Machine C P V A O T)) (rans : List (Ran O T A P)) → AreRansOf ms rans → ms ≡ all → AreRansOf all rans
 rans_all {C} {P} {V} {A} {O} {T} ms all rans so same = subst (λ (xs : List (Machine C P V A O T)). AreRansOf xs rans) same so

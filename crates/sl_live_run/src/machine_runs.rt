@@ -7,6 +7,7 @@ ghost use Rattle.sl_live_machine.specs.Printing.{lines_read};
 ghost use Rattle.sl_live_machine.specs.declared.machine.CloseError.TheVariants.{NoMemory as NoMemoryClose};
 ghost use Rattle.sl_world_state.specs.Daemons.{begun_with};
 ghost use Rattle.sl_live_run.specs.Runs.{CanRun, IsFresh, Runs};
+ghost use Rattle.sl_outside.specs.Acts.{Tells};
 ghost use Rattle.sl_run.specs.Headers.{IsHeader};
 ghost use Rattle.sl_run.specs.Lawful.{IsSetting};
 ghost use Rattle.std.specs.Prelude.{Err, None, Some, [], ◌+◌, ◌≡◌};
@@ -124,6 +125,7 @@ fn run_as<
     requires site { J.setting ≡ begun_with D.Daemon.commands shared.now.header.now work.site }
     requires book { opened.seen.book ≡ J.book }
     requires fresh { IsFresh work }
+    requires unasked { Tells (P.acts work.parts.spawner) [] }
     ensures goes { HasRun A.content A.faults P.acts shared.now.header.now.geometry.sector D.Daemon.stands J.setting
         (first_telling shared.now.events shared.now.header.now.timing work.site.given) (begun_along shared.now.header.now work.site.first.job)
         work.parts.delta.items work.parts.resource.items result }
@@ -188,6 +190,7 @@ fn run_work<
     requires header { IsHeader shared.now.header.now }
     requires setting { IsSetting (begun_with D.Daemon.commands shared.now.header.now work.site) }
     requires fresh { IsFresh work }
+    requires unasked { Tells (P.acts work.parts.spawner) [] }
     ensures goes { HasRun A.content A.faults P.acts shared.now.header.now.geometry.sector D.Daemon.stands (begun_with D.Daemon.commands shared.now.header.now work.site)
         (first_telling shared.now.events shared.now.header.now.timing work.site.given) (begun_along shared.now.header.now work.site.first.job)
         work.parts.delta.items work.parts.resource.items result }

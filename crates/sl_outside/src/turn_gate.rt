@@ -1,6 +1,6 @@
 //! A gate for tests: it holds one call until another one has left.
 //!
-//! So a test passes only where two calls are under way at once, of two workers or of two machines. The gate gives up after 6000 turns, each
+//! So a test passes only where two calls are under way at once, of two workers or of two machines. The gate gives up after 12000 turns, each
 //! a sleep of a millisecond, and says so.
 
 use crate::gate::Gate;
@@ -17,7 +17,7 @@ pub struct Turn {
 }
 
 /// How often a held call looks whether it may go on.
-const MOST_TURNS: u32 = 6000;
+const MOST_TURNS: u32 = 12000;
 
 /// What was seen at a gate.
 #[derive(Drop)]
