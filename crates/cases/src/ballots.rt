@@ -3,9 +3,8 @@ ghost use Rattle.std.specs.Prelude.{IsTrue, ◌<◌, ◌^◌, ◌≤◌};
 
 use crate::told::Told;
 use crate::word_values::{number_at, number_of, numbers_from, part, short_at, short_of, word};
-use sl_ballot::{
-    Ballot, BallotStep, Limit, ballot_run, instance_of, next_mbal, stop_of, value_after_read,
-};
+use sl_alone::{Ballot, BallotStep, ballot_run, next_mbal};
+use sl_ballot::{Limit, instance_of, stop_of, value_after_read};
 use sl_sector::{Block, Leader, Owner};
 use sl_text::Name;
 use sl_trace::{Instance, Stop};

@@ -1,8 +1,9 @@
 //! Commands and default names.
 
 use crate::told::Told;
+use sl_alone::push_command_text;
 use sl_area::Geometry;
-use sl_command::{parse_command, push_command_text};
+use sl_command::parse_command;
 use sl_text::hex::read_hex;
 use sl_trace::Command;
 

@@ -3,8 +3,8 @@
 use crate::told::Told;
 use crate::watches::sector_named;
 use crate::word_values::{number_of, part, word};
+use sl_alone::{DeltaCall, DeltaIn, DeltaLease, DeltaOut, Outcome};
 use sl_area::Geometry;
-use sl_delta::{DeltaCall, DeltaIn, DeltaLease, DeltaOut, Outcome};
 use sl_request::Bitmap;
 use sl_sector::{DeltaRec, DeltaState};
 use sl_text::{Bytes, Name};

@@ -2,11 +2,10 @@
 
 use crate::told::Told;
 use crate::word_values::{number_at, short_at, word};
+use sl_io::MemSource;
+use sl_reader::{LineReader, Next, read_header};
 use sl_run::{Event, Header, Refusal};
-use sl_schedule::{
-    Lines, line_refusal, next_event, next_event_line, push_refusal_line, push_test_line,
-    read_header,
-};
+use sl_schedule::{event_line, line_refusal, next_event, push_refusal_line, push_test_line};
 use sl_text::Seq;
 
 /// Adds a line without the line feed at its end.
@@ -169,30 +168,54 @@ fn number_text(told: &mut Told, number: u64, refused: Option<Refusal>) {
     }
 }
 
-/// What the next line of an event gives, if there is one.
-fn tell_next(told: &mut Told, header: &Header, lines: &mut Lines<'_>) {
-    match next_event_line(told.alloc, header, lines) {
+/// What the line that was read gives, if it says something.
+fn tell_line(told: &mut Told, header: &Header, reader: &LineReader) {
+    match event_line(told.alloc, header, &reader.line()) {
         Ok(Some((number, event))) => number_text(told, number, event.err()),
         Ok(None) => {}
         Err(_) => told.need(false),
     }
 }
 
-/// What the lines behind a header give, at most so many as there are.
-fn tell_events(told: &mut Told, header: &Header, lines: &mut Lines<'_>, text: &str) {
+/// What the next line gives, if there is one.
+fn tell_next(told: &mut Told, header: &Header, source: &mut MemSource, reader: &mut LineReader) {
+    match reader.read_line(source) {
+        Ok(Next::Line) => tell_line(told, header, reader),
+        Ok(Next::Refused(why)) => number_text(told, reader.next_number(), Some(why)),
+        Ok(Next::End) => {}
+        Err(_) => told.need(false),
+    }
+}
+
+/// What the lines behind a header give, of which there are fewer than of the text's.
+fn tell_events(
+    told: &mut Told,
+    header: &Header,
+    source: &mut MemSource,
+    reader: &mut LineReader,
+    text: &str,
+) {
     header_text(told, header);
     for _ in text.split('|') {
-        tell_next(told, header, lines);
+        tell_next(told, header, source, reader);
+    }
+}
+
+/// Some numbers of a header that is read from a source, and the numbers of the lines of its events; or what is refused.
+fn tell_header(told: &mut Told, source: &mut MemSource, reader: &mut LineReader, text: &str) {
+    match read_header(told.alloc, source, reader) {
+        Ok(Ok(header)) => tell_events(told, &header, source, reader, text),
+        Ok(Err((number, why))) => refusal(told, number, why),
+        Err(_) => told.need(false),
     }
 }
 
 /// Some numbers of a schedule's header, and the numbers of the lines of its events; or what is refused. `|` stands for a line feed.
 pub fn header(told: &mut Told, text: &str) {
-    let source = source_of(told, text);
-    let mut lines = Lines::new(&source);
-    match read_header(told.alloc, &mut lines) {
-        Ok(Ok(header)) => tell_events(told, &header, &mut lines, text),
-        Ok(Err((number, why))) => refusal(told, number, why),
+    let bytes = source_of(told, text);
+    let mut source = MemSource::new(bytes, Vec::new(told.alloc), Vec::new(told.alloc));
+    match LineReader::new(told.alloc) {
+        Ok(mut reader) => tell_header(told, &mut source, &mut reader, text),
         Err(_) => told.need(false),
     }
 }

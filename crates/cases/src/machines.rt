@@ -2,7 +2,7 @@
 
 use crate::told::Told;
 use crate::word_values::{number_at, number_of, numbers_from, part, short_of, word};
-use sl_escalate::Recovery;
+use sl_alone::Recovery;
 use sl_text::Name;
 use sl_time::{Clock, MemClock, Timing, TimingBad};
 use sl_trace::{Sent, Signal};
@@ -55,11 +55,9 @@ pub fn clock(told: &mut Told, text: &str) {
     readings(told, &mut MemClock::new(readings_told), text);
 }
 
-/// Registers a name that isn't registered.
+/// Registers a name.
 fn register(told: &mut Told, wdmd: &mut Wdmd, name: Name, expiry: u64) {
-    if !wdmd.is_registered(name) {
-        told.need(wdmd.register(name, expiry).is_ok());
-    }
+    told.need(wdmd.register(name, expiry).is_ok());
     told.word("-");
 }
 
@@ -75,6 +73,18 @@ fn unregister(told: &mut Told, wdmd: &mut Wdmd, name: Name) {
     told.word("-");
 }
 
+/// Whether a connection of a name stands.
+fn is_registered(wdmd: &Wdmd, name: Name) -> bool {
+    for place in 0..wdmd.len() {
+        if let Some(connection) = wdmd.get(place) {
+            if connection.name == name {
+                return true;
+            }
+        }
+    }
+    false
+}
+
 /// What a watchdog daemon does with a name: it is registered with an expiry, moved, unregistered; whether it is registered, or whether the
 /// test at the reading that it is holds.
 fn of_name(told: &mut Told, wdmd: &mut Wdmd, kind: &str, name: Name, expiry: u64) {
@@ -82,7 +92,7 @@ fn of_name(told: &mut Told, wdmd: &mut Wdmd, kind: &str, name: Name, expiry: u64
         "register" => register(told, wdmd, name, expiry),
         "renew" => renew(told, wdmd, name, expiry),
         "unregister" => unregister(told, wdmd, name),
-        "is_registered" => told.truth(wdmd.is_registered(name)),
+        "is_registered" => told.truth(is_registered(wdmd, name)),
         _ => told.truth(wdmd.test(number_of(name.as_str()))),
     }
 }

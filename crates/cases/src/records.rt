@@ -121,7 +121,7 @@ pub fn value(told: &mut Told, text: &str) {
     let Some(record) = value_in(decode(&sector_of(text))) else {
         return told.word("none");
     };
-    let value = sl_value::get(&record);
+    let value = sl_alone::get(&record);
     told.said("lver", value.version.lver);
     told.said("seq", value.version.seq);
     told.word("bytes");

@@ -1,21 +1,18 @@
 //! The loops that read and write whole streams, with each call failing in turn, and the adapters over files of the system.
 
 use crate::told::Told;
-use sl_io::{
-    MemSink, MemSource, ReadAll, ReadAllError, ReadSource, Sink, WriteSink, read_all, write_all,
-};
+use sl_io::{Failed, MemSink, MemSource, ReadSource, Sink, WriteSink, fill, write_all};
 use std::alloc::{AllocError, Global};
 use std::fs::File;
 use std::io::Write;
 use std::rt::Files;
 
-/// The word of how reading a whole source ended.
-fn read_word(ended: &Result<ReadAll, ReadAllError>) -> &'static str {
-    match ended {
-        Ok(ReadAll::Whole(_)) => "whole",
-        Ok(ReadAll::Longer(_)) => "longer",
-        Err(ReadAllError::Failed) => "failed",
-        Err(ReadAllError::NoMemory) => "memory",
+/// The word of how filling a buffer ended: the source was read to its end, or it has more.
+fn read_word(filled: &Result<bool, Failed>) -> &'static str {
+    match filled {
+        Ok(false) => "whole",
+        Ok(true) => "longer",
+        Err(_) => "failed",
     }
 }
 
@@ -32,7 +29,7 @@ fn failing_source(alloc: Global, call: u64) -> Result<MemSource, AllocError> {
 
 /// How all of such a source is read, the faults, and how many bytes are left.
 fn tell_read(told: &mut Told, source: &mut MemSource) {
-    told.word(read_word(&read_all(told.alloc, source, 9)));
+    told.word(read_word(&fill(source, &mut [0; 9])));
     told.number(source.faults());
     told.number(source.left().len() as u64);
     told.end(";");
@@ -128,7 +125,7 @@ fn tell_written<R: Files>(rt: &R, told: &mut Told, path: &str) {
 /// How reading the empty file of the system ended.
 fn tell_empty<R: Files>(rt: &R, told: &mut Told) {
     match File::open(rt, "/dev/null") {
-        Ok(file) => told.word(read_word(&read_all(told.alloc, &mut ReadSource::new(file), 0))),
+        Ok(file) => told.word(read_word(&fill(&mut ReadSource::new(file), &mut [0; 1]))),
         Err(_) => told.need(false),
     }
 }

@@ -5,6 +5,7 @@ ghost use Rattle.std.specs.Prelude.{◌≡◌};
 use crate::records::sector_of;
 use crate::told::Told;
 use crate::word_values::{number_of, part, short_of};
+use sl_alone::{saw, unchanged_for};
 use sl_area::Geometry;
 use sl_sector::Image;
 use sl_text::Bytes;
@@ -46,7 +47,7 @@ impl Pair {
             Ok(bytes) => {
                 let image = Image::of_bytes(bytes);
                 if 1 <= id && id <= 2 {
-                    self.watch.saw(before, after, id, &image);
+                    saw(&mut self.watch, before, after, id, &image);
                 }
             }
             Err(_) => told.need(false),
@@ -65,7 +66,7 @@ impl Pair {
     /// How long an id stood still.
     fn unchanged(&self, id: u32) -> u64 {
         if 1 <= id && id <= 2 {
-            self.watch.unchanged_for(id)
+            unchanged_for(&self.watch, id)
         } else {
             0
         }

@@ -2,7 +2,7 @@
 #![tactic(auto)]
 
 use sl_io::{ReadSource, WriteSink};
-use sl_top::{FileDevices, Status, run};
+use sl_top::{Status, SystemDevices, run};
 use std::alloc::Alloc;
 use std::env::{self, Env};
 use std::io::{self, IsTerminal};
@@ -30,7 +30,7 @@ fn main(rt: HostRuntime) -> ExitCode {
     let at_terminal = input.is_terminal();
     let source = ReadSource::new(input);
     let sink = WriteSink::new(rt.stdout());
-    let devices = FileDevices::new(rt, rt.alloc());
+    let devices = SystemDevices::new(rt, rt.alloc());
     let (status, _source, sink, _devices) = run(
         &rt,
         rt.alloc(),

@@ -24,8 +24,8 @@ use case::{Case, read_case};
 use outcome::{Outcome, push_outcome, run_case};
 use scripted::play_scripted;
 use sl_io::{WriteSink, write_all};
-use sl_outside::{AreaPlan, LiveDevices, SharedDevices, SharedPlan};
-use sl_top::FileDevices;
+use sl_outside::{AreaPlan, FileDevices, LiveDevices, SharedDevices, SharedPlan};
+use sl_place::{MadeDevices, SystemDevices};
 use std::alloc::{AllocError, Global};
 use std::fs::{File, Files};
 use std::io;
@@ -42,7 +42,7 @@ fn disks<R: Wait + Clock + Copy + Drop + Send + Sync>(
     rt: R,
     alloc: Global,
     call: u64,
-) -> Result<SharedDevices<R>, AllocError> {
+) -> Result<MadeDevices<R>, AllocError> {
     let plan = AreaPlan {
         machine: 1,
         worker: 1,
@@ -56,7 +56,7 @@ fn disks<R: Wait + Clock + Copy + Drop + Send + Sync>(
         makes: Vec::new(alloc),
         gate: None,
     };
-    let mut devices = SharedDevices::new(rt, alloc, plan);
+    let mut devices = MadeDevices::new(alloc, SharedDevices::new(rt, alloc, plan));
     for path in ["/f", "/g"] {
         devices.make("", path, AREA, false).map_err(|_| AllocError)?;
     }
@@ -98,7 +98,7 @@ fn main(rt: HostRuntime) -> io::Result<()> {
             (false, Some(call)) => run_case(&rt, alloc, &case, disks(rt, alloc, call)?)?,
             (false, None) => {
                 let _others = others(rt, alloc, &case);
-                run_case(&rt, alloc, &case, FileDevices::new(rt, alloc))?
+                run_case(&rt, alloc, &case, SystemDevices::new(rt, alloc))?
             }
         };
         let text = told(alloc, line.as_str(), &case, &outcome)?;

@@ -3,7 +3,7 @@
 use crate::case::Case;
 use sl_io::{MemSink, MemSource};
 use sl_text::number::push_number;
-use sl_top::{LiveDevices, run};
+use sl_top::{StandingDevices, run};
 use std::alloc::{AllocError, Global};
 use std::sync::Wait;
 use std::thread::Threads;
@@ -38,7 +38,7 @@ fn plan(
 }
 
 /// What comes of a case over these disks.
-pub fn run_case<R: Threads + Wait + Clock + Eprint + Sync, D: LiveDevices>(
+pub fn run_case<R: Threads + Wait + Clock + Eprint + Sync, D: StandingDevices>(
     rt: &R,
     alloc: Global,
     case: &Case,

@@ -76,6 +76,18 @@ impl Geometry {
         ensures ok { IsOk result ↔ IsGeometry (record { sector = sector; area = area; hosts = hosts; paired = paired }) }
         ensures value { IfOk result (λ g. g ≡ record { sector = sector; area = area; hosts = hosts; paired = paired }) }
     {
+        if paired {
+            Geometry::new2(sector, area, hosts)
+        } else {
+            Geometry::new(sector, area, hosts)
+        }
+    }
+
+    /// The same, by the table.
+    fn by_table(sector: u32, area: u64, hosts: u32, paired: bool) -> Result<Geometry, BadGeometry>
+        ensures ok { IsOk result ↔ IsGeometry (record { sector = sector; area = area; hosts = hosts; paired = paired }) }
+        ensures value { IfOk result (λ g. g ≡ record { sector = sector; area = area; hosts = hosts; paired = paired }) }
+    {
         if is_geometry(sector, area, hosts, paired) {
             Ok(Geometry {
                 sector,
@@ -93,7 +105,7 @@ impl Geometry {
         ensures ok { IsOk result ↔ IsGeometry (sizes sector area hosts) }
         ensures value { IfOk result (λ g. g ≡ sizes sector area hosts) }
     {
-        Geometry::sized(sector, area, hosts, false)
+        Geometry::by_table(sector, area, hosts, false)
     }
 
     /// The sizes of a run in which each host's block has a pair of sectors.
@@ -101,7 +113,7 @@ impl Geometry {
         ensures ok { IsOk result ↔ IsGeometry (paired_sizes sector area hosts) }
         ensures value { IfOk result (λ g. g ≡ paired_sizes sector area hosts) }
     {
-        Geometry::sized(sector, area, hosts, true)
+        Geometry::by_table(sector, area, hosts, true)
     }
 
     /// How many bytes a sector has: 512 or 4096.

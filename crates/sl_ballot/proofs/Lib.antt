@@ -1,11 +1,7 @@
 pub mod NumberLaws
 pub mod NumberRules
-pub mod ReadOutcomes
 pub mod ReadLaws
 pub mod RiseLaws
 pub mod ReadRules
 pub mod ValueLaws
-pub mod StopLaws
-pub mod StepLaws
-pub mod RunLaws
 pub mod RecordLaws

@@ -1,12 +1,12 @@
-//! What blocks tell a ballot, where all of them are whole: what stops it, and which value it has to write.
+//! What a block tells a ballot: whether it stops it, and which value it has to write.
 //!
 //! A later instance comes before a greater number, since it ends the ballot for good, while a greater number only asks for another try.
 //! The value is that of the greatest `bal`, so that a value once chosen is written by each later ballot of its instance; a ballot that
 //! took the last one it saw, or its own, could choose a second.
 ghost use Rattle.sl_ballot.specs.Stops.{stop_by};
-ghost use Rattle.sl_trace.specs.Ballots.{block_ahead, block_rival, greater_bal, in_instance, same_owner, stop_among, value_of, value_to_write};
+ghost use Rattle.sl_trace.specs.Ballots.{greater_bal, same_owner, value_of};
 ghost use Rattle.std.specs.Option.{option_map_or};
-ghost use Rattle.std.specs.Prelude.{None, fold, nat_lt, ◌&&◌, ◌==◌, ◌≡◌};
+ghost use Rattle.std.specs.Prelude.{None, nat_lt, ◌&&◌, ◌==◌, ◌≡◌};
 
 use sl_sector::{Block, Owner};
 use sl_trace::Stop;
@@ -29,31 +29,17 @@ pub fn value_of(block: &Block) -> Owner
 }
 
 /// Whether the block is of a later instance than the own one.
-pub(crate) fn is_ahead(own: &Block, block: &Block) -> bool
+pub fn is_ahead(own: &Block, block: &Block) -> bool
     ensures { result ≡ nat_lt own.now.lver block.now.lver }
 {
     own.lver < block.lver
 }
 
 /// Whether the block has a greater number in the own one's instance.
-pub(crate) fn is_rival(own: &Block, block: &Block) -> bool
+pub fn is_rival(own: &Block, block: &Block) -> bool
     ensures { result ≡ (block.now.lver == own.now.lver && nat_lt own.now.mbal block.now.mbal) }
 {
     block.lver == own.lver && own.mbal < block.mbal
-}
-
-/// The first block of a later instance.
-pub(crate) fn block_ahead(own: &Block, blocks: &[Block]) -> Option<Block>
-    ensures { result ≡ block_ahead own.now blocks.now }
-{
-    blocks.iter().copied().find(|block| is_ahead(own, block))
-}
-
-/// The first block with a greater number in the instance.
-pub(crate) fn block_rival(own: &Block, blocks: &[Block]) -> Option<Block>
-    ensures { result ≡ block_rival own.now blocks.now }
-{
-    blocks.iter().copied().find(|block| is_rival(own, block))
 }
 
 /// The stop by these two: by a block ahead, else by a rival.
@@ -72,16 +58,8 @@ pub(crate) fn stop_by(ahead: Option<Block>, rival: Option<Block>) -> Option<Stop
     }
 }
 
-/// What stops the ballot of this own block among blocks that are all whole: the first of a later instance, else the first with a
-/// greater number in its own. The own block among them stops nothing.
-pub fn stop_among(own: &Block, blocks: &[Block]) -> Option<Stop>
-    ensures { result ≡ stop_among own.now blocks.now }
-{
-    stop_by(block_ahead(own, blocks), block_rival(own, blocks))
-}
-
 /// The block with the greater bal, of those that have one; of two that tie the first.
-pub(crate) fn greater_bal(best: Option<Block>, block: Block) -> Option<Block>
+pub fn greater_bal(best: Option<Block>, block: Block) -> Option<Block>
     ensures { result ≡ greater_bal best block }
 {
     match best {
@@ -91,31 +69,12 @@ pub(crate) fn greater_bal(best: Option<Block>, block: Block) -> Option<Block>
     }
 }
 
-/// The block of the greatest bal in an instance; none where no block has one there.
-fn best_in(n: u64, blocks: &[Block]) -> Option<Block>
-    ensures { result ≡ fold greater_bal None (in_instance n blocks.now) }
-{
-    blocks
-        .iter()
-        .copied()
-        .filter(|block| block.lver == n)
-        .fold(None, greater_bal)
-}
-
 /// The value of this block, or the session itself where there is none.
-pub(crate) fn value_or(me: Owner, best: Option<Block>) -> Owner
+pub fn value_or(me: Owner, best: Option<Block>) -> Owner
     ensures { result ≡ option_map_or value_of best me }
 {
     match best {
         Some(best) => value_of(&best),
         None => me,
     }
-}
-
-/// The value that a session's ballot in instance `n` has to write, by these blocks: that of the greatest bal there, of two that tie the
-/// first; the session itself where no block has a bal.
-pub fn value_to_write(me: Owner, n: u64, blocks: &[Block]) -> Owner
-    ensures { result ≡ value_to_write me n blocks.now }
-{
-    value_or(me, best_in(n, blocks))
 }

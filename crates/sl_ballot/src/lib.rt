@@ -6,9 +6,8 @@
 //! there is none, with `bal` = `mbal`; if a second read again shows no greater number, the value is chosen for good. Instances,
 //! `lver`, follow one another, each with a ballot of its own; a block of a later instance ends every ballot of an earlier one.
 //!
-//! Nothing here reads, writes, waits or takes memory: blocks go in and blocks come out. `Ballot` carries one ballot through its
-//! phases. The functions beside it are the single steps, for a caller that keeps the phases itself, each in two forms: on blocks that
-//! are all whole, and on a read of all hosts' blocks, in which a torn one is absent.
+//! Nothing here reads, writes, waits or takes memory: blocks go in and blocks come out. Each function is a single step, on a read of all hosts'
+//! blocks in which a torn one is absent; whoever has a ballot keeps its phase.
 #![tactic(auto)]
 
 mod blocks;
@@ -17,13 +16,9 @@ pub mod laws;
 mod number;
 mod phases;
 mod reads;
-mod whole_ballot;
 
-pub use blocks::{same_owner, stop_among, value_of, value_to_write};
+pub use blocks::{greater_bal, is_ahead, is_rival, same_owner, value_of, value_or};
 pub use instance::{instance_of, owner_of};
-pub use number::{Limit, next_mbal};
-pub use phases::{
-    moded_block, phase1_after_read, phase1_block, phase2_after_read, phase2_block, proposing,
-};
+pub use number::{Limit, number_above, within_limit};
+pub use phases::{moded_block, phase1_after_read, phase1_block, phase2_after_read, proposing};
 pub use reads::{stop_of, value_after_read};
-pub use whole_ballot::{Ballot, BallotStep, Phase, ballot_run};

@@ -5,8 +5,7 @@
 //! could accept two values under it, and a later ballot could not tell which to keep; a number that isn't above those known would be
 //! stopped at once, or would stand twice for one host.
 ghost use Rattle.sl_ballot.specs.Limits.{limited_number};
-ghost use Rattle.sl_ballot.specs.Phases.{top_of};
-ghost use Rattle.sl_trace.specs.Ballots.{next_mbal, number_above};
+ghost use Rattle.sl_trace.specs.Ballots.{number_above};
 ghost use Rattle.std.specs.Prelude.{◌≡◌, ◌≤◌};
 
 use thiserror::Error;
@@ -17,7 +16,7 @@ use thiserror::Error;
 pub struct Limit;
 
 /// The number, if a block may carry it: if it is below 2^63.
-pub(crate) fn within_limit(number: u128) -> Result<u64, Limit>
+pub fn within_limit(number: u128) -> Result<u64, Limit>
     ensures { result ≡ limited_number number }
 {
     if number < 1 << 63 {
@@ -28,7 +27,7 @@ pub(crate) fn within_limit(number: u128) -> Result<u64, Limit>
 }
 
 /// The least number of a host's own that is above another. It may be past 2^64, since what a block shows may be near it.
-pub(crate) fn number_above(hosts: u32, id: u32, top: u64) -> u128
+pub fn number_above(hosts: u32, id: u32, top: u64) -> u128
     requires { 1 ≤ hosts }
     ensures { result ≡ number_above hosts id top }
 {
@@ -38,24 +37,4 @@ pub(crate) fn number_above(hosts: u32, id: u32, top: u64) -> u128
     } else {
         id + hosts * ((top - id) / hosts + 1)
     }
-}
-
-/// The greatest of the numbers, and 0 where there is none.
-fn top_of(numbers: &[u64]) -> u64
-    ensures { result ≡ top_of numbers.now }
-{
-    numbers
-        .iter()
-        .copied()
-        .fold(0, |top, number| top.max(number))
-}
-
-/// The least number k*N + id that is above all of these, for the host with this id among `hosts`. The error comes exactly where that is
-/// 2^63 or more.
-#[tactic(auto, using(crate::proofs::NumberRules::above))]
-pub fn next_mbal(hosts: u32, id: u32, seen: &[u64]) -> Result<u64, Limit>
-    requires { 1 ≤ hosts }
-    ensures { result ≡ limited_number (next_mbal hosts id seen.now) }
-{
-    within_limit(number_above(hosts, id, top_of(seen)))
 }

@@ -9,7 +9,6 @@ ghost use Rattle.sl_trace.specs.Ballots.{ballot_blocks, moded_block, number_abov
 ghost use Rattle.sl_words.specs.Words.{present};
 ghost use Rattle.std.specs.Prelude.{max, ◌≡◌, ◌≤◌};
 
-use crate::blocks::value_to_write;
 use crate::number::{Limit, number_above, within_limit};
 use crate::reads::value_after_read;
 use sl_sector::{Block, Gen, Owner};
@@ -138,16 +137,8 @@ pub fn proposing(own: &Block, value: Owner) -> Block
     }
 }
 
-/// The block of phase 2 after that of phase 1, by the blocks that were read in between, the own one among them: with the value of the
-/// greatest bal in its instance, or the session itself where there is none.
-#[tactic(auto, unfolding(sl_trace::specs::Ballots::phase2_block))]
-pub fn phase2_block(me: Owner, own: &Block, blocks: &[Block]) -> Block
-    ensures { result ≡ phase2_block me own.now blocks.now }
-{
-    proposing(own, value_to_write(me, own.lver, blocks))
-}
-
-/// The same by a read of the blocks of hosts 1, 2 ..; the own one is taken as submitted where it is torn.
+/// The block of phase 2 after that of phase 1, by a read of the blocks of hosts 1, 2 ..: with the value of the greatest bal in its instance, or
+/// the session itself where there is none. The own one is taken as submitted where it is torn.
 #[tactic(auto, unfolding(sl_trace::specs::Ballots::phase2_block))]
 pub fn phase2_after_read(me: Owner, own: &Block, read: &[Option<Block>]) -> Block
     ensures { result ≡ phase2_block me own.now (ballot_blocks own.now read.now) }

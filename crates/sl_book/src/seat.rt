@@ -3,7 +3,7 @@
 ghost use Rattle.sl_book.specs.Closings.{IsSeatOf};
 ghost use Rattle.sl_book.specs.Logs.{given_by};
 ghost use Rattle.sl_book.specs.declared.signed.Signed.{Signed as SignedOf};
-ghost use Rattle.std.specs.Prelude.{IsFalse, IsTrue, List, length, [], ◌++◌, ◌+◌, ◌∷◌, ◌≡◌, ◌≤◌};
+ghost use Rattle.std.specs.Prelude.{IsFalse, IsTrue, List, length, [], ◌++◌, ◌+◌, ◌<◌, ◌∷◌, ◌≡◌, ◌≤◌};
 ghost use mathlib.Core.List.{IsPrefix};
 
 use crate::book::Front;
@@ -86,7 +86,8 @@ impl<J: Shelf, E> Seat<J, E> {
 
     /// Whether it has seen a beginning of this.
     pub fn is_behind(&self, front: &Front<J, E>) -> bool
-        ensures { IsTrue result → IsPrefix self.now.front front.now }
+        ensures behind { IsTrue result → IsPrefix self.now.front front.now }
+        ensures longer { IsFalse result → length front.now < length self.now.front }
     {
         self.front.is_behind(front)
     }

@@ -1,6 +1,5 @@
 pub mod HistoryLaws
 pub mod ListFronts
-pub mod MappedLists
 pub mod CopyLaws
 pub mod LeadLaws
 pub mod RestLaws

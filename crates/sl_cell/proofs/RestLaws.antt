@@ -25,7 +25,7 @@ use mathlib.Core.List.{IsPrefix}
 
 -- ---- no entry
 
-pub rest_new : (st : Setting) (h handed : List Signed) (r : Rest) → h ≡ [] → handed ≡ [] → r.connections.items ≡ connections st []
+pub rest_new : (st : Setting) (h handed : List Signed) (r : Rest) → h ≡ [] → handed ≡ [] → r.connections.connections ≡ connections st []
     → (r.delta.calls.items ≡ []) × (r.delta.taken ≡ 0) → (r.resource.calls.items ≡ []) × (r.resource.taken ≡ 0) → r.waiting.items ≡ [] → IsRest st h handed r
 rest_new st h handed r none nothing connected delta resource waits =
     let es : [] ≡ entries h = sym (ap entries none) in
@@ -64,7 +64,7 @@ waiting_on h handed s waiting waiting' so more = record {
 }
 
 pub rest_on : (st : Setting) (h h' handed : List Signed) (s : Signed) (r r' : Rest) → IsRest st h handed r → h' ≡ h ++ s ∷ []
-    → r'.connections.items ≡ fold after_move r.connections.items s.entry.effects.moves
+    → r'.connections.connections ≡ fold after_move r.connections.connections s.entry.effects.moves
     → (r'.delta.calls.items ≡ r.delta.calls.items ++ filter (is_of Delta) s.entry.effects.calls) × (r'.delta.taken ≡ r.delta.taken)
     → (r'.resource.calls.items ≡ r.resource.calls.items ++ filter (is_of Resource) s.entry.effects.calls) × (r'.resource.taken ≡ r.resource.taken)
     → r'.waiting.items ≡ r.waiting.items ++ s.entry ∷ [] → IsRest st h' handed r'
@@ -81,7 +81,7 @@ rest_on st h h' handed s r r' rest grown connected delta resource waits =
 
 -- ---- it is as it was
 
-pub rest_same : (st : Setting) (h handed : List Signed) (r r' : Rest) → IsRest st h handed r → r'.connections.items ≡ r.connections.items
+pub rest_same : (st : Setting) (h handed : List Signed) (r r' : Rest) → IsRest st h handed r → r'.connections.connections ≡ r.connections.connections
     → (r'.delta.calls.items ≡ r.delta.calls.items) × (r'.delta.taken ≡ r.delta.taken) → (r'.resource.calls.items ≡ r.resource.calls.items) × (r'.resource.taken ≡ r.resource.taken)
     → r'.waiting.items ≡ r.waiting.items → IsRest st h handed r'
 rest_same st h handed r r' rest connected delta resource waits = record {
@@ -98,31 +98,31 @@ rest_same st h handed r r' rest connected delta resource waits = record {
 
 -- a step: room, then what it leaves
 pub rest_stepped : (st : Setting) (h h' handed : List Signed) (s : Signed) (e : Entry) (fx : Effects) (r ready r' : Rest) → IsRest st h handed r
-    → ready.connections.items ≡ r.connections.items
+    → ready.connections.connections ≡ r.connections.connections
     → (ready.delta.calls.items ≡ r.delta.calls.items) × (ready.delta.taken ≡ r.delta.taken) → (ready.resource.calls.items ≡ r.resource.calls.items) × (ready.resource.taken ≡ r.resource.taken)
     → ready.waiting.items ≡ r.waiting.items → h' ≡ h ++ s ∷ [] → s.entry.effects ≡ fx → e ≡ s.entry
-    → r'.connections.items ≡ fold after_move ready.connections.items fx.moves
+    → r'.connections.connections ≡ fold after_move ready.connections.connections fx.moves
     → (r'.delta.calls.items ≡ ready.delta.calls.items ++ filter (is_of Delta) fx.calls) × (r'.delta.taken ≡ ready.delta.taken)
     → (r'.resource.calls.items ≡ ready.resource.calls.items ++ filter (is_of Resource) fx.calls) × (r'.resource.taken ≡ ready.resource.taken)
     → r'.waiting.items ≡ ready.waiting.items ++ e ∷ [] → IsRest st h' handed r'
 rest_stepped st h h' handed s e fx r ready r' rest connected delta resource waits grown told is connected' delta' resource' waits' =
     let back : fx ≡ s.entry.effects = sym told in
     rest_on st h h' handed s ready r' (rest_same st h handed r ready rest connected delta resource waits) grown
-    (subst (λ (x : Effects). r'.connections.items ≡ fold after_move ready.connections.items x.moves) back connected')
+    (subst (λ (x : Effects). r'.connections.connections ≡ fold after_move ready.connections.connections x.moves) back connected')
     (subst (λ (x : Effects). r'.delta.calls.items ≡ ready.delta.calls.items ++ filter (is_of Delta) x.calls) back delta'.0, delta'.1)
     (subst (λ (x : Effects). r'.resource.calls.items ≡ ready.resource.calls.items ++ filter (is_of Resource) x.calls) back resource'.0, resource'.1)
     (subst (λ (x : Entry). r'.waiting.items ≡ ready.waiting.items ++ x ∷ []) is waits')
 
 -- .. and room for the next one
 pub rest_ready : (st : Setting) (h h' handed : List Signed) (s : Signed) (e : Entry) (fx : Effects) (r ready r' r'' : Rest) → IsRest st h handed r
-    → ready.connections.items ≡ r.connections.items
+    → ready.connections.connections ≡ r.connections.connections
     → (ready.delta.calls.items ≡ r.delta.calls.items) × (ready.delta.taken ≡ r.delta.taken) → (ready.resource.calls.items ≡ r.resource.calls.items) × (ready.resource.taken ≡ r.resource.taken)
     → ready.waiting.items ≡ r.waiting.items → h' ≡ h ++ s ∷ [] → s.entry.effects ≡ fx → e ≡ s.entry
-    → r'.connections.items ≡ fold after_move ready.connections.items fx.moves
+    → r'.connections.connections ≡ fold after_move ready.connections.connections fx.moves
     → (r'.delta.calls.items ≡ ready.delta.calls.items ++ filter (is_of Delta) fx.calls) × (r'.delta.taken ≡ ready.delta.taken)
     → (r'.resource.calls.items ≡ ready.resource.calls.items ++ filter (is_of Resource) fx.calls) × (r'.resource.taken ≡ ready.resource.taken)
     → r'.waiting.items ≡ ready.waiting.items ++ e ∷ []
-    → r''.connections.items ≡ r'.connections.items
+    → r''.connections.connections ≡ r'.connections.connections
     → (r''.delta.calls.items ≡ r'.delta.calls.items) × (r''.delta.taken ≡ r'.delta.taken) → (r''.resource.calls.items ≡ r'.resource.calls.items) × (r''.resource.taken ≡ r'.resource.taken)
     → r''.waiting.items ≡ r'.waiting.items → IsRest st h' handed r''
 rest_ready st h h' handed s e fx r ready r' r'' rest connected delta resource waits grown told is connected' delta' resource' waits' connected'' delta'' resource'' waits'' =

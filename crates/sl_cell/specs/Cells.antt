@@ -40,7 +40,7 @@ pub record IsWaiting (h handed : List Signed) (waiting : List Entry) : Type 0 wh
 
 -- What is kept of a history is what the history says.
 pub record IsRest (st : Setting) (h handed : List Signed) (r : Rest) : Type 0 where
-  pub connected : r.connections.items ≡ connections st (trace_of h)
+  pub connected : r.connections.connections ≡ connections st (trace_of h)
   pub delta : IsLeft Delta (entries h) r.delta.taken r.delta.calls.items
   pub resource : IsLeft Resource (entries h) r.resource.taken r.resource.calls.items
   pub waits : IsWaiting h handed r.waiting.items
@@ -67,7 +67,7 @@ pub record GoesOf (part : Part) (r r' : Rest) (o : Option Call) : Type 0 where
 
 -- There is memory for a step of so much.
 pub record HasPlaces (r : Rest) (m : Most) : Type 0 where
-  pub moves : vec_len r.connections + m.moves ≤ vec_capacity r.connections
+  pub moves : m.moves ≤ r.connections.room
   pub deltas : deque_len r.delta.calls + m.calls ≤ deque_capacity r.delta.calls
   pub resources : deque_len r.resource.calls + m.calls ≤ deque_capacity r.resource.calls
   pub waits : vec_len r.waiting < vec_capacity r.waiting

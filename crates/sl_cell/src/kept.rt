@@ -15,7 +15,6 @@ ghost use Rattle.std.specs.Prelude.{Err, IfErr, IfOk, IfSome, OnErr, OnOk, lengt
 ghost use mathlib.Core.List.{IsPrefix};
 
 use crate::closing::{Differ, check_seats, is_torn};
-use crate::connections::given_connections;
 use crate::lead::{Broken, Lead, NotApplied};
 use crate::part::Part;
 use crate::rest::Rest;
@@ -24,6 +23,7 @@ use crate::teller::Teller;
 use sl_run::Header;
 use sl_sector::Images;
 use sl_trace::{Call, Effects, Entry, Input};
+use sl_wdmd::Wdmd;
 use sl_world_state::{Daemon, Site};
 use std::alloc::{AllocError, Global};
 use std::marker::Model;
@@ -69,7 +69,7 @@ impl<D: Teller, J: Station> Kept<D, J> {
         ensures history { IfOk result (λ k. k.history ≡ []) }
         ensures whole { IfOk result (λ k. k.whole ≡ true) }
     {
-        let connections = given_connections(alloc, &header.timing, site.given.as_slice())?;
+        let connections = Wdmd::given(alloc, &header.timing, site.given.as_slice())?;
         Ok(Kept {
             lead: Lead::new(alloc, header, site, front.again())?,
             rest: Rest::new(alloc, connections),

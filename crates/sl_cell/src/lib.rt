@@ -9,7 +9,6 @@
 
 mod cell;
 mod closing;
-mod connections;
 mod copies;
 mod kept;
 mod lead;
@@ -23,7 +22,6 @@ mod teller;
 
 pub use cell::HostCell;
 pub use closing::Differ;
-pub use connections::{Connection, given_connections, make_moves};
 pub use lead::{Broken, NotApplied};
 pub use part::Part;
 pub use station::{Book, Front, Opened, Seat, Signed, Station};

@@ -7,10 +7,10 @@ ghost use Rattle.sl_trace.specs.WatchdogConnections.{after_move, test_holds};
 ghost use Rattle.sl_world_state.specs.declared.daemon.Most.{Most};
 ghost use Rattle.std.specs.Prelude.{OnOk, filter, fold, length, [], ◌++◌, ◌+◌, ◌<◌, ◌^◌, ◌∷◌, ◌≡◌, ◌≤◌};
 
-use crate::connections::{Connection, make_moves, test_holds};
 use crate::part::Part;
 use crate::queue::Queue;
 use sl_trace::{Call, Effects, Entry};
+use sl_wdmd::Wdmd;
 use sl_world_state::Most;
 use std::alloc::{AllocError, Global};
 use std::mem;
@@ -18,7 +18,7 @@ use std::mem;
 /// The connections to the watchdog daemon, of each part the calls that nobody took, and the entries that were not handed out.
 #[derive(Drop)]
 pub(crate) struct Rest {
-    connections: Vec<Connection>,
+    connections: Wdmd,
     delta: Queue,
     resource: Queue,
     waiting: Vec<Entry>,
@@ -26,8 +26,8 @@ pub(crate) struct Rest {
 
 impl Rest {
     /// What is left over of no entry: no call, no entry to hand out, and these connections.
-    pub(crate) fn new(alloc: Global, connections: Vec<Connection>) -> Rest
-        ensures connections { result.connections.items ≡ connections.items }
+    pub(crate) fn new(alloc: Global, connections: Wdmd) -> Rest
+        ensures connections { result.connections.connections ≡ connections.connections }
         ensures delta { (result.delta.calls.items ≡ []) × (result.delta.taken ≡ 0) }
         ensures resource { (result.resource.calls.items ≡ []) × (result.resource.taken ≡ 0) }
         ensures waits { result.waiting.items ≡ [] }
@@ -42,7 +42,7 @@ impl Rest {
 
     /// Sees that there is memory for a step of so much. An `Err` is want of memory.
     pub(crate) fn reserve(&mut self, most: &Most) -> Result<(), AllocError>
-        ensures connections { self.new.connections.items ≡ self.old.connections.items }
+        ensures connections { self.new.connections.connections ≡ self.old.connections.connections }
         ensures delta { (self.new.delta.calls.items ≡ self.old.delta.calls.items) × (self.new.delta.taken ≡ self.old.delta.taken) }
         ensures resource { (self.new.resource.calls.items ≡ self.old.resource.calls.items) × (self.new.resource.taken ≡ self.old.resource.taken) }
         ensures waits { self.new.waiting.items ≡ self.old.waiting.items }
@@ -57,13 +57,13 @@ impl Rest {
     /// What a step leaves: its entry waits. It takes no memory.
     pub(crate) fn note(&mut self, entry: Entry, effects: &Effects)
         requires { (most : Most) × HasPlaces self.old most × (length effects.now.moves ≤ most.moves) × (length effects.now.calls ≤ most.calls) }
-        ensures connections { self.new.connections.items ≡ fold after_move self.old.connections.items effects.now.moves }
+        ensures connections { self.new.connections.connections ≡ fold after_move self.old.connections.connections effects.now.moves }
         ensures delta { (self.new.delta.calls.items ≡ self.old.delta.calls.items ++ filter (is_of Delta) effects.now.calls) × (self.new.delta.taken ≡ self.old.delta.taken) }
         ensures resource { (self.new.resource.calls.items ≡ self.old.resource.calls.items ++ filter (is_of Resource) effects.now.calls)
             × (self.new.resource.taken ≡ self.old.resource.taken) }
         ensures waits { self.new.waiting.items ≡ self.old.waiting.items ++ entry ∷ [] }
     {
-        make_moves(&mut self.connections, effects.moves.as_slice());
+        self.connections.make_moves(effects.moves.as_slice());
         let calls = effects.calls.as_slice();
         self.delta.put(Part::Delta, calls);
         self.resource.put(Part::Resource, calls);
@@ -105,8 +105,8 @@ impl Rest {
 
     /// The watchdog daemon's test of the connections.
     pub(crate) fn test(&self, now: u64) -> bool
-        ensures { result ≡ test_holds self.now.connections.items now }
+        ensures { result ≡ test_holds self.now.connections.connections now }
     {
-        test_holds(&self.connections, now)
+        self.connections.test(now)
     }
 }

@@ -7,7 +7,7 @@ use Rattle.sl_cli.specs.OptionValues.{for_hosts, is_host_count, is_new_lockspace
 use Rattle.sl_cli.specs.Spellings.{ActionsHaveOneText, IsAsked, IsGivenFor, IsNewLockspace, IsStretchArg, SaysSizes, format_word, given_for, sizes_in, stretch_word}
 use Rattle.sl_command.proofs.PartTexts.{resource_read, resource_written}
 use Rattle.sl_direct.specs.Actions.{IsAction, IsStretch}
-use Rattle.sl_direct.specs.declared.action.Action.TheVariants.{Dump, InitLockspace, InitResource, ReadLeader, Upgrade}
+use Rattle.sl_direct.specs.declared.action.Action.TheVariants.{Dump, InitLabelled, InitLockspace, InitResource, ReadLeader, Upgrade}
 use Rattle.sl_direct.specs.declared.action.Action.{Action}
 use Rattle.sl_text.specs.Numbers.{number_of}
 use Rattle.sl_trace.specs.CommandForms.{IsResourceArg, is_resource_word, lockspace_word, moded_word, resource_of_word}
@@ -229,6 +229,7 @@ given_read (InitLockspace l g) says is said =
     let row = row_of g is.1 in
     row_read says row.0 (codes "init") (Some (lockspace_word l)) None (Some (decimal g.hosts)) None None (InitLockspace l g) (row_written_for says g row.0 row.1 said)
     (lockspace_asked g row.0 l row.1 is.0 is.2)
+given_read (InitLabelled l g t grace) says is said = absurd is
 given_read (InitResource r g) says is said =
     let row = row_of g is.1 in
     row_read says row.0 (codes "init") None (Some (moded_word r false)) (Some (decimal g.hosts)) None (format_word g.paired) (InitResource r g) (row_written_for says g row.0 row.1 said)
@@ -267,6 +268,7 @@ stretch_can sector path offset size is =
 -- An action that may be asked for can be done.
 asked_can : (a : Action) → IsAsked a → IsAction a
 asked_can (InitLockspace l g) is = (is.1, is.0.named, is.0.base)
+asked_can (InitLabelled l g t grace) is = absurd is
 asked_can (InitResource r g) is = (is.1, is.0.space, is.0.named, is.0.base)
 asked_can (Upgrade r g) is = (is.1, is.2, is.0.base)
 asked_can (ReadLeader r g) is = (row_geometry g is.1, is.0.base)

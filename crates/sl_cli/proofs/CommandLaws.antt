@@ -9,14 +9,14 @@ use Rattle.clap.specs.Walk.{Names, Row, Text, Walk, after_step, answers_to, idle
 use Rattle.sl_cli.proofs.BareCommands.{bare_walk, dashes_walk, level, or_nothing}
 use Rattle.sl_cli.proofs.BuiltCommand.{bare_command, direct, live, live_rules, no_faults, program, program_is, rules, seed_command, seed_rules}
 use Rattle.sl_cli.proofs.DirectLaws.{Read, direct_level, direct_read, direct_rows, given_rows}
-use Rattle.sl_cli.proofs.GenLaws.{seed_read}
+use Rattle.sl_cli.proofs.GenLaws.{for_seeds, for_spans, says, seed_read}
 use Rattle.sl_cli.proofs.LiveLaws.{live_read}
 use Rattle.sl_cli.proofs.ReaderSteps.{AreTexts}
 use Rattle.sl_cli.proofs.ParserTurns.{Fails, fails_with, first_fails}
 use Rattle.sl_cli.specs.Actions.{action_in}
 use Rattle.sl_cli.specs.ParserShape.{command_line}
-use Rattle.sl_cli.specs.CommandWords.{Seed, Use, command_in, ends_here, generated, given_by, nothing_taken, seeding_in, uses_from}
-use Rattle.sl_cli.specs.ParserMeets.{IsRefused, TakenAs, given_in, met_in, said_by, seeding_of}
+use Rattle.sl_cli.specs.CommandWords.{Use, command_in, ends_here, given_by, nothing_taken, uses_from}
+use Rattle.sl_cli.specs.ParserMeets.{IsRefused, TakenAs, given_in, met_in, said_by}
 use Rattle.sl_cli.specs.declared.parsed_command.Met.{Met}
 use Rattle.sl_cli.specs.declared.command_words.Words.TheVariants.{Direct, Replay}
 use Rattle.sl_cli.specs.declared.command_words.Words.{Words}
@@ -157,16 +157,28 @@ gen_fault : (ws : List Text) → fault (codes "gen" ∷ ws) ≡ level (seed_comm
 unfolding clap_on_literals
 gen_fault ws = fault_at (codes "gen") (seed_command (codes "gen")) ws refl (stopped_fault program.top names (walk_from nothing_held) (codes "gen", []) ws) refl
 
-abbrev seed_found : List Text → Option Seed
-seed_found ws = let s = seeding_of (rows_after seed_rules [] ws) in seeding_in s.seed s.hosts s.events s.format
-
-gen_says : (ws : List Text) → option_and_then said_by (met_in (named (codes "gen" ∷ ws))) ≡ option_map generated (seed_found ws)
+gen_says : (ws : List Text) → option_and_then said_by (met_in (named (codes "gen" ∷ ws))) ≡ says for_seeds (rows_after seed_rules [] ws)
 gen_says ws = ap (λ o. option_and_then said_by (met_in o)) (named_at (codes "gen") (seed_command (codes "gen")) ws refl refl)
 
 gen_agrees : (ws : List Text) → AreTexts ws → Agrees (codes "gen" ∷ ws)
-gen_agrees ws texts = elim (seed_read (codes "gen") ws texts) [
-  | inl both ↦ inl (gen_fault ws ∙ both.0, gen_says ws ∙ ap (option_map generated) both.1)
-  | inr neither ↦ inr (λ none. neither.0 (sym (gen_fault ws) ∙ none), ap (option_map generated) neither.1)
+gen_agrees ws texts = elim (seed_read for_seeds (codes "gen") ws texts) [
+  | inl both ↦ inl (gen_fault ws ∙ both.0, gen_says ws ∙ both.1)
+  | inr neither ↦ inr (λ none. neither.0 (sym (gen_fault ws) ∙ none), neither.1)
+]
+
+-- ---- `draw`
+
+draw_fault : (ws : List Text) → fault (codes "draw" ∷ ws) ≡ level (seed_command (codes "draw")) ws
+unfolding clap_on_literals
+draw_fault ws = fault_at (codes "draw") (seed_command (codes "draw")) ws refl (stopped_fault program.top names (walk_from nothing_held) (codes "draw", []) ws) refl
+
+draw_says : (ws : List Text) → option_and_then said_by (met_in (named (codes "draw" ∷ ws))) ≡ says for_spans (rows_after seed_rules [] ws)
+draw_says ws = ap (λ o. option_and_then said_by (met_in o)) (named_at (codes "draw") (seed_command (codes "draw")) ws refl refl)
+
+draw_agrees : (ws : List Text) → AreTexts ws → Agrees (codes "draw" ∷ ws)
+draw_agrees ws texts = elim (seed_read for_spans (codes "draw") ws texts) [
+  | inl both ↦ inl (draw_fault ws ∙ both.0, draw_says ws ∙ both.1)
+  | inr neither ↦ inr (λ none. neither.0 (sym (draw_fault ws) ∙ none), neither.1)
 ]
 
 -- ---- `live`
@@ -205,14 +217,14 @@ other_fails w (v ∷ ws) true none e =
 -- It is none of the commands' names.
 abbrev IsOther : Text → Type 0
 IsOther w =
-    (bytes_eq (codes "replay") w ≡ false) × (bytes_eq (codes "gen") w ≡ false)
+    (bytes_eq (codes "replay") w ≡ false) × (bytes_eq (codes "draw") w ≡ false) × (bytes_eq (codes "gen") w ≡ false)
     × (bytes_eq (codes "direct") w ≡ false) × (bytes_eq (codes "live") w ≡ false)
 
 other_agrees : (w : Text) (ws : List Text) → IsOther w → Agrees (w ∷ ws)
-other_agrees w ws (no_replay, no_gen, no_direct, no_live) =
+other_agrees w ws (no_replay, no_draw, no_gen, no_direct, no_live) =
     inr (
-      other_fails w ws (bytes_eq w (codes "--")) (rw (no_replay, no_gen, no_direct, no_live) refl) refl,
-      rw (no_replay, no_gen, no_direct, no_live) refl,
+      other_fails w ws (bytes_eq w (codes "--")) (rw (no_replay, no_draw, no_gen, no_direct, no_live) refl) refl,
+      rw (no_replay, no_draw, no_gen, no_direct, no_live) refl,
     )
 
 -- ---- all words
@@ -228,9 +240,10 @@ agrees : (ws : List Text) → AreTexts ws → Agrees ws
 agrees [] texts = inr (none_fails, refl)
 agrees (w ∷ ws) texts =
     named_or (codes "replay") w ws (bare_agrees replay ws) (λ no_replay.
+    named_or (codes "draw") w ws (draw_agrees ws texts.1) (λ no_draw.
     named_or (codes "gen") w ws (gen_agrees ws texts.1) (λ no_gen.
     named_or (codes "direct") w ws (direct_agrees ws texts.1) (λ no_direct.
-    named_or (codes "live") w ws (live_agrees ws texts.1) (λ no_live. other_agrees w ws (no_replay, no_gen, no_direct, no_live)))))
+    named_or (codes "live") w ws (live_agrees ws texts.1) (λ no_live. other_agrees w ws (no_replay, no_draw, no_gen, no_direct, no_live))))))
 
 -- The same of the command as the parser is told it.
 fault_is : (ws : List Text) → fault_of command_line ws ≡ fault ws

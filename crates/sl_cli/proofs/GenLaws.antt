@@ -1,4 +1,4 @@
--- The parser takes the words of a seed, behind `gen`, that the reader takes, and finds in them what the reader finds: up to four words that are no options,
+-- The parser takes the words of a seed, behind `gen`, and of lines, behind `draw`, that the reader takes, and finds in them what the reader finds: up to four words that are no options,
 -- one behind the other, and a first `--` anywhere.
 use Rattle.clap.proofs.OnLiterals.{clap_on_literals}
 use Rattle.clap.specs.Faults.{check_fault, defaults_fault, settle_fault, turn_fault, walk_fault}
@@ -10,12 +10,13 @@ use Rattle.sl_cli.proofs.BuiltCommand.{no_defaults, no_faults, row_for, seed_com
 use Rattle.sl_cli.proofs.Letters.{behind, first_char}
 use Rattle.sl_cli.proofs.ReaderSteps.{AreTexts, word_cases}
 use Rattle.sl_cli.proofs.ParserTurns.{Fails, Pending, Plain, fails_with, first_fails, is_short, no_dashes, no_long, walk_at}
-use Rattle.sl_cli.specs.CommandWords.{Seed, is_event_count, is_machine_count, is_seed, seeded_in, seeding_in, use_of, without_dashes}
+use Rattle.sl_cli.specs.CommandWords.{generated, is_event_count, is_line, is_machine_count, is_seed, seeded_in, seeding_in, span_in, spanned_in, use_of, without_dashes}
 use Rattle.sl_cli.specs.ParserMeets.{seeding_of}
+use Rattle.sl_cli.specs.declared.command_words.Words.{Words}
 use Rattle.std.proofs.Common.{Bool, List, None, Option, Some, [], ap, eqb, false, inl, inr, refl, subst, sym, true, ℕ, ◌&&◌, ◌≡◌, ◌∙◌, ◌∷◌, ◌⊎◌}
 use Rattle.std.proofs.lemmas.Bool.{cases_Bool, eqb-true}
 use Rattle.std.specs.List.{fold}
-use Rattle.std.specs.Prelude.{bytes_eq, codes, slice_get}
+use Rattle.std.specs.Prelude.{bytes_eq, codes, option_map, slice_get}
 use Rattle.std.specs.Str.{IsUtf8, chars}
 
 -- ---- where the parser stands
@@ -83,9 +84,24 @@ rest w ws = or_else (walk_fault generate [] w ws) (settle_fault seed_rules false
 abbrev end_rows : Walk → List Text → List Row
 end_rows w ws = settled_rows seed_rules (held_after w ws).pending (held_after w ws).rows
 
+-- Who reads the words: `gen`, or `draw`.
+pub data Asking : Type 0 where
+  for_seeds : Asking
+  for_spans : Asking
+
 -- What the rows ask for.
-abbrev says : List Row → Option Seed
-says rows = seeding_in (seeding_of rows).seed (seeding_of rows).hosts (seeding_of rows).events (seeding_of rows).format
+abbrev pub says : Asking → List Row → Option Words
+says for_seeds rows = option_map generated (seeding_in (seeding_of rows).seed (seeding_of rows).hosts (seeding_of rows).events (seeding_of rows).format)
+says for_spans rows = span_in (seeding_of rows).seed (seeding_of rows).hosts (seeding_of rows).events (seeding_of rows).format
+
+-- What the words ask for, as the reader has it.
+abbrev pub asked_in : Asking → List Text → Option Words
+asked_in for_seeds ws = option_map generated (seeded_in ws)
+asked_in for_spans ws = spanned_in ws
+
+five_ask : (k : Asking) (a b c d e : Text) (ws : List Text) → asked_in k (a ∷ b ∷ c ∷ d ∷ e ∷ ws) ≡ None
+five_ask for_seeds a b c d e ws = refl
+five_ask for_spans a b c d e ws = refl
 
 -- ---- one word
 
@@ -160,63 +176,73 @@ left_of true ws = ws
 left_of false ws = without_dashes ws
 
 -- Both take the words and say the same, or neither does.
-abbrev Agree : Got → Bool → List Text → Type 0
-Agree g trailing ws =
-    ((rest (stand g trailing) ws ≡ []) × (says (end_rows (stand g trailing) ws) ≡ seeded_in (before g (left_of trailing ws))))
-    ⊎ (Fails (rest (stand g trailing) ws) × (seeded_in (before g (left_of trailing ws)) ≡ None))
+abbrev Agree : Asking → Got → Bool → List Text → Type 0
+Agree k g trailing ws =
+    ((rest (stand g trailing) ws ≡ []) × (says k (end_rows (stand g trailing) ws) ≡ asked_in k (before g (left_of trailing ws))))
+    ⊎ (Fails (rest (stand g trailing) ws) × (asked_in k (before g (left_of trailing ws)) ≡ None))
 
 value_left : (word : Text) (ws : List Text) (trailing : Bool) → IsValue trailing word → left_of trailing (word ∷ ws) ≡ word ∷ left_of trailing ws
 value_left word ws true v = refl
 value_left word ws false p = rw p.no_dashes refl
 
 -- Behind a word that is taken the rest decides.
-carried : (g n : Got) (trailing behind : Bool) (word : Text) (ws : List Text) → turn (stand g trailing) word ≡ [] → after (stand g trailing) word ≡ stand n behind
-    → before g (left_of trailing (word ∷ ws)) ≡ before n (left_of behind ws) → Agree n behind ws → Agree g trailing (word ∷ ws)
-carried g n trailing behind word ws passes goes same (inl both) = inl (
+carried : (k : Asking) (g n : Got) (trailing behind : Bool) (word : Text) (ws : List Text) → turn (stand g trailing) word ≡ [] → after (stand g trailing) word ≡ stand n behind
+    → before g (left_of trailing (word ∷ ws)) ≡ before n (left_of behind ws) → Agree k n behind ws → Agree k g trailing (word ∷ ws)
+carried k g n trailing behind word ws passes goes same (inl both) = inl (
   turn_passes (stand g trailing) (stand n behind) word ws passes goes ∙ both.0,
-  ap says (rows_pass (stand g trailing) (stand n behind) word ws goes) ∙ both.1 ∙ ap seeded_in (sym same),
+  ap (says k) (rows_pass (stand g trailing) (stand n behind) word ws goes) ∙ both.1 ∙ ap (asked_in k) (sym same),
 )
-carried g n trailing behind word ws passes goes same (inr neither) = inr (
+carried k g n trailing behind word ws passes goes same (inr neither) = inr (
   λ none. neither.0 (sym (turn_passes (stand g trailing) (stand n behind) word ws passes goes) ∙ none),
-  ap seeded_in same ∙ neither.1,
+  ap (asked_in k) same ∙ neither.1,
 )
 
-refused : (g : Got) (trailing : Bool) (word : Text) (ws : List Text) → Fails (turn (stand g trailing) word) → seeded_in (before g (left_of trailing (word ∷ ws))) ≡ None
-    → Agree g trailing (word ∷ ws)
-refused g trailing word ws fails says_none = inr (turn_fails (stand g trailing) word ws fails, says_none)
+refused : (k : Asking) (g : Got) (trailing : Bool) (word : Text) (ws : List Text) → Fails (turn (stand g trailing) word) → asked_in k (before g (left_of trailing (word ∷ ws))) ≡ None
+    → Agree k g trailing (word ∷ ws)
+refused k g trailing word ws fails says_none = inr (turn_fails (stand g trailing) word ws fails, says_none)
 
 -- ---- the end
 
-at_end : (g : Got) (trailing : Bool) → Agree g trailing []
+at_end : (k : Asking) (g : Got) (trailing : Bool) → Agree k g trailing []
 unfolding clap_on_literals
-at_end none_got true = inl (refl, refl)
-at_end none_got false = inl (refl, refl)
-at_end (one_got s) true = inl (refl, refl)
-at_end (one_got s) false = inl (refl, refl)
-at_end (two_got s h) true = inl (refl, refl)
-at_end (two_got s h) false = inl (refl, refl)
-at_end (three_got s h e) true = inl (refl, refl)
-at_end (three_got s h e) false = inl (refl, refl)
-at_end (all_got s h e f) true = inl (refl, refl)
-at_end (all_got s h e f) false = inl (refl, refl)
+at_end for_seeds none_got true = inl (refl, refl)
+at_end for_seeds none_got false = inl (refl, refl)
+at_end for_seeds (one_got s) true = inl (refl, refl)
+at_end for_seeds (one_got s) false = inl (refl, refl)
+at_end for_seeds (two_got s h) true = inl (refl, refl)
+at_end for_seeds (two_got s h) false = inl (refl, refl)
+at_end for_seeds (three_got s h e) true = inl (refl, refl)
+at_end for_seeds (three_got s h e) false = inl (refl, refl)
+at_end for_seeds (all_got s h e f) true = inl (refl, refl)
+at_end for_seeds (all_got s h e f) false = inl (refl, refl)
+at_end for_spans none_got true = inl (refl, refl)
+at_end for_spans none_got false = inl (refl, refl)
+at_end for_spans (one_got s) true = inl (refl, refl)
+at_end for_spans (one_got s) false = inl (refl, refl)
+at_end for_spans (two_got s h) true = inl (refl, refl)
+at_end for_spans (two_got s h) false = inl (refl, refl)
+at_end for_spans (three_got s h e) true = inl (refl, refl)
+at_end for_spans (three_got s h e) false = inl (refl, refl)
+at_end for_spans (all_got s h e f) true = inl (refl, refl)
+at_end for_spans (all_got s h e f) false = inl (refl, refl)
 
 -- ---- a value
 
-value_agrees : (g : Got) (trailing : Bool) (word : Text) (ws : List Text) → IsValue trailing word → ((n : Got) → Agree n trailing ws) → Agree g trailing (word ∷ ws)
-value_agrees none_got trailing word ws v later =
+value_agrees : (k : Asking) (g : Got) (trailing : Bool) (word : Text) (ws : List Text) → IsValue trailing word → ((n : Got) → Agree k n trailing ws) → Agree k g trailing (word ∷ ws)
+value_agrees k none_got trailing word ws v later =
     let more = one_more word trailing v in
-    carried none_got (one_got word) trailing trailing word ws more.0 more.1 (value_left word ws trailing v) (later (one_got word))
-value_agrees (one_got s) trailing word ws v later =
+    carried k none_got (one_got word) trailing trailing word ws more.0 more.1 (value_left word ws trailing v) (later (one_got word))
+value_agrees k (one_got s) trailing word ws v later =
     let more = two_more s word trailing v in
-    carried (one_got s) (two_got s word) trailing trailing word ws more.0 more.1 (ap (λ us. s ∷ us) (value_left word ws trailing v)) (later (two_got s word))
-value_agrees (two_got s h) trailing word ws v later =
+    carried k (one_got s) (two_got s word) trailing trailing word ws more.0 more.1 (ap (λ us. s ∷ us) (value_left word ws trailing v)) (later (two_got s word))
+value_agrees k (two_got s h) trailing word ws v later =
     let more = three_more s h word trailing v in
-    carried (two_got s h) (three_got s h word) trailing trailing word ws more.0 more.1 (ap (λ us. s ∷ h ∷ us) (value_left word ws trailing v)) (later (three_got s h word))
-value_agrees (three_got s h e) trailing word ws v later =
+    carried k (two_got s h) (three_got s h word) trailing trailing word ws more.0 more.1 (ap (λ us. s ∷ h ∷ us) (value_left word ws trailing v)) (later (three_got s h word))
+value_agrees k (three_got s h e) trailing word ws v later =
     let more = four_more s h e word trailing v in
-    carried (three_got s h e) (all_got s h e word) trailing trailing word ws more.0 more.1 (ap (λ us. s ∷ h ∷ e ∷ us) (value_left word ws trailing v)) (later (all_got s h e word))
-value_agrees (all_got s h e f) trailing word ws v later =
-    refused (all_got s h e f) trailing word ws (too_many s h e f word trailing v) (ap (λ us. seeded_in (s ∷ h ∷ e ∷ f ∷ us)) (value_left word ws trailing v))
+    carried k (three_got s h e) (all_got s h e word) trailing trailing word ws more.0 more.1 (ap (λ us. s ∷ h ∷ e ∷ us) (value_left word ws trailing v)) (later (all_got s h e word))
+value_agrees k (all_got s h e f) trailing word ws v later =
+    refused k (all_got s h e f) trailing word ws (too_many s h e f word trailing v) (ap (λ us. asked_in k (s ∷ h ∷ e ∷ f ∷ us)) (value_left word ws trailing v) ∙ five_ask k s h e f word (left_of trailing ws))
 
 -- ---- a word that looks like an option
 
@@ -225,64 +251,79 @@ and_false true = refl
 and_false false = refl
 
 -- It is no number, and no format.
-no_number : (g : Got) (c : ℕ) (cs : Text) (ws : List Text) → seeded_in (before g ((45 ∷ c ∷ cs) ∷ ws)) ≡ None
-no_number none_got c cs [] = refl
-no_number none_got c cs (x ∷ []) = refl
-no_number none_got c cs (x ∷ y ∷ []) = refl
-no_number none_got c cs (x ∷ y ∷ z ∷ []) = refl
-no_number none_got c cs (x ∷ y ∷ z ∷ u ∷ ws) = refl
-no_number (one_got s) c cs [] = refl
-no_number (one_got s) c cs (x ∷ []) = rw (and_false (is_seed s)) refl
-no_number (one_got s) c cs (x ∷ y ∷ []) = rw (and_false (is_seed s)) refl
-no_number (one_got s) c cs (x ∷ y ∷ z ∷ ws) = refl
-no_number (two_got s h) c cs [] = rw (and_false (is_machine_count h)) (rw (and_false (is_seed s)) refl)
-no_number (two_got s h) c cs (x ∷ []) = rw (and_false (is_machine_count h)) (rw (and_false (is_seed s)) refl)
-no_number (two_got s h) c cs (x ∷ y ∷ ws) = refl
-no_number (three_got s h e) c cs [] = rw (and_false (is_event_count e)) (rw (and_false (is_machine_count h)) (rw (and_false (is_seed s)) refl))
-no_number (three_got s h e) c cs (x ∷ ws) = refl
-no_number (all_got s h e f) c cs ws = refl
+no_number : (k : Asking) (g : Got) (c : ℕ) (cs : Text) (ws : List Text) → asked_in k (before g ((45 ∷ c ∷ cs) ∷ ws)) ≡ None
+no_number for_seeds none_got c cs [] = refl
+no_number for_seeds none_got c cs (x ∷ []) = refl
+no_number for_seeds none_got c cs (x ∷ y ∷ []) = refl
+no_number for_seeds none_got c cs (x ∷ y ∷ z ∷ []) = refl
+no_number for_seeds none_got c cs (x ∷ y ∷ z ∷ u ∷ ws) = refl
+no_number for_seeds (one_got s) c cs [] = refl
+no_number for_seeds (one_got s) c cs (x ∷ []) = rw (and_false (is_seed s)) refl
+no_number for_seeds (one_got s) c cs (x ∷ y ∷ []) = rw (and_false (is_seed s)) refl
+no_number for_seeds (one_got s) c cs (x ∷ y ∷ z ∷ ws) = refl
+no_number for_seeds (two_got s h) c cs [] = rw (and_false (is_machine_count h)) (rw (and_false (is_seed s)) refl)
+no_number for_seeds (two_got s h) c cs (x ∷ []) = rw (and_false (is_machine_count h)) (rw (and_false (is_seed s)) refl)
+no_number for_seeds (two_got s h) c cs (x ∷ y ∷ ws) = refl
+no_number for_seeds (three_got s h e) c cs [] = rw (and_false (is_event_count e)) (rw (and_false (is_machine_count h)) (rw (and_false (is_seed s)) refl))
+no_number for_seeds (three_got s h e) c cs (x ∷ ws) = refl
+no_number for_seeds (all_got s h e f) c cs ws = refl
+no_number for_spans none_got c cs [] = refl
+no_number for_spans none_got c cs (x ∷ []) = refl
+no_number for_spans none_got c cs (x ∷ y ∷ []) = refl
+no_number for_spans none_got c cs (x ∷ y ∷ z ∷ []) = refl
+no_number for_spans none_got c cs (x ∷ y ∷ z ∷ u ∷ ws) = refl
+no_number for_spans (one_got s) c cs [] = rw (and_false (is_line 1 s)) refl
+no_number for_spans (one_got s) c cs (x ∷ []) = refl
+no_number for_spans (one_got s) c cs (x ∷ y ∷ []) = refl
+no_number for_spans (one_got s) c cs (x ∷ y ∷ z ∷ ws) = refl
+no_number for_spans (two_got s h) c cs [] = refl
+no_number for_spans (two_got s h) c cs (x ∷ []) = refl
+no_number for_spans (two_got s h) c cs (x ∷ y ∷ ws) = refl
+no_number for_spans (three_got s h e) c cs [] = refl
+no_number for_spans (three_got s h e) c cs (x ∷ ws) = refl
+no_number for_spans (all_got s h e f) c cs ws = refl
 
 -- It stays where it is.
 hyphen_left : (c : ℕ) (cs : Text) (ws : List Text) → bytes_eq (45 ∷ c ∷ cs) (45 ∷ 45 ∷ []) ≡ false → without_dashes ((45 ∷ c ∷ cs) ∷ ws) ≡ (45 ∷ c ∷ cs) ∷ without_dashes ws
 hyphen_left c cs ws apart = rw apart refl
 
 -- `--` is taken once.
-dashes_agree : (g : Got) (ws : List Text) → Agree g true ws → Agree g false ((45 ∷ 45 ∷ []) ∷ ws)
-dashes_agree g ws later =
-    carried g g false true (45 ∷ 45 ∷ []) ws (dashes_turn (rows_at g) (pending_at g) (place_at g)) (dashes_after (rows_at g) (pending_at g) (place_at g)) refl later
+dashes_agree : (k : Asking) (g : Got) (ws : List Text) → Agree k g true ws → Agree k g false ((45 ∷ 45 ∷ []) ∷ ws)
+dashes_agree k g ws later =
+    carried k g g false true (45 ∷ 45 ∷ []) ws (dashes_turn (rows_at g) (pending_at g) (place_at g)) (dashes_after (rows_at g) (pending_at g) (place_at g)) refl later
 
-long_agrees : (g : Got) (c : ℕ) (cs : Text) (ws : List Text) → Agree g false ((45 ∷ 45 ∷ c ∷ cs) ∷ ws)
-long_agrees g c cs ws =
-    refused g false (45 ∷ 45 ∷ c ∷ cs) ws (long_fails (rows_at g) (pending_at g) (place_at g) c cs) (no_number g 45 (c ∷ cs) (without_dashes ws))
+long_agrees : (k : Asking) (g : Got) (c : ℕ) (cs : Text) (ws : List Text) → Agree k g false ((45 ∷ 45 ∷ c ∷ cs) ∷ ws)
+long_agrees k g c cs ws =
+    refused k g false (45 ∷ 45 ∷ c ∷ cs) ws (long_fails (rows_at g) (pending_at g) (place_at g) c cs) (no_number k g 45 (c ∷ cs) (without_dashes ws))
 
-short_agrees : (g : Got) (c x : ℕ) (cs : Text) (ws : List Text) → eqb c 45 ≡ false → slice_get (chars (c ∷ cs)) 0 ≡ Some x → Agree g false ((45 ∷ c ∷ cs) ∷ ws)
-short_agrees g c x cs ws no_hyphen first =
-    let none : seeded_in (before g (without_dashes ((45 ∷ c ∷ cs) ∷ ws))) ≡ None =
-    ap (λ us. seeded_in (before g us)) (hyphen_left c cs ws (no_dashes c cs no_hyphen)) ∙ no_number g c cs (without_dashes ws) in
-    refused g false (45 ∷ c ∷ cs) ws (short_fails (rows_at g) (pending_at g) (place_at g) c x cs no_hyphen first) none
+short_agrees : (k : Asking) (g : Got) (c x : ℕ) (cs : Text) (ws : List Text) → eqb c 45 ≡ false → slice_get (chars (c ∷ cs)) 0 ≡ Some x → Agree k g false ((45 ∷ c ∷ cs) ∷ ws)
+short_agrees k g c x cs ws no_hyphen first =
+    let none : asked_in k (before g (without_dashes ((45 ∷ c ∷ cs) ∷ ws))) ≡ None =
+    ap (λ us. asked_in k (before g us)) (hyphen_left c cs ws (no_dashes c cs no_hyphen)) ∙ no_number k g c cs (without_dashes ws) in
+    refused k g false (45 ∷ c ∷ cs) ws (short_fails (rows_at g) (pending_at g) (place_at g) c x cs no_hyphen first) none
 
-two_hyphens : (g : Got) (cs : Text) (ws : List Text) → Agree g true ws → Agree g false ((45 ∷ 45 ∷ cs) ∷ ws)
-two_hyphens g [] ws later = dashes_agree g ws later
-two_hyphens g (c ∷ cs) ws later = long_agrees g c cs ws
+two_hyphens : (k : Asking) (g : Got) (cs : Text) (ws : List Text) → Agree k g true ws → Agree k g false ((45 ∷ 45 ∷ cs) ∷ ws)
+two_hyphens k g [] ws later = dashes_agree k g ws later
+two_hyphens k g (c ∷ cs) ws later = long_agrees k g c cs ws
 
-hyphen_agrees : (g : Got) (c : ℕ) (cs : Text) (ws : List Text) → IsUtf8 (45 ∷ c ∷ cs) → Agree g true ws → Agree g false ((45 ∷ c ∷ cs) ∷ ws)
-hyphen_agrees g c cs ws u later = elim (cases_Bool (eqb c 45)) [
-  | inl hyphen ↦ subst (λ d. Agree g false ((45 ∷ d ∷ cs) ∷ ws)) (sym (eqb-true c 45 hyphen)) (two_hyphens g cs ws later)
-  | inr no_hyphen ↦ let first = first_char c cs (behind (c ∷ cs) u) in short_agrees g c first.0 cs ws no_hyphen first.1.char
+hyphen_agrees : (k : Asking) (g : Got) (c : ℕ) (cs : Text) (ws : List Text) → IsUtf8 (45 ∷ c ∷ cs) → Agree k g true ws → Agree k g false ((45 ∷ c ∷ cs) ∷ ws)
+hyphen_agrees k g c cs ws u later = elim (cases_Bool (eqb c 45)) [
+  | inl hyphen ↦ subst (λ d. Agree k g false ((45 ∷ d ∷ cs) ∷ ws)) (sym (eqb-true c 45 hyphen)) (two_hyphens k g cs ws later)
+  | inr no_hyphen ↦ let first = first_char c cs (behind (c ∷ cs) u) in short_agrees k g c first.0 cs ws no_hyphen first.1.char
 ]
 
 -- ---- all words
 
-trailing_agree : (ws : List Text) (g : Got) → Agree g true ws
-trailing_agree [] g = at_end g true
-trailing_agree (word ∷ ws) g = value_agrees g true word ws tt (trailing_agree ws)
+trailing_agree : (k : Asking) (ws : List Text) (g : Got) → Agree k g true ws
+trailing_agree k [] g = at_end k g true
+trailing_agree k (word ∷ ws) g = value_agrees k g true word ws tt (trailing_agree k ws)
 
-all_agree : (ws : List Text) (g : Got) → AreTexts ws → Agree g false ws
-all_agree [] g texts = at_end g false
-all_agree (word ∷ ws) g texts = elim (word_cases word) [
-  | inl plain ↦ value_agrees g false word ws plain.1 (λ n. all_agree ws n texts.1)
-  | inr hyphened ↦ subst (λ w. Agree g false (w ∷ ws)) (sym hyphened.2)
-      (hyphen_agrees g hyphened.0 hyphened.1 ws (subst IsUtf8 hyphened.2 texts.0) (trailing_agree ws g))
+all_agree : (k : Asking) (ws : List Text) (g : Got) → AreTexts ws → Agree k g false ws
+all_agree k [] g texts = at_end k g false
+all_agree k (word ∷ ws) g texts = elim (word_cases word) [
+  | inl plain ↦ value_agrees k g false word ws plain.1 (λ n. all_agree k ws n texts.1)
+  | inr hyphened ↦ subst (λ w. Agree k g false (w ∷ ws)) (sym hyphened.2)
+      (hyphen_agrees k g hyphened.0 hyphened.1 ws (subst IsUtf8 hyphened.2 texts.0) (trailing_agree k ws g))
 ]
 
 -- ---- the commands of a seed
@@ -303,10 +344,10 @@ seed_level name ws =
     ∙ ap (or_else (walk_fault generate [] (walk_from nothing_held) ws)) (or_nothing open_values)
 
 -- The level's faults and rows against what the reader says.
-pub seed_read : (name : Text) (ws : List Text) → AreTexts ws
-    → ((level (seed_command name) ws ≡ []) × (says (rows_after seed_rules [] ws) ≡ seeded_in (without_dashes ws)))
-    ⊎ (Fails (level (seed_command name) ws) × (seeded_in (without_dashes ws) ≡ None))
-seed_read name ws texts = elim (all_agree ws none_got texts) [
-  | inl both ↦ inl (seed_level name ws ∙ both.0, ap says (no_defaults (end_rows (stand none_got false) ws) seed_rules refl) ∙ both.1)
+pub seed_read : (k : Asking) (name : Text) (ws : List Text) → AreTexts ws
+    → ((level (seed_command name) ws ≡ []) × (says k (rows_after seed_rules [] ws) ≡ asked_in k (without_dashes ws)))
+    ⊎ (Fails (level (seed_command name) ws) × (asked_in k (without_dashes ws) ≡ None))
+seed_read k name ws texts = elim (all_agree k ws none_got texts) [
+  | inl both ↦ inl (seed_level name ws ∙ both.0, ap (says k) (no_defaults (end_rows (stand none_got false) ws) seed_rules refl) ∙ both.1)
   | inr neither ↦ inr (λ none. neither.0 (sym (seed_level name ws) ∙ none), neither.1)
 ]

@@ -11,8 +11,10 @@ pub mod Letters
 pub mod LiveFlags
 pub mod LiveLaws
 pub mod OptionSteps
+pub mod OwnWordLaws
 pub mod ParseLaws
 pub mod SizeWords
+pub mod TimedLaws
 pub mod SpellingLaws
 pub mod ReaderSteps
 pub mod ParserTurns

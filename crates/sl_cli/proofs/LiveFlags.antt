@@ -1,5 +1,8 @@
 -- The flags of `live`: they are read wherever they stand before a `--`, and once.
 use Rattle.sl_cli.specs.CommandWords.{Placing, is_plain, live_in, next_placed, nothing_placed, placed_from, placed_in, said_in, with_flag, with_folder}
+use Rattle.sl_cli.specs.OwnWords.{Options, is_folder, is_machine, is_own, is_rooted, no_options, options_from, own_in, own_of, with_flag as own_flag, with_path, with_watchdog, with_word}
+use Rattle.sl_cli.specs.declared.command_words.Words.TheVariants.{Own}
+use Rattle.sl_text.specs.Numbers.{number_of}
 use Rattle.sl_cli.specs.Spellings.{FlagsStandAnywhere, FlagsStandOnce, are_single, flags, is_among}
 use Rattle.sl_words.proofs.CaseLaws.{none_some, some_value}
 use Rattle.sl_words.proofs.WordLaws.{and_true}
@@ -9,7 +12,7 @@ use Rattle.std.proofs.lemmas.Bool.{cases_Bool, or_parts}
 use Rattle.std.proofs.lemmas.List.Folds.{list_all-append, list_any-append}
 use Rattle.std.proofs.lemmas.Slice.Eq.{bytes_eq-Decides}
 use Rattle.std.specs.List.{list_all}
-use Rattle.std.specs.Prelude.{bytes_eq, codes, if◌then◌else◌, option_and_then}
+use Rattle.std.specs.Prelude.{bytes_eq, codes, if◌then◌else◌, is_some, option_and_then, option_map}
 
 -- ---- the flags
 
@@ -143,15 +146,56 @@ single_parts before (w ∷ ws) vs =
     ∙ and_assoc (not (is_among w before)) (are_single (before ++ w ∷ []) ws) (are_single ((before ++ w ∷ []) ++ ws) vs)
     ∙ ap (λ us. (not (is_among w before) && are_single (before ++ w ∷ []) ws) && are_single us vs) (append_assoc before (w ∷ []) ws)
 
-said_live : (ws : List (List ℕ)) → said_in (codes "live" ∷ ws) ≡ live_in ws
-said_live [] = refl
-said_live (w ∷ ws) = refl
+said_live : (ws : List (List ℕ)) → is_own (codes "live" ∷ ws) ≡ false → said_in (codes "live" ∷ ws) ≡ live_in ws
+said_live [] other = refl
+said_live (w ∷ []) other = refl
+said_live (w ∷ v ∷ ws) other = rw other refl
+
+-- No word names a machine.
+no_machine : (ws : List (List ℕ)) → is_among (codes "--machine") ws ≡ false → is_own (codes "live" ∷ ws) ≡ false
+no_machine [] none = refl
+no_machine (w ∷ []) none = refl
+no_machine (w ∷ v ∷ ws) none =
+    (or_parts (bytes_eq v (codes "--machine")) (is_among (codes "--machine") ws) (or_parts (bytes_eq w (codes "--machine")) (is_among (codes "--machine") (v ∷ ws)) none).1).0
+
+flag_no_machine : (g : Flag) → bytes_eq (word_of g) (codes "--machine") ≡ false
+flag_no_machine anew = refl
+flag_no_machine keeps = refl
+flag_no_machine events = refl
+
+both_false : (a b : Bool) → a ≡ false → b ≡ false → (a || b) ≡ false
+both_false true b is other = absurd cc
+both_false false b is other = other
+
+flags_no_machine : (ws : List (List ℕ)) → list_all (λ w. is_among w flags) ws ≡ true → is_among (codes "--machine") ws ≡ false
+flags_no_machine [] all = refl
+flags_no_machine (w ∷ ws) all =
+    let both = and_true (is_among w flags) (list_all (λ w. is_among w flags) ws) all in
+    let g = flag_of w both.0 in
+    both_false (bytes_eq w (codes "--machine")) (is_among (codes "--machine") ws) (subst (λ u. bytes_eq u (codes "--machine") ≡ false) g.1 (flag_no_machine g.0)) (flags_no_machine ws both.1)
+
+folder_no_machine : (folder : List ℕ) → is_plain folder ≡ true → bytes_eq folder (codes "--machine") ≡ false
+folder_no_machine folder plain = by (cases_Bool (bytes_eq folder (codes "--machine")))
+  where
+    by : (bytes_eq folder (codes "--machine") ≡ true) ⊎ (bytes_eq folder (codes "--machine") ≡ false) → bytes_eq folder (codes "--machine") ≡ false
+    by (inl is) = absurd (clash (sym plain ∙ ap is_plain ((bytes_eq-Decides folder (codes "--machine")).0 is)))
+    by (inr apart) = apart
+
+among_append : (w : List ℕ) (xs ys : List (List ℕ)) → is_among w xs ≡ false → is_among w ys ≡ false → is_among w (xs ++ ys) ≡ false
+among_append w xs ys first last = list_any-append (λ v. bytes_eq v w) xs ys ∙ both_false (is_among w xs) (is_among w ys) first last
+
+anywhere_no_machine : (folder : List ℕ) (before behind : List (List ℕ)) → is_plain folder ≡ true → list_all (λ w. is_among w flags) before ≡ true
+    → list_all (λ w. is_among w flags) behind ≡ true → is_own (codes "live" ∷ before ++ folder ∷ behind) ≡ false
+anywhere_no_machine folder before behind plain first last =
+    no_machine (before ++ folder ∷ behind)
+    (among_append (codes "--machine") before (folder ∷ behind) (flags_no_machine before first)
+    (both_false (bytes_eq folder (codes "--machine")) (is_among (codes "--machine") behind) (folder_no_machine folder plain) (flags_no_machine behind last)))
 
 pub flags_stand_anywhere : FlagsStandAnywhere
 flags_stand_anywhere folder before behind plain all_flags =
     let all = and_true (list_all (λ w. is_among w flags) before) _ (sym (list_all-append (λ w. is_among w flags) before behind) ∙ all_flags.0) in
     let single = and_true (are_single [] before) _ (sym (single_parts [] before behind) ∙ all_flags.1) in
-    said_live (before ++ folder ∷ behind)
+    said_live (before ++ folder ∷ behind) (anywhere_no_machine folder before behind plain all.0 all.1)
     ∙ ap (option_and_then placed_in) (flags_read before [] (folder ∷ behind) None all.0 single.0 ∙ folder_read folder before behind plain
     ∙ ap (placed_from false (placing_for (Some folder) before)) (sym (append-nil behind)) ∙ flags_read behind before [] (Some folder) all.1 single.1)
 
@@ -228,8 +272,142 @@ twice g (w ∷ ws) between behind p free open_between =
     by None later = refl
     by (Some q) later = later q
 
+-- ---- nor behind `--machine`
+
+-- It was met.
+abbrev on_own : Flag → Options → Bool
+on_own anew o = true
+on_own keeps o = o.keeps
+on_own events o = o.events
+
+own_chosen : (g : Flag) (b : Bool) (o q : Options) → choose b o ≡ Some q → on_own g o ≡ true → on_own g q ≡ true
+own_chosen g true o q is met = subst (λ r. on_own g r ≡ true) (some_value o q is) met
+own_chosen g false o q is met = absurd (none_some q is)
+
+on_path : (g : Flag) (o : Options) (w : List ℕ) → on_own g o ≡ true → on_own g (record o { watchdog = Some w; waits = false }) ≡ true
+on_path anew o w met = refl
+on_path keeps o w met = met
+on_path events o w met = met
+
+on_watchdog : (g : Flag) (o : Options) → on_own g o ≡ true → on_own g (record o { waits = true }) ≡ true
+on_watchdog anew o met = refl
+on_watchdog keeps o met = met
+on_watchdog events o met = met
+
+on_syncs : (g : Flag) (o : Options) → on_own g o ≡ true → on_own g (record o { syncs = false }) ≡ true
+on_syncs anew o met = refl
+on_syncs keeps o met = met
+on_syncs events o met = met
+
+on_keeps : (g : Flag) (o : Options) → on_own g o ≡ true → on_own g (record o { keeps = true }) ≡ true
+on_keeps anew o met = refl
+on_keeps keeps o met = refl
+on_keeps events o met = met
+
+on_events : (g : Flag) (o : Options) → on_own g o ≡ true → on_own g (record o { events = true }) ≡ true
+on_events anew o met = refl
+on_events keeps o met = met
+on_events events o met = refl
+
+own_flag_stays : (g : Flag) (s k e : Bool) (o q : Options)
+    → (if s then choose o.syncs (record o { syncs = false }) else if k then choose (not o.keeps) (record o { keeps = true }) else if e then choose (not o.events) (record o { events = true }) else None) ≡ Some q
+    → on_own g o ≡ true → on_own g q ≡ true
+own_flag_stays g true k e o q is met = own_chosen g o.syncs (record o { syncs = false }) q is (on_syncs g o met)
+own_flag_stays g false true e o q is met = own_chosen g (not o.keeps) (record o { keeps = true }) q is (on_keeps g o met)
+own_flag_stays g false false true o q is met = own_chosen g (not o.events) (record o { events = true }) q is (on_events g o met)
+own_flag_stays g false false false o q is met = absurd (none_some q is)
+
+own_word_stays : (g : Flag) (waits names : Bool) (o q : Options) (w : List ℕ) → (if waits then with_path o w else if names then with_watchdog o else own_flag o w) ≡ Some q
+    → on_own g o ≡ true → on_own g q ≡ true
+own_word_stays g true names o q w is met = own_chosen g (is_rooted w) (record o { watchdog = Some w; waits = false }) q is (on_path g o w met)
+own_word_stays g false true o q w is met = own_chosen g (not (is_some o.watchdog)) (record o { waits = true }) q is (on_watchdog g o met)
+own_word_stays g false false o q w is met = own_flag_stays g (bytes_eq w (codes "--no-sync")) (bytes_eq w (codes "--keep-going")) (bytes_eq w (codes "--events")) o q is met
+
+-- A flag that was met is none any more.
+own_met : (g : Flag) (waits : Bool) (o : Options) → on_own g o ≡ true → (if waits then with_path o (word_of g) else if bytes_eq (word_of g) (codes "--watchdog") then with_watchdog o else own_flag o (word_of g)) ≡ None
+own_met anew true o met = refl
+own_met keeps true o met = refl
+own_met events true o met = refl
+own_met anew false o met = refl
+own_met keeps false o met = ap (λ b. choose (not b) (record o { keeps = true })) met
+own_met events false o met = ap (λ b. choose (not b) (record o { events = true })) met
+
+-- One that was not is met then, or is none.
+own_first : (g : Flag) (waits : Bool) (o q : Options) → (if waits then with_path o (word_of g) else if bytes_eq (word_of g) (codes "--watchdog") then with_watchdog o else own_flag o (word_of g)) ≡ Some q
+    → on_own g q ≡ true
+own_first anew true o q is = absurd (none_some q is)
+own_first keeps true o q is = absurd (none_some q is)
+own_first events true o q is = absurd (none_some q is)
+own_first anew false o q is = absurd (none_some q is)
+own_first keeps false o q is = own_chosen keeps (not o.keeps) (record o { keeps = true }) q is refl
+own_first events false o q is = own_chosen events (not o.events) (record o { events = true }) q is refl
+
+own_again : (g : Flag) (ws behind : List (List ℕ)) (o : Options) → on_own g o ≡ true → options_from o (ws ++ word_of g ∷ behind) ≡ None
+own_again g [] behind o met = ap (option_and_then (λ next. options_from next behind)) (own_met g o.waits o met)
+own_again g (w ∷ ws) behind o met = by (with_word o w) refl (λ q kept. own_again g ws behind q kept)
+  where
+    by : (x : Option Options) → with_word o w ≡ x → ((q : Options) → on_own g q ≡ true → options_from q (ws ++ word_of g ∷ behind) ≡ None)
+        → option_and_then (λ next. options_from next (ws ++ word_of g ∷ behind)) x ≡ None
+    by None is later = refl
+    by (Some q) is later = later q (own_word_stays g o.waits (bytes_eq w (codes "--watchdog")) o q w is met)
+
+own_twice : (g : Flag) (before between behind : List (List ℕ)) (o : Options) → options_from o (before ++ word_of g ∷ between ++ word_of g ∷ behind) ≡ None
+own_twice g [] between behind o = by (with_word o (word_of g)) refl
+  where
+    by : (x : Option Options) → with_word o (word_of g) ≡ x → option_and_then (λ next. options_from next (between ++ word_of g ∷ behind)) x ≡ None
+    by None is = refl
+    by (Some q) is = own_again g between behind q (own_first g o.waits o q is)
+own_twice g (w ∷ ws) between behind o = by (with_word o w) (λ q. own_twice g ws between behind q)
+  where
+    by : (x : Option Options) → ((q : Options) → options_from q (ws ++ word_of g ∷ between ++ word_of g ∷ behind) ≡ None)
+        → option_and_then (λ next. options_from next (ws ++ word_of g ∷ between ++ word_of g ∷ behind)) x ≡ None
+    by None later = refl
+    by (Some q) later = later q
+
+-- A flag is no folder, names no machine and is no number.
+flag_first : (g : Flag) (rest : List (List ℕ)) → own_in (codes "live" ∷ word_of g ∷ rest) ≡ None
+flag_first g [] = refl
+flag_first g (d ∷ []) = refl
+flag_first anew (d ∷ m ∷ ws) = refl
+flag_first keeps (d ∷ m ∷ ws) = refl
+flag_first events (d ∷ m ∷ ws) = refl
+
+flag_number : (g : Flag) (folder : List ℕ) (ws : List (List ℕ)) → own_of folder (word_of g) ws ≡ None
+flag_number g folder ws = by (is_folder folder) g
+  where
+    by : (b : Bool) (g : Flag) → option_map (λ o. Own folder (number_of (word_of g)) o.watchdog o.syncs o.keeps o.events) (if b && is_machine (word_of g) then options_from no_options ws else None) ≡ None
+    by true anew = refl
+    by true keeps = refl
+    by true events = refl
+    by false g = refl
+
+flag_options : (g : Flag) (folder m : List ℕ) (before between behind : List (List ℕ)) → own_of folder m (before ++ word_of g ∷ between ++ word_of g ∷ behind) ≡ None
+flag_options g folder m before between behind = by (is_folder folder && is_machine m)
+  where
+    by : (b : Bool) → option_map (λ o. Own folder (number_of m) o.watchdog o.syncs o.keeps o.events) (if b then options_from no_options (before ++ word_of g ∷ between ++ word_of g ∷ behind) else None) ≡ None
+    by true = ap (option_map (λ o. Own folder (number_of m) o.watchdog o.syncs o.keeps o.events)) (own_twice g before between behind no_options)
+    by false = refl
+
+own_none : (g : Flag) (before between behind : List (List ℕ)) → is_own (codes "live" ∷ before ++ word_of g ∷ between ++ word_of g ∷ behind) ≡ true
+    → own_in (codes "live" ∷ before ++ word_of g ∷ between ++ word_of g ∷ behind) ≡ None
+own_none g [] between behind is = flag_first g (between ++ word_of g ∷ behind)
+own_none g (f ∷ []) between behind is = absurd (clash (sym is ∙ flag_no_machine g))
+own_none g (f ∷ d ∷ []) between behind is = flag_number g f (between ++ word_of g ∷ behind)
+own_none g (f ∷ d ∷ m ∷ before) between behind is = flag_options g f m before between behind
+
+said_own : (ws : List (List ℕ)) → is_own (codes "live" ∷ ws) ≡ true → said_in (codes "live" ∷ ws) ≡ own_in (codes "live" ∷ ws)
+said_own [] is = absurd (clash (sym is))
+said_own (w ∷ []) is = absurd (clash (sym is))
+said_own (w ∷ v ∷ ws) is = rw is refl
+
 pub flags_stand_once : FlagsStandOnce
 flags_stand_once flag before between behind is_flag free open_between =
     let g = flag_of flag is_flag in
-    said_live (before ++ flag ∷ between ++ flag ∷ behind)
-    ∙ ap (option_and_then placed_in) (subst (λ w. placed_from false nothing_placed (before ++ w ∷ between ++ w ∷ behind) ≡ None) g.1 (twice g.0 before between behind nothing_placed free open_between))
+    subst (λ w. said_in (codes "live" ∷ before ++ w ∷ between ++ w ∷ behind) ≡ None) g.1 (by g.0 (cases_Bool (is_own (codes "live" ∷ before ++ word_of g.0 ∷ between ++ word_of g.0 ∷ behind))))
+  where
+    by : (g : Flag) → (is_own (codes "live" ∷ before ++ word_of g ∷ between ++ word_of g ∷ behind) ≡ true) ⊎ (is_own (codes "live" ∷ before ++ word_of g ∷ between ++ word_of g ∷ behind) ≡ false)
+        → said_in (codes "live" ∷ before ++ word_of g ∷ between ++ word_of g ∷ behind) ≡ None
+    by g (inl own) = said_own (before ++ word_of g ∷ between ++ word_of g ∷ behind) own ∙ own_none g before between behind own
+    by g (inr other) =
+        said_live (before ++ word_of g ∷ between ++ word_of g ∷ behind) other
+        ∙ ap (option_and_then placed_in) (twice g before between behind nothing_placed free open_between)

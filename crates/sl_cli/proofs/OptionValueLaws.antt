@@ -3,7 +3,8 @@ use Rattle.sl_area.specs.AreaLayout.{is_base}
 use Rattle.sl_area.specs.AreaSizes.{Sizes, layout_of}
 use Rattle.sl_cli.specs.OptionValues.{is_new_lockspace, is_stretch, is_stretch_size, is_stretch_start, new_lockspace, paired_said, stretch_of}
 use Rattle.sl_cli.specs.CommandWords.{is_format}
-use Rattle.sl_cli.specs.PartReadings.{lockspace_read, no_host, number_part, stretch_read, text_part, three_read}
+use Rattle.sl_cli.specs.PartReadings.{five_read, lockspace_read, no_host, number_part, stretch_read, text_part, three_read, times_read, within_part}
+use Rattle.sl_cli.specs.TimesWords.{is_times, times_said}
 use Rattle.sl_text.proofs.PartLaws.{four_read-is}
 use Rattle.sl_text.specs.Forms.{word_at}
 use Rattle.sl_text.specs.Names.{is_name, is_path}
@@ -54,6 +55,50 @@ three_parts p q r make column (a ∷ b ∷ c ∷ []) = three_tests (p.passes a) 
 three_parts p q r make column (a ∷ b ∷ c ∷ d ∷ ws) =
     none_behind (p.passes a) (p.value a) column _ (λ x. none_behind (q.passes b) (q.value b) _ _ (λ y. none_behind (r.passes c) (r.value c) _ _ (λ z. left_over (length ws) _ _)))
     ∙ sym (ap (λ t. choose (t && p.passes a && q.passes b && r.passes c) (make (p.value a) (q.value b) (r.value c))) (ne_eqb (length (a ∷ b ∷ c ∷ d ∷ ws)) 3 (λ same. omega arith)))
+
+-- Five tests, one after another.
+five_tests : {A B C D E F : Type 0} (ta tb tc td te : Bool) (a : A) (b : B) (c : C) (d : D) (e : E) (i j k m n : ℕ) (make : A → B → C → D → E → F)
+    → result_ok ((if ta then Ok a else Err i) >>= λ x. (if tb then Ok b else Err j) >>= λ y. (if tc then Ok c else Err k) >>= λ z. (if td then Ok d else Err m)
+    >>= λ u. (if te then Ok e else Err n) >>= λ v. Ok (make x y z u v))
+    ≡ choose (ta && tb && tc && td && te) (make a b c d e)
+five_tests true true true true true a b c d e i j k m n make = refl
+five_tests true true true true false a b c d e i j k m n make = refl
+five_tests true true true false te a b c d e i j k m n make = refl
+five_tests true true false td te a b c d e i j k m n make = refl
+five_tests true false tc td te a b c d e i j k m n make = refl
+five_tests false tb tc td te a b c d e i j k m n make = refl
+
+-- Whether the words are these parts and no more.
+abbrev are_five : {A B C D E : Type 0} → Part A → Part B → Part C → Part D → Part E → List (List ℕ) → Bool
+are_five p q r s t ws =
+    eqb (length ws) 5 && p.passes (word_at ws 0) && q.passes (word_at ws 1) && r.passes (word_at ws 2) && s.passes (word_at ws 3) && t.passes (word_at ws 4)
+
+-- What a reader of five parts makes is made of the words where they are these parts.
+five_parts : {A B C D E F : Type 0} (p : Part A) (q : Part B) (r : Part C) (s : Part D) (t : Part E) (make : A → B → C → D → E → F) (column : ℕ) (ws : List (List ℕ))
+    → result_ok (five_read p q r s t make (record { column = column; words = ws }))
+    ≡ choose (are_five p q r s t ws) (make (p.value (word_at ws 0)) (q.value (word_at ws 1)) (r.value (word_at ws 2)) (s.value (word_at ws 3)) (t.value (word_at ws 4)))
+five_parts p q r s t make column [] = refl
+five_parts p q r s t make column (a ∷ []) = none_behind (p.passes a) (p.value a) column _ (λ x. refl)
+five_parts p q r s t make column (a ∷ b ∷ []) = none_behind (p.passes a) (p.value a) column _ (λ x. none_behind (q.passes b) (q.value b) _ _ (λ y. refl))
+five_parts p q r s t make column (a ∷ b ∷ c ∷ []) =
+    none_behind (p.passes a) (p.value a) column _ (λ x. none_behind (q.passes b) (q.value b) _ _ (λ y. none_behind (r.passes c) (r.value c) _ _ (λ z. refl)))
+five_parts p q r s t make column (a ∷ b ∷ c ∷ d ∷ []) =
+    none_behind (p.passes a) (p.value a) column _
+    (λ x. none_behind (q.passes b) (q.value b) _ _ (λ y. none_behind (r.passes c) (r.value c) _ _ (λ z. none_behind (s.passes d) (s.value d) _ _ (λ u. refl))))
+five_parts p q r s t make column (a ∷ b ∷ c ∷ d ∷ e ∷ []) =
+    five_tests (p.passes a) (q.passes b) (r.passes c) (s.passes d) (t.passes e) (p.value a) (q.value b) (r.value c) (s.value d) (t.value e) _ _ _ _ _ make
+five_parts p q r s t make column (a ∷ b ∷ c ∷ d ∷ e ∷ f ∷ ws) =
+    none_behind (p.passes a) (p.value a) column _
+    (λ x. none_behind (q.passes b) (q.value b) _ _
+    (λ y. none_behind (r.passes c) (r.value c) _ _ (λ z. none_behind (s.passes d) (s.value d) _ _ (λ u. none_behind (t.passes e) (t.value e) _ _ (λ v. left_over (length ws) _ _)))))
+    ∙ sym (ap (λ x. choose (x && p.passes a && q.passes b && r.passes c && s.passes d && t.passes e) (make (p.value a) (q.value b) (r.value c) (s.value d) (t.value e)))
+    (ne_eqb (length (a ∷ b ∷ c ∷ d ∷ e ∷ f ∷ ws)) 5 (λ same. omega arith)))
+
+-- A word of times.
+pub times_read-is : (w : List ℕ) → result_ok (times_read (unread 58 w)) ≡ choose (is_times w) (times_said w)
+times_read-is w =
+    five_parts (within_part 1 600000) (within_part 0 600000) (within_part 0 600000) (within_part 0 100) (within_part 0 600000)
+    (λ io fire land rho grace. record { timing = record { io = io; fire = fire; land = land; rho = rho }; grace = grace }) (unread 58 w).column (unread 58 w).words
 
 -- A stretch's word.
 pub stretch_read-is : (sector : ℕ) (w : List ℕ) → result_ok (stretch_read sector (unread 58 w)) ≡ choose (is_stretch sector w) (stretch_of w)

@@ -1,16 +1,23 @@
 -- Words in any order are read, and no others are.
 use Rattle.sl_cli.proofs.ActionTexts.{actions_have_one_text}
 use Rattle.sl_cli.specs.Actions.{action_in}
-use Rattle.sl_cli.specs.CommandWords.{Placing, Seed, Taken, Use, command_in, direct_in, ends_here, generated, given_by, is_given, is_only, is_plain, live_in, nothing_placed, nothing_taken, option_named, placed_from, placed_in, gen_in, seeded_in, use_of, uses_from, with_use, without_dashes}
+use Rattle.sl_cli.specs.CommandWords.{Placing, Seed, Taken, Use, command_in, direct_in, draw_in, ends_here, generated, given_by, is_given, is_line, is_only, is_plain, live_in, nothing_placed, nothing_taken, option_named, placed_from, placed_in, gen_in, is_timed, labelled, said_in, seeded_in, spanned_in, timed_in, use_of, uses_from, with_use, without_dashes}
+use Rattle.sl_area.specs.AreaSizes.{Sizes}
+use Rattle.sl_cli.specs.OwnWords.{Options, is_folder, is_machine, is_own, no_options, options_from, own_in}
+use Rattle.sl_cli.specs.TimesWords.{grace_of, is_times, timing_of}
+use Rattle.sl_direct.specs.declared.action.Action.TheVariants.{InitLockspace}
+use Rattle.sl_text.specs.Numbers.{number_of}
+use Rattle.sl_time.specs.Times.{TimingNumbers}
+use Rattle.sl_trace.specs.declared.command.LockspaceArg.{LockspaceArg}
 use Rattle.sl_cli.specs.Spellings.{AsksFor, IsAsked, OnlyItsWordsAskForAnAction, OptionsComeInAnyOrder, are_apart, is_use, letter_named, option_words, spelled, use_words}
-use Rattle.sl_cli.specs.declared.command_words.Words.TheVariants.{Direct, Help, Live, Replay, Version}
+use Rattle.sl_cli.specs.declared.command_words.Words.TheVariants.{Direct, Draw, Help, Label, Live, Own, Replay, Version}
 use Rattle.sl_cli.specs.declared.command_words.Words.{Words}
 use Rattle.sl_direct.specs.declared.action.Action.{Action}
-use Rattle.sl_words.proofs.CaseLaws.{none_some}
+use Rattle.sl_words.proofs.CaseLaws.{none_some, true_is_false}
 use Rattle.sl_words.proofs.WordLaws.{and_true}
 use Rattle.sl_words.specs.Words.{choose}
-use Rattle.std.proofs.Common.{Bool, List, None, Option, Some, [], ap, append_assoc, append-nil, eqb, false, inl, inr, refl, subst, sym, true, ℕ, ◌&&◌, ◌++◌, ◌≡◌, ◌∙◌, ◌∷◌, ◌⊎◌}
-use Rattle.std.proofs.lemmas.Bool.{cases_Bool, not-true}
+use Rattle.std.proofs.Common.{Bool, List, None, Option, Some, [], ap, append_assoc, append-nil, eqb, false, inl, inr, refl, subst, sym, true, ℕ, ◌&&◌, ◌++◌, ◌||◌, ◌≡◌, ◌∙◌, ◌∷◌, ◌⊎◌}
+use Rattle.std.proofs.lemmas.Bool.{cases_Bool, eqb-true, not-true}
 use Rattle.std.proofs.lemmas.Slice.Eq.{bytes_eq-Decides}
 use Rattle.std.specs.List.{list_all}
 use Rattle.std.specs.Prelude.{bytes_eq, codes, if◌then◌else◌, not, option_and_then, option_map}
@@ -94,15 +101,78 @@ uses_read (u ∷ us) before are apart =
     let new = and_true (not (is_given u.name before)) _ apart in
     use_read before u (spelled us) is.0 (not-true (is_given u.name before) new.0) ∙ uses_read us (before ++ u ∷ []) is.1 new.1 ∙ ap Some (append_assoc before (u ∷ []) us)
 
--- `direct` is no word that stands alone.
-not_help : (ws : List (List ℕ)) → is_only (codes "--help") (codes "-h") (codes "direct" ∷ ws) ≡ false
-not_help [] = refl
-not_help (w ∷ ws) = refl
+-- ---- nor words of a label
+
+-- What begins with a hyphen is no action.
+timed_hyphen : (cs : List ℕ) (rest : List (List ℕ)) → is_timed (codes "direct" ∷ (45 ∷ cs) ∷ rest) ≡ false
+timed_hyphen cs [] = refl
+timed_hyphen cs (d ∷ ds) = refl
+
+-- No option has the letter of times.
+other_letter : (name : List ℕ) (letter : ℕ) → IsOption name letter → eqb letter 116 ≡ false
+other_letter name letter is = elim (cases_Bool (eqb letter 116)) [
+  | inl same ↦ absurd (none_some name (subst (λ l. option_named l ≡ Some name) (eqb-true letter 116 same) is.named))
+  | inr apart ↦ apart
+]
+
+and_left_false : (a b : Bool) → a ≡ false → (a && b) ≡ false
+and_left_false true b is = absurd cc
+and_left_false false b is = refl
+
+and_right_false : (a b : Bool) → b ≡ false → (a && b) ≡ false
+and_right_false true b is = is
+and_right_false false b is = refl
+
+option_not_timed : (value : List ℕ) (name : List ℕ) (letter : ℕ) (action : List ℕ) (rest : List (List ℕ)) → IsOption name letter
+    → is_timed (codes "direct" ∷ action ∷ (option_words letter value ++ rest)) ≡ false
+option_not_timed value name letter action rest is = by (is_plain value)
+  where
+    by : (b : Bool) → is_timed (codes "direct" ∷ action ∷ ((if b then (45 ∷ letter ∷ []) ∷ value ∷ [] else (45 ∷ letter ∷ 61 ∷ value) ∷ []) ++ rest)) ≡ false
+    by true = and_right_false (bytes_eq action (codes "init")) _ (and_left_false (eqb letter 116) _ (other_letter name letter is))
+    by false = and_right_false (bytes_eq action (codes "init")) _ (and_left_false (eqb letter 116) _ (other_letter name letter is))
+
+option_first : (value : List ℕ) (letter : ℕ) (rest : List (List ℕ)) → is_timed (codes "direct" ∷ (option_words letter value ++ rest)) ≡ false
+option_first value letter rest = by (is_plain value)
+  where
+    by : (b : Bool) → is_timed (codes "direct" ∷ ((if b then (45 ∷ letter ∷ []) ∷ value ∷ [] else (45 ∷ letter ∷ 61 ∷ value) ∷ []) ++ rest)) ≡ false
+    by true = timed_hyphen (letter ∷ []) (value ∷ rest)
+    by false = timed_hyphen (letter ∷ 61 ∷ value) rest
+
+is_action : (u : Use) → is_use u ≡ true → letter_named u.name ≡ None → u.name ≡ codes "action"
+is_action u is none =
+    let action : (bytes_eq u.name (codes "action") && is_plain u.value) ≡ true = rw none at is in
+    (bytes_eq-Decides u.name (codes "action")).0 (and_true _ _ action).0
+
+-- Two actions are not apart.
+no_second_action : (u v : Use) (us : List Use) → u.name ≡ codes "action" → v.name ≡ codes "action" → are_apart [] (u ∷ v ∷ us) ≡ true → ⊥
+no_second_action u v us first second apart =
+    let rest : are_apart (u ∷ []) (v ∷ us) ≡ true = (and_true (not (is_given u.name [])) (are_apart (u ∷ []) (v ∷ us)) apart).1 in
+    let new : is_given v.name (u ∷ []) ≡ false = not-true (is_given v.name (u ∷ [])) (and_true (not (is_given v.name (u ∷ []))) (are_apart (u ∷ v ∷ []) us) rest).0 in
+    true_is_false (sym (ap (λ n. is_given n (u ∷ [])) second ∙ ap (λ n. bytes_eq n (codes "action") || false) first) ∙ new)
+
+not_timed : (us : List Use) → list_all is_use us ≡ true → are_apart [] us ≡ true → is_timed (codes "direct" ∷ spelled us) ≡ false
+not_timed [] are apart = refl
+not_timed (u ∷ us) are apart = elim (name_cases u.name) [
+  | inl option ↦ rw option.1.known (option_first u.value option.0 (spelled us))
+  | inr none ↦ rw none (behind us (and_true (is_use u) _ are).1 apart (is_action u (and_true (is_use u) _ are).0 none))
+]
+  where
+    behind : (us : List Use) → list_all is_use us ≡ true → are_apart [] (u ∷ us) ≡ true → u.name ≡ codes "action" → is_timed (codes "direct" ∷ u.value ∷ spelled us) ≡ false
+    behind [] are apart named = refl
+    behind (v ∷ vs) are apart named = elim (name_cases v.name) [
+      | inl option ↦ rw option.1.known (option_not_timed v.value v.name option.0 u.value (spelled vs) option.1)
+      | inr none ↦ absurd (no_second_action u v vs named (is_action v (and_true (is_use v) _ are).0 none) apart)
+    ]
+
+said_direct : (ws : List (List ℕ)) → is_timed (codes "direct" ∷ ws) ≡ false → said_in (codes "direct" ∷ ws) ≡ command_in (codes "direct" ∷ ws)
+said_direct [] other = refl
+said_direct (w ∷ []) other = refl
+said_direct (w ∷ v ∷ ws) other = rw other refl
 
 pub options_come_in_any_order : OptionsComeInAnyOrder
 options_come_in_any_order us a are gives is =
-    rw (not_help (spelled us))
-    (ap (option_and_then (λ uses. option_map (λ x. Direct x) (action_in (given_by uses)))) (uses_read us [] are.0 are.1)
+    said_direct (spelled us) (not_timed us are.0 are.1)
+    ∙ (ap (option_and_then (λ uses. option_map (λ x. Direct x) (action_in (given_by uses)))) (uses_read us [] are.0 are.1)
     ∙ ap (option_map (λ x. Direct x)) ((actions_have_one_text (given_by us) a).1 (is, gives)))
 
 -- ---- no other words
@@ -142,6 +212,18 @@ no_gen : (o : Option Seed) (a : Action) → AsksDirect (option_map generated o) 
 no_gen None a h = absurd cc
 no_gen (Some s) a h = absurd cc
 
+no_lines : (b : Bool) (first last : ℕ) (a : Action) → AsksDirect (choose b (Draw first last)) a → ⊥
+no_lines true first last a h = absurd cc
+no_lines false first last a h = absurd cc
+
+no_draw : (ws : List (List ℕ)) (a : Action) → AsksDirect (spanned_in ws) a → ⊥
+no_draw [] a h = absurd cc
+no_draw (v ∷ []) a h = absurd cc
+no_draw (v ∷ w ∷ []) a h = no_lines (is_line 1 v && is_line (number_of v) w) (number_of v) (number_of w) a h
+no_draw (v ∷ w ∷ x ∷ []) a h = absurd cc
+no_draw (v ∷ w ∷ x ∷ y ∷ []) a h = absurd cc
+no_draw (v ∷ w ∷ x ∷ y ∷ z ∷ ws) a h = absurd cc
+
 no_folder : (o : Option (List ℕ)) (anew keeps events : Bool) (a : Action) → AsksDirect (option_map (λ w. Live w anew keeps events) o) a → ⊥
 no_folder None anew keeps events a h = absurd cc
 no_folder (Some w) anew keeps events a h = absurd cc
@@ -154,7 +236,7 @@ command_asks : (ws : List (List ℕ)) (a : Action) → command_in ws ≡ Some (D
 command_asks [] a h = absurd cc
 command_asks (w ∷ ws) a h = elim (cases_Bool (bytes_eq (codes "replay") w)) [
   | inl replay ↦ absurd (no_bare (ends_here ws) Replay a (no_replay a) (rw replay at h))
-  | inr other ↦ seed_asks w ws a (rw other at h)
+  | inr other ↦ span_asks w ws a (rw other at h)
 ]
   where
     direct_asks : (w : List ℕ) (ws : List (List ℕ)) (a : Action)
@@ -180,17 +262,61 @@ command_asks (w ∷ ws) a h = elim (cases_Bool (bytes_eq (codes "replay") w)) [
       | inr other ↦ direct_asks w ws a (rw other at h)
     ]
 
+    span_asks : (w : List ℕ) (ws : List (List ℕ)) (a : Action)
+        → (if bytes_eq (codes "draw") w then draw_in ws
+        else if bytes_eq (codes "gen") w then gen_in ws
+        else if bytes_eq (codes "direct") w then direct_in ws
+        else if bytes_eq (codes "live") w then live_in ws
+        else None)
+        ≡ Some (Direct a) → Asks a (w ∷ ws)
+    span_asks w ws a h = elim (cases_Bool (bytes_eq (codes "draw") w)) [
+      | inl draw ↦ absurd (no_draw (without_dashes ws) a (rw draw at h))
+      | inr other ↦ seed_asks w ws a (rw other at h)
+    ]
+
 no_help : (a : Action) → Some Help ≡ Some (Direct a) → ⊥
 no_help a h = absurd cc
 
 no_version : (a : Action) → Some Version ≡ Some (Direct a) → ⊥
 no_version a h = absurd cc
 
+-- Nor do words of one machine, or of a label.
+no_options_ask : (o : Option Options) (folder m : List ℕ) (a : Action) → AsksDirect (option_map (λ x. Own folder (number_of m) x.watchdog x.syncs x.keeps x.events) o) a → ⊥
+no_options_ask None folder m a h = absurd cc
+no_options_ask (Some x) folder m a h = absurd cc
+
+no_own : (ws : List (List ℕ)) (a : Action) → own_in ws ≡ Some (Direct a) → ⊥
+no_own [] a h = absurd cc
+no_own (c ∷ []) a h = absurd cc
+no_own (c ∷ f ∷ []) a h = absurd cc
+no_own (c ∷ f ∷ d ∷ []) a h = absurd cc
+no_own (c ∷ f ∷ d ∷ m ∷ ws) a h = no_options_ask (if is_folder f && is_machine m then options_from no_options ws else None) f m a h
+
+no_label_word : (l : LockspaceArg) (g : Sizes) (t : TimingNumbers) (grace : ℕ) (a : Action) → Label l g t grace ≡ Direct a → ⊥
+no_label_word l g t grace a h = absurd cc
+
+no_label : (t : List ℕ) (o : Option Words) (a : Action) → labelled t o ≡ Some (Direct a) → ⊥
+no_label t (Some (Direct (InitLockspace l g))) a h = no_bare (is_times t) (Label l g (timing_of t) (grace_of t)) a (no_label_word l g (timing_of t) (grace_of t) a) h
+no_label t o a h = absurd cc
+
+no_timed : (ws : List (List ℕ)) (a : Action) → timed_in ws ≡ Some (Direct a) → ⊥
+no_timed [] a h = absurd cc
+no_timed (c ∷ []) a h = absurd cc
+no_timed (c ∷ i ∷ []) a h = absurd cc
+no_timed (c ∷ i ∷ d ∷ []) a h = absurd cc
+no_timed (c ∷ i ∷ d ∷ t ∷ ws) a h = no_label t (command_in (c ∷ i ∷ ws)) a h
+
 pub only_its_words_ask : OnlyItsWordsAskForAnAction
 only_its_words_ask ws a h = elim (cases_Bool (is_only (codes "--help") (codes "-h") ws)) [
   | inl help ↦ absurd (no_help a (rw help at h))
   | inr not_help ↦ elim (cases_Bool (is_only (codes "--version") (codes "-V") ws)) [
     | inl version ↦ absurd (no_version a (rw (not_help, version) at h))
-    | inr not_version ↦ command_asks ws a (rw (not_help, not_version) at h)
+    | inr not_version ↦ elim (cases_Bool (is_own ws)) [
+      | inl own ↦ absurd (no_own ws a (rw (not_help, not_version, own) at h))
+      | inr not_own ↦ elim (cases_Bool (is_timed ws)) [
+        | inl timed ↦ absurd (no_timed ws a (rw (not_help, not_version, not_own, timed) at h))
+        | inr other ↦ command_asks ws a (rw (not_help, not_version, not_own, other) at h)
+      ]
+    ]
   ]
 ]

@@ -1,7 +1,10 @@
 -- How the words of the command line are read, from the left.
 use Rattle.sl_cli.specs.Actions.{Given, action_in}
-use Rattle.sl_cli.specs.declared.command_words.Words.TheVariants.{Direct, Generate, Help, Live, Replay, Version}
+use Rattle.sl_cli.specs.OwnWords.{is_own, own_in}
+use Rattle.sl_cli.specs.TimesWords.{grace_of, is_times, timing_of}
+use Rattle.sl_cli.specs.declared.command_words.Words.TheVariants.{Direct, Draw, Generate, Help, Label, Live, Replay, Version}
 use Rattle.sl_cli.specs.declared.command_words.Words.{Words}
+use Rattle.sl_direct.specs.declared.action.Action.TheVariants.{InitLockspace}
 use Rattle.sl_text.specs.Numbers.{is_number_that, number_of}
 use Rattle.sl_words.specs.Words.{choose, is_empty}
 use Rattle.std.specs.Int.{is_in_range}
@@ -161,6 +164,34 @@ generated s = Generate s.number s.hosts s.events s.paired
 abbrev pub gen_in : List (List ℕ) → Option Words
 gen_in ws = option_map generated (seeded_in (without_dashes ws))
 
+-- ---- what is given to `draw`
+
+-- The word of a line's number, not below this one.
+abbrev pub is_line : ℕ → List ℕ → Bool
+is_line least w = is_number_that (is_in_range least (2 ^ 64 - 1)) w
+
+-- From one line to another that is not before it.
+abbrev pub part_in : List ℕ → List ℕ → Option Words
+part_in first last = choose (is_line 1 first && is_line (number_of first) last) (Draw (number_of first) (number_of last))
+
+-- No words, for all lines, or two; the parser finds up to four.
+abbrev pub span_in : Option (List ℕ) → Option (List ℕ) → Option (List ℕ) → Option (List ℕ) → Option Words
+span_in None None None None = Some (Draw 1 (2 ^ 64 - 1))
+span_in (Some first) (Some last) None None = part_in first last
+span_in a b c d = None
+
+abbrev pub spanned_in : List (List ℕ) → Option Words
+spanned_in [] = span_in None None None None
+spanned_in (a ∷ []) = span_in (Some a) None None None
+spanned_in (a ∷ b ∷ []) = span_in (Some a) (Some b) None None
+spanned_in (a ∷ b ∷ c ∷ []) = span_in (Some a) (Some b) (Some c) None
+spanned_in (a ∷ b ∷ c ∷ d ∷ []) = span_in (Some a) (Some b) (Some c) (Some d)
+spanned_in ws = None
+
+-- What the words behind `draw` say.
+abbrev pub draw_in : List (List ℕ) → Option Words
+draw_in ws = spanned_in (without_dashes ws)
+
 -- ---- what is given to `live`
 
 -- The word of a folder, and the flags: whether its disks are made anew, whether the script goes on behind a refused line, and whether events are told.
@@ -214,6 +245,10 @@ is_only long short [] = false
 is_only long short (w ∷ []) = bytes_eq w long || bytes_eq w short
 is_only long short (w ∷ v ∷ ws) = false
 
+-- They ask what the program says of itself.
+abbrev pub asks_of_program : List (List ℕ) → Bool
+asks_of_program ws = is_only (codes "--help") (codes "-h") ws || is_only (codes "--version") (codes "-V") ws
+
 -- Behind `replay` stands nothing, or `--`.
 abbrev pub ends_here : List (List ℕ) → Bool
 ends_here [] = true
@@ -229,14 +264,34 @@ abbrev pub command_in : List (List ℕ) → Option Words
 command_in [] = None
 command_in (w ∷ ws) =
     if bytes_eq (codes "replay") w then choose (ends_here ws) Replay
+    else if bytes_eq (codes "draw") w then draw_in ws
     else if bytes_eq (codes "gen") w then gen_in ws
     else if bytes_eq (codes "direct") w then direct_in ws
     else if bytes_eq (codes "live") w then live_in ws
     else None
+
+-- The words are of this form: `direct init -t`, and then the times.
+abbrev pub is_timed : List (List ℕ) → Bool
+is_timed [] = false
+is_timed (c ∷ []) = false
+is_timed (c ∷ i ∷ []) = false
+is_timed (c ∷ i ∷ d ∷ ws) = bytes_eq c (codes "direct") && (bytes_eq i (codes "init") && bytes_eq d (codes "-t"))
+
+-- With a label of these times, if a lockspace is asked for.
+abbrev pub labelled : List ℕ → Option Words → Option Words
+labelled t (Some (Direct (InitLockspace l g))) = choose (is_times t) (Label l g (timing_of t) (grace_of t))
+labelled t w = None
+
+-- What words of this form say: what is left says that a lockspace is made.
+abbrev pub timed_in : List (List ℕ) → Option Words
+timed_in (c ∷ i ∷ d ∷ t ∷ ws) = labelled t (command_in (c ∷ i ∷ ws))
+timed_in ws = None
 
 -- What the words of the command line say.
 abbrev pub said_in : List (List ℕ) → Option Words
 said_in ws =
     if is_only (codes "--help") (codes "-h") ws then Some Help
     else if is_only (codes "--version") (codes "-V") ws then Some Version
+    else if is_own ws then own_in ws
+    else if is_timed ws then timed_in ws
     else command_in ws

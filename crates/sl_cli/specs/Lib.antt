@@ -5,3 +5,5 @@ pub mod CommandWords
 pub mod ParserMeets
 pub mod PartReadings
 pub mod Spellings
+pub mod OwnWords
+pub mod TimesWords

@@ -40,9 +40,13 @@ bare_shape =
 abbrev pub reading_app : App
 reading_app = with_subcommand (record { top = bare_shape; subs = [] }) (new_shape (codes "replay"))
 
+-- With that which draws it, whose words are up to four, as those of `gen`.
+abbrev pub drawing_app : App
+drawing_app = with_subcommand reading_app (seed_app (codes "draw")).top
+
 -- With those that run one.
 abbrev pub playing_app : App
-playing_app = with_subcommand reading_app (seed_app (codes "gen")).top
+playing_app = with_subcommand drawing_app (seed_app (codes "gen")).top
 
 -- With all that run no machines.
 abbrev pub offline_app : App

@@ -3,10 +3,10 @@ use Rattle.sl_area.specs.AreaSizes.{IsGeometry, Sizes, geometries, layout_of}
 use Rattle.sl_cli.specs.Actions.{Given, action_in}
 use Rattle.sl_cli.specs.OptionValues.{is_stretch_size, is_stretch_start}
 use Rattle.sl_cli.specs.CommandWords.{Use, given_by, is_given, is_plain, nothing_taken, options, said_in, uses_from}
-use Rattle.sl_cli.specs.declared.command_words.Words.TheVariants.{Direct, Generate, Live}
+use Rattle.sl_cli.specs.declared.command_words.Words.TheVariants.{Direct, Generate, Label, Live, Own}
 use Rattle.sl_cli.specs.declared.command_words.Words.{Words}
 use Rattle.sl_direct.specs.Actions.{IsAction}
-use Rattle.sl_direct.specs.declared.action.Action.TheVariants.{Dump, InitLockspace, InitResource, ReadLeader, Upgrade}
+use Rattle.sl_direct.specs.declared.action.Action.TheVariants.{Dump, InitLabelled, InitLockspace, InitResource, ReadLeader, Upgrade}
 use Rattle.sl_direct.specs.declared.action.Action.{Action}
 use Rattle.sl_area.specs.AreaLayout.{is_base}
 use Rattle.sl_text.specs.Forms.{coloned}
@@ -37,9 +37,11 @@ pub record IsStretchArg (sector : ℕ) (path : List ℕ) (offset size : ℕ) : T
 abbrev pub IsRow : Sizes → Type 0
 IsRow g = IsTrue (list_any (λ row. row.0 == g.sector && row.1 == g.area && row.2 == g.hosts) geometries) × (g.paired ≡ false)
 
--- An action that may be asked for. A look has no hosts of its own; only a new resource may have pairs, and an upgraded one has some.
+-- An action that may be asked for by options in any order. A look has no hosts of its own; only a new resource may have pairs, and an upgraded one has some. A
+-- lockspace with a label is asked for by words of their own.
 abbrev pub IsAsked : Action → Type 0
 IsAsked (InitLockspace l g) = IsNewLockspace g l × IsGeometry g × (g.paired ≡ false)
+IsAsked (InitLabelled l g t grace) = ⊥
 IsAsked (InitResource r g) = IsResourceArg (layout_of g) r × IsGeometry g
 IsAsked (Upgrade r g) = IsResourceArg (layout_of g) r × IsGeometry g × (g.paired ≡ true)
 IsAsked (ReadLeader r g) = IsResourceArg (layout_of g) r × IsRow g
@@ -49,6 +51,8 @@ IsAsked (Dump path offset size g) = IsStretchArg g.sector path offset size × Is
 abbrev pub CanBeDone : Words → Type 0
 CanBeDone (Direct a) = IsAction a
 CanBeDone (Generate seed hosts events paired) = (1 ≤ hosts) × (hosts ≤ 16) × (events ≤ 1000000)
+CanBeDone (Label l g t grace) = IsAction (InitLabelled l g t grace)
+CanBeDone (Own folder machine watchdog syncs keeps events) = 1 ≤ machine
 CanBeDone w = Unit {0}
 
 -- ---- its words
@@ -69,6 +73,7 @@ SaysSizes (Some w) g = w ≡ sizes_word g
 -- The sizes of an action's area.
 abbrev pub sizes_in : Action → Sizes
 sizes_in (InitLockspace l g) = g
+sizes_in (InitLabelled l g t grace) = g
 sizes_in (InitResource r g) = g
 sizes_in (ReadLeader r g) = g
 sizes_in (Upgrade r g) = g
@@ -85,6 +90,15 @@ given_for says (InitLockspace l g) = record {
   lockspace = Some (lockspace_word l);
   resource = None;
   hosts = Some (decimal g.hosts);
+  stretch = None;
+  geometry = says;
+  format = None;
+}
+given_for says (InitLabelled l g t grace) = record {
+  action = None;
+  lockspace = None;
+  resource = None;
+  hosts = None;
   stretch = None;
   geometry = says;
   format = None;

@@ -2,19 +2,24 @@
 
 ghost use Rattle.clap.specs.Values.{kind_of};
 ghost use Rattle.sl_cli.specs.Actions.{action_in};
-ghost use Rattle.sl_cli.specs.CommandWords.{command_in, generated, is_only, said_in, seeding_in};
+ghost use Rattle.sl_cli.specs.CommandWords.{asks_of_program, command_in, generated, is_only, said_in, seeding_in};
 ghost use Rattle.sl_cli.specs.ParserMeets.{IsRefused, TakenAs, said_by};
 ghost use Rattle.sl_cli.specs.Spellings.{CanBeDone};
 ghost use Rattle.sl_cli.specs.declared.command_words.Words.TheVariants.{Direct};
 ghost use Rattle.sl_cli.specs.declared.command_words.WordsError.TheVariants.{Bad, NoMemory};
-ghost use Rattle.std.specs.Prelude.{Err, IfOk, IfSome, None, Some, map, option_and_then, option_map, string_bytes, ◌≡◌};
+ghost use Rattle.std.specs.Prelude.{Err, IfOk, IfSome, None, Some, false, map, option_and_then, option_map, string_bytes, ◌≡◌};
 
 use crate::folder::Folder;
+use crate::own_words::{is_own, own_words};
 use crate::parsed_command::{Given, Met, Seeding, met_in};
 use crate::parser_shape::command_line;
+use crate::timed_words::{is_timed, timed_words};
 use clap::Error;
 use clap::error::ErrorKind;
+use sl_area::Geometry;
 use sl_direct::Action;
+use sl_time::Timing;
+use sl_trace::LockspaceArg;
 use std::alloc::{AllocError, Global};
 
 /// What the words of the command line say.
@@ -22,6 +27,11 @@ use std::alloc::{AllocError, Global};
 pub enum Words {
     /// Run a schedule, and report it.
     Replay,
+    /// Run a schedule, and draw it: the lines from `first` to `last`.
+    Draw {
+        first: u64,
+        last: u64,
+    },
     /// Make a schedule of so many events (0 to 1000000) for so many hosts (1 to 16) from a seed, with pairs or without, and run it.
     Generate {
         seed: u64,
@@ -31,11 +41,28 @@ pub enum Words {
     },
     /// Do this to an area.
     Direct(Action),
+    /// Initialise this lockspace with a label of these times, and this grace.
+    Label {
+        lockspace: LockspaceArg,
+        geometry: Geometry,
+        timing: Timing,
+        grace: u64,
+    },
     /// Run live machines by a script, on disks that are files below this folder; `anew`: those that are there are made anew; `keeps`: a line that
     /// is refused ends nothing; `events`: beside replies what becomes of children, and which connections run out, is told.
     Live {
         folder: Folder,
         anew: bool,
+        keeps: bool,
+        events: bool,
+    },
+    /// Run the machine of this number alone, 1 to 16, by the live script on standard input, on disks that stand as files below this folder; `watchdog`:
+    /// the path of a watchdog device, if one is given; `syncs`: writes reach the storage before they are answered; `keeps` and `events` as above.
+    Own {
+        folder: Folder,
+        machine: u32,
+        watchdog: Option<Folder>,
+        syncs: bool,
         keeps: bool,
         events: bool,
     },
@@ -74,7 +101,8 @@ fn is_only(words: &[String], long: &str, short: &str) -> bool
 
 /// Why the parser fails.
 fn error_of(error: &Error) -> WordsError
-    ensures { result ≡ Bad → (kind_of error.now ≡ ErrorKind.OutOfMemory → ⊥) }
+    ensures bad { result ≡ Bad → (kind_of error.now ≡ ErrorKind.OutOfMemory → ⊥) }
+    ensures memory { result ≡ NoMemory → kind_of error.now ≡ ErrorKind.OutOfMemory }
 {
     match error.kind() {
         ErrorKind::OutOfMemory => WordsError::NoMemory,
@@ -111,6 +139,7 @@ fn said(alloc: Global, met: Met<'_>) -> Result<Option<Words>, AllocError>
 {
     match met {
         Met::Replay => Ok(Some(Words::Replay)),
+        Met::Draw(given) => Ok(given.part()),
         Met::Generate(given) => Ok(generated(&given)),
         Met::Direct(given) => Ok(directed(&given)),
         Met::Live(given) => given.words(alloc),
@@ -137,19 +166,33 @@ fn command<'a>(alloc: Global, words: &'a [String]) -> Result<Option<Met<'a>>, Wo
     parse(alloc, words)
 }
 
+/// What words say that are all the parser's. `Bad` comes exactly where they say nothing.
+pub(crate) fn plain_words(alloc: Global, words: &[String]) -> Result<Words, WordsError>
+    ensures read { IfOk result (λ w. command_in (map string_bytes words.now) ≡ Some w) }
+    ensures bad { result ≡ Err Bad → command_in (map string_bytes words.now) ≡ None }
+    ensures can { IfOk result CanBeDone }
+{
+    let met = command(alloc, words)?.ok_or(WordsError::Bad)?;
+    said(alloc, met)?.ok_or(WordsError::Bad)
+}
+
 /// What the words of the command line say; the program's name is none of them. An action that they ask for can be done. `Bad` comes exactly
-/// where they say nothing; in place of either may come `NoMemory`.
+/// where they say nothing; in place of either may come `NoMemory`, but not for the help and the version.
 pub fn read_words(alloc: Global, words: &[String]) -> Result<Words, WordsError>
     ensures read { IfOk result (λ w. said_in (map string_bytes words.now) ≡ Some w) }
     ensures bad { result ≡ Err Bad → said_in (map string_bytes words.now) ≡ None }
+    ensures memory { result ≡ Err NoMemory → asks_of_program (map string_bytes words.now) ≡ false }
     ensures can { IfOk result CanBeDone }
 {
     if is_only(words, "--help", "-h") {
         Ok(Words::Help)
     } else if is_only(words, "--version", "-V") {
         Ok(Words::Version)
+    } else if is_own(words) {
+        own_words(alloc, words)?.ok_or(WordsError::Bad)
+    } else if is_timed(words) {
+        timed_words(alloc, words)
     } else {
-        let met = command(alloc, words)?.ok_or(WordsError::Bad)?;
-        said(alloc, met)?.ok_or(WordsError::Bad)
+        plain_words(alloc, words)
     }
 }

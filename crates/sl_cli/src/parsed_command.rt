@@ -4,8 +4,9 @@ ghost use Rattle.clap.specs.Matches.{found_of};
 ghost use Rattle.clap.specs.Simple.{subcommand_rows_of};
 ghost use Rattle.clap.specs.Walk.{first_of, rows_of};
 ghost use Rattle.sl_cli.specs.Actions.{action_in, area_in, dump_in, init_in, lockspace_in, other_in, read_leader_in, resource_in, upgrade_in};
-ghost use Rattle.sl_cli.specs.CommandWords.{is_event_count, is_format, is_machine_count, is_seed, placed_in, seeding_in};
+ghost use Rattle.sl_cli.specs.CommandWords.{is_event_count, is_format, is_line, is_machine_count, is_seed, part_in, placed_in, seeding_in, span_in};
 ghost use Rattle.sl_cli.specs.ParserMeets.{given_in, is_set, met_in, named_met, placing_of, seeding_of};
+ghost use Rattle.sl_cli.specs.Spellings.{CanBeDone};
 ghost use Rattle.sl_text.specs.Numbers.{number_of};
 ghost use Rattle.sl_words.specs.Words.{choose};
 ghost use Rattle.std.specs.Prelude.{IfOk, IfSome, codes, is_some, option_map, ◌≡◌, ◌≤◌};
@@ -299,6 +300,41 @@ impl<'a> Seeding<'a> {
     }
 }
 
+/// The number of a line that a word says, not below this one, if it says so.
+fn line_of(word: &str, least: u64) -> Option<u64>
+    ensures { result ≡ choose (is_line least word.now) (number_of word.now) }
+{
+    read_number_within(word.as_bytes(), least, u64::MAX)
+}
+
+/// The lines from one to another that is not before it, if two words say so.
+fn part_of(first: &str, last: &str) -> Option<Words>
+    ensures exact { result ≡ part_in first.now last.now }
+    ensures can { IfSome result CanBeDone }
+{
+    let first = line_of(first, 1)?;
+    let last = line_of(last, first)?;
+    Some(Words::Draw { first, last })
+}
+
+impl<'a> Seeding<'a> {
+    /// The lines that `draw` is to draw, which takes the words that `gen` would take, and none or two of them: all lines, or those from one to
+    /// another.
+    pub(crate) fn part(&self) -> Option<Words>
+        ensures exact { result ≡ span_in self.now.seed self.now.hosts self.now.events self.now.format }
+        ensures can { IfSome result CanBeDone }
+    {
+        match (self.seed, self.hosts, self.events, self.format) {
+            (None, None, None, None) => Some(Words::Draw {
+                first: 1,
+                last: u64::MAX,
+            }),
+            (Some(first), Some(last), None, None) => part_of(first, last),
+            _ => None,
+        }
+    }
+}
+
 /// Whether a flag was given, by what the parser keeps of it.
 fn is_set(value: Option<&str>) -> bool
     ensures { result ≡ is_set (option_map (λ w. w.now) value.entry) }
@@ -360,6 +396,7 @@ impl<'a> Placing<'a> {
 #[derive(Drop)]
 pub(crate) enum Met<'a> {
     Replay,
+    Draw(Seeding<'a>),
     Generate(Seeding<'a>),
     Direct(Given<'a>),
     Live(Placing<'a>),
@@ -371,6 +408,8 @@ fn met_named<'a>(name: &str, matches: &ArgMatches<'a>) -> Option<Met<'a>>
 {
     if name == "replay" {
         Some(Met::Replay)
+    } else if name == "draw" {
+        Some(Met::Draw(Seeding::new(matches)))
     } else if name == "gen" {
         Some(Met::Generate(Seeding::new(matches)))
     } else if name == "direct" {

@@ -1,9 +1,9 @@
 //! The command as the argument parser knows it.
 
 ghost use Rattle.clap.specs.Walk.{rule_of};
-ghost use Rattle.clap.specs.Simple.{app_of, new_rule, new_shape, with_rule, with_subcommand};
+ghost use Rattle.clap.specs.Simple.{app_of, new_rule, new_shape, with_rule};
 ghost use Rattle.clap.specs.declared.builder.command.Command.TheViews.{out-Command as fields_of};
-ghost use Rattle.sl_cli.specs.ParserShape.{bare_shape, command_line, direct_app, flag_rule, live_app, offline_app, option_rule, playing_app, reading_app, seed_app};
+ghost use Rattle.sl_cli.specs.ParserShape.{bare_shape, command_line, direct_app, drawing_app, flag_rule, live_app, offline_app, option_rule, playing_app, reading_app, seed_app};
 ghost use Rattle.std.specs.Prelude.{IfOk, [], codes, false, ◌≡◌};
 
 use clap::{Arg, ArgAction, Command};
@@ -143,11 +143,18 @@ fn reading<'a>(alloc: Global) -> Result<Command<'a>, AllocError>
     bare(alloc).subcommand(Command::new(alloc, "replay"))
 }
 
+/// The program with the commands that read a schedule.
+fn drawing<'a>(alloc: Global) -> Result<Command<'a>, AllocError>
+    ensures { IfOk result (λ c. app_of c ≡ drawing_app) }
+{
+    reading(alloc)?.subcommand(seeded(alloc, "draw")?)
+}
+
 /// The program with the commands that run a schedule.
 fn playing<'a>(alloc: Global) -> Result<Command<'a>, AllocError>
     ensures { IfOk result (λ c. app_of c ≡ playing_app) }
 {
-    reading(alloc)?.subcommand(seeded(alloc, "gen")?)
+    drawing(alloc)?.subcommand(seeded(alloc, "gen")?)
 }
 
 /// The program with the commands that run no machines.

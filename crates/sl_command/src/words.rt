@@ -26,7 +26,7 @@ pub(crate) fn push_decimal(out: &mut Vec<u8>, number: u64) -> Result<(), AllocEr
 }
 
 /// Adds a space and a number's decimal digits. An `Err` is want of memory; what was there stays in front.
-pub(crate) fn push_behind(out: &mut Vec<u8>, number: u64) -> Result<(), AllocError>
+pub fn push_behind(out: &mut Vec<u8>, number: u64) -> Result<(), AllocError>
     ensures ok { OnOk result (out.new.items ≡ out.old.items ++ 32 ∷ decimal number) }
     ensures kept { KeepsFronts out.old.items out.new.items }
 {
@@ -56,7 +56,7 @@ pub(crate) fn push_counted(out: &mut Vec<u8>, word: &str, numbers: &[u64]) -> Re
 }
 
 /// Adds a space and a word. An `Err` is want of memory; what was there stays in front.
-pub(crate) fn push_word(out: &mut Vec<u8>, word: &[u8]) -> Result<(), AllocError>
+pub fn push_word(out: &mut Vec<u8>, word: &[u8]) -> Result<(), AllocError>
     ensures ok { OnOk result (out.new.items ≡ out.old.items ++ 32 ∷ word.now) }
     ensures kept { KeepsFronts out.old.items out.new.items }
 {
@@ -65,7 +65,7 @@ pub(crate) fn push_word(out: &mut Vec<u8>, word: &[u8]) -> Result<(), AllocError
 }
 
 /// Adds a part of a word behind a colon.
-pub(crate) fn push_part(out: &mut Vec<u8>, part: &[u8]) -> Result<(), AllocError>
+pub fn push_part(out: &mut Vec<u8>, part: &[u8]) -> Result<(), AllocError>
     ensures ok { OnOk result (out.new.items ≡ out.old.items ++ 58 ∷ part.now) }
     ensures kept { KeepsFronts out.old.items out.new.items }
 {
@@ -74,7 +74,7 @@ pub(crate) fn push_part(out: &mut Vec<u8>, part: &[u8]) -> Result<(), AllocError
 }
 
 /// Adds a colon and a number's decimal digits. An `Err` is want of memory; what was there stays in front.
-pub(crate) fn push_number_part(out: &mut Vec<u8>, number: u64) -> Result<(), AllocError>
+pub fn push_number_part(out: &mut Vec<u8>, number: u64) -> Result<(), AllocError>
     ensures ok { OnOk result (out.new.items ≡ out.old.items ++ 58 ∷ decimal number) }
     ensures kept { KeepsFronts out.old.items out.new.items }
 {
@@ -84,7 +84,7 @@ pub(crate) fn push_number_part(out: &mut Vec<u8>, number: u64) -> Result<(), All
 
 /// Adds the bytes of a text. An `Err` is want of memory; what was there stays in front.
 #[tactic(auto, using(crate::proofs::LineLaws::front_stays))]
-pub(crate) fn push_text(out: &mut Vec<u8>, text: &[u8]) -> Result<(), AllocError>
+pub fn push_text(out: &mut Vec<u8>, text: &[u8]) -> Result<(), AllocError>
     ensures ok { OnOk result (out.new.items ≡ out.old.items ++ text.now) }
     ensures kept { KeepsFronts out.old.items out.new.items }
 {

@@ -2,5 +2,3 @@ pub mod RecordRules
 pub mod WatchLaws
 pub mod StandsLaws
 pub mod EnoughLaws
-pub mod StepLaws
-pub mod SafeLaws

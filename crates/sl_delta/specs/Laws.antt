@@ -2,10 +2,6 @@
 use Rattle.sl_area.specs.AreaSizes.{Sizes}
 use Rattle.sl_delta.specs.DeltaDecisions.{after_join, on_wake}
 use Rattle.sl_delta.specs.OwnSector.{OwnState, OwnStands, after_answer, after_call, joining_told, known_with, lease_of, without_calls}
-use Rattle.sl_delta.specs.Steps.{IsFitInput, LeaseState, after_step, begun, is_over, out_of_step}
-use Rattle.sl_delta.specs.declared.lease.Standing.TheVariants.{Holds}
-use Rattle.sl_delta.specs.declared.steps.DeltaIn.TheVariants.{Leave}
-use Rattle.sl_delta.specs.declared.steps.DeltaIn.{DeltaIn}
 use Rattle.sl_host_state.specs.HeardInputs.{joining_hearing}
 use Rattle.sl_host_state.specs.KeptState.{HostState, JoinState}
 use Rattle.sl_host_state.specs.declared.kept_parts.OpenCall.{OpenCall}
@@ -18,7 +14,7 @@ use Rattle.sl_trace.specs.Traces.{Submitted}
 use Rattle.sl_trace.specs.declared.effects.JoinStep.{JoinStep}
 use Rattle.sl_trace.specs.declared.effects.Purpose.TheVariants.{Joining}
 use Rattle.sl_trace.specs.declared.input.Answer.{Answer}
-use Rattle.std.specs.Prelude.{Bool, List, None, Option, [], false, true, ℕ, ◌≡◌}
+use Rattle.std.specs.Prelude.{Bool, List, None, Option, [], ℕ, ◌≡◌}
 
 -- For every list of calls for which what is kept stands.
 pub record KeptIsEnough : Type 0 where
@@ -40,13 +36,3 @@ pub record HostsKeepTheSame : Type 0 where
   pub known_called : (o : OwnState) (m : Submitted) (recovering : Bool) (leaving : Option ℕ)
       → known_calling m (known_with o recovering leaving) ≡ known_with (after_call m.call.purpose (delta_written m) m.reading o) recovering leaving
   pub joining_answered : (h : HostState) (c : OpenCall) (a : Answer) (j : JoinState) → joining_hearing h c a j ≡ joining_told c.purpose a h.reading j
-
--- What no step of a lease does.
-pub record StepsAreSafe : Type 0 where
-  -- in recovery a joined session makes no call
-  pub recovery : (now : ℕ) (i : DeltaIn) (l : LeaseState) → l.standing ≡ Holds → (begun now l).recovering ≡ true → (out_of_step now i l).call ≡ None
-  -- refused or left it makes none, and stays so
-  pub over : (now : ℕ) (i : DeltaIn) (l : LeaseState) → is_over l.standing ≡ true → IsFitInput l i → (out_of_step now i l).call ≡ None
-  pub stays_over : (now : ℕ) (i : DeltaIn) (l : LeaseState) → is_over l.standing ≡ true → IsFitInput l i → (after_step now i l).standing ≡ l.standing
-  -- a free is written beside no other call
-  pub alone : (l : LeaseState) → IsFitInput l Leave → l.recovering ≡ false → l.waits ≡ None

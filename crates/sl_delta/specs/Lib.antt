@@ -1,4 +1,3 @@
 pub mod OwnSector
 pub mod DeltaDecisions
 pub mod Laws
-pub mod Steps

@@ -19,8 +19,7 @@
 //! - `Standing`, `Freeing`: it is renewed every `renew` on a wake, and at last freed, once.
 //!
 //! An `OwnSector` makes no call itself. It is told of each that is submitted (`called`) and of its answer (`first_answered`, `answered`),
-//! and is asked what comes next: `after_join` and `on_wake` while it joins, `renewal`, `free`, `after_renewal` and `after_free` from then
-//! on. It has a fixed size: of the calls it keeps the sector that the first read gave, which is shared with whoever read it, the reading of
+//! and is asked what comes next: `after_join` and `on_wake` while it joins, `renewal` and `free` from then on. It has a fixed size: of the calls it keeps the sector that the first read gave, which is shared with whoever read it, the reading of
 //! that answer, the claim, the newest call's step and readings, and generation, seq and submission reading of what was written last. It
 //! stands for each list of calls that led to it (`OwnStands`), each part being the answer to one question to the list:
 //!
@@ -31,28 +30,17 @@
 //! - freed: a free was submitted, which is never tried again.
 //!
 //! `laws` says that this is enough for each decision, and that a host keeps the same.
-//!
-//! A `DeltaLease` is an `OwnSector` that makes its calls: the call without an answer, how the session stands, its last renewal that counts,
-//! its connection and whether it recovers are kept beside it. What comes (a wake, an answer, a refused job, a leave) is one `step`, which
-//! gives the call, the connection's move and the outcome that are due (`after_step`, `out_of_step`).
 #![tactic(auto)]
 
 mod answer;
-mod carried_decisions;
-mod heard_answers;
 mod joining;
 pub mod laws;
-mod lease;
 mod numbers;
 mod own_sector;
 mod purposes;
 mod reads;
 mod renewing;
-mod stages;
-mod steps;
 
 pub use answer::SectorAnswer;
-pub use lease::{DeltaLease, OpenDelta, Standing};
+pub use numbers::{has_next, has_passed};
 pub use own_sector::OwnSector;
-pub use renewing::{after_free, after_renewal};
-pub use steps::{DeltaCall, DeltaIn, DeltaOut, Outcome};

@@ -7,7 +7,7 @@ ghost use Rattle.std.specs.Prelude.{nat_le, ◌+◌, ◌<◌, ◌^◌, ◌≡◌
 const RECORD_NUMBERS: u64 = 1 << 63;
 
 /// Whether a record may carry the next number.
-pub(crate) fn has_next(number: u64) -> bool
+pub fn has_next(number: u64) -> bool
     ensures { result ≡ is_number (number + 1) }
 {
     number < RECORD_NUMBERS - 1
@@ -21,7 +21,7 @@ pub(crate) fn has_two_next(number: u64) -> bool
 }
 
 /// Whether a wait that began at a reading has passed, all in milliseconds.
-pub(crate) fn has_passed(from: u64, wait: u64, now: u64) -> bool
+pub fn has_passed(from: u64, wait: u64, now: u64) -> bool
     requires { from + wait < 2 ^ 64 }
     ensures { result ≡ nat_le (from + wait) now }
 {

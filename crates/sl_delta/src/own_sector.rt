@@ -29,20 +29,20 @@ use std::sync::Arc;
 /// What a session keeps of its calls on its id's sector.
 #[derive(Drop)]
 pub struct OwnSector {
-    pub(crate) timing: Timing,
-    pub(crate) geometry: Geometry,
-    pub(crate) host: Name,
-    pub(crate) lockspace: Name,
-    pub(crate) id: u32,
-    pub(crate) watched: Option<Arc<Image>>,
-    pub(crate) since: Option<u64>,
-    pub(crate) claim: Option<DeltaRec>,
-    pub(crate) newest: Option<JoinCall>,
-    pub(crate) generation: u64,
-    pub(crate) seq: u64,
-    pub(crate) renewed: u64,
-    pub(crate) busy: bool,
-    pub(crate) freed: bool,
+    pub timing: Timing,
+    pub geometry: Geometry,
+    pub host: Name,
+    pub lockspace: Name,
+    pub id: u32,
+    pub watched: Option<Arc<Image>>,
+    pub since: Option<u64>,
+    pub claim: Option<DeltaRec>,
+    pub newest: Option<JoinCall>,
+    pub generation: u64,
+    pub seq: u64,
+    pub renewed: u64,
+    pub busy: bool,
+    pub freed: bool,
 }
 
 impl Model for OwnSector {
@@ -228,26 +228,6 @@ impl OwnSector {
         ensures { (a : Answer) → self.new ≡ after_answer purpose.now a now self.old }
     {
         self.heard(now, is_delta(purpose), join_step_of(purpose).is_some());
-    }
-
-    /// Any of its calls was answered so.
-    pub(crate) fn told(&mut self, now: u64, purpose: &Purpose, answer: SectorAnswer)
-        requires { now < moments }
-        ensures { self.new ≡ after_answer purpose.now (answer_in answer) now self.old }
-    {
-        if is_first_read(purpose) {
-            self.take_first(now, answer);
-        } else {
-            self.take_answer(now, purpose);
-        }
-    }
-
-    /// The read of all delta sectors was answered.
-    pub(crate) fn surveyed(&mut self, now: u64)
-        requires { now < moments }
-        ensures { self.new ≡ heard now true false self.old }
-    {
-        self.heard(now, true, false);
     }
 
     /// What each answer changes.

@@ -1,8 +1,7 @@
 //! What a call's purpose says of the own sector.
 
-ghost use Rattle.sl_delta.specs.Steps.{writes_own, writes_step};
 ghost use Rattle.sl_trace.specs.DeltaDecisions.{join_step_of};
-ghost use Rattle.sl_trace.specs.Sessions.{is_delta_purpose, is_free_purpose, is_join_call, is_renewal, is_survey_purpose};
+ghost use Rattle.sl_trace.specs.Sessions.{is_delta_purpose, is_free_purpose, is_join_call, is_renewal};
 ghost use Rattle.sl_trace.specs.declared.effects.JoinStep.TheVariants.{ClaimWrite, FirstRead};
 ghost use Rattle.std.specs.Prelude.{◌≡◌};
 
@@ -84,37 +83,4 @@ pub(crate) fn is_free(purpose: &Purpose) -> bool
     ensures { result ≡ is_free_purpose purpose.now }
 {
     matches!(purpose, Purpose::Leaving { job: _ })
-}
-
-/// Whether a step of a joining writes.
-pub(crate) fn writes_step(step: JoinStep) -> bool
-    ensures { result ≡ writes_step step }
-{
-    match step {
-        JoinStep::FirstRead => false,
-        JoinStep::WatchRead => false,
-        JoinStep::DecidingRead => false,
-        JoinStep::ClaimWrite => true,
-        JoinStep::VerifyRead => false,
-        JoinStep::FirstRenewal => true,
-    }
-}
-
-/// Whether a call for this purpose writes the own sector.
-pub(crate) fn writes_own(purpose: &Purpose) -> bool
-    ensures { result ≡ writes_own purpose.now }
-{
-    match purpose {
-        Purpose::Joining { job: _, step } => writes_step(*step),
-        Purpose::Renewal => true,
-        Purpose::Leaving { job: _ } => true,
-        _ => false,
-    }
-}
-
-/// Whether the call reads all delta sectors.
-pub(crate) fn is_survey(purpose: &Purpose) -> bool
-    ensures { result ≡ is_survey_purpose purpose.now }
-{
-    matches!(purpose, Purpose::Survey)
 }

@@ -2,23 +2,20 @@
 
 ghost use Rattle.sl_area.specs.AreaSizes.{Sizes, layout_of, program_digest};
 ghost use Rattle.sl_delta.specs.OwnSector.{IsOwnRecord, lease_of};
-ghost use Rattle.sl_area.specs.AreaLayout.{delta_of as delta_at};
 ghost use Rattle.sl_delta.specs.DeltaDecisions.{watched_in};
-ghost use Rattle.sl_delta.specs.Steps.{FitsRead, IsWholeRead, is_other, shows_other};
-ghost use Rattle.sl_words.specs.Words.{some_is};
 ghost use Rattle.sl_sector.specs.Records.{Fits};
 ghost use Rattle.sl_sector.specs.SectorLayouts.{decoded, delta_in};
 ghost use Rattle.sl_trace.specs.DeltaDecisions.{delta_record, host_of_delta, version_in, version_of};
 ghost use Rattle.sl_trace.specs.Sightings.{is_free_state};
 ghost use Rattle.sl_words.specs.Bounds.{moments};
 ghost use Rattle.std.specs.Arc.{arc_value};
-ghost use Rattle.std.specs.Prelude.{IsTrue, bytes_eq, codes, length, option_map, unwrap_or, [], ◌*◌, ◌<◌, ◌≡◌, ◌≤◌};
+ghost use Rattle.std.specs.Prelude.{bytes_eq, codes, option_map, unwrap_or, [], ◌*◌, ◌<◌, ◌≡◌, ◌≤◌};
 
 use crate::own_sector::OwnSector;
 use sl_request::Bitmap;
-use sl_sector::{DeltaRec, DeltaState, Image, decode, delta_in};
+use sl_sector::{DeltaRec, DeltaState, Image, delta_in};
 use sl_text::Name;
-use sl_trace::{Answer, DeltaOwner, DeltaVersion};
+use sl_trace::{DeltaOwner, DeltaVersion};
 use std::sync::Arc;
 
 /// The delta record that the sector spells.
@@ -85,16 +82,6 @@ fn name_of(host: &Option<Name>) -> Name
     }
 }
 
-/// Whether the record names this host.
-fn is_named(host: &Option<Name>, name: &Name) -> bool
-    ensures { result ≡ some_is (λ n. bytes_eq n name.now) host.now }
-{
-    match host {
-        Some(host) => host.as_slice() == name.as_slice(),
-        None => false,
-    }
-}
-
 /// Generation and host name of the record that the sector spells.
 pub(crate) fn owner_in(sector: &Image) -> Option<DeltaOwner>
     ensures { result ≡ option_map host_of_delta (delta_in (decoded program_digest sector.now)) }
@@ -128,59 +115,6 @@ impl OwnSector {
             lockspace: self.lockspace,
             host: Some(self.host),
             bitmap: bits.bytes(),
-        }
-    }
-
-    /// The record of the own id that a read of all delta sectors gave.
-    fn own_record(&self, bytes: &[u8]) -> Option<DeltaRec>
-        requires { length bytes.now ≡ self.now.sizes.hosts * self.now.sizes.sector }
-        ensures { result ≡ delta_at (layout_of self.now.sizes) bytes.now self.now.id }
-    {
-        let size = self.geometry.sector() as usize;
-        let (_, rest) = bytes.split_at((self.id as usize - 1) * size);
-        let (sector, _) = rest.split_at(size);
-        delta_in(decode(sector))
-    }
-
-    /// Whether a record of the own id is of another session.
-    fn is_other(&self, record: &DeltaRec) -> bool
-        ensures { result ≡ is_other self.now «record».now }
-    {
-        record.id == self.id
-            && !(record.generation == self.generation && is_named(&record.host, &self.host))
-    }
-
-    /// Whether a read of all delta sectors shows another in the session's place.
-    pub(crate) fn shows_other(&self, answer: &Answer) -> bool
-        requires { IsWholeRead self.now answer.now }
-        ensures { result ≡ shows_other self.now answer.now }
-    {
-        match answer {
-            Answer::Read(bytes) => match self.own_record(bytes.as_slice()) {
-                Some(record) => self.is_other(&record),
-                None => false,
-            },
-            Answer::Written => false,
-            Answer::Failed => false,
-        }
-    }
-
-    /// Whether the answer of a read of all delta sectors, or of the own one, has as many bytes as it asks.
-    pub(crate) fn fits_answer(&self, of_all: bool, answer: &Answer) -> bool
-        ensures { IsTrue result → FitsRead of_all self.now answer.now }
-    {
-        match answer {
-            Answer::Read(bytes) => {
-                let size = self.geometry.sector() as usize;
-                let count = if of_all {
-                    self.geometry.hosts() as usize
-                } else {
-                    1
-                };
-                bytes.len() == count * size
-            }
-            Answer::Written => true,
-            Answer::Failed => true,
         }
     }
 

@@ -1,9 +1,9 @@
 //! What a joined session does next on its id's sector: it renews, and at last frees it.
 
 ghost use Rattle.sl_delta.specs.DeltaDecisions.{IsFitNext};
-ghost use Rattle.sl_delta.specs.OwnSector.{answer_in, known_with, lease_of};
+ghost use Rattle.sl_delta.specs.OwnSector.{known_with, lease_of};
 ghost use Rattle.sl_sector.specs.Records.{Fits};
-ghost use Rattle.sl_trace.specs.DeltaDecisions.{has_seq_left, is_renewal_due, next_after_free, next_after_renewal, next_free, next_renewal};
+ghost use Rattle.sl_trace.specs.DeltaDecisions.{has_seq_left, is_renewal_due, next_free, next_renewal};
 ghost use Rattle.sl_words.specs.Bounds.{moments};
 ghost use Rattle.std.specs.Prelude.{Bool, ◌+◌, ◌<◌, ◌≡◌, ◌≤◌};
 
@@ -12,7 +12,7 @@ use crate::numbers::{has_next, has_two_next};
 use crate::own_sector::OwnSector;
 use sl_request::Bitmap;
 use sl_sector::DeltaState;
-use sl_trace::{DeltaNext, Reply};
+use sl_trace::DeltaNext;
 
 impl OwnSector {
     /// Whether a seq is left: in a leaving also for the free, which ends renewals.
@@ -88,42 +88,5 @@ impl OwnSector {
                 }
             }
         }
-    }
-}
-
-/// After the answer of a renewal submitted at the reading `made`: in recovery neither the connection moves nor are ids read.
-pub fn after_renewal(recovering: bool, made: u64, answer: &SectorAnswer) -> DeltaNext
-    requires { made < moments }
-    ensures exact { result ≡ next_after_renewal recovering made (answer_in answer.now) }
-    ensures fit { IsFitNext result }
-{
-    match answer {
-        SectorAnswer::Read(_) => DeltaNext::Nothing,
-        SectorAnswer::Written => {
-            if recovering {
-                DeltaNext::Nothing
-            } else {
-                DeltaNext::MoveConnection { renewed: made }
-            }
-        }
-        SectorAnswer::Failed => DeltaNext::Nothing,
-    }
-}
-
-/// After the answer of the free, the call with this number, for the job that leaves.
-pub fn after_free(job: u64, call: u64, answer: &SectorAnswer) -> DeltaNext
-    ensures exact { result ≡ next_after_free job call (answer_in answer.now) }
-    ensures fit { IsFitNext result }
-{
-    match answer {
-        SectorAnswer::Read(_) => DeltaNext::Nothing,
-        SectorAnswer::Written => DeltaNext::EndLeaving {
-            job,
-            reply: Reply::Done,
-        },
-        SectorAnswer::Failed => DeltaNext::EndLeaving {
-            job,
-            reply: Reply::IoFault { call },
-        },
     }
 }

@@ -4,7 +4,7 @@ use Rattle.sl_direct.proofs.LookLaws.{one_line}
 use Rattle.sl_direct.specs.Actions.{Acts, Directs, IsFront, PutsOut, Writes, last_lines, output_of}
 use Rattle.sl_direct.specs.FreshAreas.{Write}
 use Rattle.sl_direct.specs.HalfDone.{BrokeOff, HasActed, Wrote}
-use Rattle.sl_direct.specs.declared.action.Action.TheVariants.{Dump, InitLockspace, InitResource, ReadLeader, Upgrade}
+use Rattle.sl_direct.specs.declared.action.Action.TheVariants.{Dump, InitLabelled, InitLockspace, InitResource, ReadLeader, Upgrade}
 use Rattle.sl_direct.specs.declared.action.Action.{Action}
 use Rattle.sl_direct.specs.declared.action.Directed.TheVariants.{AreaFault, Done, WriteFault}
 use Rattle.sl_direct.specs.declared.action.Directed.{Directed}
@@ -76,6 +76,7 @@ acted_as a b content after out d is acted = subst (λ (x : Action). HasActed x c
 -- No action ends by the sink.
 no_write_fault : (a : Action) (content after : Option (List ℕ)) (lines : List (List ℕ)) → Acts a content after lines WriteFault → ⊥
 no_write_fault (InitLockspace l g) content after lines acts = acts
+no_write_fault (InitLabelled l g t grace) content after lines acts = acts
 no_write_fault (InitResource r g) content after lines acts = acts
 no_write_fault (ReadLeader r g) content after lines acts = acts.ended
 no_write_fault (Upgrade r g) content after lines acts = acts

@@ -14,7 +14,7 @@ use Rattle.sl_direct.specs.Disks.{HoldsFront, IsInitialised, IsOutside, Stands}
 use Rattle.sl_direct.specs.FreshAreas.{Write, block_write, block_writes, delta_write, leader_write, place_of, request_write, resource_writes, value_write, write_of}
 use Rattle.sl_direct.specs.Laws.{InitialisedIsFound, IsFreshResource, LeaderIsLast, LeaderIsTold, LockspaceStands, ResourceStands, has_its_leader, sector_at, spelled_at}
 use Rattle.sl_direct.specs.Lines.{is_its_leader, leader_found, leader_in_sector}
-use Rattle.sl_direct.specs.declared.action.Action.TheVariants.{Dump, InitLockspace, InitResource, ReadLeader, Upgrade}
+use Rattle.sl_direct.specs.declared.action.Action.TheVariants.{Dump, InitLabelled, InitLockspace, InitResource, ReadLeader, Upgrade}
 use Rattle.sl_direct.specs.declared.action.Action.{Action}
 use Rattle.sl_direct.specs.declared.action.Directed.TheVariants.{Done, NotTheLeader, WriteFault}
 use Rattle.sl_direct.specs.declared.action.Directed.{Directed}
@@ -239,6 +239,7 @@ told_wrong r g content after faults later taken now sink_faults sink_later run =
 refused_look : (a : Action) (content after : Option (List ℕ)) (lines : List (List ℕ)) → Acts a content after lines NotTheLeader
     → (r : ResourceArg) × (g : Sizes) × ((a ≡ ReadLeader r g) ⊎ (a ≡ Upgrade r g))
 refused_look (InitLockspace l g) content after lines acts = absurd acts
+refused_look (InitLabelled l g t grace) content after lines acts = absurd acts
 refused_look (InitResource r g) content after lines acts = absurd acts
 refused_look (ReadLeader r g) content after lines acts = (r, g, inl refl)
 refused_look (Upgrade r g) content after lines acts = (r, g, inr refl)

@@ -7,8 +7,10 @@ use Rattle.sl_area.specs.AreaLayout.{block_offset, block_sectors, pair_offset}
 use Rattle.sl_area.specs.AreaRecords.{fresh_block_at, fresh_delta, fresh_leader, leader_record, no_request, no_value}
 use Rattle.sl_area.specs.Sectors.{Apart, KeepsOthers, SectorPlace}
 use Rattle.sl_direct.proofs.DiskLaws.{AllApart, BrokeOff-behind, BrokeOff-front, Wrote-append, broke_first}
-use Rattle.sl_direct.specs.FreshAreas.{Write, block_write, block_writes, delta_write, leader_write, lockspace_writes, place_of, request_write, resource_writes, value_write, write_of}
+use Rattle.sl_direct.specs.FreshAreas.{Write, block_write, block_writes, delta_write, label_write, labelled_writes, leader_write, lockspace_writes, place_of, request_write, resource_writes, value_write, write_of}
 use Rattle.sl_direct.specs.HalfDone.{BrokeOff, Wrote}
+use Rattle.sl_label.specs.Labels.{label_record}
+use Rattle.sl_label.specs.declared.label.Label.{Label}
 use Rattle.sl_sector.proofs.SpellingLaws.{length-spelling}
 use Rattle.sl_sector.proofs.WrittenBytes.{sha256_is_digest}
 use Rattle.sl_sector.specs.Records.{IsRecord}
@@ -48,6 +50,20 @@ pub broke_as : {E : Type 0} (result : Result (Unit {0}) E) (at p : SectorPlace) 
 broke_as result at p r s a b place rec h =
     subst (λ (x : Rec). OnErr result (BrokeOff (write_of p.size p.offset x ∷ []) a b)) rec
     (subst (λ (q : SectorPlace). OnErr result (BrokeOff (write_of q.size q.offset r ∷ []) a b)) place h)
+
+-- ---- a label's write, behind those of its lockspace
+
+pub label_wrote : (ws : List Write) (at p : SectorPlace) (r s : Rec) (a b c : Option (List ℕ)) → at ≡ p → r ≡ s → Wrote ws a b → Wrote (write_of at.size at.offset r ∷ []) b c
+    → Wrote (ws ++ write_of p.size p.offset s ∷ []) a c
+label_wrote ws at p r s a b c place rec first last =
+    Wrote-append ws (write_of p.size p.offset s ∷ []) a b c first
+    (subst (λ (x : Rec). Wrote (write_of p.size p.offset x ∷ []) b c) rec (subst (λ (q : SectorPlace). Wrote (write_of q.size q.offset r ∷ []) b c) place last))
+
+pub label_broke : (ws : List Write) (at p : SectorPlace) (r s : Rec) (a b c : Option (List ℕ)) → at ≡ p → r ≡ s → Wrote ws a b → BrokeOff (write_of at.size at.offset r ∷ []) b c
+    → BrokeOff (ws ++ write_of p.size p.offset s ∷ []) a c
+label_broke ws at p r s a b c place rec first broke =
+    BrokeOff-behind ws (write_of p.size p.offset s ∷ []) a b c first
+    (subst (λ (x : Rec). BrokeOff (write_of p.size p.offset x ∷ []) b c) rec (subst (λ (q : SectorPlace). BrokeOff (write_of q.size q.offset r ∷ []) b c) place broke))
 
 -- ---- a resource's writes, one behind another
 
@@ -168,6 +184,28 @@ lockspace_apart g name base is named =
     (λ i j low less high.
     sectors_apart g.sector _ _ (DeltaIs (fresh_delta name i)) (DeltaIs (fresh_delta name j)) room.sector (fresh_delta_is name i named low (omega (arith, low, less, high, room.hosts.1)))
     (fresh_delta_is name j named (omega (arith, low, less)) (omega (arith, high, room.hosts.1))) (inl (ids_apart base g.sector i j low less)))
+
+-- .. with its label, which stands behind the ids' records.
+before_label : (base sector i hosts area : ℕ) → 1 ≤ i → i ≤ hosts → sector * (hosts + 3) ≤ area → base + sector * (i - 1) + sector ≤ base + area - sector
+before_label base sector i hosts area some below room =
+    let next : base + sector * (i - 1) + sector ≤ base + sector * i = numbered_apart base sector (i - 1) i (omega (arith, some)) in
+    let here : (i - 1) + 1 ≡ i = omega (arith, some) in
+    let last : base + sector * i + sector ≤ base + area - sector =
+    subst (λ (n : ℕ). base + sector * n + sector ≤ base + area - sector) here (before_value base sector (i - 1) hosts area (omega (arith, below)) room) in
+    omega (arith, next, last)
+
+pub labelled_apart : (g : Sizes) (l : Label) (base : ℕ) → IsGeometry g → IsTrue (is_name l.lockspace) → IsRecord (label_record l) → AllApart (labelled_writes (layout_of g) l base)
+labelled_apart g l base is named label_is =
+    let room : HasRoom g = has_room g is in
+    let label : Write = label_write (layout_of g) base l in
+    let delta = λ (i : ℕ). delta_write (layout_of g) l.lockspace base i in
+    apart_joined (lockspace_writes (layout_of g) l.lockspace base) (label ∷ []) (lockspace_apart g l.lockspace base is named) (All-nil _, tt)
+    (all_of_range (λ x. All (IsApartFrom x) (label ∷ [])) delta 1 g.hosts
+    (λ i low high.
+    All-cons (IsApartFrom (delta i)) label []
+    (sectors_apart g.sector _ _ (DeltaIs (fresh_delta l.lockspace i)) (label_record l) room.sector
+    (fresh_delta_is l.lockspace i named low (omega (arith, high, room.hosts.1))) label_is (inl (before_label base g.sector i g.hosts g.area low (omega (arith, high)) room.room)))
+    (All-nil _)))
 
 -- A resource's.
 pub resource_apart : (g : Sizes) (space name : List ℕ) (base : ℕ) → IsGeometry g → IsTrue (is_name space) → IsTrue (is_name name)

@@ -5,7 +5,7 @@ use Rattle.sl_direct.proofs.AreaLaws.{done_is_none, ended_as, refused_is_none}
 use Rattle.sl_direct.specs.Actions.{Acts, Directs}
 use Rattle.sl_direct.specs.Laws.{UpgradeIsTold, can_upgrade, has_block, sector_at}
 use Rattle.sl_direct.specs.Upgrades.{FindsTorn, IsSectorAt, ReadsBlock, ReadsBlocks, ReadsLeader, old_block_in, old_leader_in, right_leader}
-use Rattle.sl_direct.specs.declared.action.Action.TheVariants.{Dump, InitLockspace, InitResource, ReadLeader, Upgrade}
+use Rattle.sl_direct.specs.declared.action.Action.TheVariants.{Dump, InitLabelled, InitLockspace, InitResource, ReadLeader, Upgrade}
 use Rattle.sl_direct.specs.declared.action.Action.{Action}
 use Rattle.sl_direct.specs.declared.action.Directed.TheVariants.{Done, NotTheLeader, TornBlock, WriteFault}
 use Rattle.sl_direct.specs.declared.action.Directed.{Directed}
@@ -91,6 +91,7 @@ told_torn r g content after faults later taken now sink_faults sink_later run =
 
 torn_upgrade : (a : Action) (content after : Option (List ℕ)) (lines : List (List ℕ)) → Acts a content after lines TornBlock → (r : ResourceArg) × (g : Sizes) × (a ≡ Upgrade r g)
 torn_upgrade (InitLockspace l g) content after lines acts = absurd acts
+torn_upgrade (InitLabelled l g t grace) content after lines acts = absurd acts
 torn_upgrade (InitResource r g) content after lines acts = absurd acts
 torn_upgrade (ReadLeader r g) content after lines acts = absurd acts.ended
 torn_upgrade (Upgrade r g) content after lines acts = (r, g, refl)

@@ -1,17 +1,20 @@
 -- What an action on an area owes: by what it found there, what it leaves there, what it prints, and how it ended.
-use Rattle.sl_area.specs.AreaSizes.{IsGeometry, layout_of}
+use Rattle.sl_area.specs.AreaSizes.{IsGeometry, Sizes, layout_of}
 use Rattle.sl_area.specs.Roles.{IsBase}
 use Rattle.sl_area.specs.Sectors.{IsReadAt}
 use Rattle.sl_direct.specs.Disks.{IsBrokenOff, IsInitialised}
-use Rattle.sl_direct.specs.FreshAreas.{Write, lockspace_writes, resource_writes}
-use Rattle.sl_direct.specs.Lines.{dump_lines, fault_line, is_its_leader, leader_in_sector, leader_line, lockspace_line, resource_line}
+use Rattle.sl_direct.specs.FreshAreas.{Write, labelled_writes, lockspace_writes, resource_writes}
+use Rattle.sl_direct.specs.Lines.{dump_lines, fault_line, is_its_leader, labelled_line, leader_in_sector, leader_line, lockspace_line, resource_line}
 use Rattle.sl_direct.specs.Upgrades.{Upgrades}
-use Rattle.sl_direct.specs.declared.action.Action.TheVariants.{Dump, InitLockspace, InitResource, ReadLeader, Upgrade}
+use Rattle.sl_direct.specs.declared.action.Action.TheVariants.{Dump, InitLabelled, InitLockspace, InitResource, ReadLeader, Upgrade}
 use Rattle.sl_direct.specs.declared.action.Action.{Action}
 use Rattle.sl_direct.specs.declared.action.Directed.TheVariants.{AreaFault, Done, NoMemory, NotTheLeader, TornBlock, WriteFault}
 use Rattle.sl_direct.specs.declared.action.Directed.{Directed}
+use Rattle.sl_label.specs.declared.label.Label.{Label}
 use Rattle.sl_text.specs.Forms.{as_bytes}
 use Rattle.sl_text.specs.Names.{is_name}
+use Rattle.sl_time.specs.Times.{IsTiming, TimingNumbers}
+use Rattle.sl_trace.specs.declared.command.LockspaceArg.{LockspaceArg}
 use Rattle.sl_trace.specs.declared.command.ResourceArg.{ResourceArg}
 use Rattle.sl_io.specs.FaultCauses.{Rose}
 use Rattle.std.specs.Io.KnownBytes.{Appends, Keeps}
@@ -29,14 +32,20 @@ pub record IsStretch (sector offset size : ℕ) : Type 0 where
 -- What an action may name, with sizes of the table. No path is looked at: the area is the file itself.
 abbrev pub IsAction : Action → Type 0
 IsAction (InitLockspace l g) = IsGeometry g × IsTrue (is_name l.name) × IsBase g l.offset
+IsAction (InitLabelled l g t grace) = IsGeometry g × IsTrue (is_name l.name) × IsBase g l.offset × IsTiming t × (grace ≤ 600000)
 IsAction (InitResource r g) = IsGeometry g × IsTrue (is_name r.lockspace) × IsTrue (is_name r.name) × IsBase g r.offset
 IsAction (ReadLeader r g) = IsGeometry g × IsBase g r.offset
 IsAction (Upgrade r g) = IsGeometry g × (g.paired ≡ true) × IsBase g r.offset
 IsAction (Dump path offset size g) = IsGeometry g × IsStretch g.sector offset size
 
+-- The label that a lockspace is given.
+abbrev pub label_for : LockspaceArg → Sizes → TimingNumbers → ℕ → Label
+label_for l g t grace = record { timing = t; grace = grace; geometry = g; lockspace = l.name }
+
 -- The path of the file that an action is done to.
 abbrev pub path_of : Action → List ℕ
 path_of (InitLockspace l g) = l.path
+path_of (InitLabelled l g t grace) = l.path
 path_of (InitResource r g) = r.path
 path_of (ReadLeader r g) = r.path
 path_of (Upgrade r g) = r.path
@@ -107,6 +116,7 @@ pub record Reads (k : Look) (content after : Option (List ℕ)) (lines : List (L
 -- How an action may go on an area: what it leaves there, and the lines that it has to print.
 abbrev pub Acts : Action → Option (List ℕ) → Option (List ℕ) → List (List ℕ) → Directed → Type 0
 Acts (InitLockspace l g) = Writes (lockspace_writes (layout_of g) l.name l.offset) (lockspace_line l g.hosts)
+Acts (InitLabelled l g t grace) = Writes (labelled_writes (layout_of g) (label_for l g t grace) l.offset) (labelled_line l g.hosts t grace)
 Acts (InitResource r g) = Writes (resource_writes (layout_of g) r.lockspace r.name r.offset) (resource_line r g.hosts)
 Acts (ReadLeader r g) = Reads (leader_look r g.sector)
 Acts (Upgrade r g) = Upgrades r g

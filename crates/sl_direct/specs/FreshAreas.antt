@@ -4,6 +4,8 @@ use Rattle.sl_area.specs.AreaSizes.{Layout}
 use Rattle.sl_area.specs.AreaLayout.{block_offset, block_sectors, delta_offset, leader_offset, request_offset, value_offset}
 use Rattle.sl_area.specs.AreaRecords.{fresh_block_at, fresh_delta, fresh_leader, leader_record, no_request, no_value}
 use Rattle.sl_area.specs.Sectors.{SectorPlace}
+use Rattle.sl_label.specs.Labels.{label_record}
+use Rattle.sl_label.specs.declared.label.Label.{Label}
 use Rattle.sl_sector.specs.SectorLayouts.{spelling}
 use Rattle.sl_sector.specs.declared.sector.Rec.TheVariants.{DeltaIs, RequestIs, ValueIs}
 use Rattle.sl_sector.specs.declared.sector.Rec.{Rec}
@@ -30,6 +32,14 @@ delta_write g lockspace base id = write_of g.sector (delta_offset g base id) (De
 -- A lockspace: the record of each id.
 abbrev pub lockspace_writes : Layout → List ℕ → ℕ → List Write
 lockspace_writes g lockspace base = map (delta_write g lockspace base) (range_with_len 1 g.hosts)
+
+-- The label of a lockspace, in its place.
+abbrev pub label_write : Layout → ℕ → Label → Write
+label_write g base l = write_of g.sector (value_offset g base) (label_record l)
+
+-- A lockspace with its label, which is written last.
+abbrev pub labelled_writes : Layout → Label → ℕ → List Write
+labelled_writes g l base = lockspace_writes g l.lockspace base ++ label_write g base l ∷ []
 
 -- The cleared request, in its place.
 abbrev pub request_write : Layout → ℕ → Write

@@ -8,6 +8,7 @@ use Rattle.sl_sector.specs.declared.sector.Leader.{Leader}
 use Rattle.sl_sector.specs.declared.sector.Rec.TheVariants.{LeaderIs, PairLeaderIs}
 use Rattle.sl_sector.specs.declared.sector.Rec.{Rec}
 use Rattle.sl_text.specs.Forms.{coloned, spaced}
+use Rattle.sl_time.specs.Times.{TimingNumbers}
 use Rattle.sl_trace.specs.declared.command.LockspaceArg.{LockspaceArg}
 use Rattle.sl_trace.specs.declared.command.ResourceArg.{ResourceArg}
 use Rattle.std.specs.Prelude.{Bool, Err, List, Ok, Result, bytes_eq, codes, decimal, false, true, [], ℕ, ◌&&◌, ◌++◌, ◌+◌, ◌∷◌}
@@ -17,6 +18,14 @@ use Rattle.std.specs.Prelude.{Bool, Err, List, Ok, Result, bytes_eq, codes, deci
 -- `init LOCKSPACE HOSTS`
 abbrev pub lockspace_line : LockspaceArg → ℕ → List ℕ
 lockspace_line l hosts = spaced (codes "init" ∷ l.name ∷ decimal hosts ∷ [])
+
+-- The words of times.
+abbrev pub times_words : TimingNumbers → ℕ → List (List ℕ)
+times_words t grace = codes "time" ∷ decimal t.io ∷ decimal t.fire ∷ decimal t.land ∷ decimal t.rho ∷ decimal grace ∷ []
+
+-- `init LOCKSPACE HOSTS time IO FIRE LAND RHO GRACE`
+abbrev pub labelled_line : LockspaceArg → ℕ → TimingNumbers → ℕ → List ℕ
+labelled_line l hosts t grace = spaced (codes "init" ∷ l.name ∷ decimal hosts ∷ times_words t grace)
 
 -- `init LOCKSPACE:RESOURCE HOSTS`
 abbrev pub resource_line : ResourceArg → ℕ → List ℕ

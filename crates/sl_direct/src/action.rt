@@ -5,6 +5,7 @@ ghost use Rattle.std.specs.Prelude.{◌≡◌};
 
 use sl_area::Geometry;
 use sl_text::FilePath;
+use sl_time::Timing;
 use sl_trace::{LockspaceArg, ResourceArg};
 
 /// An action on an area. Paths name the file that is acted on; offsets are bytes from its start. The geometry says how long a sector and
@@ -15,6 +16,14 @@ pub enum Action {
     InitLockspace {
         lockspace: LockspaceArg,
         geometry: Geometry,
+    },
+    /// Writes the sectors of a lockspace, and its label behind them, in the last sector of the area: the times of all its hosts, and how long a holder
+    /// has between term and kill, in milliseconds, at most 600000.
+    InitLabelled {
+        lockspace: LockspaceArg,
+        geometry: Geometry,
+        timing: Timing,
+        grace: u64,
     },
     /// Writes the sectors of a resource, each block with a pair of sectors where the geometry says so.
     InitResource {
@@ -49,6 +58,12 @@ impl Action {
             Action::InitLockspace {
                 lockspace,
                 geometry: _,
+            } => lockspace.path,
+            Action::InitLabelled {
+                lockspace,
+                geometry: _,
+                timing: _,
+                grace: _,
             } => lockspace.path,
             Action::InitResource {
                 resource,

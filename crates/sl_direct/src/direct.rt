@@ -8,6 +8,7 @@ ghost use Rattle.std.specs.Prelude.{[], ◌++◌, ◌≡◌, ◌≤◌};
 
 use crate::action::{Action, Directed};
 use crate::fresh_areas::{init_lockspace, init_resource};
+use crate::labelled::init_labelled;
 use crate::looks::{dump, read_leader};
 use crate::upgrade::upgrade;
 use sl_area::Area;
@@ -27,6 +28,12 @@ fn act<A: Area>(area: &mut A, action: &Action, out: &mut Vec<u8>) -> Directed
             lockspace,
             geometry,
         } => init_lockspace(area, lockspace, *geometry, out),
+        Action::InitLabelled {
+            lockspace,
+            geometry,
+            timing,
+            grace,
+        } => init_labelled(area, lockspace, *geometry, *timing, *grace, out),
         Action::InitResource { resource, geometry } => {
             init_resource(area, resource, *geometry, out)
         }

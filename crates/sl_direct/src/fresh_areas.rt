@@ -60,7 +60,7 @@ fn write_delta<A: Area>(
 }
 
 /// Writes the sectors of a lockspace. After an `Err` a front of them was written, and the next one may be torn.
-fn write_lockspace<A: Area>(
+pub(crate) fn write_lockspace<A: Area>(
     area: &mut A,
     geometry: Geometry,
     lockspace: Name,

@@ -26,7 +26,10 @@
 //! | `NoMemory` | as it was | the lines of the sectors that were told before |
 //! | `WriteFault` | as one of these left it | a front of its output |
 //!
-//! `fresh_areas` writes, with the records of `fresh_records`; `upgrade` reads and writes; `looks` reads; `lines` has the lines; `direct` puts them out. The clause of `run_direct` is
+//! A lockspace may be given a label: what all its hosts must have in common, in the area's last sector, which is written behind all others. An initialising
+//! without one leaves that sector as it was.
+//!
+//! `fresh_areas` writes, with the records of `fresh_records`; `labelled` writes the label; `upgrade` reads and writes; `looks` reads; `lines` has the lines; `direct` puts them out. The clause of `run_direct` is
 //! the table (`Directs` in specs/Actions.antt), and `laws` says what it comes to: which records stand, that the leader stands last, that a
 //! leader is told exactly where it is the resource's, and that what was initialised is found.
 #![tactic(auto)]
@@ -35,6 +38,7 @@ pub mod action;
 mod direct;
 mod fresh_areas;
 mod fresh_records;
+mod labelled;
 pub mod laws;
 mod lines;
 mod looks;

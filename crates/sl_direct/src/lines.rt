@@ -10,6 +10,7 @@ ghost use Rattle.std.specs.Prelude.{IfOk, OnErr, OnOk, [], length, string_bytes,
 use sl_area::Geometry;
 use sl_sector::{Bad, Leader, Rec, decode, push_bad_text, push_record_text};
 use sl_text::write::push_line;
+use sl_time::Timing;
 use sl_trace::{LockspaceArg, ResourceArg};
 use std::alloc::{AllocError, Global};
 
@@ -24,6 +25,31 @@ pub(crate) fn push_lockspace_line(
 {
     let hosts = geometry.hosts();
     let line = format!(in *out.allocator(); "init {} {hosts}", lockspace.name)?;
+    push_line(out, line.as_bytes())
+}
+
+/// The words of times, behind which their lockspace was initialised.
+fn times_text(alloc: Global, timing: Timing, grace: u64) -> Result<String, AllocError>
+    ensures { IfOk result (λ text. string_bytes text ≡ spaced (texts.times_words timing grace)) }
+{
+    let (io, fire, land, rho) = (timing.io(), timing.fire(), timing.land(), timing.rho());
+    format!(in alloc; "time {io} {fire} {land} {rho} {grace}")
+}
+
+/// Adds the line of a lockspace that is initialised and given a label.
+pub(crate) fn push_labelled_line(
+    out: &mut Vec<u8>,
+    lockspace: &LockspaceArg,
+    geometry: Geometry,
+    timing: Timing,
+    grace: u64,
+) -> Result<(), AllocError>
+    ensures ok { OnOk result (out.new.items ≡ out.old.items ++ texts.labelled_line lockspace.now geometry.hosts timing grace ++ 10 ∷ []) }
+    ensures err { OnErr result (out.new.items ≡ out.old.items) }
+{
+    let hosts = geometry.hosts();
+    let times = times_text(*out.allocator(), timing, grace)?;
+    let line = format!(in *out.allocator(); "init {} {hosts} {times}", lockspace.name)?;
     push_line(out, line.as_bytes())
 }
 

@@ -1,6 +1,4 @@
 -- The same of the laws themselves, on literal traces: no lawful trace has these entries.
-use Rattle.sl_area.specs.AreaSizes.{layout_with, sector_with}
-use Rattle.sl_area.specs.AreaRecords.{no_request}
 use Rattle.sl_due.specs.Due.{after_input, before_input, due, due_step}
 use Rattle.sl_due.specs.DueAnswers.{after_answer, after_answer_of}
 use Rattle.sl_due.specs.DueCommands.{after_end, carry_decision, decided, on_line}
@@ -11,8 +9,6 @@ use Rattle.sl_due.specs.DueInputs.{leave_holdings, on_exit, on_spawned, take_inp
 use Rattle.sl_due.specs.CarriedLease.{after_lease_answer, carry_lease, settle}
 use Rattle.sl_due.specs.DueRequests.{after_request_read, after_see_request, after_value_read, request_refusal}
 use Rattle.sl_due.specs.DueWake.{finish, finish_session, join_on_wake, on_wake, renew_on_wake, settle_on_wake, settlings}
-use Rattle.sl_examples.specs.CheapDigest.{cheap_digest}
-use Rattle.sl_examples.specs.HandmadeTraces.{block, leader, quiet_entry, reads, with_calls, with_moves, writes}
 use Rattle.sl_run.specs.LawfulArea.{LawfulArea, open_block_work}
 use Rattle.sl_run.specs.LawfulDelta.{LawfulDelta, LawfulRenewal}
 use Rattle.sl_run.specs.LawfulParting.{LawfulParting, MayPart}
@@ -31,68 +27,22 @@ use Rattle.sl_run.specs.Premises.{pass_tests}
 use Rattle.sl_run.specs.EventChanges.{first_change}
 use Rattle.sl_run.specs.Locks.{locks_after, told_effects}
 use Rattle.sl_run.specs.Worlds.{initial_record, machine_of_header}
-use Rattle.sl_sector.specs.Bitmaps.{no_bits}
 use Rattle.sl_sector.specs.FieldBytes.{u32_at, u32_bytes, u64_at, u64_bytes}
 use Rattle.sl_sector.specs.SectorLayouts.{block_rules, checked_part, decoded, delta_rules, field_bytes, fields_of, leader_rules, magic, own_rules, request_rules, spelling, value_rules}
 use Rattle.sl_sector.specs.declared.sector.DeltaRec.{DeltaRec}
-use Rattle.sl_sector.specs.declared.sector.DeltaState.TheVariants.{Live}
-use Rattle.sl_sector.specs.declared.sector.Rec.TheVariants.{DeltaIs, RequestIs}
 use Rattle.sl_trace.specs.DeltaDecisions.{next_after_deciding, next_after_first, next_after_verify, next_after_watch, next_in_joining, next_on_wake, next_renewal}
-use Rattle.sl_trace.specs.declared.session.Session.{Session}
 use Rattle.sl_text.specs.Names.{padded_text}
-use Rattle.sl_trace.specs.CommandForms.{command_in, forms}
+use Rattle.sl_trace.specs.CommandForms.{forms}
 use Rattle.sl_trace.specs.EffectTexts.{reply_words}
-use Rattle.sl_trace.specs.Traces.{Setting, Submitted, new_call}
-use Rattle.sl_trace.specs.declared.effects.Call.{Call}
-use Rattle.sl_trace.specs.declared.effects.Entry.{Entry}
-use Rattle.sl_trace.specs.declared.effects.LeaseStep.TheVariants.{Phase1Write, ReadArea}
-use Rattle.sl_trace.specs.declared.effects.Move.TheVariants.{Unregister}
-use Rattle.sl_trace.specs.declared.effects.Purpose.TheVariants.{Lease, Renewal}
-use Rattle.sl_trace.specs.declared.effects.Work.TheVariants.{ForJob, Settling}
-use Rattle.sl_trace.specs.declared.input.Answer.TheVariants.{Read}
-use Rattle.sl_trace.specs.declared.input.Input.TheVariants.{Answer as Told, Line, Wake}
+use Rattle.sl_trace.specs.Traces.{Submitted, new_call}
 use Rattle.std.proofs.Common.{ap, arith}
 use Rattle.std.specs.Fmt.{digits}
 use Rattle.std.specs.Option.{option_map_or}
-use Rattle.std.specs.Prelude.{Bool, List, None, Option, Some, codes, false, length, refl, true, [], ℕ, ◌++◌, ◌∷◌, ◌≡◌}
+use Rattle.std.specs.Prelude.{Bool, None, Option, Some, codes, false, length, refl, true, [], ℕ, ◌∷◌, ◌≡◌}
 use mathlib.Core.Logic.{inl, inr}
-
-abbrev st : Setting
-st =
-    record {
-      timing = record { io = 100; fire = 600; land = 100; rho = 0 };
-      grace = 300;
-      layout = layout_with cheap_digest (record { sector = 512; area = 1048576; hosts = 2; paired = false });
-      machine = 1;
-      name = codes "a";
-      first = record { call = 1; job = 1 };
-      given = record { lockspace = codes "ls"; id = 1; path = codes "/d"; offset = 0; renewed = 0 } ∷ [];
-      read = command_in (forms (layout_with cheap_digest (record { sector = 512; area = 1048576; hosts = 2; paired = false })));
-    }
-
-abbrev session_a : Session
-session_a =
-    record { number = 0; job = None; lockspace = codes "ls"; id = 1; path = codes "/d"; offset = 0; renewed = 0 }
-
--- the area as it was at first
-abbrev fresh_area : List ℕ
-fresh_area =
-    sector_with st.layout (leader false 0 0 0 (codes "ls")) ++ sector_with st.layout (RequestIs no_request)
-    ++ sector_with st.layout (block 1 false 0 0 0 0 0) ++ sector_with st.layout (block 2 false 0 0 0 0 0)
-
-abbrev asked : Entry
-asked = with_calls (reads 1 (Lease (ForJob 1) (ReadArea (codes "r"))) 1048576 4 ∷ []) (quiet_entry 0 (Line (codes "acquire -r ls:r:/d:1048576 -p 7")))
-
-abbrev begun : Entry
-begun = with_calls (writes 2 (Lease (ForJob 1) Phase1Write) 1049600 (block 1 false 1 1 0 0 0) ∷ []) (quiet_entry 0 (Told 1 (Read fresh_area)))
+use Rattle.sl_examples.specs.RefusedByLaw.{LawsRefuse, asked, begun, removing, renewing_entry, second, second_call, session_a, st, stale_call}
 
 -- ---- a second block write while the first is unanswered
-
-abbrev second_call : Call
-second_call = writes 3 (Lease Settling Phase1Write) 1049600 (block 1 false 1 3 0 0 0)
-
-abbrev second : Entry
-second = with_calls (second_call ∷ []) (quiet_entry 100 Wake)
 
 pub not_alone : LawfulArea st (begun ∷ asked ∷ []) second → ⊥
 unfolding after_answer after_answer_of after_bytes after_end after_free after_input after_join_answer after_lease_answer after_renewal after_request_read after_see_request after_survey after_value_read area_next before_input begin_next begin_recoveries begin_recovery begins block_rules carry_decision carry_delta carry_lease checked_part count_event decided decoded delta_rules digits due due_step event_forms event_tests field_bytes fields_of finish finish_session first_change forms goes_on_with header_forms header_of header_tests initial_record instance_of join_on_wake kill_holders kills known leader_rules lease_next leave_holdings locks_after lvm_forms lvm_turn machine_of_header magic next_after_deciding next_after_first next_after_verify next_after_watch next_in_joining next_on_wake next_renewal on_exit on_line on_spawned on_wake own_rules padded_text pass_tests phase1_block phase2_block refuse renew_on_wake reply_words request_refusal request_rules see_requests settle settle_begin settle_next settle_on_wake settlings signal_and_refuse spelling stop_of take_input time_out time_outs told_effects u32_at u32_bytes u64_at u64_bytes value_rules within_turn
@@ -103,9 +53,6 @@ not_alone h =
     omega (arith, wrong)
 
 -- ---- a removal of an idle session's connection
-
-abbrev removing : Entry
-removing = with_moves (Unregister (codes "ls") ∷ []) (quiet_entry 0 Wake)
 
 -- neither recovery nor a free's answer stands behind the end
 no_reason : MayPart st [] removing session_a → ⊥
@@ -119,15 +66,6 @@ not_parted h = no_reason (h.parts_well session_a (0, omega arith, refl) refl ref
 
 -- ---- a renewal with an old seq
 
-abbrev stale : DeltaRec
-stale = record { state = Live; id = 1; generation = 1; seq = 1; stamp = 200; lockspace = codes "ls"; host = Some (codes "a"); bitmap = no_bits }
-
-abbrev stale_call : Call
-stale_call = writes 1 Renewal 0 (DeltaIs stale)
-
-abbrev renewing_entry : Entry
-renewing_entry = with_calls (stale_call ∷ []) (quiet_entry 200 Wake)
-
 abbrev seq_of : Option DeltaRec → ℕ
 seq_of o = option_map_or (λ d. d.seq) o 0
 
@@ -138,3 +76,7 @@ not_rising h =
     h.calls 0 stale_call session_a refl refl in
     let wrong : ◌≡◌ {A = ℕ} 1 2 = ap seq_of lawful.written in
     omega (arith, wrong)
+
+-- All of them.
+pub laws_refuse : LawsRefuse
+laws_refuse = record { not_alone = not_alone; not_parted = not_parted; not_rising = not_rising }

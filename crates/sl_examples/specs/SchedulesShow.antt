@@ -1,4 +1,5 @@
 -- What the worked schedules show.
+use Rattle.sl_examples.specs.LaterSchedules.{conversion_refused, converted_both_ways, group_lock, kill_program_by_request, kill_program_not_started, orphan_kept, orphan_stops_leaving, volume_held_elsewhere}
 use Rattle.sl_examples.specs.OwnTraces.{exit_of_none, keeps_all, on_own_area}
 use Rattle.sl_examples.specs.RefusedLines.{refused_events, refused_headers, tears}
 use Rattle.sl_examples.specs.WorkedSchedules.{acquire_and_release, answer_after_its_session, crash_with_holder, failing, late_landing, leaving, owner_reset_then_taken_over, recovery, recovery_with_write, refusals, request, rival, settled_win, shared, torn_phase2, torn_twice, torn_value, torn_with_pairs, two_claims}
@@ -26,6 +27,10 @@ pub record TracesKeepLaws : Type 0 where
   pub ending : failing keeps_laws (recovery ∷ leaving ∷ late_landing ∷ []) ≡ []
   pub asking : failing keeps_laws (request ∷ torn_value ∷ []) ≡ []
   pub pairs : failing keeps_laws (torn_with_pairs ∷ torn_twice ∷ []) ≡ []
+  pub orphans : failing keeps_laws (orphan_kept ∷ orphan_stops_leaving ∷ []) ≡ []
+  pub conversions : failing keeps_laws (converted_both_ways ∷ conversion_refused ∷ []) ≡ []
+  pub programs : failing keeps_laws (kill_program_not_started ∷ kill_program_by_request ∷ []) ≡ []
+  pub locks : failing keeps_laws (group_lock ∷ volume_held_elsewhere ∷ []) ≡ []
 
 -- What is due on literal answers, of which a world would not give each, keeps each law too.
 pub record LiteralTracesKeepLaws : Type 0 where
@@ -44,6 +49,8 @@ pub record RunsStaySafe : Type 0 where
   pub ending : failing stays_safe (recovery ∷ late_landing ∷ []) ≡ []
   pub asking : failing stays_safe (request ∷ []) ≡ []
   pub pairs : failing stays_safe (torn_with_pairs ∷ torn_twice ∷ []) ≡ []
+  pub orphans : failing stays_safe (orphan_kept ∷ orphan_stops_leaving ∷ []) ≡ []
+  pub conversions : failing stays_safe (converted_both_ways ∷ conversion_refused ∷ []) ≡ []
 
 -- Lines are refused, each by its own text.
 pub record LinesAreRefused : Type 0 where

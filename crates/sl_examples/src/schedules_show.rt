@@ -1,6 +1,8 @@
 //! What the worked schedules show.
 
 ghost use Rattle.sl_examples.specs.QuietShown.{QuietPremisesTell};
+ghost use Rattle.sl_examples.specs.RefusedByLaw.{LawsRefuse};
+ghost use Rattle.sl_examples.specs.RefusedTraces.{TracesAreRefused};
 ghost use Rattle.sl_examples.specs.SettingsMatter.{SettingsMatter};
 ghost use Rattle.sl_examples.specs.SchedulesShow.{SchedulesReplay, TracesKeepLaws, LiteralTracesKeepLaws, RunsStaySafe, LinesAreRefused};
 
@@ -17,6 +19,17 @@ pub fn traces_keep_laws()
 /// What is due on literal answers, of which a world would not give each, keeps each law too.
 pub fn literal_traces_keep_laws()
     ensures { LiteralTracesKeepLaws }
+{}
+
+/// Traces that looser laws would let pass are refused, each by the law that is to refuse it: overlapping block writes, a free before the mode
+/// block, an instance below the own block, a torn block passed over, two lockspaces on one resource, ..
+pub fn traces_are_refused()
+    ensures { TracesAreRefused }
+{}
+
+/// The same of the laws themselves, on literal traces: no lawful trace has these entries.
+pub fn laws_refuse()
+    ensures { LawsRefuse }
 {}
 
 /// These runs are safe after each event: tests of what safety says of a world.

@@ -8,3 +8,4 @@ pub mod LeasesAreCounted
 pub mod ListsAreTold
 pub mod DecisionsAre
 pub mod CommandsDecided
+pub mod ValueSeqs

@@ -5,3 +5,4 @@ pub mod Seats
 pub mod CommandRefusals
 pub mod ListMemory
 pub mod ToldSessions
+pub mod LastVersions

@@ -22,13 +22,12 @@ ghost use Rattle.sl_words.specs.Words.{is_empty};
 ghost use Rattle.std.specs.Prelude.{IfSome, is_some, true, ◌<◌, ◌≡◌, ◌≤◌};
 
 use crate::line_answers::begin;
-use crate::line_grants::end_of;
 use sl_host::Host;
 use sl_host_work::{carry_lease, converting_next, releasing_next};
 use sl_member::Member;
 use sl_tables::Holder;
 use sl_text::Name;
-use sl_trace::{Command, Grant, LeaseNext, Mode, Reply, ResourceArg, Session, Spot, Work};
+use sl_trace::{Command, Grant, LeaseNext, Mode, Reply, ResourceArg, Session, Spot, Work, end_of};
 
 /// The area of a holding.
 fn spot_of_grant(grant: &Grant) -> Spot

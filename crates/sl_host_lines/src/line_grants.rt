@@ -5,25 +5,12 @@ ghost use Rattle.sl_host_law.specs.Steps.LineSteps.{deciding};
 ghost use Rattle.sl_host_lines.specs.LineFacts.{IsTimely};
 ghost use Rattle.sl_trace.specs.Traces.{end_of};
 ghost use Rattle.sl_host.specs.Host.{Becomes, SameRun, Spends};
-ghost use Rattle.std.specs.Prelude.{◌≡◌, ◌≤◌};
+ghost use Rattle.std.specs.Prelude.{◌≤◌};
 
 use crate::line_answers::begin;
 use sl_host::Host;
 use sl_host_work::grant_for;
-use sl_trace::{Command, End, Grant, Mode, Session};
-
-/// The end that ends this holding, with the names of its grant.
-pub(crate) fn end_of(grant: &Grant) -> End
-    ensures { result ≡ end_of grant.now }
-{
-    End {
-        process: grant.process,
-        lockspace: grant.lockspace,
-        resource: grant.resource,
-        path: grant.path,
-        offset: grant.offset,
-    }
-}
+use sl_trace::{Command, Grant, Mode, Session, end_of};
 
 /// A shared holding is granted beside another, under its instance.
 pub(crate) fn share(host: &mut Host, command: &Command, session: &Session, lver: u64)

@@ -3,20 +3,19 @@
 ghost use Rattle.sl_host_lines.specs.CommandRefusals.{get_in, getting, set_in, setting};
 ghost use Rattle.sl_host_law.specs.Decisions.CommandDecisions.{member_named, member_sets, value_seq, with_member};
 ghost use Rattle.sl_host_state.specs.MadeEffects.{is_lease_on};
+ghost use Rattle.sl_host_lines.specs.LastVersions.{last_version};
 ghost use Rattle.sl_host.specs.BookQuestions.{state_in};
-ghost use Rattle.sl_words.specs.Words.{choose};
-ghost use Rattle.std.specs.Option.{option_map_or};
-ghost use Rattle.std.specs.Prelude.{find, option_and_then, ◌%◌, ◌==◌, ◌≡◌};
+ghost use Rattle.std.specs.Prelude.{find, option_and_then, ◌%◌, ◌≡◌};
 
 use crate::command_refusals::{holder_refused, member_named, spot_of};
 use crate::held_on_area::{exclusive_holding, holding};
 use sl_due::Decision;
 use sl_host::Host;
-use sl_host_state::ValuePair;
 use sl_member::Member;
 use sl_sector::ValueRec;
 use sl_text::Data;
 use sl_trace::{Grant, Limited, Reply, ResourceArg, Spot};
+use sl_value::{Version, next_seq};
 
 /// The read of a value, if there is a holding.
 fn gets_value(member: &Member, spot: Spot, held: Option<Grant>) -> Decision
@@ -47,36 +46,30 @@ pub(crate) fn decide_get(host: &Host, resource: &ResourceArg, process: u32) -> D
     gets_value(member, at, held)
 }
 
-/// Version and seq of the value that the member submitted last on an area.
-fn last_value(member: &Member, at: &Spot) -> Option<ValuePair>
-    ensures { result ≡ option_and_then (λ l. l.value) (find (is_lease_on at.now) member.now.state.leases) }
+/// The version of the value that the member submitted last on an area.
+fn last_version(member: &Member, at: &Spot) -> Option<Version>
+    ensures { result ≡ last_version (option_and_then (λ l. l.value) (find (is_lease_on at.now) member.now.state.leases)) }
 {
-    match member.lease(at) {
-        Some(lease) => lease.value(),
-        None => None,
-    }
-}
-
-/// The seq of a value of this version, and 0.
-fn seq_under(value: Option<ValuePair>, lver: u64) -> u64
-    ensures { result ≡ option_map_or (λ v. v.seq) (option_and_then (λ v. choose (v.lver == lver) v) value) 0 }
-{
-    match value {
-        Some(value) => { if value.lver == lver { value.seq } else { 0 } }
-        None => 0,
-    }
+    let value = match member.lease(at) {
+        Some(lease) => lease.value()?,
+        None => return None,
+    };
+    Some(Version {
+        lver: value.lver,
+        seq: value.seq,
+    })
 }
 
 /// The value is written under a holding, with the next seq, unless that would pass its limit.
+#[tactic(auto, using(crate::proofs::ValueSeqs::next_is, crate::proofs::ValueSeqs::is_set, crate::proofs::ValueSeqs::is_refused))]
 fn writes(member: &Member, at: &Spot, held: &Grant, bytes: Data) -> Decision
     ensures { result ≡ member_sets member.now.state at.now held.now (value_seq member.now.state at.now held.now.lver) bytes }
 {
-    let last = seq_under(last_value(member, at), held.lver);
-    if last >= (1 << 63) - 1 {
+    let Some(seq) = next_seq(last_version(member, at), held.lver) else {
         return Decision::Replies(Reply::Limit {
             which: Limited::Seq,
         });
-    }
+    };
     let who = member.who();
     Decision::SetsValue {
         session: *who,
@@ -84,7 +77,7 @@ fn writes(member: &Member, at: &Spot, held: &Grant, bytes: Data) -> Decision
         value: ValueRec {
             host: who.id,
             lver: held.lver,
-            seq: last + 1,
+            seq,
             bytes,
         },
     }

@@ -11,7 +11,7 @@ ghost use Rattle.std.specs.Prelude.{false, length, ◌+◌, ◌<◌, ◌==◌, �
 
 use sl_host::{Host, Notes};
 use sl_text::Name;
-use sl_trace::{End, Grant, Move, Spot};
+use sl_trace::{Grant, Move, Spot, end_of, orphan_of};
 
 /// The lockspace's connection is removed, if it stands.
 pub fn remove_connection(host: &mut Host, lockspace: &Name)
@@ -24,36 +24,6 @@ pub fn remove_connection(host: &mut Host, lockspace: &Name)
         host.move_on(Move::Unregister {
             lockspace: *lockspace,
         });
-    }
-}
-
-/// The end of a holding.
-fn end_of(grant: &Grant) -> End
-    ensures { result ≡ end_of grant.now }
-{
-    End {
-        process: grant.process,
-        lockspace: grant.lockspace,
-        resource: grant.resource,
-        path: grant.path,
-        offset: grant.offset,
-    }
-}
-
-/// The holding as the machine's orphan.
-fn orphan_of(grant: &Grant) -> Grant
-    ensures { result ≡ orphan_of grant.now }
-{
-    Grant {
-        process: 0,
-        session: grant.session,
-        lockspace: grant.lockspace,
-        resource: grant.resource,
-        path: grant.path,
-        offset: grant.offset,
-        mode: grant.mode,
-        lver: grant.lver,
-        persistent: grant.persistent,
     }
 }
 

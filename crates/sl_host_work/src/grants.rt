@@ -14,7 +14,7 @@ ghost use Rattle.std.specs.Prelude.{false, not, ◌≡◌, ◌≤◌};
 use sl_host::Host;
 use sl_tables::Holder;
 use sl_text::FilePath;
-use sl_trace::{Command, End, Grant, Mode, Reply, ResourceArg, Session, Spot, Start, Work};
+use sl_trace::{Command, Grant, Mode, Reply, ResourceArg, Session, Spot, Start, Work, end_of};
 
 /// A grant under the session, with the names of the command.
 fn grant_of(
@@ -37,19 +37,6 @@ fn grant_of(
         mode,
         lver,
         persistent,
-    }
-}
-
-/// The end of a holding.
-fn end_of(grant: &Grant) -> End
-    ensures { result ≡ end_of grant.now }
-{
-    End {
-        process: grant.process,
-        lockspace: grant.lockspace,
-        resource: grant.resource,
-        path: grant.path,
-        offset: grant.offset,
     }
 }
 

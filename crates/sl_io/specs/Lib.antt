@@ -3,5 +3,4 @@ pub mod FaultCounts
 pub mod Planned
 pub mod TakenBytes
 pub mod MemStreams
-pub mod ReadSources
 pub mod Adapters

@@ -21,7 +21,7 @@ pub use mem_sink::MemSink;
 pub use mem_source::MemSource;
 pub use planned::PlannedFaults;
 pub use reader::ReadSource;
-pub use reading::{ReadAll, ReadAllError, fill, read_all};
+pub use reading::fill;
 pub use sink::Sink;
 pub use source::Source;
 pub use writer::WriteSink;

@@ -7,7 +7,7 @@ use Rattle.sl_cell.specs.Histories.{Signed}
 use Rattle.sl_cell.specs.Seats.{SeatState}
 use Rattle.sl_cell.specs.Told.{Gave}
 use Rattle.sl_live.proofs.TurnLaws.{grows_none, grows_on}
-use Rattle.sl_live.specs.CarriedOut.{AreCarried, AreMarked, HasSignalled, IsLet, IsQueue, Kept, TookStart, acts_along, acts_at, after_all, after_moment, as_moment, entries_in, is_childless, is_named, kept_in, late_kill, no_children, start_of, starts_of, with_effects, with_told}
+use Rattle.sl_live.specs.CarriedOut.{AreCarried, AreMarked, HasSignalled, IsLet, IsQueue, Kept, TookStart, acts_along, acts_at, after_all, after_moment, as_moment, entries_in, is_childless, is_for, is_named, is_next, kept_in, late_kill, no_children, start_of, starts_of, with_effects, with_told}
 use Rattle.sl_live.specs.Turns.{Carries, ChildrenState, Does, Guards, IsQuiet, TellsExit, TellsStart, MakesTurn, doomed, is_lapsed, kill_of, marked, names, number_of, ordered, sent_by, told_off, without}
 use Rattle.sl_live.specs.declared.children.Awaited.{Awaited}
 use Rattle.sl_outside.specs.Acts.{Grows, Tells}
@@ -25,6 +25,18 @@ use Rattle.std.proofs.lemmas.List.{map-append}
 use Rattle.std.specs.List.{position, remove}
 use Rattle.std.specs.Prelude.{Bool, IsSomeAnd, List, None, Option, Some, cond, drop, false, if◌then◌else◌, is_some, length, map, nat_lt, not, slice_get, true, [], ℕ, ◌&&◌, ◌++◌, ◌+◌, ◌==◌, ◌||◌, ◌∷◌, ◌≡◌, ◌≤◌, ◌⊎◌}
 use mathlib.Core.List.{IsPrefix}
+
+-- ---- counts and numbers that were compared
+
+pub one_more : {X : Type 0} (before now : List X) (next : Bool) → next ≡ is_next before now → next ≡ true → length now ≡ length before + 1
+one_more before now next is so = grind (arith, nat_tests)
+
+pub for_some : (process : ℕ) (o : Option Awaited) (first : Bool) → first ≡ is_for process o → first ≡ true → IsSomeAnd o (λ w. w.start.process ≡ process)
+for_some process None first is so = absurd cc
+for_some process (Some w) first is so = grind (arith, nat_tests)
+
+pub counted_more : (before now : ℕ) (counted : Bool) → counted ≡ (now == before + 1) → counted ≡ true → now ≡ before + 1
+counted_more before now counted is so = grind (arith, nat_tests)
 
 -- ---- what a spawner tells
 

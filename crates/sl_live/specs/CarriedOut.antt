@@ -6,6 +6,7 @@ use Rattle.sl_cell.specs.Seats.{SeatState}
 use Rattle.sl_live.specs.Turns.{ChildrenState, doomed, is_doomed, kill_of, marked, names, number_of, ordered, sent_by, told_off, without}
 use Rattle.sl_live.specs.declared.carried.Due.{Due}
 use Rattle.sl_live.specs.declared.children.Awaited.{Awaited}
+use Rattle.sl_live.specs.declared.steps.Told.{Told}
 use Rattle.sl_outside.specs.Acts.{Tells}
 use Rattle.sl_outside.specs.declared.act.Act.TheVariants.{Started}
 use Rattle.sl_outside.specs.declared.act.Act.{Act}
@@ -13,9 +14,9 @@ use Rattle.sl_trace.specs.Traces.{Setting, is_expected}
 use Rattle.sl_trace.specs.declared.effects.Effects.{Effects}
 use Rattle.sl_trace.specs.declared.effects.Entry.{Entry}
 use Rattle.sl_trace.specs.declared.effects.Start.{Start}
-use Rattle.sl_trace.specs.declared.input.Input.TheVariants.{Answer as Told, Exit, Line, Number, Spawned, Wake}
+use Rattle.sl_trace.specs.declared.input.Input.TheVariants.{Answer as Answered, Exit, Line, Number, Spawned, Wake}
 use Rattle.sl_trace.specs.declared.input.Input.{Input}
-use Rattle.std.specs.Prelude.{Bool, List, None, Option, Some, drop, false, if◌then◌else◌, length, map, slice_get, true, [], ℕ, ◌&&◌, ◌++◌, ◌+◌, ◌||◌, ◌∷◌, ◌≡◌, ◌≤◌, ◌⊎◌}
+use Rattle.std.specs.Prelude.{Bool, Err, List, None, Ok, Option, Result, Some, drop, false, if◌then◌else◌, is_some, length, map, option_map, slice_get, true, [], ℕ, ◌&&◌, ◌++◌, ◌+◌, ◌<◌, ◌==◌, ◌^◌, ◌||◌, ◌∷◌, ◌≡◌, ◌≤◌, ◌⊎◌}
 use mathlib.Core.List.{IsPrefix}
 
 -- ---- the children that a history makes
@@ -32,7 +33,7 @@ no_children = record { numbers = []; awaited = [] }
 abbrev pub is_childless : Input → Bool
 is_childless (Line text) = true
 is_childless (Number text) = true
-is_childless (Told call answer) = true
+is_childless (Answered call answer) = true
 is_childless Wake = true
 is_childless (Exit process) = false
 is_childless (Spawned process ok) = false
@@ -41,7 +42,7 @@ is_childless (Spawned process ok) = false
 abbrev pub with_told : Kept → Input → Kept
 with_told k (Line text) = k
 with_told k (Number text) = k
-with_told k (Told call answer) = k
+with_told k (Answered call answer) = k
 with_told k Wake = k
 with_told k (Exit process) = record { numbers = without process k.numbers; awaited = k.awaited }
 with_told k (Spawned process ok) = record { numbers = if ok then k.numbers else without process k.numbers; awaited = told_off process k.awaited }
@@ -50,7 +51,7 @@ with_told k (Spawned process ok) = record { numbers = if ok then k.numbers else 
 abbrev pub late_kill : Kept → Input → List Act
 late_kill k (Line text) = []
 late_kill k (Number text) = []
-late_kill k (Told call answer) = []
+late_kill k (Answered call answer) = []
 late_kill k Wake = []
 late_kill k (Exit process) = []
 late_kill k (Spawned process ok) = if ok && is_doomed process k.awaited then kill_of process ∷ [] else []
@@ -184,6 +185,61 @@ pub record AreCarried {P : Type 0} (told : P → Option (List Act)) (h : List En
 
 abbrev pub IsCarried : {P : Type 0} → (P → Option (List Act)) → CarriedState P → Type 0
 IsCarried told c = c.whole ≡ true → AreCarried told (entries c.front) c.taken c.killed c.children
+
+-- ---- what a call leaves of it
+
+-- Whether one entry more is seen now.
+abbrev pub is_next : {X : Type 0} → List X → List X → Bool
+is_next before now = length now == length before + 1
+
+-- Whether an awaited start, if there is one, is of this process.
+abbrev pub is_for : ℕ → Option Awaited → Bool
+is_for process w = elim w [ None ↦ false | Some w ↦ w.start.process == process ]
+
+-- Whether the start of this process is the one that is to be told next, by a seat that took just one more than were dealt with.
+abbrev pub is_due : {P : Type 0} → ℕ → SeatState → CarriedState P → Bool
+is_due process s c = is_for process (slice_get c.children.awaited 0) && (s.taken == c.taken + 1)
+
+-- An entry was given, so much of the history is seen now, and so many of its starts were dealt with. All this is still so just where it was, where the
+-- entry is the one behind the front, and where it fits.
+pub record Follows {P : Type 0} (fits : Bool) (taken : ℕ) (seen : List Signed) (c c' : CarriedState P) : Type 0 where
+  pub front : c'.front ≡ seen
+  pub taken_is : c'.taken ≡ taken
+  pub killed : c'.killed ≡ c.killed
+  pub whole : c'.whole ≡ (is_next c.front seen && (c.whole && fits))
+
+-- All but the children is as it was.
+pub record Rests {P : Type 0} (c c' : CarriedState P) : Type 0 where
+  pub front : c'.front ≡ c.front
+  pub taken : c'.taken ≡ c.taken
+  pub killed : c'.killed ≡ c.killed
+  pub whole : c'.whole ≡ c.whole
+
+-- .. but that it is not whole any more.
+pub record Falls {P : Type 0} (c c' : CarriedState P) : Type 0 where
+  pub front : c'.front ≡ c.front
+  pub taken : c'.taken ≡ c.taken
+  pub killed : c'.killed ≡ c.killed
+  pub whole : c'.whole ≡ false
+
+-- What a turn leaves that gave an entry which fits by what came of it, or gave none; or for which there was no memory.
+abbrev pub FollowsTurn : {P X E : Type 0} → (X → Bool) → List Signed → CarriedState P → CarriedState P → Result (Option X) E → Type 0
+FollowsTurn fits seen c c' (Ok (Some x)) = Follows (fits x) c.taken seen c c'
+FollowsTurn fits seen c c' (Ok None) = Rests c c'
+FollowsTurn fits seen c c' (Err e) = Falls c c'
+
+-- .. that told what a start came to.
+abbrev pub FollowsStart : {P E : Type 0} → ℕ → SeatState → List Signed → CarriedState P → CarriedState P → Result Told E → Type 0
+FollowsStart process s seen c c' (Ok t) = Follows (is_due process s c && is_some t.effects) s.taken seen c c'
+FollowsStart process s seen c c' (Err e) = Falls c c'
+
+-- A seat can't take the next start: this is not whole, the seat took others, it took all that can be counted, or it has seen what did not come here.
+abbrev pub IsApart : {P : Type 0} → CarriedState P → SeatState → Type 0
+IsApart c s = (c.whole ≡ false) ⊎ ((s.taken == c.taken) ≡ false) ⊎ (2 ^ 64 ≤ s.taken + 1) ⊎ (length c.front < length s.front)
+
+-- The start that is to be made next, if there is one.
+abbrev pub due_in : {P : Type 0} → CarriedState P → Option Due
+due_in c = option_map (λ (w : Awaited). record { awaited = w; killed = c.killed }) (slice_get c.children.awaited 0)
 
 -- The next start was taken, and whether it is marked: the one behind those that were dealt with, in what the seat has seen now.
 pub record TookStart (s s' : SeatState) (w : Awaited) (killed : Bool) : Type 0 where

@@ -10,11 +10,11 @@
 
 ghost use Rattle.sl_book.specs.Logs.{entries};
 ghost use Rattle.sl_cell.specs.Told.{IsTested};
-ghost use Rattle.sl_live.specs.CarriedOut.{HasSignalled, IsTakenStart, is_childless};
-ghost use Rattle.sl_live.specs.Turns.{Does, GivesUp, Guards, Looks, MakesTurn, TellsStart, doomed, kill_of};
+ghost use Rattle.sl_live.specs.CarriedOut.{FollowsStart, FollowsTurn, HasSignalled, IsApart, IsTakenStart, due_in, is_childless, is_for, is_next};
+ghost use Rattle.sl_live.specs.Turns.{Does, GivesUp, Guards, Looks, MakesTurn, TellsStart, doomed, is_lapsed, kill_of};
 ghost use Rattle.sl_outside.specs.Acts.{Tells};
 ghost use Rattle.sl_world_state.specs.Daemons.{read_of};
-ghost use Rattle.std.specs.Prelude.{Bool, IfOk, IfSome, IsSomeAnd, IsTrue, OnErr, OnOk, is_some, length, map, true, [], ℕ, ◌&&◌, ◌+◌, ◌==◌, ◌||◌, ◌≡◌, ◌≤◌};
+ghost use Rattle.std.specs.Prelude.{Bool, IfOk, IfSome, IsFalse, IsTrue, OnErr, OnOk, false, is_some, length, map, true, [], ℕ, ◌&&◌, ◌+◌, ◌==◌, ◌||◌, ◌≡◌, ◌≤◌};
 ghost use mathlib.Core.List.{IsPrefix};
 
 use crate::children::{Awaited, Children};
@@ -72,7 +72,7 @@ fn is_made(effects: &Option<Effects>) -> bool
 
 /// Whether the second count is the one behind the first.
 fn is_one_more(before: u64, now: u64) -> bool
-    ensures { IsTrue result → now ≡ before + 1 }
+    ensures { result ≡ (now == before + 1) }
 {
     now > before && now - before == 1
 }
@@ -81,7 +81,7 @@ fn is_one_more(before: u64, now: u64) -> bool
 fn follow<J: Station>(front: &mut Front<J>, seat: &Seat<J>) -> bool
     ensures moved { front.new ≡ seat.now.front }
     ensures behind { IsTrue result → IsPrefix front.old seat.now.front }
-    ensures one { IsTrue result → length seat.now.front ≡ length front.old + 1 }
+    ensures next { result ≡ is_next front.old seat.now.front }
 {
     let seen = seat.front();
     let next = front.is_behind(seen) && is_one_more(front.len(), seen.len());
@@ -89,9 +89,9 @@ fn follow<J: Station>(front: &mut Front<J>, seat: &Seat<J>) -> bool
     next
 }
 
-/// Whether an awaited start is of this process.
+/// Whether an awaited start, if there is one, is of this process.
 fn is_of(awaited: Option<Awaited>, process: u32) -> bool
-    ensures { IsTrue result → IsSomeAnd awaited (λ w. w.start.process ≡ process) }
+    ensures { result ≡ is_for process awaited }
 {
     match awaited {
         Some(awaited) => awaited.start.process == process,
@@ -127,7 +127,7 @@ impl<P: Spawner, J: Station> Carried<P, J> {
     pub fn new(alloc: Global, spawner: P, front: Front<J>) -> Carried<P, J>
         requires spawner { Tells (P.acts spawner) [] }
         requires front { front ≡ [] }
-        ensures spawner { result.children.spawner ≡ spawner }
+        ensures { result ≡ record { children = record { spawner = spawner; numbers = []; awaited = [] }; front = []; taken = 0; killed = false; whole = true } }
     {
         Carried {
             children: Children::new(alloc, spawner),
@@ -154,7 +154,9 @@ impl<P: Spawner, J: Station> Carried<P, J> {
 
     /// Whether the signals that were sent are those of this front's history: else another entry came between, which can't be.
     pub fn is_whole(&self, mine: &Front<J>) -> bool
-        ensures { IsTrue result → HasSignalled (entries mine.now) self.now.killed (P.acts self.now.children.spawner) }
+        ensures signals { IsTrue result → HasSignalled (entries mine.now) self.now.killed (P.acts self.now.children.spawner) }
+        ensures whole { IsTrue result → (self.now.whole ≡ true) × (self.now.front ≡ mine.now) }
+        ensures apart { IsFalse result → self.now.whole ≡ true → self.now.front ≡ mine.now → ⊥ }
     {
         self.whole && self.front.is_same(mine)
     }
@@ -167,20 +169,27 @@ impl<P: Spawner, J: Station> Carried<P, J> {
     }
 
     /// Takes the start that is to be made next, if there is one, for a thread that took all before it. `Broken` says that it took others, or that it
-    /// has seen what did not come here. The seat is as it was then.
+    /// has seen what did not come here, or that this is not whole. The seat is as it was then.
     pub fn take(&self, seat: &mut Seat<J>) -> Result<Option<Due>, Broken>
         ensures taken { IfOk result (λ o. IsTakenStart seat.old seat.new o) }
+        ensures due { IfOk result (λ o. o ≡ due_in self.now) }
         ensures broken { OnErr result (seat.new ≡ seat.old) }
+        ensures apart { OnErr result (IsApart self.now seat.old) }
     {
         let Some(awaited) = self.children.next() else {
             return Ok(None);
         };
         let before = seat.taken();
-        if !self.whole
-            || before != self.taken
-            || before == u64::MAX
-            || !seat.is_behind(&self.front)
-        {
+        if !self.whole {
+            return Err(Broken);
+        }
+        if before != self.taken {
+            return Err(Broken);
+        }
+        if before == u64::MAX {
+            return Err(Broken);
+        }
+        if !seat.is_behind(&self.front) {
             return Err(Broken);
         }
         seat.see(&self.front, before + 1);
@@ -203,6 +212,7 @@ impl<P: Spawner, J: Station> Carried<P, J> {
         requires { IfSome sectors (λ i. (call : ℕ) × (input ≡ read_of call i.now)) }
         ensures ok { IfOk result (λ fx. MakesTurn P.acts P.faults P.running J.setting (C.last clock.new) fx input self.old.children self.new.children seat.old seat.new) }
         ensures err { OnErr result (GivesUp (C.last clock.new) input self.old.children self.new.children seat.old seat.new) }
+        ensures beside { FollowsTurn (λ fx. is_childless input) seat.new.front self.old self.new result }
         ensures clock { C.last clock.old ≤ C.last clock.new }
     {
         let childless = is_childless(&input);
@@ -236,19 +246,20 @@ impl<P: Spawner, J: Station> Carried<P, J> {
             (MakesTurn P.acts P.faults P.running J.setting (C.last clock.new) t.effects) self.old.children self.new.children seat.old seat.new) }
         ensures err { OnErr result ((ok : Bool) × TellsStart P.acts P.faults P.running process child ok (GivesUp (C.last clock.new))
             self.old.children self.new.children seat.old seat.new) }
+        ensures beside { FollowsStart process seat.old seat.new.front self.old self.new result }
         ensures clock { C.last clock.old ≤ C.last clock.new }
     {
         let taken = seat.taken();
         let first = is_of(self.children.next(), process);
         let counted = is_one_more(self.taken, taken);
         let due = both(first, counted);
-        let before = both(self.whole, due);
         match spawned_step(rt, cell, seat, clock, &mut self.children, process, child) {
             Ok(told) => {
                 let next = follow(&mut self.front, seat);
                 let made = is_made(&told.effects);
-                let gave = both(next, made);
-                let whole = both(before, gave);
+                let fits = both(due, made);
+                let before = both(self.whole, fits);
+                let whole = both(next, before);
                 self.whole = whole;
                 self.taken = taken;
                 Ok(told)
@@ -269,14 +280,15 @@ impl<P: Spawner, J: Station> Carried<P, J> {
         clock: &mut C,
     ) -> Result<Option<Gone>, AllocError>
         ensures looks { Looks P.acts P.faults P.running J.setting (C.last clock.new) self.old.children self.new.children seat.old seat.new result }
+        ensures beside { FollowsTurn (λ gone. is_some gone.effects) seat.new.front self.old self.new result }
         ensures clock { C.last clock.old ≤ C.last clock.new }
     {
         match child_step(rt, cell, seat, clock, &mut self.children) {
             Ok(Some(gone)) => {
                 let next = follow(&mut self.front, seat);
                 let made = is_made(&gone.effects);
-                let gave = both(next, made);
-                let whole = both(self.whole, gave);
+                let before = both(self.whole, made);
+                let whole = both(next, before);
                 self.whole = whole;
                 Ok(Some(gone))
             }
@@ -300,7 +312,9 @@ impl<P: Spawner, J: Station> Carried<P, J> {
         ensures ok { OnOk result ((answer : Bool) × IsTested J.setting seat.old seat.new (C.last clock.new) answer
             × Guards P.acts P.faults P.running (C.last clock.new) (V.last device.old) (V.last device.new) (V.fire device.old)
             self.old.children self.new.children answer) }
-        ensures err { OnErr result ((seat.new ≡ seat.old) × (self.new.children ≡ self.old.children) × (V.last device.new ≡ V.last device.old)) }
+        ensures killed { OnOk result (self.new.killed ≡ (self.old.killed || is_lapsed (V.last device.new) (V.fire device.old) (C.last clock.new))) }
+        ensures err { OnErr result ((seat.new ≡ seat.old) × (self.new ≡ self.old) × (V.last device.new ≡ V.last device.old)) }
+        ensures beside { (self.new.front ≡ self.old.front) × (self.new.taken ≡ self.old.taken) × (self.new.whole ≡ self.old.whole) }
         ensures fire { V.fire device.new ≡ V.fire device.old }
         ensures clock { C.last clock.old ≤ C.last clock.new }
     {
@@ -316,6 +330,7 @@ impl<P: Spawner, J: Station> Carried<P, J> {
         ensures numbers { self.new.children.numbers ≡ self.old.children.numbers }
         ensures awaited { self.new.children.awaited ≡ map doomed self.old.children.awaited }
         ensures killed { self.new.killed ≡ true }
+        ensures beside { (self.new.front ≡ self.old.front) × (self.new.taken ≡ self.old.taken) × (self.new.whole ≡ self.old.whole) }
     {
         self.children.kill();
         self.killed = true;

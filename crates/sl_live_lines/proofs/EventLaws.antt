@@ -4,7 +4,8 @@ use Rattle.sl_live_lines.specs.EventTexts.{Telling, event_words, exit_words, exi
 use Rattle.sl_trace.specs.EffectTexts.{end_words, sent_words}
 use Rattle.sl_trace.specs.WatchdogConnections.{Connection}
 use Rattle.sl_trace.specs.declared.effects.Entry.{Entry}
-use Rattle.std.proofs.Common.{List, [], ap, ap₂, if◌then◌else◌, map, refl, sym, ℕ, ◌++◌, ◌≡◌, ◌∙◌, ◌∷◌}
+use Rattle.std.proofs.Common.{List, Option, [], ap, ap₂, if◌then◌else◌, map, refl, slice_get, suc, sym, take, zero, ℕ, ◌++◌, ◌+◌, ◌≡◌, ◌∙◌, ◌∷◌}
+use Rattle.std.proofs.Math.Numerals.{suc-eq-add-one}
 use Rattle.std.proofs.lemmas.List.Concat.{flat_map-append}
 use Rattle.std.proofs.lemmas.List.{append_assoc}
 use Rattle.std.specs.Option.{option_to_list}
@@ -21,6 +22,22 @@ recovered m before now [] = refl
 recovered m before now (c ∷ cs) =
     ap (λ bs. recovery_text m before now c ++ bs) (recovered m before now cs)
     ∙ recovered_one m c (filter (expires_between before now) cs) (expires_between before now c)
+
+taken : {A : Type 0} (xs : List A) (i : ℕ) → take (suc i) xs ≡ take i xs ++ option_to_list (slice_get xs i)
+taken [] zero = refl
+taken [] (suc i) = refl
+taken (x ∷ xs) zero = refl
+taken (x ∷ xs) (suc i) = ap (λ ys. x ∷ ys) (taken xs i)
+
+-- What is written of one place more.
+pub one_told : {A : Type 0} (f : A → List ℕ) (xs : List A) (i : ℕ) (o : Option A) (first was now : List ℕ) → o ≡ slice_get xs i
+    → was ≡ first ++ flat_map f (take i xs) → now ≡ was ++ flat_map f (option_to_list o) → now ≡ first ++ flat_map f (take (i + 1) xs)
+one_told f xs i o first was now is before after =
+    after ∙ ap (λ bs. bs ++ flat_map f (option_to_list o)) before
+    ∙ ap (λ p. (first ++ flat_map f (take i xs)) ++ flat_map f (option_to_list p)) is
+    ∙ append_assoc first (flat_map f (take i xs)) (flat_map f (option_to_list (slice_get xs i)))
+    ∙ ap (λ bs. first ++ bs)
+    (sym (flat_map-append f (take i xs) (option_to_list (slice_get xs i))) ∙ ap (flat_map f) (sym (taken xs i) ∙ ap (λ n. take n xs) (suc-eq-add-one i)))
 
 -- The lines of one class.
 class_lines : {A : Type 0} (m : ℕ) (words : A → List (List ℕ)) (xs : List A) → flat_map (line_text m) (map words xs) ≡ class_text m words xs

@@ -14,10 +14,10 @@ ghost use Rattle.sl_words.specs.Bounds.{moments};
 ghost use Rattle.std.specs.Option.{option_to_list};
 ghost use Rattle.std.specs.Prelude.{All, IfOk, OnOk, flat_map, ◌++◌, ◌<◌, ◌≡◌};
 
-use sl_cell::{Connection, given_connections, make_moves};
 use sl_text::write::push_line;
 use sl_time::Timing;
 use sl_trace::{End, Entry, Given, Input, Sent, Signal};
+use sl_wdmd::{Connection, Wdmd};
 use std::alloc::{AllocError, Global};
 use std::marker::Model;
 
@@ -25,7 +25,7 @@ use std::marker::Model;
 fn expires_between(connection: &Connection, before: u64, now: u64) -> bool
     ensures { result ≡ expires_between before now connection.now }
 {
-    before < connection.expiry() && connection.expiry() <= now
+    before < connection.expiry && connection.expiry <= now
 }
 
 /// Adds the line of a recovery.
@@ -36,22 +36,25 @@ fn push_recovery(
 ) -> Result<(), AllocError>
     ensures { OnOk result (out.new.items ≡ out.old.items ++ line_text machine (recovery_words connection.now)) }
 {
-    let line = format!(in *out.allocator(); "{machine} recovery {}", connection.name())?;
+    let line = format!(in *out.allocator(); "{machine} recovery {}", connection.name)?;
     push_line(out, line.as_bytes())
 }
 
-/// Adds it if the connection expires between these readings.
+/// Adds it if the connection, where there is one, expires between these readings.
 fn push_if_expired(
     out: &mut Vec<u8>,
     machine: usize,
     before: u64,
     now: u64,
-    connection: &Connection,
+    connection: Option<Connection>,
 ) -> Result<(), AllocError>
-    ensures { OnOk result (out.new.items ≡ out.old.items ++ recovery_text machine before now connection.now) }
+    ensures { OnOk result (out.new.items ≡ out.old.items ++ flat_map (recovery_text machine before now) (option_to_list connection)) }
 {
-    if expires_between(connection, before, now) {
-        push_recovery(out, machine, connection)
+    let Some(connection) = connection else {
+        return Ok(());
+    };
+    if expires_between(&connection, before, now) {
+        push_recovery(out, machine, &connection)
     } else {
         Ok(())
     }
@@ -63,12 +66,12 @@ fn push_recoveries(
     machine: usize,
     before: u64,
     now: u64,
-    connections: &[Connection],
+    connections: &Wdmd,
 ) -> Result<(), AllocError>
-    ensures { OnOk result (out.new.items ≡ out.old.items ++ flat_map (recovery_text machine before now) connections.now) }
+    ensures { OnOk result (out.new.items ≡ out.old.items ++ flat_map (recovery_text machine before now) connections.now.connections) }
 {
-    for connection in connections {
-        push_if_expired(out, machine, before, now, connection)?;
+    for place in 0..connections.len() {
+        push_if_expired(out, machine, before, now, connections.get(place))?;
     }
     Ok(())
 }
@@ -144,7 +147,7 @@ fn push_signals(out: &mut Vec<u8>, machine: usize, signals: &[Sent]) -> Result<(
 #[derive(Drop)]
 pub(crate) struct Events {
     events: bool,
-    connections: Vec<Connection>,
+    connections: Wdmd,
     reading: u64,
 }
 
@@ -153,7 +156,7 @@ impl Model for Events {
 
     ghost Value = { Telling };
 
-    ghost view = { λ k. record { events = k.events; connections = k.connections.items; reading = k.reading } };
+    ghost view = { λ k. record { events = k.events; connections = k.connections.connections; reading = k.reading } };
 }
 
 /// The connections to begin with: none where no events are told, which takes no memory.
@@ -162,14 +165,14 @@ fn first_connections(
     timing: &Timing,
     given: &[Given],
     events: bool,
-) -> Result<Vec<Connection>, AllocError>
+) -> Result<Wdmd, AllocError>
     requires { All (λ g. g.renewed < moments) given.now }
-    ensures { IfOk result (λ cs. cs.items ≡ (first_telling events timing.now given.now).connections) }
+    ensures { IfOk result (λ w. w.connections ≡ (first_telling events timing.now given.now).connections) }
 {
     if events {
-        given_connections(alloc, timing, given)
+        Wdmd::given(alloc, timing, given)
     } else {
-        Ok(Vec::new(alloc))
+        Ok(Wdmd::new(alloc))
     }
 }
 
@@ -195,13 +198,7 @@ impl Events {
     fn push_all(&self, out: &mut Vec<u8>, machine: usize, entry: &Entry) -> Result<(), AllocError>
         ensures { OnOk result (out.new.items ≡ out.old.items ++ flat_map (line_text machine) (event_words self.now entry.now)) }
     {
-        push_recoveries(
-            out,
-            machine,
-            self.reading,
-            entry.reading,
-            self.connections.as_slice(),
-        )?;
+        push_recoveries(out, machine, self.reading, entry.reading, &self.connections)?;
         push_exit(out, machine, &entry.input)?;
         push_ends(out, machine, entry.effects.ends.as_slice())?;
         push_signals(out, machine, entry.effects.signals.as_slice())?;
@@ -231,7 +228,7 @@ impl Events {
         if self.events {
             let moves = entry.effects.moves.as_slice();
             self.connections.reserve(moves.len())?;
-            make_moves(&mut self.connections, moves);
+            self.connections.make_moves(moves);
             self.reading = entry.reading;
         }
         Ok(())

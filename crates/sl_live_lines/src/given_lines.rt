@@ -16,13 +16,6 @@ pub enum GivenLine {
     ForLocks(Bytes),
 }
 
-/// Whether two lines are one.
-pub fn same_line(a: &GivenLine, b: &GivenLine) -> bool
-    ensures { IsTrue result ↔ (a.now ≡ b.now) }
-{
-    a == b
-}
-
 /// Whether an input gives a line of the script, a command or one for lvmlockd.
 pub(crate) fn has_line(input: &Input) -> bool
     ensures { result ≡ is_some (line_given input.now) }

@@ -23,7 +23,7 @@ mod marks;
 mod open_numbers;
 
 pub use audit::{Audit, Left};
-pub use given_lines::{GivenLine, same_line};
+pub use given_lines::GivenLine;
 pub use live_texts::{Ending, push_last};
 pub use locks_along::{Along, is_told};
 pub use sl_trace::copy_reply;

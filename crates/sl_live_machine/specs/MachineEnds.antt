@@ -86,6 +86,14 @@ OnWhole (Err (close.Left left)) Holds = Holds
 OnWhole (Err (close.Differ d)) Holds = Unit {0}
 OnWhole (Err close.NoMemory) Holds = Unit {0}
 
+-- How a machine ends that ended so, where its children don't follow its history: what its cell tells stays.
+abbrev pub broken_end : Result Unit CloseError → Result Unit CloseError
+broken_end (Err (close.Differ d)) = Err (close.Differ d)
+broken_end (Err (close.Line number)) = Err close.NoMemory
+broken_end (Err (close.Left left)) = Err close.NoMemory
+broken_end (Err close.NoMemory) = Err close.NoMemory
+broken_end (Ok u) = Err close.NoMemory
+
 -- A machine has run, whose workers had these disks: with a whole history of which all is told; or a case that holds of it, or want of memory. Where the
 -- history is whole, the disks that are left are made of those by its calls, and the spawners were asked for its signals and its starts.
 pub record HasRun {D O T A P : Type 0} (content : A → Option (List ℕ)) (faults : A → ℕ) (spawned : P → Option (List Act)) (sector : ℕ) (stands : D → Setting → Trace → Type 0) (st : Setting)

@@ -7,7 +7,7 @@ ghost use Rattle.sl_live.specs.CarriedOut.{HasSignalled};
 ghost use Rattle.sl_live_lines.specs.AuditedHistory.{IsAudit};
 ghost use Rattle.sl_live_lines.specs.EventTexts.{Telling, first_telling};
 ghost use Rattle.sl_live_lines.specs.LocksAlong.{AlongState, begun_along};
-ghost use Rattle.sl_live_machine.specs.MachineEnds.{Checks, EndsEarly, EndsSo, HasRun, OnWhole};
+ghost use Rattle.sl_live_machine.specs.MachineEnds.{Checks, EndsEarly, EndsSo, HasRun, OnWhole, broken_end};
 ghost use Rattle.sl_live_machine.specs.Printing.{IsPrinting, lines_read};
 ghost use Rattle.sl_live_machine.specs.ServedDisks.{AreOf};
 ghost use Rattle.sl_live_machine.specs.ThreadSeats.{AreSeats, IsCaseOfRun, IsRun};
@@ -17,7 +17,7 @@ ghost use Rattle.sl_outside.specs.Acts.{Tells};
 ghost use Rattle.sl_run.specs.Headers.{IsHeader};
 ghost use Rattle.sl_run.specs.Lawful.{IsSetting};
 ghost use Rattle.sl_world_state.specs.Daemons.{Stood, begun_with};
-ghost use Rattle.std.specs.Prelude.{Err, IfErr, IfOk, IsOk, IsOkAnd, IsTrue, List, None, Ok, OnOk, [], true, ◌&&◌, ◌+◌, ◌≡◌, ◌⊎◌};
+ghost use Rattle.std.specs.Prelude.{Err, IfErr, IfOk, IsOk, IsOkAnd, IsTrue, List, None, Ok, OnOk, [], if◌then◌else◌, true, ◌&&◌, ◌+◌, ◌≡◌, ◌⊎◌};
 
 use crate::printer::{Desk, Printer};
 use crate::room::{Pace, Room};
@@ -112,8 +112,10 @@ fn close_with<D: Teller, J: Station>(
     cell.close(&seats, mine)
 }
 
-/// Closes the cell of threads of which one has ended too soon: want of memory, if the daemon stands for its history.
-fn close_early<D: Teller, J: Station>(
+/// Closes the cell of threads of which one has ended too soon, for a printer that may have left off before them: want of memory, if the daemon stands
+/// for its history.
+fn close_early<D: Teller, J: Station, R: Wait>(
+    rt: &R,
     alloc: Global,
     cell: HostCell<D, J>,
     mine: &Front<J>,
@@ -121,7 +123,10 @@ fn close_early<D: Teller, J: Station>(
     ensures { EndsEarly J.setting result }
 {
     let none: Vec<Seat<J>> = Vec::new(alloc);
-    match cell.close(&none, mine) {
+    let mut all = mine.again();
+    // entries that the printer never met are no sign of another writer, so they are handed out first
+    let _rest = cell.hand_out(rt, &mut all);
+    match cell.close(&none, &all) {
         Ok(()) => CloseError::NoMemory,
         Err(Differ::Entry { .. }) => CloseError::NoMemory,
         Err(Differ::Broken { entries }) => CloseError::Differ(Differ::Broken { entries }),
@@ -232,6 +237,7 @@ fn end_children<J: Station, P: Spawner>(
 /// How a machine ends whose children were found to follow its history, or not, which can't be: then it has none, as for want of memory.
 fn end_with(end: Result<(), CloseError>, whole: bool) -> Result<(), CloseError>
     ensures same { (result ≡ end) ⊎ (result ≡ Err NoMemoryClose) }
+    ensures is { result ≡ (if whole then end else broken_end end) }
     ensures whole { OnWhole result (whole ≡ true) }
 {
     if whole {
@@ -244,7 +250,8 @@ fn end_with(end: Result<(), CloseError>, whole: bool) -> Result<(), CloseError>
 }
 
 /// How a machine ends whose threads have ended, by its cell alone.
-fn close_cell<D: Teller, J: Station, O: Press, T: Shelf>(
+fn close_cell<D: Teller, J: Station, O: Press, T: Shelf, R: Wait>(
+    rt: &R,
     alloc: Global,
     cell: HostCell<D, J>,
     printer: &Printer<J, O, T>,
@@ -258,7 +265,7 @@ fn close_cell<D: Teller, J: Station, O: Press, T: Shelf>(
 {
     match seats {
         Ok(seats) => close_whole(cell, seats, printer),
-        Err(_) => Err(close_early(alloc, cell, &printer.mine)),
+        Err(_) => Err(close_early(rt, alloc, cell, &printer.mine)),
     }
 }
 
@@ -271,7 +278,8 @@ struct Closed<P: Spawner> {
 }
 
 /// How a machine ends whose threads have ended.
-fn close<D: Teller, J: Station, O: Press, T: Shelf, P: Spawner>(
+fn close<D: Teller, J: Station, O: Press, T: Shelf, R: Wait, P: Spawner>(
+    rt: &R,
     room: Room<D, J, P>,
     failed: bool,
     saw_killed: bool,
@@ -301,7 +309,7 @@ fn close<D: Teller, J: Station, O: Press, T: Shelf, P: Spawner>(
         killed,
         whole,
     } = end_children(children.into_inner(), failed, saw_killed, &printer.mine);
-    let end = close_cell(alloc, cell, printer, seats);
+    let end = close_cell(rt, alloc, cell, printer, seats);
     Closed {
         end: end_with(end, whole),
         spawner,
@@ -394,7 +402,7 @@ fn run_room<
         end,
         spawner: signals,
         killed,
-    } = close(room, failed, saw_killed, &printer, seats);
+    } = close(rt, room, failed, saw_killed, &printer, seats);
     let (replies, entries) = (printer.audit.replies(), printer.mine.len());
     let (reader, writer) = printer.into_parts();
     Ran {

@@ -5,8 +5,9 @@ use Rattle.sl_world_state.specs.FirstKept.{session_of}
 use Rattle.sl_world_state.specs.SaneWorlds.{ReadsCommands}
 use Rattle.sl_live_run.specs.Grounds.{IsGroundOf, IsSiteOf}
 use Rattle.sl_live_run.specs.Laws.{SitesAreSettings}
+use Rattle.sl_live_run.specs.Runs.{Both, disks_in}
 use Rattle.sl_live_run.specs.declared.ground.Ground.{Ground}
-use Rattle.sl_live_play.specs.LiveOwed.{Beginnings}
+use Rattle.sl_live_play.specs.LiveOwed.{AreAllHad, AreHad, Beginnings}
 use Rattle.sl_words.proofs.Lists.{got_index, there_is}
 use Rattle.sl_outside.specs.declared.act.Act.{Act}
 use Rattle.sl_run.specs.Headers.{IsHeader}
@@ -15,7 +16,7 @@ use Rattle.sl_run.specs.declared.header.Header.{Header}
 use Rattle.sl_text.specs.Forms.{Form}
 use Rattle.sl_trace.specs.declared.command.Command.{Command}
 use Rattle.sl_words.proofs.CaseLaws.{none_some, some_value}
-use Rattle.std.proofs.Common.{List, Option, Some, [], map, refl, subst, suc, sym, zero, ℕ, ◌+◌, ◌∙◌, ◌∷◌, ◌≡◌}
+use Rattle.std.proofs.Common.{List, Option, Some, [], length, map, refl, subst, suc, sym, zero, ℕ, ◌+◌, ◌∙◌, ◌∷◌, ◌≡◌}
 use Rattle.std.proofs.lemmas.List.{length-map}
 use Rattle.std.specs.Prelude.{All, slice_get}
 
@@ -43,6 +44,24 @@ beginnings last running spawned since fire content h g is =
       sites = map (λ p. p.site) g.machines.items;
       counted = length-map g.machines.items (λ p. p.site) ∙ is.counted;
       begun = site_at last running spawned since fire content h g is;
+    }
+
+-- What the ground hands out to each is lent as its header says.
+had_at : {V C P D W G A : Type 0} (last : C → ℕ) (running : P → List ℕ) (spawned : P → Option (List Act)) (since fire : D → ℕ) (content : A → Option (List ℕ)) (h : Header) (g : Ground V C P D W G A)
+    → IsGroundOf last running spawned since fire content h g → (place : ℕ) (d : Both A) → slice_get (map (λ p. disks_in p.parts) g.machines.items) place ≡ Some d
+    → AreHad content g.header (place + 1) d
+had_at last running spawned since fire content h g is place d at =
+    let p = made_of (λ p. disks_in p.parts) g.machines.items place d at in
+    let runs = (is.ready place p.0 p.1).parts in
+    subst (AreHad content g.header (place + 1)) p.2 (record { delta = runs.delta; resource = runs.resource })
+
+pub all_had : {V C P D W G A : Type 0} (last : C → ℕ) (running : P → List ℕ) (spawned : P → Option (List Act)) (since fire : D → ℕ) (content : A → Option (List ℕ)) (h : Header) (g : Ground V C P D W G A)
+    → IsGroundOf last running spawned since fire content h g
+    → AreAllHad content g.header (length (map (λ p. p.site) g.machines.items)) (map (λ p. disks_in p.parts) g.machines.items)
+all_had last running spawned since fire content h g is =
+    record {
+      counted = length-map g.machines.items (λ p. disks_in p.parts) ∙ sym (length-map g.machines.items (λ p. p.site));
+      each = had_at last running spawned since fire content h g is;
     }
 
 -- What holds of each by its place holds of all.

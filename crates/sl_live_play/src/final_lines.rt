@@ -22,7 +22,12 @@ use sl_text::write::push_line;
 use std::alloc::{AllocError, Global};
 
 /// Puts out a text that stands, or found no memory.
-fn put<K: Sink>(sink: &mut K, pushed: Result<(), AllocError>, text: &[u8], whole: Lived) -> Lived
+pub fn put<K: Sink>(
+    sink: &mut K,
+    pushed: Result<(), AllocError>,
+    text: &[u8],
+    whole: Lived,
+) -> Lived
     ensures { (all : List ℕ) → OnOk pushed (text.now ≡ all) → Puts (K.taken sink.old) (K.taken sink.new) (K.faults sink.old) (K.faults sink.new) all whole result }
 {
     match pushed {
@@ -35,7 +40,7 @@ fn put<K: Sink>(sink: &mut K, pushed: Result<(), AllocError>, text: &[u8], whole
 }
 
 /// Puts out the line of a refusal.
-pub(crate) fn put_refusal<K: Sink>(alloc: Global, sink: &mut K, number: u64, why: Refusal) -> Lived
+pub fn put_refusal<K: Sink>(alloc: Global, sink: &mut K, number: u64, why: Refusal) -> Lived
     ensures { Puts (K.taken sink.old) (K.taken sink.new) (K.faults sink.old) (K.faults sink.new) (as_bytes (refusal_line number why ∷ [])) lived.Refused result }
 {
     let mut out = Vec::new(alloc);

@@ -17,5 +17,6 @@ mod final_lines;
 mod live_host;
 mod play;
 
+pub use final_lines::{put, put_refusal};
 pub use live_host::LiveHost;
-pub use play::{Lived, Manner, play_live};
+pub use play::{Lived, Manner, play_live, put_run};

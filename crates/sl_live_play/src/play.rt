@@ -28,7 +28,7 @@ use sl_live_run::{
     Ground, LiveRun, LiveStop, NoEntry, NoGround, Remains, enter, give_back, prepare, run_machines,
 };
 use sl_outside::LiveDevices;
-use sl_reader::{LineReader, Origin, ReadError, ScriptEnd, ScriptLines, read_header};
+use sl_reader::{LineReader, Origin, ReadError, Scope, ScriptEnd, ScriptLines, read_header};
 use sl_run::Header;
 use std::alloc::Global;
 use std::marker::Brand;
@@ -151,7 +151,7 @@ fn put_no_ground<K: Sink>(sink: &mut K, why: NoGround) -> Lived
 }
 
 /// Puts out what came of a run whose script ended so, behind what its machines told.
-fn put_run<K: Sink>(
+pub fn put_run<K: Sink>(
     alloc: Global,
     sink: &mut K,
     cut: bool,
@@ -206,14 +206,14 @@ where
     requires keeps { manner.keeps ≡ J.keeps }
     ensures { (f : Asked) (first : Option (List ℕ)) (h : HeaderOf) → IsGroundOf V.Clock.last V.Spawner.running V.Spawner.acts V.Device.last V.Device.fire V.Area.content h ground
         → HeaderBegins first (S.left source) reader h → IsVacant f h
-        → Owes D.Daemon.stands D.Daemon.commands f manner first (S.left result.1) (K.taken sink) (K.taken result.2) (S.faults source) (S.faults result.1)
+        → Owes D.Daemon.stands D.Daemon.commands (record { content = V.Area.content; faults = V.Area.faults; acts = V.Spawner.acts }) f manner first (S.left result.1) (K.taken sink) (K.taken result.2) (S.faults source) (S.faults result.1)
         (K.faults sink) (K.faults result.2) (V.Devices.faults devices.old) (V.Devices.faults devices.new) result.0 }
 {
     let mut lines: ScriptLines<S, J> = ScriptLines::new(
         alloc,
         source,
         reader,
-        &ground.header,
+        Scope::of(&ground.header),
         manner.keeps,
     );
     let (run, _header) = run_machines::<D, V, ScriptLines<S, J>, K, R>(
@@ -264,7 +264,7 @@ where
     requires ends { EndStands (S.left source) reader }
     ensures { (f : Asked) (first : Option (List ℕ)) (h : HeaderOf) → IsGroundOf V.Clock.last V.Spawner.running V.Spawner.acts V.Device.last V.Device.fire V.Area.content h ground
         → HeaderBegins first (S.left source) reader h → IsVacant f h
-        → Owes D.Daemon.stands D.Daemon.commands f manner first (S.left result.1) (K.taken sink) (K.taken result.2) (S.faults source) (S.faults result.1)
+        → Owes D.Daemon.stands D.Daemon.commands (record { content = V.Area.content; faults = V.Area.faults; acts = V.Spawner.acts }) f manner first (S.left result.1) (K.taken sink) (K.taken result.2) (S.faults source) (S.faults result.1)
         (K.faults sink) (K.faults result.2) (V.Devices.faults devices.old) (V.Devices.faults devices.new) result.0 }
 {
     play_as::<D, Brand, S, K, V, R>(rt, alloc, ground, manner, source, reader, sink, devices)
@@ -294,7 +294,7 @@ where
     requires reads { (h : HeaderOf) → IsHeader h → ReadsCommands D.Daemon.commands h }
     requires ends { EndStands (S.left source) reader }
     ensures { (f : Asked) (first : Option (List ℕ)) → HeaderBegins first (S.left source) reader header → IsVacant f header
-        → Owes D.Daemon.stands D.Daemon.commands f manner first (S.left result.1) (K.taken sink) (K.taken result.2) (S.faults source) (S.faults result.1)
+        → Owes D.Daemon.stands D.Daemon.commands (record { content = V.Area.content; faults = V.Area.faults; acts = V.Spawner.acts }) f manner first (S.left result.1) (K.taken sink) (K.taken result.2) (S.faults source) (S.faults result.1)
         (K.faults sink) (K.faults result.2) (V.Devices.faults devices.old) (V.Devices.faults devices.new) result.0 }
 {
     match prepare::<V>(alloc, header, folder, manner.anew, devices) {
@@ -332,7 +332,7 @@ where
     requires reads { (h : HeaderOf) → IsHeader h → ReadsCommands D.Daemon.commands h }
     requires ends { EndStands (S.left source) reader }
     ensures { (first : Option (List ℕ)) → HeaderBegins first (S.left source) reader header
-        → Owes D.Daemon.stands D.Daemon.commands (record { path = folder.now; anew = manner.anew; disks = V.Devices.disks devices.old }) manner first (S.left result.1) (K.taken sink) (K.taken result.2) (S.faults source) (S.faults result.1)
+        → Owes D.Daemon.stands D.Daemon.commands (record { content = V.Area.content; faults = V.Area.faults; acts = V.Spawner.acts }) (record { path = folder.now; anew = manner.anew; disks = V.Devices.disks devices.old }) manner first (S.left result.1) (K.taken sink) (K.taken result.2) (S.faults source) (S.faults result.1)
         (K.faults sink) (K.faults result.2) (V.Devices.faults devices.old) (V.Devices.faults devices.new) result.0 }
 {
     match enter::<V>(alloc, &header, folder, manner.anew, devices) {
@@ -353,8 +353,8 @@ where
 /// has the folder. If the manner says so, a line that is refused is put out as it comes, and the script goes on behind it, but where the line is too
 /// long or the source is; and what becomes of children and of connections is put out beside the replies.
 ///
-/// A machine ends when the script has ended, no child of it runs and nothing of it is unanswered. The source and the sink come
-/// back.
+/// A machine ends when the script has ended, no child of it runs and nothing of it is unanswered. What its areas and its spawner then tell of
+/// themselves, where they tell it, is what its history says. The source and the sink come back.
 pub fn play_live<
     D: Teller + Send,
     S: Source + Send,
@@ -374,7 +374,7 @@ where
     V::Area: Send,
     requires reads { (h : HeaderOf) → IsHeader h → ReadsCommands D.Daemon.commands h }
     requires headers { HeadersAreGood whole_language }
-    ensures { Owes D.Daemon.stands D.Daemon.commands (record { path = folder.now; anew = manner.anew; disks = V.Devices.disks devices.old }) manner (S.left source) (S.left result.1) (K.taken sink) (K.taken result.2) (S.faults source) (S.faults result.1)
+    ensures { Owes D.Daemon.stands D.Daemon.commands (record { content = V.Area.content; faults = V.Area.faults; acts = V.Spawner.acts }) (record { path = folder.now; anew = manner.anew; disks = V.Devices.disks devices.old }) manner (S.left source) (S.left result.1) (K.taken sink) (K.taken result.2) (S.faults source) (S.faults result.1)
         (K.faults sink) (K.faults result.2) (V.Devices.faults devices.old) (V.Devices.faults devices.new) result.0 }
 {
     let mut source = source;

@@ -51,6 +51,11 @@ first_writes h m part path = if m == 1 then part_writes h part path else []
 
 -- ---- areas
 
+-- The number of a part's worker.
+abbrev pub worker_of : Part → ℕ
+worker_of Delta = 1
+worker_of Resource = 2
+
 -- An area of the disk at this path, through which these sectors were written and no other: where areas tell what they have, it has what one had
 -- before, with each of these in its place.
 pub record IsLent {A : Type 0} (content : A → Option (List ℕ)) (writes : List ℕ → List Write) (path : List ℕ) (d : Disk A) : Type 0 where

@@ -23,7 +23,7 @@ use std::thread::{Threads, for_each_mut, join_mut};
 use std::time;
 
 /// Does the rest of a run beside the script, which begins once all threads of the run are there: how the script ended.
-fn beside<
+pub fn beside_script<
     F: FnMut() + Send,
     L: LiveLines + Send,
     K: Sink + Send,
@@ -99,7 +99,7 @@ fn run_beside<
     ensures told { (count : ℕ) → AreGiven ledger.old count [] → HasPutOut writer.old []
         → HasTold count (L.has_given lines.old) (L.has_given lines.new) ledger.new writer.new result }
 {
-    beside(
+    beside_script(
         rt,
         alloc,
         roll,

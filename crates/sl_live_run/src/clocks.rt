@@ -15,7 +15,7 @@ use std::collections::VecDeque;
 const LAST_FIRST: u64 = 999_999_999_999;
 
 /// The thread of a machine whose clock gives its first reading.
-pub(crate) const TICKS: u32 = 1;
+pub const TICKS: u32 = 1;
 
 /// The first clock of each machine, which was read once, and what was read.
 #[derive(Drop)]
@@ -25,7 +25,7 @@ pub(crate) struct Started<C: Clock> {
 }
 
 /// Reads a clock, as a header may have it.
-fn read_once<C: Clock>(clock: &mut C) -> u64
+pub fn read_once<C: Clock>(clock: &mut C) -> u64
     ensures { result ≡ as_first (C.last clock.new) }
 {
     clock.now().min(LAST_FIRST)
@@ -54,7 +54,7 @@ pub(crate) fn start_clocks<V: LiveDevices>(
 }
 
 /// The header with these readings in place of its own.
-pub(crate) fn with_readings(header: Header, readings: Vec<FirstReading>) -> Header
+pub fn with_readings(header: Header, readings: Vec<FirstReading>) -> Header
     ensures { result ≡ with_readings readings.items header }
 {
     let mut header = header;

@@ -48,7 +48,7 @@ impl From<AllocError> for LiveStop {
 
 /// What a machine's run comes to, compared with the script.
 #[derive(Clone, Copy)]
-pub(crate) enum Settled {
+pub enum Settled {
     /// Its history is whole, and its lines are the script's.
     Whole,
     /// A case holds.
@@ -70,7 +70,7 @@ fn left_case(left: Left, next: u64) -> LiveDiffer
 
 /// What a machine comes to that ended so, whose printer has met all of the script's lines, or the first ones; where the history is whole and a line is
 /// left, it is due behind the last entry.
-fn settle_one(reading: Reading, end: Result<(), CloseError>, next: u64) -> Settled
+pub fn settle_one(reading: Reading, end: Result<(), CloseError>, next: u64) -> Settled
     ensures { result ≡ settled reading end next }
 {
     match end {
@@ -95,7 +95,7 @@ fn settle_one(reading: Reading, end: Result<(), CloseError>, next: u64) -> Settl
 }
 
 /// .. that ended too soon, since another machine had no memory or a line that was not due: what is left open then is no case.
-fn settle_early(reading: Reading, end: Result<(), CloseError>) -> Settled
+pub fn settle_early(reading: Reading, end: Result<(), CloseError>) -> Settled
     ensures { result ≡ settled_early reading end }
 {
     match end {
@@ -167,7 +167,7 @@ pub(crate) fn stop_early<O: Press, T: Shelf, A: Area, P: Spawner>(
 }
 
 /// Whether the pieces that were put out are just those that these put, which are the machines' printers and the script's thread.
-pub(crate) fn are_pieces<O: Press>(writers: &[Writer<O>], pieces: &Pieces<O>) -> bool
+pub fn are_pieces<O: Press>(writers: &[Writer<O>], pieces: &Pieces<O>) -> bool
     ensures exact { IsTrue result → AreExact 0 writers.now pieces.now }
     ensures below { IsTrue result → AreBelow (length writers.now) pieces.now }
 {

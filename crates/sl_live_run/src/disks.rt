@@ -1,6 +1,7 @@
 //! The disks of a run: made, handed out to workers, and taken back.
 
 ghost use Rattle.sl_direct.specs.HalfDone.{Wrote};
+ghost use Rattle.sl_live_run.specs.Areas as areas;
 ghost use Rattle.sl_live_run.specs.Areas.{AreLent, faults_in, first_writes};
 ghost use Rattle.sl_live_run.specs.Causes.{Explains};
 ghost use Rattle.sl_live_run.specs.declared.ground.NoGround.TheVariants.{AreaFault};
@@ -46,7 +47,9 @@ pub(crate) fn make_disks<V: LiveDevices>(
 }
 
 /// The number of a part's worker.
-fn worker_of(part: Part) -> u32 {
+pub fn worker_of(part: Part) -> u32
+    ensures { result ≡ areas.worker_of part }
+{
     match part {
         Part::Delta => 1,
         Part::Resource => 2,
@@ -161,7 +164,7 @@ pub(crate) fn lend<V: LiveDevices>(
 }
 
 /// Takes areas back, those that were handed out last first.
-pub(crate) fn take_back<V: Devices>(disks: Vec<Disk<V::Area>>, devices: &mut V)
+pub fn take_back<V: Devices>(disks: Vec<Disk<V::Area>>, devices: &mut V)
     ensures { CountsBack (faults_in V.Area.faults disks.items) (V.faults devices.old) (V.faults devices.new) }
 {
     let mut disks = disks;

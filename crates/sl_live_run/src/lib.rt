@@ -37,8 +37,13 @@ mod run;
 mod script;
 mod script_lines;
 
-pub use compare::{LiveDiffer, LiveStop};
-pub use disks::give_back;
+pub use beside::beside_script;
+pub use clocks::{TICKS, read_once, with_readings};
+pub use compare::{LiveDiffer, LiveStop, Settled, are_pieces, settle_early, settle_one};
+pub use disks::{give_back, take_back, worker_of};
 pub use folder::{NoEntry, enter};
 pub use ground::{Ground, NoGround, Prepared, prepare};
-pub use run::{LiveRun, Remains, run_machines};
+pub use machine_runs::{Machine, Shared, Work};
+pub use machine_sites::{clocks_of, site_of};
+pub use run::{LiveRun, MACHINE_THREADS, Remains, ended_early, run_machines};
+pub use script::Ways;

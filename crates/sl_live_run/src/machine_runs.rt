@@ -33,7 +33,7 @@ use std::time;
 
 /// What a machine is to run on, with its site; who reads the lines that the script gives it, and who puts out what it tells.
 #[derive(Drop)]
-pub(crate) struct Work<C: Clock, P: Spawner, V: Device, A: Area, O: Press, T: Shelf> {
+pub struct Work<C: Clock, P: Spawner, V: Device, A: Area, O: Press, T: Shelf> {
     pub site: Site,
     pub parts: Parts<C, P, V, A>,
     pub reader: Reader<T, GivenLine>,
@@ -42,7 +42,7 @@ pub(crate) struct Work<C: Clock, P: Spawner, V: Device, A: Area, O: Press, T: Sh
 
 /// A machine: what it is to run on, until it runs; and what is left of its run, once it has run.
 #[derive(Drop)]
-pub(crate) struct Machine<C: Clock, P: Spawner, V: Device, A: Area, O: Press, T: Shelf> {
+pub struct Machine<C: Clock, P: Spawner, V: Device, A: Area, O: Press, T: Shelf> {
     pub work: Option<Work<C, P, V, A, O, T>>,
     pub ran: Option<Ran<O, T, A, P>>,
 }
@@ -50,7 +50,7 @@ pub(crate) struct Machine<C: Clock, P: Spawner, V: Device, A: Area, O: Press, T:
 /// What all machines of a run share: its header, the roll of all threads, a post and a mail for each machine, the output, and whether beside replies
 /// events are told.
 #[derive(Clone, Copy)]
-pub(crate) struct Shared<'a, K: Sink, O: Press, T: Shelf> {
+pub struct Shared<'a, K: Sink, O: Press, T: Shelf> {
     pub header: &'a Header,
     pub roll: &'a Roll,
     pub posts: &'a [Post],
@@ -209,7 +209,7 @@ fn run_work<
 
 impl<C: Clock, P: Spawner, V: Device, A: Area, O: Press, T: Shelf> Machine<C, P, V, A, O, T> {
     /// A machine that is to run.
-    pub(crate) fn new(work: Work<C, P, V, A, O, T>) -> Machine<C, P, V, A, O, T>
+    pub fn new(work: Work<C, P, V, A, O, T>) -> Machine<C, P, V, A, O, T>
         ensures { result.work ≡ Some work }
     {
         Machine {
@@ -228,7 +228,7 @@ impl<
     T: Shelf + Send + Sync,
 > Machine<C, P, V, A, O, T> {
     /// Runs the machine, if it has not run.
-    pub(crate) fn run<
+    pub fn run<
         D: Teller + Send,
         K: Sink + Send,
         R: Threads + Wait + time::Clock + Sync,

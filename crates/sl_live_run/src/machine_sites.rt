@@ -43,7 +43,7 @@ fn drawn_site(alloc: Global, machine: u32, bits: u128) -> Site
 }
 
 /// With what the daemon of a machine begins. An `Err` is want of memory.
-fn site_of<V: LiveDevices>(
+pub fn site_of<V: LiveDevices>(
     alloc: Global,
     header: &Header,
     machine: u32,
@@ -58,6 +58,22 @@ fn site_of<V: LiveDevices>(
             let bits = devices.words(machine).bits();
             Ok(drawn_site(alloc, machine, bits))
         }
+    }
+}
+
+/// The clocks of a machine's threads, the first of which was read.
+pub fn clocks_of<V: LiveDevices>(machine: u32, ticks: V::Clock, devices: &mut V) -> Clocks<V::Clock>
+    ensures ticks { result.ticks ≡ ticks }
+    ensures count { V.Devices.faults devices.new ≡ V.Devices.faults devices.old }
+{
+    Clocks {
+        ticks,
+        delta: devices.clock(machine, TICKS + 1),
+        resource: devices.clock(machine, TICKS + 2),
+        exits: devices.clock(machine, TICKS + 3),
+        starts: devices.clock(machine, TICKS + 4),
+        tests: devices.clock(machine, TICKS + 5),
+        lines: devices.clock(machine, TICKS + 6),
     }
 }
 
@@ -78,15 +94,7 @@ fn parts_of<V: LiveDevices>(
 {
     let now = clock_reading(header, machine);
     Parts {
-        clocks: Clocks {
-            ticks,
-            delta: devices.clock(machine, TICKS + 1),
-            resource: devices.clock(machine, TICKS + 2),
-            exits: devices.clock(machine, TICKS + 3),
-            starts: devices.clock(machine, TICKS + 4),
-            tests: devices.clock(machine, TICKS + 5),
-            lines: devices.clock(machine, TICKS + 6),
-        },
+        clocks: clocks_of(machine, ticks, devices),
         spawner: devices.spawner(machine),
         device: devices.device(machine, now, header.timing.fire()),
         delta,

@@ -38,7 +38,7 @@ use std::thread::Threads;
 use std::time;
 
 /// The threads of a machine.
-const MACHINE_THREADS: u64 = 8;
+pub const MACHINE_THREADS: u64 = 8;
 
 /// What a machine leaves: the disks of its workers, to be given back, and its spawners.
 #[derive(Drop)]
@@ -70,7 +70,11 @@ fn roll_of(machines: usize) -> Roll {
 }
 
 /// Whether threads of the run ended too soon: the script's, or one that had no memory or met a line that was not due.
-fn ended_early<R: Wait>(rt: &R, told: &Result<Option<NoLine>, AllocError>, posts: &[Post]) -> bool
+pub fn ended_early<R: Wait>(
+    rt: &R,
+    told: &Result<Option<NoLine>, AllocError>,
+    posts: &[Post],
+) -> bool
     ensures { result ≡ false → IsOk told.now }
 {
     match told {

@@ -20,7 +20,7 @@ use std::time::{Clock, Duration, Instant};
 /// Where the script gives its lines: a post and a mail for each machine, and the book of all that it gave; and where it puts out which lines are
 /// refused.
 #[derive(Clone, Copy)]
-pub(crate) struct Ways<'a, K: Sink, O: Press, T: Shelf> {
+pub struct Ways<'a, K: Sink, O: Press, T: Shelf> {
     pub posts: &'a [Post],
     pub mails: &'a [Mail<T>],
     pub book: &'a Book<T, GivenLine>,

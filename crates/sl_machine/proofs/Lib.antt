@@ -1,4 +1,3 @@
-pub mod PlainFronts
 pub mod FlightLaws
 pub mod FlightOrder
 pub mod FlightChanges

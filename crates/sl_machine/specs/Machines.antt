@@ -29,7 +29,7 @@ machine_state locks a =
       runs = a.runs;
       clock = a.clock;
       kept = a.kept;
-      connections = a.connections.items;
+      connections = a.connections.connections;
       next = record { call = a.flights.next; job = a.job };
       starting = a.starting.items;
       flights = a.flights.items.items;
@@ -40,7 +40,7 @@ machine_state locks a =
 
 -- A machine has room for a step that makes no more than that.
 pub record HasRoom {L : Type 0} (has_room : L → Bool) (m : Most) (a : Machine L) : Type 0 where
-  pub moves : vec_len a.connections + m.moves ≤ vec_capacity a.connections
+  pub moves : m.moves ≤ a.connections.room
   pub grants : vec_len a.held + m.grants ≤ vec_capacity a.held
   pub starts : vec_len a.starting + m.starts ≤ vec_capacity a.starting
   pub calls : deque_len a.flights.items + m.calls ≤ deque_capacity a.flights.items
@@ -48,7 +48,7 @@ pub record HasRoom {L : Type 0} (has_room : L → Bool) (m : Most) (a : Machine 
 
 -- It has room for what it does itself.
 pub record HasOwnRoom {L : Type 0} (a : Machine L) (fx : Effects) : Type 0 where
-  pub moves : vec_len a.connections + length fx.moves ≤ vec_capacity a.connections
+  pub moves : length fx.moves ≤ a.connections.room
   pub grants : vec_len a.held + length fx.grants ≤ vec_capacity a.held
 
 -- A step that it has room for: calls are numbered on and write records, and numbers are left.

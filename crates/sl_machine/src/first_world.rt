@@ -16,11 +16,11 @@ use crate::kept_world::Kept;
 use crate::locks::LockTable;
 use crate::machine::Machine;
 use crate::names::{DaemonName, add_name, has_name};
-use crate::watchdog_connections::Connection;
 use indexmap::IndexSet;
 use sl_disks::{Disks, clock_reading};
 use sl_run::{Header, LockspaceLine, SessionLine};
 use sl_text::Name;
+use sl_wdmd::{Connection, Wdmd};
 use std::alloc::{AllocError, Global};
 
 /// The first session line of a machine.
@@ -77,31 +77,24 @@ fn connection_of(header: &Header, machine: u32, session: &SessionLine) -> Option
     })
 }
 
-/// Puts the connection behind these, if there is one. An `Err` is want of memory.
-fn push_connection(
-    connections: &mut Vec<Connection>,
-    connection: Option<Connection>,
-) -> Result<(), AllocError>
-    ensures { OnOk result (connections.new.items ≡ connections.old.items ++ option_to_list connection) }
+/// Registers the connection, if there is one. An `Err` is want of memory.
+fn register(connections: &mut Wdmd, connection: Option<Connection>) -> Result<(), AllocError>
+    ensures { OnOk result (connections.new.connections ≡ connections.old.connections ++ option_to_list connection) }
 {
     if let Some(connection) = connection {
-        connections.push(connection)?;
+        connections.register(connection.name, connection.expiry)?;
     }
     Ok(())
 }
 
 /// The connections that a machine begins with. An `Err` is want of memory.
-fn first_connections(
-    alloc: Global,
-    header: &Header,
-    machine: u32,
-) -> Result<Vec<Connection>, AllocError>
+fn first_connections(alloc: Global, header: &Header, machine: u32) -> Result<Wdmd, AllocError>
     requires { IsHeader header.now }
-    ensures { IfOk result (λ cs. cs.items ≡ map (given_connection header.now.timing) (given_to header.now machine)) }
+    ensures { IfOk result (λ w. w.connections ≡ map (given_connection header.now.timing) (given_to header.now machine)) }
 {
-    let mut connections = Vec::new(alloc);
+    let mut connections = Wdmd::new(alloc);
     for session in header.sessions.as_slice() {
-        push_connection(&mut connections, connection_of(header, machine, session))?;
+        register(&mut connections, connection_of(header, machine, session))?;
     }
     Ok(connections)
 }

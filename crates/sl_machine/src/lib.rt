@@ -40,7 +40,6 @@ mod room;
 mod time_passes;
 mod time_refusals;
 mod torn_bytes;
-mod watchdog_connections;
 
 pub use calls::Landing;
 pub use event_refusals::machine_of;
@@ -52,4 +51,3 @@ pub use locks::{LockTable, lock_input_of};
 pub use machine::Machine;
 pub use machine_effects::no_effects;
 pub use reset_holdings::Lingering;
-pub use watchdog_connections::Connection;

@@ -22,11 +22,11 @@ use crate::heard_inputs::Heard;
 use crate::locks::LockTable;
 use crate::machine_holdings::take_effects;
 use crate::reset_holdings::{Lingering, lingering_after};
-use crate::watchdog_connections::{Connection, make_moves, test_holds};
 use sl_locks::{LockInput, StepTold};
 use sl_run::Header;
 use sl_sector::Image;
 use sl_trace::{Effects, Grant};
+use sl_wdmd::Wdmd;
 use sl_world_state::Most;
 use std::alloc::{AllocError, Global};
 use std::sync::Arc;
@@ -43,8 +43,8 @@ pub struct Machine<L: LockTable> {
     pub clock: u64,
     /// The moment on which the last keepalive rests.
     pub kept: u64,
-    pub connections: Vec<Connection>,
-    /// The number of the machine's next line, above all before.
+    pub connections: Wdmd,
+    /// The number of the next job.
     pub job: u64,
     /// The children of the daemon that runs whose start has no answer.
     pub starting: Vec<u32>,
@@ -92,7 +92,7 @@ impl<L: LockTable> Machine<L> {
     pub fn test(&mut self, moment: u64)
         ensures { machine_state L.locks self.new ≡ tested_machine moment (machine_state L.locks self.old) }
     {
-        if test_holds(&self.connections, self.clock / 1000) {
+        if self.connections.test(self.clock / 1000) {
             self.kept = moment;
         }
     }
@@ -180,7 +180,7 @@ impl<L: LockTable> Machine<L> {
         ensures stays { machine_state L.locks self.new ≡ put_away_by header.now heard effects.now (machine_state L.locks self.old) }
         ensures locks { self.new.locks ≡ self.old.locks }
     {
-        make_moves(&mut self.connections, effects.moves.as_slice());
+        self.connections.make_moves(effects.moves.as_slice());
         if heard.numbered {
             self.job += 1;
         }
@@ -227,11 +227,11 @@ impl<L: LockTable> Machine<L> {
     /// What the machine does without a daemon. It takes no memory.
     #[tactic(auto, unfolding(crate::specs::Machines::machine_state))]
     pub fn own(&mut self, effects: &Effects)
-        requires moves { vec_len self.old.connections + length effects.now.moves ≤ vec_capacity self.old.connections }
+        requires moves { length effects.now.moves ≤ self.old.connections.room }
         requires grants { vec_len self.old.held + length effects.now.grants ≤ vec_capacity self.old.held }
         ensures { machine_state L.locks self.new ≡ owned_machine effects.now (machine_state L.locks self.old) }
     {
-        make_moves(&mut self.connections, effects.moves.as_slice());
+        self.connections.make_moves(effects.moves.as_slice());
         take_effects(&mut self.held, effects);
         self.locks.leave(effects);
     }

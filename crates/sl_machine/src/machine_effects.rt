@@ -10,7 +10,7 @@ ghost use Rattle.std.specs.Prelude.{IfOk, OnOk, [], filter, map, ◌&&◌, ◌++
 use crate::kept_world::Kept;
 use crate::locks::LockTable;
 use sl_text::Seq;
-use sl_trace::{Effects, End, Grant};
+use sl_trace::{Effects, End, Grant, end_of, orphan_of};
 use std::alloc::{AllocError, Global};
 
 /// Effects that end holdings and grant some, and nothing else. What is empty takes no memory.
@@ -33,36 +33,6 @@ pub fn no_effects(alloc: Global) -> Effects
     ensures { result ≡ traces.no_effects }
 {
     effects_of(alloc, Vec::new(alloc), Vec::new(alloc))
-}
-
-/// The end of a holding.
-fn end_of(grant: &Grant) -> End
-    ensures { result ≡ traces.end_of grant.now }
-{
-    End {
-        process: grant.process,
-        lockspace: grant.lockspace,
-        resource: grant.resource,
-        path: grant.path,
-        offset: grant.offset,
-    }
-}
-
-/// What a persistent holding becomes when its process exits.
-fn orphan_of(grant: &Grant) -> Grant
-    ensures { result ≡ traces.orphan_of grant.now }
-{
-    Grant {
-        process: 0,
-        session: grant.session,
-        lockspace: grant.lockspace,
-        resource: grant.resource,
-        path: grant.path,
-        offset: grant.offset,
-        mode: grant.mode,
-        lver: grant.lver,
-        persistent: grant.persistent,
-    }
 }
 
 /// Whether the holding is the orphan of the grant's place.

@@ -1,16 +1,15 @@
 //! Reads: what they sample, and what they are answered.
 
-ghost use Rattle.sl_world_state.specs.Changes.{change_flight, sampled_flight, stays_open};
+ghost use Rattle.sl_world_state.specs.Changes.{change_flight, sampled_flight};
 ghost use Rattle.sl_world_state.specs.Inputs.{rest_in};
-ghost use Rattle.sl_world_state.specs.KeptWorld.{FlightState, MachineState, change_machine_in, flight_of_machine, machine_in};
+ghost use Rattle.sl_world_state.specs.KeptWorld.{FlightState, change_machine_in, flight_of_machine};
 ghost use Rattle.sl_world_state.specs.Refusals.{left_in};
 ghost use Rattle.sl_machine.specs.CallWrites.{at_first, samples_of};
 ghost use Rattle.sl_machine.specs.Flights.{grown_flight};
 ghost use Rattle.sl_machine.specs.KeptParts.{kept_state};
 ghost use Rattle.std.specs.Arc.{arc_value};
-ghost use Rattle.std.specs.List.{list_all};
 ghost use Rattle.std.specs.Option.{option_copied};
-ghost use Rattle.std.specs.Prelude.{IfOk, OnErr, OnOk, Some, flat_map, true, ◌++◌, ◌≡◌, ◌≤◌};
+ghost use Rattle.std.specs.Prelude.{IfOk, OnErr, OnOk, Some, flat_map, ◌++◌, ◌≡◌, ◌≤◌};
 
 use crate::calls::gather;
 use crate::flight::Flight;
@@ -118,37 +117,6 @@ impl<L: LockTable> Kept<L> {
         match self.flight(machine, call) {
             None => Err(AllocError),
             Some(flight) => flight.images(alloc, more),
-        }
-    }
-
-    /// How many sectors a call has not sampled.
-    fn left(&self, machine: u32, call: u64) -> u64
-        ensures { (f : FlightState) → flight_of_machine (kept_state L.locks self.now) machine call ≡ Some f → result ≡ left_in f }
-    {
-        match self.flight(machine, call) {
-            None => 0,
-            Some(flight) => flight.left(),
-        }
-    }
-
-    /// What a read has once it has sampled all. An `Err` is want of memory. Nothing that is seen changes.
-    pub fn all_images(&mut self, machine: u32, call: u64) -> Result<Images, AllocError>
-        ensures bytes { IfOk result (λ s. (f : FlightState) → flight_of_machine (kept_state L.locks self.old) machine call ≡ Some f
-            → s.bytes ≡ rest_in (kept_state L.locks self.old) f (left_in f)) }
-        ensures same { kept_state L.locks self.new ≡ kept_state L.locks self.old }
-    {
-        let left = self.left(machine, call);
-        let more = self.next_sectors(machine, call, left)?;
-        self.images_with(machine, call, &more)
-    }
-
-    /// All calls of a machine are in flight: the running daemon's, or writes that may land.
-    pub fn calls_are_open(&self, machine: u32)
-        ensures { (s : MachineState) → machine_in (kept_state L.locks self.now) machine ≡ Some s → list_all stays_open s.flights ≡ true }
-    {
-        match self.machine(machine) {
-            None => {}
-            Some(_) => {}
         }
     }
 }

@@ -12,7 +12,6 @@ ghost use Rattle.std.specs.Prelude.{false, filter, map, nat_le, nat_lt, not, opt
 use crate::kept_world::Kept;
 use crate::locks::LockTable;
 use crate::machine::Machine;
-use crate::watchdog_connections::test_holds;
 
 /// So long after its last keepalive, in milliseconds, a machine counts as starving.
 const STARVING: u128 = 550;
@@ -23,7 +22,7 @@ impl<L: LockTable> Machine<L> {
     fn holds(&self) -> bool
         ensures { result ≡ watchdog.test_holds (machine_state L.locks self.now).connections (reading_of (machine_state L.locks self.now).clock) }
     {
-        test_holds(&self.connections, self.clock / 1000)
+        self.connections.test(self.clock / 1000)
     }
 
     /// Whether a test at this moment would hold and move the keepalive.

@@ -102,14 +102,6 @@ impl<K: Sink, O: Press> Kept<K, O> {
         Ok(())
     }
 
-    /// Whether a write failed: then nothing is put out any more.
-    pub(crate) fn is_cut(&self) -> bool
-        ensures cut { result ≡ self.now.cut }
-        ensures put { IsPut O.taken (K.taken self.now.sink) O.faults (K.faults self.now.sink) self.now.front result }
-    {
-        self.cut
-    }
-
     /// The sink, all pieces, and whether a write failed.
     pub(crate) fn into_parts(self) -> (K, Front<O>, bool)
         ensures parts { (result.0 ≡ self.sink) × (result.1 ≡ self.front) × (result.2 ≡ self.cut) }

@@ -1,8 +1,7 @@
 //! The output: a sink under its lock, shared by the threads that put text into it.
 
 ghost use Rattle.sl_output.specs.Outputs.{HasPut, IsPut};
-ghost use Rattle.sl_output.specs.Pieces.{Piece};
-ghost use Rattle.std.specs.Prelude.{List, OnErr, OnOk, [], ◌≡◌};
+ghost use Rattle.std.specs.Prelude.{OnErr, OnOk, [], ◌≡◌};
 
 use crate::kept::Kept;
 use crate::press::{Book, Front, Opened, Press, Seat};
@@ -58,13 +57,6 @@ impl<K: Sink, O: Press> Output<K, O> {
         ensures broken { OnErr result (seat.new ≡ seat.old) }
     {
         self.kept.lock(rt).put(&self.book, seat, text)
-    }
-
-    /// Whether a write has failed so far: whether the sink, with the pieces that were put into it, is then cut.
-    pub fn is_cut<R: Wait>(&self, rt: &R) -> bool
-        ensures { (sink : K) × (ps : List Piece) × IsPut O.taken (K.taken sink) O.faults (K.faults sink) ps result }
-    {
-        self.kept.lock(rt).is_cut()
     }
 
     /// The sink, all pieces, and whether a write failed.

@@ -29,9 +29,8 @@ pub struct Play<D: Daemon, L: LockTable> {
 
 impl<D: Daemon, L: LockTable> Play<D, L> {
     ghost use Rattle.sl_world_state.specs.SaneWorlds.{ReadsCommands, WorldStands};
-    ghost use Rattle.sl_world_state.specs.Refusals.{refusal_in};
     ghost use Rattle.sl_machine.specs.EventTests.{is_tear};
-    ghost use Rattle.sl_play.specs.Plays.{Answers, Begins, PassesCounts, StandsFor, StaysAs, state_of, test_told};
+    ghost use Rattle.sl_play.specs.Plays.{Answers, Begins, PassesCounts, StandsFor, state_of, test_told};
     ghost use Rattle.sl_play.specs.ToldSteps.{AreCounted, counts_with, one_more, tests_told, told_view};
     ghost use Rattle.sl_play.specs.declared.step_counts.PlayError.TheVariants.{NoMemory, TooMany};
     ghost use Rattle.sl_report.specs.Reports as reports;
@@ -41,7 +40,7 @@ impl<D: Daemon, L: LockTable> Play<D, L> {
     ghost use Rattle.sl_run.specs.declared.event.Refusal.{Refusal as RefusalOf};
     ghost use Rattle.sl_text.specs.Forms.{as_bytes};
     ghost use Rattle.sl_world.specs.ToldEvents.{is_untold};
-    ghost use Rattle.std.specs.Prelude.{Err, IfOk, None, Ok, OnErr, OnOk, Some, false, is_none, true, ◌++◌, ◌≡◌, ◌⊎◌};
+    ghost use Rattle.std.specs.Prelude.{Err, IfOk, None, Ok, OnErr, OnOk, Some, false, true, ◌++◌, ◌≡◌, ◌⊎◌};
 
     /// A play of a header's world at moment 0, with nothing counted. An `Err` is want of memory.
     pub fn new(alloc: Global, header: Header) -> Result<Play<D, L>, AllocError>
@@ -60,15 +59,6 @@ impl<D: Daemon, L: LockTable> Play<D, L> {
         ensures { result.now ≡ self.now.world }
     {
         &self.world
-    }
-
-    /// Whether nothing refuses the event. An `Err` is want of memory, at a tear alone. Nothing that is seen changes.
-    pub fn allows(&mut self, event: &Event) -> Result<bool, AllocError>
-        ensures exact { IfOk result (λ b. b ≡ is_none (refusal_in D.commands (state_of L.locks self.old).kept event.now)) }
-        ensures total { OnErr result (is_tear event.now ≡ true) }
-        ensures same { StaysAs (state_of L.locks self.old) (state_of L.locks self.new) }
-    {
-        self.world.allows(event)
     }
 
     /// What was counted of the events so far, for the last line.

@@ -1,9 +1,8 @@
 -- A script that is read line by line.
 use Rattle.sl_reader.specs.LiveLines.{checked, live_line, live_line_in}
-use Rattle.sl_reader.specs.Scopes.{scope_of}
 use Rattle.sl_reader.specs.declared.live_lines.LiveLine.{LiveLine}
 use Rattle.sl_reader.specs.declared.scope.Scope.{Scope}
-use Rattle.sl_reader.specs.ScriptReading.{ArePlain, Comes, Ends, EndsUnread, IsPlain, IsScript, Leaves, Passes, ReadsScript, Says, ScriptLine, ScriptState, Stands, Tells, TellsComplete, came_of, following, script_lines}
+use Rattle.sl_reader.specs.ScriptReading.{ArePlain, Comes, Ends, EndsUnread, IsPlain, IsScript, Leaves, Passes, ReadsScriptBy, Says, ScriptLine, ScriptState, Stands, Tells, TellsComplete, came_of, following, script_lines}
 use Rattle.sl_reader.specs.ScriptReading.{line_of as given_line}
 use Rattle.sl_reader.specs.declared.script_reading.Came.{Came}
 use Rattle.sl_reader.specs.declared.script_reading.ScriptEnd.TheVariants.{End, NoMemory, ReadFault, Refused}
@@ -345,13 +344,13 @@ left_is first left began h b rest =
     let total : length (b.consumed ++ rest) ≡ began.behind + length rest = omega (arith, length-append b.consumed rest, b.has_read.behind) in
     ap (λ t. within t began rest) total
 
-says_at : (first left : Option (List ℕ)) (began : ReaderState) (h : Header) (s : Scope) (b : HeaderBegins first left began h) (bytes source : List ℕ) (told others : List ScriptLine) → scope_of h ≡ s
-    → source ≡ b.consumed ++ bytes → MayFollow began.ended bytes → script_lines s (following began bytes) ≡ told ++ others → Says h source told others
-says_at first left began h s b bytes source told others scope is follows says =
+says_at : (first left : Option (List ℕ)) (began : ReaderState) (h : Header) (s : Scope) (b : HeaderBegins first left began h) (bytes source : List ℕ) (told others : List ScriptLine)
+    → source ≡ b.consumed ++ bytes → MayFollow began.ended bytes → script_lines s (following began bytes) ≡ told ++ others → Says s h source told others
+says_at first left began h s b bytes source told others is follows says =
     record {
       behind = lines_left b.consumed bytes began;
       header = ap (λ x. read_header whole_language [] 1 (numbered_lines x)) is ∙ b.reads bytes follows;
-      lines = ap (λ x. script_lines x (lines_left b.consumed bytes began)) scope ∙ ap (script_lines s) (left_is first left began h b bytes) ∙ says;
+      lines = ap (script_lines s) (left_is first left began h b bytes) ∙ says;
     }
 
 consumed_all : (first now : Option (List ℕ)) (all : List ℕ) → Gives first now [] all → Consumes first now all
@@ -374,9 +373,9 @@ unread_by keeps end start header bytes start_is unread =
 
 -- What was read behind the header, told of the whole source.
 reads_by : (keeps : Bool) (first left now : Option (List ℕ)) (faults later : ℕ) (began : ReaderState) (h : Header) (s : Scope) (given : List LiveLine) (told : List ScriptLine) (end : Option ScriptEnd) (ended : Bool)
-    → HeaderBegins first left began h → scope_of h ≡ s → given ≡ map given_line told → ArePlain keeps told → (t : Tells s left now began ended told (Leaves end)) → (end ≡ Some End → ended ≡ true)
-    → (end ≡ Some ReadFault → Rose faults later × TellsComplete s began t.bytes told) → EndsUnread keeps end began.behind t.bytes → ReadsScript keeps first now faults later h given end
-reads_by keeps first left now faults later began h s given told end ended b scope given_are plain t to_end fault unread =
+    → HeaderBegins first left began h → given ≡ map given_line told → ArePlain keeps told → (t : Tells s left now began ended told (Leaves end)) → (end ≡ Some End → ended ≡ true)
+    → (end ≡ Some ReadFault → Rose faults later × TellsComplete s began t.bytes told) → EndsUnread keeps end began.behind t.bytes → ReadsScriptBy s keeps first now faults later h given end
+reads_by keeps first left now faults later began h s given told end ended b given_are plain t to_end fault unread =
     record {
       read = b.consumed ++ t.bytes;
       ended = ended;
@@ -388,7 +387,7 @@ reads_by keeps first left now faults later began h s given told end ended b scop
       says = λ rest follows.
           let x = t.says rest follows in (
             x.0,
-            says_at first left began h s b (t.bytes ++ rest) ((b.consumed ++ t.bytes) ++ rest) told x.0 scope (append_assoc b.consumed t.bytes rest) (t.follows rest follows) x.1,
+            says_at first left began h s b (t.bytes ++ rest) ((b.consumed ++ t.bytes) ++ rest) told x.0 (append_assoc b.consumed t.bytes rest) (t.follows rest follows) x.1,
             x.2,
           );
       to_end = to_end;
@@ -402,21 +401,21 @@ reads_by keeps first left now faults later began h s given told end ended b scop
               cut = ap (λ x. b.consumed ++ x) c.cut ∙ sym (append_assoc b.consumed c.complete c.partial);
               whole = whole_both b.consumed c.complete (b.has_read.whole c.open_still) c.whole;
               free = c.free;
-              says = says_at first left began h s b c.complete (b.consumed ++ c.complete) told [] scope refl (open_follows began.ended c.complete c.open_still) (c.says ∙ sym (append-nil told));
+              says = says_at first left began h s b c.complete (b.consumed ++ c.complete) told [] refl (open_follows began.ended c.complete c.open_still) (c.says ∙ sym (append-nil told));
             },
           );
       unread = unread_by keeps end began.behind b.consumed t.bytes b.has_read.behind unread;
     }
 
 pub reads_script : (keeps : Bool) (first left now : Option (List ℕ)) (faults later : ℕ) (began r : ReaderState) (h : Header) (s : Scope) (given : List LiveLine) (told : List ScriptLine) (end : Option ScriptEnd)
-    → HeaderBegins first left began h → scope_of h ≡ s → given ≡ map given_line told → ArePlain keeps told → Stands keeps s left now faults later began r told end
-    → ReadsScript keeps first now faults later h given end
-reads_script keeps first left now faults later began r h s given told None b scope given_are plain stands =
-    reads_by keeps first left now faults later began h s given told None r.ended b scope given_are plain
+    → HeaderBegins first left began h → given ≡ map given_line told → ArePlain keeps told → Stands keeps s left now faults later began r told end
+    → ReadsScriptBy s keeps first now faults later h given end
+reads_script keeps first left now faults later began r h s given told None b given_are plain stands =
+    reads_by keeps first left now faults later began h s given told None r.ended b given_are plain
     (tells_of s left now began r told [] (Leaves None) (subst (Passes s left now began r) (sym (append-nil told)) stands.0) stands.1 (λ xs. tt)) (λ is. absurd cc) (λ is. absurd cc)
     (λ is number why same. absurd cc)
-reads_script keeps first left now faults later began r h s given told (Some end) b scope given_are plain stands =
-    reads_by keeps first left now faults later began h s given told (Some end) stands.ended b scope given_are plain stands.tells (λ is. stands.to_end (the_same end End is))
+reads_script keeps first left now faults later began r h s given told (Some end) b given_are plain stands =
+    reads_by keeps first left now faults later began h s given told (Some end) stands.ended b given_are plain stands.tells (λ is. stands.to_end (the_same end End is))
     (λ is. stands.fault (the_same end ReadFault is)) stands.unread
   where
     the_same : (a b : ScriptEnd) → Some a ≡ Some b → a ≡ b

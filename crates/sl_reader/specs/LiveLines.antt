@@ -2,6 +2,7 @@
 use Rattle.sl_trace.specs.Jobs.{process_named}
 use Rattle.sl_reader.specs.declared.live_lines.LiveLine.TheVariants.{Command, Exits, Locks, Post, Refused}
 use Rattle.sl_reader.specs.declared.live_lines.LiveLine.{LiveLine}
+use Rattle.sl_reader.specs.Scopes.{is_elsewhere}
 use Rattle.sl_reader.specs.declared.scope.Scope.{Scope}
 use Rattle.sl_area.specs.AreaSizes.{layout_of}
 use Rattle.sl_report.specs.Languages.{whole_language}
@@ -103,10 +104,10 @@ is_of_locks s text = is_for_locks (text_command s text)
 -- The first refusal that fits a text, or another line.
 abbrev pub text_refusal : Scope → ℕ → List ℕ → Option Refusal
 text_refusal s m text =
-    first_that ((is_of_script s text, Syntax) ∷ (nat_lt s.machines m, MissingMachine) ∷ (is_of_locks s text, MissingLvm) ∷ [])
+    first_that ((is_of_script s text, Syntax) ∷ (is_elsewhere s m, MissingMachine) ∷ (is_of_locks s text, MissingLvm) ∷ [])
 
 abbrev pub machine_refusal : Scope → ℕ → Option Refusal
-machine_refusal s m = first_that ((nat_lt s.machines m, MissingMachine) ∷ [])
+machine_refusal s m = first_that ((is_elsewhere s m, MissingMachine) ∷ [])
 
 abbrev pub live_refusal : Scope → LiveLine → Option Refusal
 live_refusal s (Command m text) = text_refusal s m text

@@ -47,11 +47,11 @@ IsPlain (number, Err why) = ⊥
 abbrev pub ArePlain : Bool → List ScriptLine → Type 0
 ArePlain keeps told = keeps ≡ false → All IsPlain told
 
--- What a source says that has this header: these, and then others.
-pub record Says (h : Header) (source : List ℕ) (told others : List ScriptLine) : Type 0 where
+-- What a source says that has this header, by these names: these, and then others.
+pub record Says (s : Scope) (h : Header) (source : List ℕ) (told others : List ScriptLine) : Type 0 where
   pub behind : List NumberedLine
   pub header : read_header whole_language [] 1 (numbered_lines source) ≡ Header_read h behind
-  pub lines : script_lines (scope_of h) behind ≡ told ++ others
+  pub lines : script_lines s behind ≡ told ++ others
 
 -- ---- what was read
 
@@ -62,13 +62,13 @@ Leaves (Some (Refused number why)) others = (more : List ScriptLine) × (others 
 Leaves end others = Unit {0}
 
 -- The lines that were given are all that the complete lines of what was read say, up to the last line feed.
-pub record SaysComplete (h : Header) (read : List ℕ) (told : List ScriptLine) : Type 0 where
+pub record SaysComplete (s : Scope) (h : Header) (read : List ℕ) (told : List ScriptLine) : Type 0 where
   pub complete : List ℕ
   pub partial : List ℕ
   pub cut : read ≡ complete ++ partial
   pub whole : AreWholeLines complete
   pub free : IsTrue (is_free_of 10 partial)
-  pub says : Says h complete told []
+  pub says : Says s h complete told []
 
 -- The line that begins behind so many bytes is refused before it is read, whatever follows: these bytes end within it.
 pub record IsUnread (start : ℕ) (bytes : List ℕ) (why : Refusal) : Type 0 where
@@ -83,7 +83,7 @@ EndsUnread keeps end start bytes = keeps ≡ true → (number : ℕ) (why : Refu
 
 -- A script was read so far, or to where it ended: one that goes on behind a refused line, or does not. The k-th line that was given is what the
 -- k-th line that says something says, whatever follows what was read.
-pub record ReadsScript (keeps : Bool) (first now : Option (List ℕ)) (faults later : ℕ) (h : Header) (given : List LiveLine) (end : Option ScriptEnd) : Type 0 where
+pub record ReadsScriptBy (s : Scope) (keeps : Bool) (first now : Option (List ℕ)) (faults later : ℕ) (h : Header) (given : List LiveLine) (end : Option ScriptEnd) : Type 0 where
   pub read : List ℕ
   -- whether the source ended with them
   pub ended : Bool
@@ -93,11 +93,15 @@ pub record ReadsScript (keeps : Bool) (first now : Option (List ℕ)) (faults la
   pub told : List ScriptLine
   pub given_are : given ≡ map line_of told
   pub plain : ArePlain keeps told
-  pub says : (rest : List ℕ) → MayFollow ended rest → (others : List ScriptLine) × Says h (read ++ rest) told others × Leaves end others
+  pub says : (rest : List ℕ) → MayFollow ended rest → (others : List ScriptLine) × Says s h (read ++ rest) told others × Leaves end others
   -- at its end the source was read to its end; a read fault was counted, and no complete line was kept back
   pub to_end : end ≡ Some End → ended ≡ true
-  pub fault : end ≡ Some ReadFault → Rose faults later × SaysComplete h read told
+  pub fault : end ≡ Some ReadFault → Rose faults later × SaysComplete s h read told
   pub unread : EndsUnread keeps end 0 read
+
+-- .. where all machines of the header run.
+abbrev pub ReadsScript : Bool → Option (List ℕ) → Option (List ℕ) → ℕ → ℕ → Header → List LiveLine → Option ScriptEnd → Type 0
+ReadsScript keeps first now faults later h given end = ReadsScriptBy (scope_of h) keeps first now faults later h given end
 
 -- ---- behind the header
 

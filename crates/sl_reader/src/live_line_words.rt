@@ -157,7 +157,7 @@ fn text_refusal(scope: &Scope, machine: u32, text: &[u8]) -> Option<Refusal>
     if is_of_script(scope, text) {
         return Some(Refusal::Syntax);
     }
-    if scope.machines < machine {
+    if scope.is_elsewhere(machine) {
         return Some(Refusal::MissingMachine);
     }
     if is_of_locks(scope, text) {
@@ -170,7 +170,7 @@ fn text_refusal(scope: &Scope, machine: u32, text: &[u8]) -> Option<Refusal>
 fn machine_refusal(scope: &Scope, machine: u32) -> Option<Refusal>
     ensures { result ≡ machine_refusal scope.now machine }
 {
-    if scope.machines < machine {
+    if scope.is_elsewhere(machine) {
         Some(Refusal::MissingMachine)
     } else {
         None

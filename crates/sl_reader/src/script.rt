@@ -1,8 +1,7 @@
 //! The lines of a live script.
 
 ghost use Rattle.sl_reader.specs.GivenAnswers.{lines_in};
-ghost use Rattle.sl_reader.specs.Scopes.{scope_of};
-ghost use Rattle.sl_reader.specs.ScriptReading.{IsScript, ReadsScript};
+ghost use Rattle.sl_reader.specs.ScriptReading.{IsScript, ReadsScriptBy};
 ghost use Rattle.sl_reader.specs.declared.live_lines.LiveLine.{LiveLine as LineOf};
 ghost use Rattle.sl_run.specs.declared.header.Header.{Header as HeaderOf};
 ghost use Rattle.sl_reader.specs.HeaderBegins.{HeaderBegins};
@@ -13,7 +12,6 @@ use crate::origin::Origin;
 use crate::script_reading::{ScriptEnd, answer_of, read_on};
 use crate::{LineReader, LiveLine, LiveLines, NoLine, Scope};
 use sl_io::Source;
-use sl_run::Header;
 use std::alloc::Global;
 use std::marker::{Model, PhantomData};
 
@@ -55,19 +53,19 @@ fn answer_at(end: ScriptEnd) -> Result<Option<LiveLine>, NoLine>
 }
 
 impl<S: Source, J: Origin> ScriptLines<S, J> {
-    /// The lines behind a header that this reader has read of the source, in a script that goes on behind a line that is refused, or does not: it, and
+    /// The lines behind a header that this reader has read of the source, by these names of it, in a script that goes on behind a line that is refused, or does not: it, and
     /// what of the source and the header the lines are read by, are those that were picked.
     pub fn new(
         alloc: Global,
         source: S,
         reader: LineReader,
-        header: &Header,
+        scope: Scope,
         keeps: bool,
     ) -> ScriptLines<S, J>
         requires left { S.left source ≡ J.left }
         requires faults { S.faults source ≡ J.faults }
         requires began { reader ≡ J.began }
-        requires scope { scope_of header.now ≡ J.scope }
+        requires scope { scope ≡ J.scope }
         requires keeps { keeps ≡ J.keeps }
         requires ends { EndStands (S.left source) reader }
         ensures end { result.end ≡ None }
@@ -77,7 +75,7 @@ impl<S: Source, J: Origin> ScriptLines<S, J> {
             alloc,
             source,
             reader,
-            scope: Scope::of(header),
+            scope,
             keeps,
             end: None,
             of: PhantomData,
@@ -89,8 +87,8 @@ impl<S: Source, J: Origin> ScriptLines<S, J> {
     pub fn close(self) -> (S, Option<ScriptEnd>)
         ensures end { result.1 ≡ self.end }
         ensures later { J.faults ≤ S.faults result.0 }
-        ensures script { (first : Option (List ℕ)) (header : HeaderOf) (given : List LineOf) → HeaderBegins first J.left J.began header → scope_of header ≡ J.scope
-            → IsScript J.keeps J.left J.faults J.began J.scope self given → ReadsScript J.keeps first (S.left result.0) J.faults (S.faults result.0) header given result.1 }
+        ensures script { (first : Option (List ℕ)) (header : HeaderOf) (given : List LineOf) → HeaderBegins first J.left J.began header
+            → IsScript J.keeps J.left J.faults J.began J.scope self given → ReadsScriptBy J.scope J.keeps first (S.left result.0) J.faults (S.faults result.0) header given result.1 }
     {
         let ScriptLines {
             alloc: _,

@@ -1,15 +1,13 @@
-//! A schedule's lines as its header and its events.
+//! A line behind a schedule's header as an event, and the header that a text begins with.
 //!
-//! A source is read once, from its first line to its last or to the one that is refused: what is passed is read, and what was read is never
-//! passed over for want of memory, since then a schedule would go on without one of its events.
+//! Who reads a source that comes in pieces, reads it line by line (`sl_reader`). A text that is there as a whole is read here.
 
 ghost use Rattle.sl_report.specs.Languages.{whole_language};
 ghost use Rattle.sl_report.specs.Schedules as schedules;
 ghost use Rattle.sl_report.specs.HeaderLines.{HeaderLine as Spelled};
 ghost use Rattle.sl_schedule.specs.HeadersSoFar.{Stands};
 ghost use Rattle.sl_schedule.specs.Lines.{header_reading, line_seen};
-ghost use Rattle.std.specs.Option.{option_to_list};
-ghost use Rattle.std.specs.Prelude.{IfNone, IfOk, List, OnErr, [], ◌++◌, ◌≡◌};
+ghost use Rattle.std.specs.Prelude.{IfOk, List, OnErr, [], ◌≡◌};
 
 use crate::events::next_event;
 use crate::header::{Added, HeaderReader, is_skipped};
@@ -36,42 +34,6 @@ pub fn event_line(
     }
     let event = next_event(alloc, header.machines, header.geometry.sector(), line.text)?;
     Ok(Some((line.number, event.ok_or(Refusal::Syntax))))
-}
-
-/// The next event of the lines that are left, passing its line and the empty lines and comments before it.
-fn pass_event(
-    alloc: Global,
-    header: &Header,
-    lines: &mut Lines,
-) -> Result<Option<EventLine>, AllocError>
-    ensures event { IfOk result (λ event. schedules.event_lines_of whole_language header.now lines.old
-        ≡ option_to_list event ++ schedules.event_lines_of whole_language header.now lines.new) }
-    ensures ended { IfOk result (λ event. IfNone event (lines.new ≡ [])) }
-{
-    while let Some(line) = lines.next_line() {
-        if let Some(event) = event_line(alloc, header, &line)? {
-            return Ok(Some(event));
-        }
-    }
-    Ok(None)
-}
-
-/// The next event of the lines that are left, or why its line can't be read; None where no line has one. What is passed is that line and
-/// those before it, which are empty or comments. After an `Err`, which is want of memory, no line is passed.
-pub fn next_event_line(
-    alloc: Global,
-    header: &Header,
-    lines: &mut Lines,
-) -> Result<Option<EventLine>, AllocError>
-    ensures event { IfOk result (λ event. schedules.event_lines_of whole_language header.now lines.old
-        ≡ option_to_list event ++ schedules.event_lines_of whole_language header.now lines.new) }
-    ensures ended { IfOk result (λ event. IfNone event (lines.new ≡ [])) }
-    ensures err { OnErr result (lines.new ≡ lines.old) }
-{
-    let mut ahead = lines.copied();
-    let event = pass_event(alloc, header, &mut ahead)?;
-    *lines = ahead;
-    Ok(event)
 }
 
 /// The header that the lines begin with behind those that the reader has, passing its lines.

@@ -12,8 +12,8 @@ use Rattle.sl_due.specs.DueRequests.{after_value_read, bits_due, value_reply}
 use Rattle.sl_due.specs.Steps.{Step, add_call_of, add_end, add_move, add_signal, seen, with_input}
 use Rattle.sl_due.specs.declared.decision.Decision.{Decision}
 use Rattle.sl_due.specs.declared.decision.Decision.TheVariants.{ConvertsTo, GetsValue, GivesUp, Joins, Leaves, ReadsArea, Replies, Requests, SetsValue, Shares, TakesOver}
-use Rattle.sl_due_facts.proofs.Jobs.EffectsAreAllowed.{Allows, DecisionAllowed, DeltaAllowed, GrantAllowed, LeaseAllowed, ReadAllowed, RequestAllowed, decision, delta, ended, exited, lease, left, refusal, removal_of_refused, requested, said, sent, stopped}
-use Rattle.sl_due_facts.proofs.Jobs.NearlyPlainActs.{AnyMove, AnyStart, Anything}
+use Rattle.sl_due_facts.proofs.Jobs.EffectsAreAllowed.{Allows, DecisionAllowed, DeltaAllowed, LeaseAllowed, ReadAllowed, RequestAllowed, decision, delta, ended, exited, lease, left, refusal, removal_of_refused, requested, said, sent, stopped}
+use Rattle.sl_due_facts.proofs.Jobs.NearlyPlainActs.{AnyMove, AnyStart, Anything, grant_plain}
 use Rattle.sl_due_facts.proofs.Jobs.RepliesComeAfter.{on_bool, on_option}
 use Rattle.sl_trace.specs.Jobs.{job_of_start}
 use Rattle.sl_trace.specs.Leases.{spot_of, spot_of_call}
@@ -111,23 +111,6 @@ reads_plain y s at work TakeLeader = tt
 reads_plain y s at work SetMode = tt
 reads_plain y s at work FreeLeader = tt
 reads_plain y s at work ClearMode = tt
-
-grant_plain : (j lver : ℕ) (c : Command) → GrantAllowed Anything AnyStart j lver c
-grant_plain j lver (Acquire r shared q persistent) = tt
-grant_plain j lver (TakeOver r shared q persistent) = tt
-grant_plain j lver (RunProgram r shared path) = tt
-grant_plain j lver (Release r q) = tt
-grant_plain j lver (ReleaseOrphan r) = tt
-grant_plain j lver (Convert r shared q) = tt
-grant_plain j lver (Request r n force) = tt
-grant_plain j lver (GetLvb r q) = tt
-grant_plain j lver (SetLvb r q bytes) = tt
-grant_plain j lver (AddLockspace a) = tt
-grant_plain j lver (RemLockspace a) = tt
-grant_plain j lver (InqLockspace a) = tt
-grant_plain j lver (HostStatus a) = tt
-grant_plain j lver (SetKillpath q path) = tt
-grant_plain j lver Status = tt
 
 lease_plain : (y : Step) (s : Session) (at : Spot) (work : Work) (n : LeaseNext) → LeaseAllowed Anything NoOther AnyStart y s at work n
 lease_plain y s at work No_lease = tt

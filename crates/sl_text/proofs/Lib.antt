@@ -7,4 +7,3 @@ pub mod HexLaws
 pub mod LineLaws
 pub mod PartLaws
 pub mod FreeLaws
-pub mod WriteLaws

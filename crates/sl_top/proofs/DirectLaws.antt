@@ -1,11 +1,11 @@
 -- What an action owes: a disk is handed out, the action is done to the area, and the area goes back. Where the devices don't tell what the
 -- disk has, nothing of it is owed, so what the area tells is forgotten; where they do, the area has what the disk had.
 use Rattle.sl_area.specs.AreaSizes.{Sizes, layout_of}
-use Rattle.sl_direct.specs.Actions.{Acts, AreReadAt, Directs, Look, Reads, Writes, dump_look, leader_look, path_of}
-use Rattle.sl_direct.specs.FreshAreas.{Write, lockspace_writes, resource_writes}
-use Rattle.sl_direct.specs.Lines.{lockspace_line, resource_line}
+use Rattle.sl_direct.specs.Actions.{Acts, AreReadAt, Directs, Look, Reads, Writes, dump_look, label_for, leader_look, path_of}
+use Rattle.sl_direct.specs.FreshAreas.{Write, labelled_writes, lockspace_writes, resource_writes}
+use Rattle.sl_direct.specs.Lines.{labelled_line, lockspace_line, resource_line}
 use Rattle.sl_direct.specs.Upgrades.{IsOldArea, IsSectorAt, OldArea, ReadsBlock, ReadsBlocks, ReadsLeader, Upgrades}
-use Rattle.sl_direct.specs.declared.action.Action.TheVariants.{Dump, InitLockspace, InitResource, ReadLeader, Upgrade}
+use Rattle.sl_direct.specs.declared.action.Action.TheVariants.{Dump, InitLabelled, InitLockspace, InitResource, ReadLeader, Upgrade}
 use Rattle.sl_direct.specs.declared.action.Action.{Action}
 use Rattle.sl_direct.specs.declared.action.Directed.TheVariants.{AreaFault, Done, NoMemory, NotTheLeader, TornBlock, WriteFault}
 use Rattle.sl_direct.specs.declared.action.Directed.{Directed}
@@ -80,6 +80,7 @@ upgrades_untold r g content left after lines WriteFault h = h
 
 acts_untold : (a : Action) (content left after : Option (List ℕ)) (lines : List (List ℕ)) (d : Directed) → Acts a content left lines d → Acts a None after lines d
 acts_untold (InitLockspace l g) = writes_untold (lockspace_writes (layout_of g) l.name l.offset) (lockspace_line l g.hosts)
+acts_untold (InitLabelled l g t grace) = writes_untold (labelled_writes (layout_of g) (label_for l g t grace) l.offset) (labelled_line l g.hosts t grace)
 acts_untold (InitResource r g) = writes_untold (resource_writes (layout_of g) r.lockspace r.name r.offset) (resource_line r g.hosts)
 acts_untold (ReadLeader r g) = reads_untold (leader_look r g.sector)
 acts_untold (Upgrade r g) = upgrades_untold r g
@@ -154,6 +155,7 @@ keeps_same (Some c) = refl
 
 nothing_acted : (a : Action) (content : Option (List ℕ)) → Acts a content content [] NoMemory
 nothing_acted (InitLockspace l g) content = (keeps_same content, refl)
+nothing_acted (InitLabelled l g t grace) content = (keeps_same content, refl)
 nothing_acted (InitResource r g) content = (keeps_same content, refl)
 nothing_acted (Upgrade r g) content = (keeps_same content, refl)
 nothing_acted (ReadLeader r g) content = record { kept = keeps_same content; sectors = []; read = tt; told = refl; ended = omega arith }

@@ -5,3 +5,5 @@ pub mod GenLaws
 pub mod OweLaws
 pub mod StatusLaws
 pub mod LiveLaws
+pub mod OwnLaws
+pub mod PictureLaws

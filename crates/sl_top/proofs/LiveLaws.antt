@@ -3,11 +3,11 @@ use Rattle.sl_world_state.specs.Daemons.{begun_with}
 use Rattle.sl_due_law.proofs.DueIsLawful.{due_is_lawful}
 use Rattle.sl_host_step.specs.HostServes.{Serves, whole_commands}
 use Rattle.sl_live_play.specs.DifferenceLines.{differ_text}
-use Rattle.sl_live_play.specs.LiveOwed.{All, Breaks, Breaks_early, Differing, Disk_there, Due, Ends, Faults, Front, In_use, Lacks, Of, Owes as OwesLive, Part, Parts, Puts, Stops, Stops_early}
+use Rattle.sl_live_play.specs.LiveOwed.{All as AllPut, Breaks, Breaks_early, Differing, Disk_there, Due, Ends, Faults, Front, In_use, Lacks, Of, Owes as OwesLive, Part, Parts, Puts, Stops, Stops_early, Tellers}
 use Rattle.sl_live_play.specs.declared.play.Lived.TheVariants as lived
 use Rattle.sl_live_play.specs.declared.play.Lived.{Lived}
 use Rattle.sl_live_play.specs.declared.play.Manner.{Manner}
-use Rattle.sl_live_run.specs.Folders.{Asked}
+use Rattle.sl_live_run.specs.Folders.{Asked as AskedFolder}
 use Rattle.sl_live_run.specs.declared.compare.LiveDiffer.{LiveDiffer}
 use Rattle.sl_reader.specs.ScriptReading.{ReadsScript}
 use Rattle.sl_reader.specs.declared.live_lines.LiveLine.{LiveLine}
@@ -16,31 +16,50 @@ use Rattle.sl_run.specs.declared.header.Header.{Header}
 use Rattle.sl_top.proofs.RunLaws.{nothing_put}
 use Rattle.sl_top.specs.LiveHistories.{LiveHistoriesAreGood}
 use Rattle.sl_top.specs.StatusLaws.{SomeDiffer}
-use Rattle.sl_cli.specs.declared.command_words.Words.TheVariants.{Direct, Generate, Help, Live, Replay, Version}
+use Rattle.sl_cli.specs.declared.command_words.Words.TheVariants.{Direct, Draw, Generate, Help, Label, Live, Own, Replay, Version}
 use Rattle.sl_cli.specs.declared.command_words.Words.{Words}
-use Rattle.sl_top.specs.Runs.{IsLive, Outside, Owes, RunsLive, place_in, place_of, told_from}
+use Rattle.sl_top.specs.Runs.{IsLive, IsOwn, Outside, Owes, RunsLive, RunsOwn, asked_in, asked_of, told_from, untold}
 use Rattle.sl_top.specs.Statuses.{status_of_live}
 use Rattle.sl_top.specs.declared.status.Status.TheVariants.{AreaFault, BadWords, Differs, NoMemory, NotTheLeader, ReadFault, WriteFault}
+use Rattle.sl_top.specs.declared.own.OwnPlace.{OwnPlace}
 use Rattle.sl_top.specs.declared.status.Status.{Status}
+use Rattle.sl_top.specs.declared.top.Asked.TheVariants.{All, One}
+use Rattle.sl_top.specs.declared.top.Asked.{Asked}
+use Rattle.sl_top.specs.declared.top.Place.{Place}
 use Rattle.sl_io.specs.FaultCauses.{Rose}
 use Rattle.sl_words.proofs.CaseLaws.{none_some, some_value}
-use Rattle.std.proofs.Common.{Bool, List, None, Option, Some, [], ap, refl, subst, sym, ℕ, ◌++◌, ◌||◌, ◌∙◌, ◌≡◌}
+use Rattle.sl_words.proofs.Lists.{there_is}
+use Rattle.std.proofs.Common.{Bool, List, None, Option, Some, [], ap, length, refl, subst, sym, ℕ, ◌++◌, ◌<◌, ◌||◌, ◌∙◌, ◌≡◌}
+use Rattle.std.proofs.lemmas.Option.{slice_get_within}
 use Rattle.std.specs.Io.KnownBytes.{Appends}
-use Rattle.std.specs.Prelude.{option_map}
+use Rattle.std.specs.Prelude.{option_map, slice_get}
 
 -- ---- histories
 
-pub live_histories_are_good : LiveHistoriesAreGood
-live_histories_are_good h given hs l place site history at there =
+-- A list has something at each place at which one of the same length has.
+at_place_of : {A B : Type 0} (xs : List A) (ys : List B) (k : ℕ) (y : B) → length xs ≡ length ys → slice_get ys k ≡ Some y → (x : A) × (slice_get xs k ≡ Some x)
+at_place_of xs ys k y same at = there_is xs k (subst (λ (n : ℕ). k < n) (sym same) (slice_get_within ys k y at))
+
+pub live_histories_are_good : {A P : Type 0} (tellers : Tellers A P) → LiveHistoriesAreGood tellers
+live_histories_are_good tellers h given hs l place site history at there =
     let it = l.histories.each place site history at there in
     let good = due_is_lawful (begun_with whole_commands l.begun.header site) _ it.whole.stood.setting it.whole.stood.stood.stands.past in
-    (good.0, good.1)
+    let had = at_place_of l.served.disks l.begun.sites place site l.served.had.counted at in
+    let left = at_place_of l.served.left hs place history l.served.served.counted there in
+    record {
+      lawful = good.0;
+      caused = good.1;
+      disks = had.0;
+      had = l.served.had.each place had.0 had.1;
+      left = left.0;
+      served = l.served.served.each place site history had.0 left.0 at there had.1 left.1;
+    }
 
 -- ---- statuses
 
 -- For want of memory, before anything was done.
-pub never_run : (folder : List ℕ) (manner : Manner) (x : Outside) → RunsLive folder manner x x NoMemory
-never_run folder manner x = record { ended = lived.NoMemory; owes = Lacks [] (nothing_put x.taken); status = refl }
+pub never_run : {A P : Type 0} (tellers : Tellers A P) (folder : List ℕ) (manner : Manner) (x : Outside) → RunsLive tellers folder manner x x NoMemory
+never_run tellers folder manner x = record { ended = lived.NoMemory; owes = Lacks [] (nothing_put x.taken); status = refl }
 
 pub not_bad : (l : Lived) → status_of_live l ≡ BadWords → ⊥
 not_bad lived.Done e = absurd cc
@@ -60,7 +79,7 @@ not_a_look lived.NoMemory e = absurd cc
 not_a_look lived.AreaFault e = absurd cc
 not_a_look lived.Differs e = absurd cc
 
-read_failed : (l : Lived) → status_of_live l ≡ ReadFault → l ≡ lived.ReadFault
+pub read_failed : (l : Lived) → status_of_live l ≡ ReadFault → l ≡ lived.ReadFault
 read_failed lived.Done e = absurd cc
 read_failed lived.Refused e = absurd cc
 read_failed lived.ReadFault e = refl
@@ -69,7 +88,7 @@ read_failed lived.NoMemory e = absurd cc
 read_failed lived.AreaFault e = absurd cc
 read_failed lived.Differs e = absurd cc
 
-write_failed : (l : Lived) → status_of_live l ≡ WriteFault → l ≡ lived.WriteFault
+pub write_failed : (l : Lived) → status_of_live l ≡ WriteFault → l ≡ lived.WriteFault
 write_failed lived.Done e = absurd cc
 write_failed lived.Refused e = absurd cc
 write_failed lived.ReadFault e = absurd cc
@@ -78,7 +97,7 @@ write_failed lived.NoMemory e = absurd cc
 write_failed lived.AreaFault e = absurd cc
 write_failed lived.Differs e = absurd cc
 
-area_failed : (l : Lived) → status_of_live l ≡ AreaFault → l ≡ lived.AreaFault
+pub area_failed : (l : Lived) → status_of_live l ≡ AreaFault → l ≡ lived.AreaFault
 area_failed lived.Done e = absurd cc
 area_failed lived.Refused e = absurd cc
 area_failed lived.ReadFault e = absurd cc
@@ -87,7 +106,7 @@ area_failed lived.NoMemory e = absurd cc
 area_failed lived.AreaFault e = refl
 area_failed lived.Differs e = absurd cc
 
-differed : (l : Lived) → status_of_live l ≡ Differs → l ≡ lived.Differs
+pub differed : (l : Lived) → status_of_live l ≡ Differs → l ≡ lived.Differs
 differed lived.Done e = absurd cc
 differed lived.Refused e = absurd cc
 differed lived.ReadFault e = absurd cc
@@ -117,25 +136,25 @@ pub record Tells (keeps : Bool) (left after : Option (List ℕ)) (faults later d
   pub written : whole ≡ lived.WriteFault → ⊥
   pub differs : whole ≡ lived.Differs → Differed keeps left after faults later (λ told. text ≡ told)
 
-due_tells : (f : Asked) (w : Manner) (left after : Option (List ℕ)) (faults later device_faults device_later : ℕ) (text : List ℕ) (whole : Lived)
-    → Due Serves whole_commands f w left after faults later device_faults device_later text whole → Tells w.keeps left after faults later device_faults device_later text whole
-due_tells f w left after faults later device_faults device_later text whole (Ends h given hs pieces reads lives woven vacant) =
+due_tells : {A P : Type 0} (tellers : Tellers A P) (f : AskedFolder) (w : Manner) (left after : Option (List ℕ)) (faults later device_faults device_later : ℕ) (text : List ℕ) (whole : Lived)
+    → Due Serves whole_commands tellers f w left after faults later device_faults device_later text whole → Tells w.keeps left after faults later device_faults device_later text whole
+due_tells tellers f w left after faults later device_faults device_later text whole (Ends h given hs pieces reads lives woven vacant) =
     record { read = λ e. absurd cc; area = λ e. absurd cc; written = λ e. absurd cc; differs = λ e. absurd cc }
-due_tells f w left after faults later device_faults device_later text whole (Stops_early r number why stops) =
+due_tells tellers f w left after faults later device_faults device_later text whole (Stops_early r number why stops) =
     record { read = λ e. absurd cc; area = λ e. absurd cc; written = λ e. absurd cc; differs = λ e. absurd cc }
-due_tells f w left after faults later device_faults device_later text whole (Stops h given hs pieces number why reads lives woven vacant) =
+due_tells tellers f w left after faults later device_faults device_later text whole (Stops h given hs pieces number why reads lives woven vacant) =
     record { read = λ e. absurd cc; area = λ e. absurd cc; written = λ e. absurd cc; differs = λ e. absurd cc }
-due_tells f w left after faults later device_faults device_later text whole (Breaks_early breaks rose) =
+due_tells tellers f w left after faults later device_faults device_later text whole (Breaks_early breaks rose) =
     record { read = λ e. rose; area = λ e. absurd cc; written = λ e. absurd cc; differs = λ e. absurd cc }
-due_tells f w left after faults later device_faults device_later text whole (Breaks h given hs pieces reads lives woven vacant) =
+due_tells tellers f w left after faults later device_faults device_later text whole (Breaks h given hs pieces reads lives woven vacant) =
     record { read = λ e. (reads.fault refl).0; area = λ e. absurd cc; written = λ e. absurd cc; differs = λ e. absurd cc }
-due_tells f w left after faults later device_faults device_later text whole (Faults rose) =
+due_tells tellers f w left after faults later device_faults device_later text whole (Faults rose) =
     record { read = λ e. absurd cc; area = λ e. rose; written = λ e. absurd cc; differs = λ e. absurd cc }
-due_tells f w left after faults later device_faults device_later text whole (In_use rose) =
+due_tells tellers f w left after faults later device_faults device_later text whole (In_use rose) =
     record { read = λ e. absurd cc; area = λ e. rose; written = λ e. absurd cc; differs = λ e. absurd cc }
-due_tells f w left after faults later device_faults device_later text whole (Disk_there r h path begins there rose) =
+due_tells tellers f w left after faults later device_faults device_later text whole (Disk_there r h path begins there rose) =
     record { read = λ e. absurd cc; area = λ e. rose; written = λ e. absurd cc; differs = λ e. absurd cc }
-due_tells f w left after faults later device_faults device_later text whole (Parts h given end before machine d reads case_of vacant) =
+due_tells tellers f w left after faults later device_faults device_later text whole (Parts h given end before machine d reads case_of vacant) =
     record {
       read = λ e. absurd cc;
       area = λ e. absurd cc;
@@ -155,7 +174,7 @@ pub record Caused (keeps : Bool) (left after taken now : Option (List ℕ)) (fau
 put_caused : (keeps : Bool) (left after taken now : Option (List ℕ)) (faults later sink_faults sink_later device_faults device_later : ℕ) (text : List ℕ) (whole s : Lived)
     → Tells keeps left after faults later device_faults device_later text whole → Puts taken now sink_faults sink_later text whole s
     → Caused keeps left after taken now faults later sink_faults sink_later device_faults device_later s
-put_caused keeps left after taken now faults later sink_faults sink_later device_faults device_later text whole s tells (All appends) =
+put_caused keeps left after taken now faults later sink_faults sink_later device_faults device_later text whole s tells (AllPut appends) =
     record {
       read = tells.read;
       written = λ e. absurd (tells.written e);
@@ -177,13 +196,13 @@ put_caused keeps left after taken now faults later sink_faults sink_later device
 put_caused keeps left after taken now faults later sink_faults sink_later device_faults device_later text whole s tells (Front front appends begins) =
     record { read = λ e. absurd cc; written = λ e. absurd cc; area = λ e. absurd cc; differs = λ e. absurd cc }
 
-owes_caused : (f : Asked) (w : Manner) (left after taken now : Option (List ℕ)) (faults later sink_faults sink_later device_faults device_later : ℕ) (s : Lived)
-    → OwesLive Serves whole_commands f w left after taken now faults later sink_faults sink_later device_faults device_later s
+owes_caused : {A P : Type 0} (tellers : Tellers A P) (f : AskedFolder) (w : Manner) (left after taken now : Option (List ℕ)) (faults later sink_faults sink_later device_faults device_later : ℕ) (s : Lived)
+    → OwesLive Serves whole_commands tellers f w left after taken now faults later sink_faults sink_later device_faults device_later s
     → Caused w.keeps left after taken now faults later sink_faults sink_later device_faults device_later s
-owes_caused f w left after taken now faults later sink_faults sink_later device_faults device_later s (Of text whole t due puts) =
+owes_caused tellers f w left after taken now faults later sink_faults sink_later device_faults device_later s (Of text whole it due puts) =
     put_caused w.keeps left after taken now faults later sink_faults sink_later device_faults device_later text whole s
-    (due_tells f w left after faults later device_faults device_later text whole due) puts
-owes_caused f w left after taken now faults later sink_faults sink_later device_faults device_later s (Lacks part nothing) =
+    (due_tells tellers f w left after faults later device_faults device_later text whole due) puts
+owes_caused tellers f w left after taken now faults later sink_faults sink_later device_faults device_later s (Lacks part nothing) =
     record { read = λ e. absurd cc; written = λ e. absurd cc; area = λ e. absurd cc; differs = λ e. absurd cc }
 
 -- So of a live run.
@@ -193,9 +212,9 @@ pub record LiveCaused (keeps : Bool) (x y : Outside) (s : Status) : Type 0 where
   pub area : s ≡ AreaFault → Rose x.device_faults y.device_faults
   pub differs : s ≡ Differs → SomeDiffer keeps x y
 
-pub live_caused : (folder : List ℕ) (manner : Manner) (x y : Outside) (s : Status) → RunsLive folder manner x y s → LiveCaused manner.keeps x y s
-live_caused folder manner x y s run =
-    let why = owes_caused (record { path = folder; anew = manner.anew; disks = x.disks }) manner x.left y.left x.taken y.taken x.source_faults y.source_faults x.sink_faults y.sink_faults x.device_faults y.device_faults run.ended run.owes in
+pub live_caused : {A P : Type 0} (tellers : Tellers A P) (folder : List ℕ) (manner : Manner) (x y : Outside) (s : Status) → RunsLive tellers folder manner x y s → LiveCaused manner.keeps x y s
+live_caused tellers folder manner x y s run =
+    let why = owes_caused tellers (record { path = folder; anew = manner.anew; disks = x.disks }) manner x.left y.left x.taken y.taken x.source_faults y.source_faults x.sink_faults y.sink_faults x.device_faults y.device_faults run.ended run.owes in
     record {
       read = λ e. why.read (read_failed run.ended (sym run.status ∙ e));
       written = λ e. why.written (write_failed run.ended (sym run.status ∙ e));
@@ -214,55 +233,104 @@ live_caused folder manner x y s run =
           });
     }
 
--- ---- words that ask for live machines
+-- ---- words that ask for machines
 
-abbrev live_words : List ℕ × Manner → Words
-live_words p = Live p.0 p.1.anew p.1.keeps p.1.events
+abbrev live_words : Place → Words
+live_words p = Live p.folder p.manner.anew p.manner.keeps p.manner.events
 
-place_is_live : (w : Words) (p : List ℕ × Manner) → place_of w ≡ Some p → w ≡ live_words p
-place_is_live (Live folder anew keeps events) p is = ap live_words (some_value (folder, record { anew = anew; keeps = keeps; events = events }) p is)
-place_is_live Replay p is = absurd cc
-place_is_live (Generate seed hosts events paired) p is = absurd cc
-place_is_live (Direct a) p is = absurd cc
-place_is_live Help p is = absurd cc
-place_is_live Version p is = absurd cc
+abbrev own_words : OwnPlace → Words
+own_words p = Own p.folder p.manner.machine p.watchdog p.manner.syncs p.manner.keeps p.manner.events
 
--- So what live machines did is owed by such words.
-pub owes_live : (s : Option Words) (p : List ℕ × Manner) (x y : Outside) (st : Status) → place_in s ≡ Some p → RunsLive p.0 p.1 x y st → Owes s x y st
-owes_live None p x y st is run = absurd cc
-owes_live (Some w) p x y st is run = subst (λ w. Owes (Some w) x y st) (sym (place_is_live w p is)) run
+-- The words that ask for this.
+abbrev words_for : Asked → Words
+words_for (All p) = live_words p
+words_for (One p) = own_words p
+
+asked_is : (w : Words) (a : Asked) → asked_of w ≡ Some a → w ≡ words_for a
+asked_is (Live folder anew keeps events) a is = ap words_for (some_value _ a is)
+asked_is (Own folder machine watchdog syncs keeps events) a is = ap words_for (some_value _ a is)
+asked_is Replay a is = absurd cc
+asked_is (Draw first last) a is = absurd cc
+asked_is (Generate seed hosts events paired) a is = absurd cc
+asked_is (Direct b) a is = absurd cc
+asked_is (Label l g t grace) a is = absurd cc
+asked_is Help a is = absurd cc
+asked_is Version a is = absurd cc
+
+said_for : (s : Option Words) (a : Asked) → asked_in s ≡ Some a → s ≡ Some (words_for a)
+said_for None a is = absurd cc
+said_for (Some w) a is = ap (λ v. Some v) (asked_is w a is)
+
+-- So what machines did is owed by such words.
+pub owes_live : {A P : Type 0} (tellers : Tellers A P) (s : Option Words) (p : Place) (x y : Outside) (st : Status) → asked_in s ≡ Some (All p) → RunsLive tellers p.folder p.manner x y st → Owes tellers s x y st
+owes_live tellers s p x y st is run = subst (λ v. Owes tellers v x y st) (sym (said_for s (All p) is)) run
+
+pub owes_own : {A P : Type 0} (tellers : Tellers A P) (s : Option Words) (p : OwnPlace) (x y : Outside) (st : Status) → asked_in s ≡ Some (One p) → RunsOwn tellers p.folder p.manner x y st → Owes tellers s x y st
+owes_own tellers s p x y st is run = subst (λ v. Owes tellers v x y st) (sym (said_for s (One p) is)) run
 
 -- Such words ask for live machines.
 pub said_live : (s : Option Words) (folder : List ℕ) (anew keeps events : Bool) → s ≡ Some (Live folder anew keeps events) → IsLive s
 said_live s folder anew keeps events is = (folder, record { anew = anew; keeps = keeps; events = events }, is)
 
--- Where a live script is told, a terminal changes whether it goes on alone; and nothing else.
-is_live_from : (at_terminal : Bool) (w : Words) (p : List ℕ × Manner) → place_of (told_from at_terminal w) ≡ Some p → IsLive (Some w)
-is_live_from at_terminal (Live folder anew keeps events) p is = (folder, record { anew = anew; keeps = keeps; events = events }, refl)
-is_live_from at_terminal Replay p is = absurd cc
-is_live_from at_terminal (Generate seed hosts events paired) p is = absurd cc
-is_live_from at_terminal (Direct a) p is = absurd cc
-is_live_from at_terminal Help p is = absurd cc
-is_live_from at_terminal Version p is = absurd cc
+-- .. or for one in a process of its own.
+pub said_own : (s : Option Words) (folder : List ℕ) (machine : ℕ) (watchdog : Option (List ℕ)) (syncs keeps events : Bool) → s ≡ Some (Own folder machine watchdog syncs keeps events)
+    → IsOwn s
+said_own s folder machine watchdog syncs keeps events is = (folder, watchdog, record { machine = machine; syncs = syncs; keeps = keeps; events = events }, is)
 
-pub is_live : (at_terminal : Bool) (s : Option Words) (p : List ℕ × Manner) → place_in (option_map (told_from at_terminal) s) ≡ Some p → IsLive s
+-- Where a script for machines is told, a terminal changes whether it goes on alone; and nothing else.
+live_from : (at_terminal : Bool) (w : Words) (p : Place) → asked_of (told_from at_terminal w) ≡ Some (All p) → IsLive (Some w)
+live_from at_terminal (Live folder anew keeps events) p is = (folder, record { anew = anew; keeps = keeps; events = events }, refl)
+live_from at_terminal (Own folder machine watchdog syncs keeps events) p is = absurd cc
+live_from at_terminal Replay p is = absurd cc
+live_from at_terminal (Draw first last) p is = absurd cc
+live_from at_terminal (Generate seed hosts events paired) p is = absurd cc
+live_from at_terminal (Direct b) p is = absurd cc
+live_from at_terminal (Label l g t grace) p is = absurd cc
+live_from at_terminal Help p is = absurd cc
+live_from at_terminal Version p is = absurd cc
+
+pub is_live : (at_terminal : Bool) (s : Option Words) (p : Place) → asked_in (option_map (told_from at_terminal) s) ≡ Some (All p) → IsLive s
 is_live at_terminal None p is = absurd cc
-is_live at_terminal (Some w) p is = is_live_from at_terminal w p is
+is_live at_terminal (Some w) p is = live_from at_terminal w p is
 
-pub not_live : (at_terminal : Bool) (s : Option Words) → place_in (option_map (told_from at_terminal) s) ≡ None → IsLive s → ⊥
+own_from : (at_terminal : Bool) (w : Words) (p : OwnPlace) → asked_of (told_from at_terminal w) ≡ Some (One p) → IsOwn (Some w)
+own_from at_terminal (Live folder anew keeps events) p is = absurd cc
+own_from at_terminal (Own folder machine watchdog syncs keeps events) p is =
+    (folder, watchdog, record { machine = machine; syncs = syncs; keeps = keeps; events = events }, refl)
+own_from at_terminal Replay p is = absurd cc
+own_from at_terminal (Draw first last) p is = absurd cc
+own_from at_terminal (Generate seed hosts events paired) p is = absurd cc
+own_from at_terminal (Direct b) p is = absurd cc
+own_from at_terminal (Label l g t grace) p is = absurd cc
+own_from at_terminal Help p is = absurd cc
+own_from at_terminal Version p is = absurd cc
+
+pub is_own : (at_terminal : Bool) (s : Option Words) (p : OwnPlace) → asked_in (option_map (told_from at_terminal) s) ≡ Some (One p) → IsOwn s
+is_own at_terminal None p is = absurd cc
+is_own at_terminal (Some w) p is = own_from at_terminal w p is
+
+pub not_live : (at_terminal : Bool) (s : Option Words) → asked_in (option_map (told_from at_terminal) s) ≡ None → IsLive s → ⊥
 not_live at_terminal s none live =
-    absurd (none_some _ (sym none ∙ ap (λ o. place_in (option_map (told_from at_terminal) o)) live.2))
+    absurd (none_some _ (sym none ∙ ap (λ o. asked_in (option_map (told_from at_terminal) o)) live.2))
 
--- Other words say the same from anywhere.
-same_from : (at_terminal : Bool) (w : Words) → place_of (told_from at_terminal w) ≡ None → told_from at_terminal w ≡ w
-same_from at_terminal (Live folder anew keeps events) none = absurd cc
-same_from at_terminal Replay none = refl
-same_from at_terminal (Generate seed hosts events paired) none = refl
-same_from at_terminal (Direct a) none = refl
-same_from at_terminal Help none = refl
-same_from at_terminal Version none = refl
+pub not_own : (at_terminal : Bool) (s : Option Words) → asked_in (option_map (told_from at_terminal) s) ≡ None → IsOwn s → ⊥
+not_own at_terminal s none own =
+    absurd (none_some _ (sym none ∙ ap (λ o. asked_in (option_map (told_from at_terminal) o)) own.3))
 
-pub owes_from : (at_terminal : Bool) (s : Option Words) (x y : Outside) (st : Status) → place_in (option_map (told_from at_terminal) s) ≡ None → Owes s x y st
-    → Owes (option_map (told_from at_terminal) s) x y st
-owes_from at_terminal None x y st none owes = owes
-owes_from at_terminal (Some w) x y st none owes = subst (λ v. Owes (Some v) x y st) (sym (same_from at_terminal w none)) owes
+-- Other words say the same from anywhere, and owe the same whatever areas and spawners tell.
+owes_still : {A P : Type 0} (tellers : Tellers A P) (at_terminal : Bool) (w : Words) (x y : Outside) (st : Status) → asked_of (told_from at_terminal w) ≡ None → Owes untold (Some w) x y st
+    → Owes tellers (Some (told_from at_terminal w)) x y st
+owes_still tellers at_terminal (Live folder anew keeps events) x y st none owes = absurd cc
+owes_still tellers at_terminal (Own folder machine watchdog syncs keeps events) x y st none owes = absurd cc
+owes_still tellers at_terminal Replay x y st none owes = owes
+owes_still tellers at_terminal (Draw first last) x y st none owes = owes
+owes_still tellers at_terminal (Generate seed hosts events paired) x y st none owes = owes
+owes_still tellers at_terminal (Direct a) x y st none owes = owes
+owes_still tellers at_terminal (Label l g t grace) x y st none owes = owes
+owes_still tellers at_terminal Help x y st none owes = owes
+owes_still tellers at_terminal Version x y st none owes = owes
+
+pub owes_from : {A P : Type 0} (tellers : Tellers A P) (at_terminal : Bool) (s : Option Words) (x y : Outside) (st : Status) → asked_in (option_map (told_from at_terminal) s) ≡ None → Owes untold s x y st
+    → Owes tellers (option_map (told_from at_terminal) s) x y st
+owes_from tellers at_terminal None x y st none owes = owes
+owes_from tellers at_terminal (Some w) x y st none owes = owes_still tellers at_terminal w x y st none owes

@@ -33,49 +33,49 @@ use Rattle.std.specs.Prelude.{IsTrue, MatchBool, false}
 -- ---- the language, and its hosts
 
 -- A host does what is due.
-hosts_do : DaemonsDoWhatIsDue Serves
+pub hosts_do : DaemonsDoWhatIsDue Serves
 hosts_do d st es s = s.stands.past
 
-same_language : played_language whole_commands ≡ whole_language
+pub same_language : played_language whole_commands ≡ whole_language
 same_language = whole_language_may_play.whole
 
-good_headers : HeadersAreGood (played_language whole_commands)
+pub good_headers : HeadersAreGood (played_language whole_commands)
 good_headers = whole_language_may_play.plays.headers
 
 pub whole_headers : HeadersAreGood whole_language
 whole_headers = subst HeadersAreGood same_language good_headers
 
 -- It reads what lvmlockd's locks ask.
-asks_read : AsksAreRead (played_language whole_commands).program
+pub asks_read : AsksAreRead (played_language whole_commands).program
 asks_read = subst (λ (l : Language). AsksAreRead l.program) (sym same_language) whole_program_reads
 
-digest_of : IsDigest (played_language whole_commands).program.digest
+pub digest_of : IsDigest (played_language whole_commands).program.digest
 digest_of = sha256_is_digest
 
 -- ---- statuses
 
-same_code : (p : Played) → play.code p ≡ code (status_of p)
+pub same_code : (p : Played) → play.code p ≡ code (status_of p)
 same_code played.Done = refl
 same_code played.Refused = refl
 same_code played.ReadFault = refl
 same_code played.WriteFault = refl
 same_code played.NoMemory = refl
 
-done_is : (p : Played) → status_of p ≡ Done → p ≡ played.Done
+pub done_is : (p : Played) → status_of p ≡ Done → p ≡ played.Done
 done_is played.Done e = refl
 done_is played.Refused e = absurd cc
 done_is played.ReadFault e = absurd cc
 done_is played.WriteFault e = absurd cc
 done_is played.NoMemory e = absurd cc
 
-read_fault_is : (p : Played) → status_of p ≡ ReadFault → p ≡ played.ReadFault
+pub read_fault_is : (p : Played) → status_of p ≡ ReadFault → p ≡ played.ReadFault
 read_fault_is played.Done e = absurd cc
 read_fault_is played.Refused e = absurd cc
 read_fault_is played.ReadFault e = refl
 read_fault_is played.WriteFault e = absurd cc
 read_fault_is played.NoMemory e = absurd cc
 
-write_fault_is : (p : Played) → status_of p ≡ WriteFault → p ≡ played.WriteFault
+pub write_fault_is : (p : Played) → status_of p ≡ WriteFault → p ≡ played.WriteFault
 write_fault_is played.Done e = absurd cc
 write_fault_is played.Refused e = absurd cc
 write_fault_is played.ReadFault e = absurd cc
@@ -173,7 +173,7 @@ pub nothing_put : (taken : Option (List ℕ)) → Appends taken taken []
 nothing_put None = tt
 nothing_put (Some xs) = sym (append-nil xs)
 
-nothing_read : (left : Option (List ℕ)) → Consumes left left []
+pub nothing_read : (left : Option (List ℕ)) → Consumes left left []
 nothing_read None = tt
 nothing_read (Some xs) = refl
 

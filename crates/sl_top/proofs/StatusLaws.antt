@@ -1,29 +1,37 @@
 -- Which statuses a run may end with, by what its words say, and why.
 use Rattle.sl_area.specs.AreaSizes.{Sizes}
-use Rattle.sl_cli.specs.declared.command_words.Words.TheVariants.{Direct, Generate, Help, Live, Replay, Version}
+use Rattle.sl_cli.specs.declared.command_words.Words.TheVariants.{Direct, Draw, Generate, Help, Label, Live, Own, Replay, Version}
 use Rattle.sl_cli.specs.declared.command_words.Words.{Words}
 use Rattle.sl_cli.specs.declared.texts.TheConstants.{HELP, VERSION}
 use Rattle.sl_direct.proofs.AreaLaws.{leader_is_told}
 use Rattle.sl_direct.proofs.UpgradeTold.{upgrade_is_told}
 use Rattle.sl_direct.specs.Actions.{Directs, path_of}
 use Rattle.sl_direct.specs.Laws.{can_upgrade}
-use Rattle.sl_direct.specs.declared.action.Action.TheVariants.{ReadLeader, Upgrade}
+use Rattle.sl_direct.specs.declared.action.Action.TheVariants.{InitLabelled, ReadLeader, Upgrade}
 use Rattle.sl_direct.specs.declared.action.Action.{Action}
 use Rattle.sl_direct.specs.declared.action.Directed.TheVariants as directed
 use Rattle.sl_direct.specs.declared.action.Directed.{Directed}
+use Rattle.sl_draw.specs.Drawings.{PictureOwed}
 use Rattle.sl_headline.specs.PromisedRuns.{PromisedRun}
+use Rattle.sl_picture.specs.declared.kept.Part.{Part}
+use Rattle.sl_top.specs.Pictures.{Draws}
 use Rattle.sl_report.specs.OwedReports.{MayHaveBeen, ReplayHeadline, is_whole_status}
 use Rattle.sl_report.specs.Languages.{whole_language}
 use Rattle.sl_sound.proofs.Reports.OneReport.{accepted_schedules_end_well as accepted_runs}
 use Rattle.sl_sound.specs.Reports.ReportLaws.{replay_status}
+use Rattle.sl_live_play.specs.LiveOwed.{Tellers}
 use Rattle.sl_live_play.specs.declared.play.Manner.{Manner}
+use Rattle.sl_own.specs.declared.play.OwnManner.{OwnManner}
+use Rattle.sl_time.specs.Times.{TimingNumbers}
+use Rattle.sl_top.proofs.OwnLaws.{own_caused}
 use Rattle.sl_top.proofs.LiveLaws.{live_caused, not_a_look, not_bad as not_bad_live}
 use Rattle.sl_top.proofs.RunLaws.{whole_headers}
 use Rattle.sl_top.specs.StatusLaws.{AcceptedSchedulesEndWell, CantBeUpgraded, CausesHaveStatuses, HasItsCause, IsNotTheLeader, NothingFailed, OtherSchedulesAreRefused, StatusesHaveCauses, has_leader}
-use Rattle.sl_top.specs.Runs.{ActsOn, IsCutShort, IsWritten, Outside, PutsOut, Replays, RunsLive, bad_words_text}
+use Rattle.sl_top.specs.Runs.{ActsOn, IsCutShort, IsDirect, IsWritten, Outside, PutsOut, Replays, RunsLive, RunsOwn, bad_words_text}
 use Rattle.sl_top.specs.Statuses.{code, status_after}
 use Rattle.sl_top.specs.declared.status.Status.TheVariants.{AreaFault, BadWords, Differs, Done, NoMemory, NotTheLeader, ReadFault, Refused, WriteFault}
 use Rattle.sl_top.specs.declared.status.Status.{Status}
+use Rattle.sl_trace.specs.declared.command.LockspaceArg.{LockspaceArg}
 use Rattle.sl_trace.specs.declared.command.ResourceArg.{ResourceArg}
 use Rattle.sl_io.specs.FaultCauses.{Rose}
 use Rattle.std.proofs.Common.{Bool, IsTrue, List, None, Option, Some, ap, append-nil, arith, false, inl, inr, refl, subst, sym, true, ℕ, ◌++◌, ◌<◌, ◌∙◌, ◌≡◌}
@@ -77,13 +85,33 @@ outside ended read written s t headline is never = never (subst (λ u. ReplayHea
 replay_caused : (x y : Outside) (s : Status) → Replays x.left y.left x.source_faults y.source_faults x.taken y.taken x.sink_faults y.sink_faults s → HasItsCause (Some Replay) x y s
 replay_caused x y s run =
     record {
-      refused = λ e. inl refl;
+      refused = λ e. inl (inl refl);
       bad_words = λ e. absurd (outside run.ended run.read run.written s BadWords run.headline e (λ h. let no : false ≡ true = h.0 in absurd cc));
-      read_fault = λ e. (inl refl, run.read_fault e);
+      read_fault = λ e. (inl (inl refl), run.read_fault e);
       write_fault = run.write_fault;
       area_fault = λ e. absurd (outside run.ended run.read run.written s AreaFault run.headline e (λ h. let no : false ≡ true = h.0 in absurd cc));
       not_the_leader = λ e. absurd (outside run.ended run.read run.written s NotTheLeader run.headline e (λ h. let no : false ≡ true = h.0 in absurd cc));
       differs = λ e. absurd (outside run.ended run.read run.written s Differs run.headline e (λ h. let no : false ≡ true = h.0 in absurd cc));
+    }
+
+-- ---- a drawing
+
+-- No other status tells of a picture.
+not_drawn : (part : Part) (ended : Bool) (read written : List ℕ) (s t : Status) → PictureOwed PromisedRun whole_language part ended read written (code s) → s ≡ t
+    → (PictureOwed PromisedRun whole_language part ended read written (code t) → ⊥) → ⊥
+not_drawn part ended read written s t owed is never = never (subst (λ u. PictureOwed PromisedRun whole_language part ended read written (code u)) is owed)
+
+draw_caused : (first last : ℕ) (x y : Outside) (s : Status)
+    → Draws (record { first = first; last = last }) x.left y.left x.source_faults y.source_faults x.taken y.taken x.sink_faults y.sink_faults s → HasItsCause (Some (Draw first last)) x y s
+draw_caused first last x y s run =
+    record {
+      refused = λ e. inl (inr (first, last, refl));
+      bad_words = λ e. absurd (not_drawn _ run.ended run.read run.written s BadWords run.owed e (λ h. let no : false ≡ true = h.0 in absurd cc));
+      read_fault = λ e. (inl (inr (first, last, refl)), run.read_fault e);
+      write_fault = run.write_fault;
+      area_fault = λ e. absurd (not_drawn _ run.ended run.read run.written s AreaFault run.owed e (λ h. let no : false ≡ true = h.0 in absurd cc));
+      not_the_leader = λ e. absurd (not_drawn _ run.ended run.read run.written s NotTheLeader run.owed e (λ h. let no : false ≡ true = h.0 in absurd cc));
+      differs = λ e. absurd (not_drawn _ run.ended run.read run.written s Differs run.owed e (λ h. let no : false ≡ true = h.0 in absurd cc));
     }
 
 -- ---- an action
@@ -217,44 +245,90 @@ other_caused : (a : Action) (x y : Outside) (s : Status) → (run : ActsOn a x.d
 other_caused a x y s run (inl is) = leader_caused a x y s run is
 other_caused a x y s run (inr is) = inr (torn_caused a x y s run is)
 
-direct_caused : (a : Action) (x y : Outside) (s : Status) → ActsOn a x.disks y.disks x.device_faults y.device_faults x.taken y.taken x.sink_faults y.sink_faults s
-    → HasItsCause (Some (Direct a)) x y s
-direct_caused a x y s run =
+-- Words that ask for an action have its causes, if they have that of a look at another leader.
+acted_caused : (w : Option Words) (a : Action) (x y : Outside) (s : Status) → IsDirect w
+    → (run : ActsOn a x.disks y.disks x.device_faults y.device_faults x.taken y.taken x.sink_faults y.sink_faults s)
+    → ((run.ended ≡ directed.NotTheLeader) ⊎ (run.ended ≡ directed.TornBlock) → IsNotTheLeader w x ⊎ CantBeUpgraded w x) → HasItsCause w x y s
+acted_caused w a x y s asked run looked =
     record {
       refused = λ e. absurd (not_refused run.ended (sym run.status ∙ e));
       bad_words = λ e. absurd (not_bad run.ended (sym run.status ∙ e));
       read_fault = λ e. absurd (not_read run.ended (sym run.status ∙ e));
       write_fault = λ e. run.directs.write_fault (write_failed run.ended (sym run.status ∙ e));
-      area_fault = λ e. (inl (a, refl), run.count.rose (some_fault run.counted (run.directs.area_fault (area_failed run.ended (sym run.status ∙ e)))));
-      not_the_leader = λ e. other_caused a x y s run (other_leader run.ended (sym run.status ∙ e));
+      area_fault = λ e. inl (inl asked, run.count.rose (some_fault run.counted (run.directs.area_fault (area_failed run.ended (sym run.status ∙ e)))));
+      not_the_leader = λ e. looked (other_leader run.ended (sym run.status ∙ e));
       differs = λ e. absurd (not_differing run.ended (sym run.status ∙ e));
     }
 
--- ---- a live run
+direct_caused : (a : Action) (x y : Outside) (s : Status) → ActsOn a x.disks y.disks x.device_faults y.device_faults x.taken y.taken x.sink_faults y.sink_faults s
+    → HasItsCause (Some (Direct a)) x y s
+direct_caused a x y s run = acted_caused (Some (Direct a)) a x y s (inl (a, refl)) run (other_caused a x y s run)
 
-live_has_cause : (folder : List ℕ) (m : Manner) (x y : Outside) (s : Status) → RunsLive folder m x y s → HasItsCause (Some (Live folder m.anew m.keeps m.events)) x y s
-live_has_cause folder m x y s run =
-    let why = live_caused folder m x y s run in
+-- A lockspace that is made has no leader that is looked at.
+label_looks : (l : LockspaceArg) (g : Sizes) (t : TimingNumbers) (grace : ℕ) (x y : Outside) (s : Status)
+    → (run : ActsOn (InitLabelled l g t grace) x.disks y.disks x.device_faults y.device_faults x.taken y.taken x.sink_faults y.sink_faults s)
+    → (run.ended ≡ directed.NotTheLeader) ⊎ (run.ended ≡ directed.TornBlock) → ⊥
+label_looks l g t grace x y s run (inl is) =
+    let a = InitLabelled l g t grace in
+    let h = subst (λ d. Directs a (x.disks (path_of a)) (y.disks (path_of a)) 0 run.counted x.taken y.taken x.sink_faults y.sink_faults d) is run.directs in
+    let found : (r : ResourceArg) × (g : Sizes) × ((a ≡ ReadLeader r g) ⊎ (a ≡ Upgrade r g)) =
+    leader_is_told.other a (x.disks (path_of a)) (y.disks (path_of a)) 0 run.counted x.taken y.taken x.sink_faults y.sink_faults h in
+    elim found.2 [ inl look ↦ absurd cc | inr upgrade ↦ absurd cc ]
+label_looks l g t grace x y s run (inr is) =
+    let a = InitLabelled l g t grace in
+    let h = subst (λ d. Directs a (x.disks (path_of a)) (y.disks (path_of a)) 0 run.counted x.taken y.taken x.sink_faults y.sink_faults d) is run.directs in
+    let found : (r : ResourceArg) × (g : Sizes) × (a ≡ Upgrade r g) =
+    upgrade_is_told.other a (x.disks (path_of a)) (y.disks (path_of a)) 0 run.counted x.taken y.taken x.sink_faults y.sink_faults h in
+    let upgrade : InitLabelled l g t grace ≡ Upgrade found.0 found.1 = found.2 in absurd cc
+
+label_caused : (l : LockspaceArg) (g : Sizes) (t : TimingNumbers) (grace : ℕ) (x y : Outside) (s : Status)
+    → ActsOn (InitLabelled l g t grace) x.disks y.disks x.device_faults y.device_faults x.taken y.taken x.sink_faults y.sink_faults s → HasItsCause (Some (Label l g t grace)) x y s
+label_caused l g t grace x y s run =
+    acted_caused (Some (Label l g t grace)) (InitLabelled l g t grace) x y s (inr (l, g, t, grace, refl)) run (λ looked. absurd (label_looks l g t grace x y s run looked))
+
+-- ---- machines that run
+
+live_has_cause : {A P : Type 0} (tellers : Tellers A P) (folder : List ℕ) (m : Manner) (x y : Outside) (s : Status) → RunsLive tellers folder m x y s → HasItsCause (Some (Live folder m.anew m.keeps m.events)) x y s
+live_has_cause tellers folder m x y s run =
+    let why = live_caused tellers folder m x y s run in
     record {
-      refused = λ e. inr (folder, m, refl);
+      refused = λ e. inr (inl (folder, m, refl));
       bad_words = λ e. absurd (not_bad_live run.ended (sym run.status ∙ e));
-      read_fault = λ e. (inr (folder, m, refl), why.read e);
+      read_fault = λ e. (inr (inl (folder, m, refl)), why.read e);
       write_fault = why.written;
-      area_fault = λ e. (inr (folder, m, refl), why.area e);
+      area_fault = λ e. inl (inr (folder, m, refl), why.area e);
       not_the_leader = λ e. absurd (not_a_look run.ended (sym run.status ∙ e));
-      differs = λ e. ((folder, m, refl), why.differs e);
+      differs = λ e. inl ((folder, m, refl), why.differs e);
+    }
+
+own_has_cause : {A P : Type 0} (tellers : Tellers A P) (folder : List ℕ) (watchdog : Option (List ℕ)) (m : OwnManner) (x y : Outside) (s : Status) → RunsOwn tellers folder m x y s
+    → HasItsCause (Some (Own folder m.machine watchdog m.syncs m.keeps m.events)) x y s
+own_has_cause tellers folder watchdog m x y s run =
+    let why = own_caused tellers folder m x y s run in
+    record {
+      refused = λ e. inr (inr (folder, watchdog, m, refl));
+      bad_words = λ e. absurd (not_bad_live run.ended (sym run.status ∙ e));
+      read_fault = λ e. (inr (inr (folder, watchdog, m, refl)), why.read e);
+      write_fault = why.written;
+      area_fault = λ e. inr ((folder, watchdog, m, refl), why.area e);
+      not_the_leader = λ e. absurd (not_a_look run.ended (sym run.status ∙ e));
+      differs = λ e. inr ((folder, watchdog, m, refl), why.differs e);
     }
 
 -- ---- all words
 
-pub statuses_have_causes : StatusesHaveCauses
-statuses_have_causes None x y s h = bad_caused x y s h
-statuses_have_causes (Some Replay) x y s h = replay_caused x y s h
-statuses_have_causes (Some (Generate seed hosts events paired)) x y s h = done_caused (Some (Generate seed hosts events paired)) x y _ s h.puts
-statuses_have_causes (Some (Direct a)) x y s h = direct_caused a x y s h
-statuses_have_causes (Some (Live folder anew keeps events)) x y s h = live_has_cause folder (record { anew = anew; keeps = keeps; events = events }) x y s h
-statuses_have_causes (Some Help) x y s h = done_caused (Some Help) x y HELP.now s h
-statuses_have_causes (Some Version) x y s h = done_caused (Some Version) x y VERSION.now s h
+pub statuses_have_causes : {A P : Type 0} (tellers : Tellers A P) → StatusesHaveCauses tellers
+statuses_have_causes tellers None x y s h = bad_caused x y s h
+statuses_have_causes tellers (Some Replay) x y s h = replay_caused x y s h
+statuses_have_causes tellers (Some (Draw first last)) x y s h = draw_caused first last x y s h
+statuses_have_causes tellers (Some (Generate seed hosts events paired)) x y s h = done_caused (Some (Generate seed hosts events paired)) x y _ s h.puts
+statuses_have_causes tellers (Some (Direct a)) x y s h = direct_caused a x y s h
+statuses_have_causes tellers (Some (Label l g t grace)) x y s h = label_caused l g t grace x y s h
+statuses_have_causes tellers (Some (Own folder machine watchdog syncs keeps events)) x y s h =
+    own_has_cause tellers folder watchdog (record { machine = machine; syncs = syncs; keeps = keeps; events = events }) x y s h
+statuses_have_causes tellers (Some (Live folder anew keeps events)) x y s h = live_has_cause tellers folder (record { anew = anew; keeps = keeps; events = events }) x y s h
+statuses_have_causes tellers (Some Help) x y s h = done_caused (Some Help) x y HELP.now s h
+statuses_have_causes tellers (Some Version) x y s h = done_caused (Some Version) x y VERSION.now s h
 
 -- ---- where its cause stands
 
@@ -284,8 +358,8 @@ upgrade_found r g content now counted taken put sink_faults sink_later directed.
 upgrade_found r g content now counted taken put sink_faults sink_later directed.NotTheLeader s h is other = inl is
 upgrade_found r g content now counted taken put sink_faults sink_later directed.TornBlock s h is other = inl is
 
-pub causes_have_statuses : CausesHaveStatuses
-causes_have_statuses =
+pub causes_have_statuses : {A P : Type 0} (tellers : Tellers A P) → CausesHaveStatuses tellers
+causes_have_statuses tellers =
     record {
       bad_words = λ x y s put. put_status bad_words_text put.written BadWords s put.text_is;
       not_the_leader = λ r g content x y s run told other.
@@ -334,8 +408,8 @@ ends_at_zero : (source : List ℕ) (x y : Outside) (s : Status) → Replays x.le
 ends_at_zero source x y s run told done =
     sym (own_status source x y s told run (ap (λ t. is_whole_status (code t)) done)) ∙ ap code done
 
-pub accepted_schedules_end_well : AcceptedSchedulesEndWell
-accepted_schedules_end_well =
+pub accepted_schedules_end_well : {A P : Type 0} (tellers : Tellers A P) → AcceptedSchedulesEndWell tellers
+accepted_schedules_end_well tellers =
     record {
       well = λ source x y s run told accepted none. ends_well source x y s run told (accepted_runs.well whole_language whole_headers source accepted) none;
       only = λ source x y s run told done. accepted_runs.only whole_language whole_headers source (ends_at_zero source x y s run told done);
@@ -360,8 +434,8 @@ ends_at_one : (source : List ℕ) (x y : Outside) (s : Status) → Replays x.lef
 ends_at_one source x y s run told refused =
     sym (own_status source x y s told run (ap (λ t. is_whole_status (code t)) refused)) ∙ ap code refused
 
-pub other_schedules_are_refused : OtherSchedulesAreRefused
-other_schedules_are_refused =
+pub other_schedules_are_refused : {A P : Type 0} (tellers : Tellers A P) → OtherSchedulesAreRefused tellers
+other_schedules_are_refused tellers =
     record {
       well = λ source x y s run told other none. ends_refused source x y s run told (λ zero. other (accepted_runs.only whole_language whole_headers source zero)) none;
       only = λ source x y s run told refused accepted.

@@ -2,3 +2,4 @@ pub mod Statuses
 pub mod Runs
 pub mod StatusLaws
 pub mod LiveHistories
+pub mod Pictures

@@ -1,9 +1,10 @@
 -- What a run of the program owes: by what its words say, what it read and wrote, what it left on the disks, and its status.
 use Rattle.sl_cli.specs.CommandWords.{said_in}
-use Rattle.sl_cli.specs.declared.command_words.Words.TheVariants.{Direct, Generate, Help, Live, Replay, Version}
+use Rattle.sl_cli.specs.declared.command_words.Words.TheVariants.{Direct, Draw, Generate, Help, Label, Live, Own, Replay, Version}
 use Rattle.sl_cli.specs.declared.command_words.Words.{Words}
 use Rattle.sl_cli.specs.declared.texts.TheConstants.{HELP, VERSION}
 use Rattle.sl_direct.specs.Actions.{Directs, path_of}
+use Rattle.sl_direct.specs.declared.action.Action.TheVariants.{InitLabelled}
 use Rattle.sl_direct.specs.declared.action.Action.{Action}
 use Rattle.sl_direct.specs.declared.action.Directed.{Directed}
 use Rattle.sl_play.specs.Replays.{ReportsComplete}
@@ -14,19 +15,27 @@ use Rattle.sl_report.specs.Languages.{whole_language}
 use Rattle.sl_sound.specs.Reports.ReportLaws.{replay_status}
 use Rattle.sl_headline.specs.PromisedRuns.{PromisedRun}
 use Rattle.sl_host_step.specs.HostServes.{Serves, whole_commands}
-use Rattle.sl_live_play.specs.LiveOwed.{Owes as OwesLive}
+use Rattle.sl_live_play.specs.LiveOwed.{Owes as OwesLive, Tellers}
 use Rattle.sl_live_play.specs.declared.play.Lived.{Lived}
 use Rattle.sl_live_play.specs.declared.play.Manner.{Manner}
 use Rattle.sl_outside.specs.Disks.{CountsBack, Disks, KeepsAllBut}
+use Rattle.sl_own.specs.OwnOwed.{OwesOwn}
+use Rattle.sl_own.specs.declared.play.OwnManner.{OwnManner}
 use Rattle.sl_run.specs.Worlds.{whole_program}
+use Rattle.sl_area.specs.AreaSizes.{Sizes}
 use Rattle.sl_text.specs.Forms.{as_bytes}
+use Rattle.sl_time.specs.Times.{TimingNumbers}
+use Rattle.sl_trace.specs.declared.command.LockspaceArg.{LockspaceArg}
+use Rattle.sl_top.specs.Pictures.{Draws}
 use Rattle.sl_top.specs.Statuses.{code, status_after, status_of_live}
+use Rattle.sl_top.specs.declared.top.Asked.TheVariants.{All, One}
+use Rattle.sl_top.specs.declared.top.Asked.{Asked}
 use Rattle.sl_top.specs.declared.status.Status.TheVariants.{BadWords, Done, NoMemory, ReadFault, WriteFault}
 use Rattle.sl_top.specs.declared.status.Status.{Status}
 use Rattle.sl_io.specs.FaultCauses.{Rose}
 use Rattle.std.specs.Global.{Global}
 use Rattle.std.specs.Io.KnownBytes.{Appends, Consumes, IsAtEnd}
-use Rattle.std.specs.Prelude.{Bool, IsTrue, List, None, Option, Some, String, codes, map, option_map, string_bytes, true, [], ℕ, ◌++◌, ◌||◌, ◌∷◌, ◌≡◌, ◌⊎◌}
+use Rattle.std.specs.Prelude.{Bool, IsTrue, List, None, Option, Some, String, codes, map, option_map, string_bytes, true, [], ℕ, ◌++◌, ◌||◌, ◌∷◌, ◌≡◌, ◌≤◌, ◌⊎◌}
 
 -- What the words of the command line say, if they say something.
 abbrev pub said : List (String Global) → Option Words
@@ -35,6 +44,7 @@ said words = said_in (map string_bytes words)
 -- What they say where the source is a terminal, or is not: from a terminal a live script goes on behind a line that is refused.
 abbrev pub told_from : Bool → Words → Words
 told_from at_terminal (Live folder anew keeps events) = Live folder anew (keeps || at_terminal) events
+told_from at_terminal (Own folder machine watchdog syncs keeps events) = Own folder machine watchdog syncs (keeps || at_terminal) events
 told_from at_terminal w = w
 
 -- .. if they say something.
@@ -120,39 +130,75 @@ abbrev pub Tells : List ℕ → Status → Outside → Outside → Status → Ty
 Tells text whole x y s = PutsOut x.taken y.taken x.sink_faults y.sink_faults text whole s
 
 -- What a live run owes, in this folder, played in this manner: what is told of its machines, as histories of hosts that were compared
--- with what their threads did; or why there is none.
-pub record RunsLive (folder : List ℕ) (manner : Manner) (x y : Outside) (s : Status) : Type 0 where
+-- with what their threads did, and whose calls, signals and starts came to the machines' disks and spawners; or why there is none.
+pub record RunsLive {A P : Type 0} (tellers : Tellers A P) (folder : List ℕ) (manner : Manner) (x y : Outside) (s : Status) : Type 0 where
   pub ended : Lived
-  pub owes : OwesLive Serves whole_commands (record { path = folder; anew = manner.anew; disks = x.disks }) manner x.left y.left x.taken y.taken x.source_faults y.source_faults x.sink_faults y.sink_faults x.device_faults y.device_faults ended
+  pub owes : OwesLive Serves whole_commands tellers (record { path = folder; anew = manner.anew; disks = x.disks }) manner x.left y.left x.taken y.taken x.source_faults y.source_faults x.sink_faults y.sink_faults x.device_faults y.device_faults ended
   pub status : s ≡ status_of_live ended
 
--- What a run owes, by what its words say.
-abbrev pub Owes : Option Words → Outside → Outside → Status → Type 0
-Owes None x y s = Tells bad_words_text BadWords x y s
-Owes (Some Replay) x y s = Replays x.left y.left x.source_faults y.source_faults x.taken y.taken x.sink_faults y.sink_faults s
-Owes (Some (Generate seed hosts events paired)) x y s = Generates seed hosts events paired x.taken y.taken x.sink_faults y.sink_faults s
-Owes (Some (Direct a)) x y s = ActsOn a x.disks y.disks x.device_faults y.device_faults x.taken y.taken x.sink_faults y.sink_faults s
-Owes (Some (Live folder anew keeps events)) x y s = RunsLive folder (record { anew = anew; keeps = keeps; events = events }) x y s
-Owes (Some Help) x y s = Tells HELP.now Done x y s
-Owes (Some Version) x y s = Tells VERSION.now Done x y s
+-- What a run of one machine owes, in this folder, played in this manner: what is told of it, as the history of a host whose records were compared with what its
+-- threads did; or why there is none.
+pub record RunsOwn {A P : Type 0} (tellers : Tellers A P) (folder : List ℕ) (manner : OwnManner) (x y : Outside) (s : Status) : Type 0 where
+  pub ended : Lived
+  pub owes : OwesOwn Serves whole_commands tellers x.disks folder manner x.left y.left x.taken y.taken x.source_faults y.source_faults x.sink_faults y.sink_faults x.device_faults y.device_faults ended
+  pub status : s ≡ status_of_live ended
+
+-- Nothing is told of areas and spawners, where no machine runs.
+abbrev pub untold : Tellers (Unit {0}) (Unit {0})
+untold = record { content = λ area. None; faults = λ area. 0; acts = λ spawner. None }
+
+-- What a run owes, by what its words say, where areas and spawners tell this of themselves.
+abbrev pub Owes : {A P : Type 0} → Tellers A P → Option Words → Outside → Outside → Status → Type 0
+Owes tellers None x y s = Tells bad_words_text BadWords x y s
+Owes tellers (Some Replay) x y s = Replays x.left y.left x.source_faults y.source_faults x.taken y.taken x.sink_faults y.sink_faults s
+Owes tellers (Some (Draw first last)) x y s =
+    Draws (record { first = first; last = last }) x.left y.left x.source_faults y.source_faults x.taken y.taken x.sink_faults y.sink_faults s
+Owes tellers (Some (Generate seed hosts events paired)) x y s = Generates seed hosts events paired x.taken y.taken x.sink_faults y.sink_faults s
+Owes tellers (Some (Direct a)) x y s = ActsOn a x.disks y.disks x.device_faults y.device_faults x.taken y.taken x.sink_faults y.sink_faults s
+Owes tellers (Some (Label l g t grace)) x y s = ActsOn (InitLabelled l g t grace) x.disks y.disks x.device_faults y.device_faults x.taken y.taken x.sink_faults y.sink_faults s
+Owes tellers (Some (Live folder anew keeps events)) x y s = RunsLive tellers folder (record { anew = anew; keeps = keeps; events = events }) x y s
+Owes tellers (Some (Own folder machine watchdog syncs keeps events)) x y s = RunsOwn tellers folder (record { machine = machine; syncs = syncs; keeps = keeps; events = events }) x y s
+Owes tellers (Some Help) x y s = Tells HELP.now Done x y s
+Owes tellers (Some Version) x y s = Tells VERSION.now Done x y s
 
 -- Only the words that need it touch the source, and the devices.
 abbrev pub IsReplay : Option Words → Type 0
 IsReplay w = w ≡ Some Replay
 
-abbrev pub IsDirect : Option Words → Type 0
-IsDirect w = (a : Action) × (w ≡ Some (Direct a))
+abbrev pub IsDraw : Option Words → Type 0
+IsDraw w = (first : ℕ) × (last : ℕ) × (w ≡ Some (Draw first last))
 
--- Only these wait for anything.
+-- A schedule is read from the source.
+abbrev pub ReadsSource : Option Words → Type 0
+ReadsSource w = IsReplay w ⊎ IsDraw w
+
+-- An action is done to a disk; a lockspace with a label is made by words of its own.
+abbrev pub IsLabel : Option Words → Type 0
+IsLabel w = (l : LockspaceArg) × (g : Sizes) × (t : TimingNumbers) × (grace : ℕ) × (w ≡ Some (Label l g t grace))
+
+abbrev pub IsDirect : Option Words → Type 0
+IsDirect w = ((a : Action) × (w ≡ Some (Direct a))) ⊎ IsLabel w
+
+-- Only these wait for anything: all machines of a script, or one of them in a process of its own.
 abbrev pub IsLive : Option Words → Type 0
 IsLive w = (folder : List ℕ) × (manner : Manner) × (w ≡ Some (Live folder manner.anew manner.keeps manner.events))
 
--- The folder of live machines, and how their script is played, if the words ask for them.
-abbrev pub place_of : Words → Option (List ℕ × Manner)
-place_of (Live folder anew keeps events) = Some (folder, record { anew = anew; keeps = keeps; events = events })
-place_of w = None
+abbrev pub IsOwn : Option Words → Type 0
+IsOwn w = (folder : List ℕ) × (watchdog : Option (List ℕ)) × (manner : OwnManner) × (w ≡ Some (Own folder manner.machine watchdog manner.syncs manner.keeps manner.events))
+
+-- Where machines run that the words ask for: all of a script's, or one of them in a process of its own.
+abbrev pub asked_of : Words → Option Asked
+asked_of (Live folder anew keeps events) = Some (All (record { folder = folder; manner = record { anew = anew; keeps = keeps; events = events } }))
+asked_of (Own folder machine watchdog syncs keeps events) =
+    Some (One (record { folder = folder; watchdog = watchdog; manner = record { machine = machine; syncs = syncs; keeps = keeps; events = events } }))
+asked_of w = None
 
 -- .. if they say anything.
-abbrev pub place_in : Option Words → Option (List ℕ × Manner)
-place_in None = None
-place_in (Some w) = place_of w
+abbrev pub asked_in : Option Words → Option Asked
+asked_in None = None
+asked_in (Some w) = asked_of w
+
+-- Machines are numbered from 1 on.
+abbrev pub IsNumbered : Asked → Type 0
+IsNumbered (All p) = Unit {0}
+IsNumbered (One p) = 1 ≤ p.manner.machine

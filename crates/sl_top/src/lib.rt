@@ -9,9 +9,11 @@
 #![tactic(auto)]
 
 pub mod laws;
+mod own;
 mod status;
 mod top;
 
 pub use sl_outside::{Devices, FileDevices, LentDisk, LiveDevices, MemDevices, MemDisk};
+pub use sl_place::{StandingDevices, SystemDevices};
 pub use status::Status;
 pub use top::{run, run_offline};

@@ -1,11 +1,8 @@
 -- Writes under instances that never fall: the newest one has the greatest instance.
-use Rattle.sl_sector.proofs.ByteLaws.{test_from_bytes}
-use Rattle.sl_sector.specs.Records.{Fits, IsValue}
 use Rattle.sl_sector.specs.declared.sector.ValueRec.{ValueRec}
 use Rattle.sl_value.specs.Laws.{NewestIsEnough, are_below, last_seq_among}
 use Rattle.sl_words.proofs.WordLaws.{and_true}
-use Rattle.sl_words.specs.Bounds.{most_hosts}
-use Rattle.std.proofs.Common.{List, [], ap, arith, get_or, inl, inr, leb, length, refl, sym, true, ℕ, ◌+◌, ◌<◌, ◌≡◌, ◌≤◌, ◌∷◌}
+use Rattle.std.proofs.Common.{List, [], ap, arith, inl, inr, leb, refl, sym, true, ℕ, ◌+◌, ◌<◌, ◌≡◌, ◌∷◌}
 use Rattle.std.proofs.lemmas.Bool.Decides.{nat_tests}
 use Rattle.std.proofs.lemmas.Bool.{cases_eq, eq-eqb, ne_eqb}
 
@@ -27,13 +24,3 @@ newest_is_enough (v ∷ vs) lver below = elim (cases_eq v.lver lver) [
       let low : v.lver < lver = grind (arith, nat_tests, parts.0, other) in
       rw (ne_eqb v.lver lver other) (ap (λ (n : ℕ). n + 1) (sym (none_among vs v.lver lver parts.1 low)))
 ]
-
--- A record that is made of numbers in range and of bytes meets a value's rules.
-pub value_made : (host lver seq : ℕ) (given kept : List ℕ) → host ≤ most_hosts → Fits lver → Fits seq → length given ≤ 256
-    → ((i : ℕ) → get_or given i 0 < 256) → kept ≡ given → IsValue (record { host = host; lver = lver; seq = seq; bytes = kept })
-value_made host lver seq given kept id low_lver low_seq few small same = record {
-  host = id;
-  lver = low_lver;
-  seq = low_seq;
-  bytes = rw same (few, test_from_bytes given small);
-}

@@ -1,16 +1,11 @@
 -- Versions of values, and the seq of the next write.
 use Rattle.sl_sector.specs.declared.sector.ValueRec.{ValueRec}
-use Rattle.sl_value.specs.declared.value.Value.{Value}
 use Rattle.sl_value.specs.declared.value.Version.{Version}
 use Rattle.std.specs.Prelude.{None, Option, Some, if◌then◌else◌, ℕ, ◌+◌, ◌==◌}
 
 -- Which write it is.
 abbrev pub version_of : ValueRec → Version
 version_of v = record { lver = v.lver; seq = v.seq }
-
--- A value as a holder reads it.
-abbrev pub value_in : ValueRec → Value
-value_in v = record { version = version_of v; bytes = v.bytes }
 
 -- The seq of the last write, if it was under this lver; else 0.
 abbrev pub last_seq : Option Version → ℕ → ℕ

@@ -8,4 +8,4 @@
 pub mod laws;
 mod value;
 
-pub use value::{Value, Version, get, next_seq, set};
+pub use value::{Version, next_seq};

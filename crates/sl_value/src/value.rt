@@ -1,15 +1,12 @@
-//! The value's record as its writer makes it and as a holder reads it, and the seq of the next write.
+//! Which write of a value it is, and the seq of the next one.
 //!
 //! This is the lock value block of the VMS lock manager (Kronenberg, Levy and Strecker, *VAXclusters*) on a sector of its own.
 
-ghost use Rattle.std.specs.Prelude.{IfSome, IsNone, length, ◌↔◌, ◌≡◌, ◌≤◌};
-ghost use Rattle.sl_sector.specs.Records.{Fits, IsValue};
+ghost use Rattle.std.specs.Prelude.{IfSome, IsNone, ◌↔◌, ◌≡◌, ◌≤◌};
+ghost use Rattle.sl_sector.specs.Records.{Fits};
 ghost use Rattle.sl_value.specs.Versions as versions;
-ghost use Rattle.sl_words.specs.Bounds.{is_number, most_hosts, record_numbers};
+ghost use Rattle.sl_words.specs.Bounds.{is_number, record_numbers};
 ghost use Rattle.sl_words.specs.Words.{choose};
-
-use sl_sector::{HostId, ValueRec};
-use sl_text::Data;
 
 /// What each lver and seq stays below.
 const RECORD_NUMBERS: u64 = 1 << 63;
@@ -21,47 +18,6 @@ pub struct Version {
     pub lver: u64,
     /// How often its session wrote the value under that instance, from 1. Below 2^63.
     pub seq: u64,
-}
-
-/// A value as a holder reads it.
-#[derive(Clone, Copy, Debug, PartialEq, Eq)]
-pub struct Value {
-    pub version: Version,
-    /// At most 256 bytes.
-    pub bytes: Data,
-}
-
-/// The record of a write: `host` is the writer's id, `lver` and `seq` its version. At most 256 bytes.
-pub fn set(host: HostId, lver: u64, seq: u64, bytes: &[u8]) -> ValueRec
-    requires host { host ≤ most_hosts }
-    requires lver { Fits lver }
-    requires seq { Fits seq }
-    requires few { length bytes.now ≤ 256 }
-    ensures exact { result ≡ record { host = host; lver = lver; seq = seq; bytes = bytes.now } }
-    ensures rules { IsValue result }
-{
-    match Data::new(bytes) {
-        Some(bytes) => ValueRec {
-            host,
-            lver,
-            seq,
-            bytes,
-        },
-        None => unreachable!(),
-    }
-}
-
-/// The version and the bytes of a value that was read.
-pub fn get(value: &ValueRec) -> Value
-    ensures { result ≡ versions.value_in value.now }
-{
-    Value {
-        version: Version {
-            lver: value.lver,
-            seq: value.seq,
-        },
-        bytes: value.bytes,
-    }
 }
 
 /// The seq of a session's last write under this instance, and 0 before any.

@@ -21,7 +21,7 @@ use sl_trace::{Evidence, HostState};
 /// The record that stands, the reading after the run's first sighting and the one before its last, and whether a sighting came before
 /// the run.
 #[derive(Clone, Copy)]
-pub(crate) struct KeptRun {
+pub struct KeptRun {
     pub(crate) spelled: DeltaRec,
     pub(crate) since: u64,
     pub(crate) latest: u64,
@@ -102,7 +102,7 @@ impl KeptRun {
     }
 
     /// How long nothing was written, in milliseconds: 0 where the last sighting was submitted before the first was answered.
-    pub(crate) fn span(&self) -> u64
+    pub fn span(&self) -> u64
         ensures { result ≡ span (bare_run self.now) }
     {
         self.latest.saturating_sub(self.since)

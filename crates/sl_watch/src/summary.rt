@@ -2,9 +2,7 @@
 //!
 //! Of the records that were seen, it has the greatest generation and whether that one was seen free. Of a smaller generation no more is
 //! asked, since a newer one was seen; of a greater one nothing was seen.
-ghost use Rattle.std.specs.Option.{option_map_or};
 ghost use Rattle.std.specs.Prelude.{ℕ, ◌≡◌};
-ghost use Rattle.sl_trace.specs.Sightings.{span};
 ghost use Rattle.sl_trace.specs.declared.sighting.Sighting.{Sighting};
 ghost use Rattle.sl_watch.specs.Summaries.{IsKept, IsSeen, Summary as Contents, evidence_by, freed_with, nothing_seen, state_by, summary_with, bare};
 ghost use Rattle.sl_watch.specs.ToldLooks.{kept_with};
@@ -16,11 +14,11 @@ use sl_trace::{Evidence, HostState};
 
 /// The greatest generation that was seen (0 where none was) and whether it was seen free, whether there was any sighting, and the run.
 #[derive(Clone, Copy)]
-pub(crate) struct Summary {
+pub struct Summary {
     pub(crate) newest: Gen,
     pub(crate) freed: bool,
     pub(crate) any: bool,
-    pub(crate) run: Option<KeptRun>,
+    pub run: Option<KeptRun>,
 }
 
 /// Whether the greatest generation was seen free, with one more record.
@@ -86,16 +84,6 @@ impl Summary {
         match &self.run {
             Some(run) => run.silence(timing, generation),
             None => None,
-        }
-    }
-
-    /// How long the id is known to have stood still, in milliseconds.
-    pub(crate) fn unchanged(&self) -> u64
-        ensures { result ≡ option_map_or span (bare self.now).run 0 }
-    {
-        match &self.run {
-            Some(run) => run.span(),
-            None => 0,
         }
     }
 

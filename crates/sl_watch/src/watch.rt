@@ -13,22 +13,21 @@
 //! - Only equal bytes go on with a run. A sighting that spells no record of the id ends it, since somebody was writing; a look at another
 //!   id says nothing.
 //! - Time is counted from the answer of a run's first sighting to the submission of its last (`run` says why).
-ghost use Rattle.std.specs.Prelude.{IfOk, IfSome, IsSome, List, length, [], ◌∷◌, ◌≡◌, ◌≤◌, ◌⊎◌, ◌↔◌, ℕ, replicate, slice_set, ◌-◌};
-ghost use Rattle.std.specs.Option.{option_map_or};
+ghost use Rattle.std.specs.Prelude.{IfOk, IfSome, IsSome, List, length, [], ◌≡◌, ◌≤◌, ◌⊎◌, ◌↔◌, ℕ, replicate, slice_set, ◌-◌};
 ghost use Rattle.sl_area.specs.AreaSizes.{layout_of, program_digest};
 ghost use Rattle.sl_sector.specs.SectorLayouts.{decoded};
-ghost use Rattle.sl_trace.specs.Sightings.{evidence, host_state, span, unchanged};
+ghost use Rattle.sl_trace.specs.Sightings.{evidence, host_state};
 ghost use Rattle.sl_trace.specs.declared.sighting.Sighting.{Sighting};
 ghost use Rattle.sl_watch.specs.Reasons.{IsFirstReason, SawFree, SawNewer, StoodStill};
-ghost use Rattle.sl_watch.specs.SeenLooks.{Seen, seen_at, seen_with, spelled_for};
+ghost use Rattle.sl_watch.specs.SeenLooks.{seen_with, spelled_for};
 ghost use Rattle.sl_watch.specs.Summaries.{bare, evidence_by, nothing_seen, state_by};
 ghost use Rattle.sl_watch.specs.ToldLooks.{delta_found, told_at};
-ghost use Rattle.sl_watch.specs.Watches.{IsReadTrue, StandsFor, WatchStands, kept_at};
+ghost use Rattle.sl_watch.specs.Watches.{IsReadTrue, WatchStands, kept_at};
 
 use crate::run::KeptRun;
 use crate::summary::Summary;
 use sl_area::Geometry;
-use sl_sector::{Bad, DeltaRec, Gen, HostId, Image, Rec, delta_in};
+use sl_sector::{Bad, DeltaRec, Gen, HostId, Rec, delta_in};
 use sl_text::Name;
 use sl_time::Timing;
 use sl_trace::{Evidence, HostState};
@@ -40,7 +39,7 @@ use std::marker::Model;
 pub struct Watch {
     timing: Timing,
     geometry: Geometry,
-    ids: Vec<Summary>,
+    pub ids: Vec<Summary>,
 }
 
 impl Model for Watch {
@@ -121,24 +120,6 @@ impl Watch {
         self.kept(id).evidence(&self.timing, generation)
     }
 
-    /// How long an id, 1 to the number of hosts, is known to have stood still, in milliseconds: the span of its run, and 0 where there is
-    /// none.
-    pub fn unchanged_for(&self, id: HostId) -> u64
-        requires { (1 ≤ id) × (id ≤ self.now.sizes.hosts) }
-        ensures kept { result ≡ option_map_or span (bare (kept_at self.now id)).run 0 }
-        ensures exact { (seen : ℕ → List Sighting) → WatchStands self.now seen → result ≡ unchanged (layout_of self.now.sizes) id (seen id) }
-    {
-        self.span_kept(id)
-    }
-
-    /// The same by what is kept.
-    fn span_kept(&self, id: HostId) -> u64
-        requires { (1 ≤ id) × (id ≤ self.now.sizes.hosts) }
-        ensures { result ≡ option_map_or span (bare (kept_at self.now id)).run 0 }
-    {
-        self.kept(id).unchanged()
-    }
-
     /// What an id, 1 to the number of hosts, looks like at the reading `now`, in milliseconds: `Unknown` with no sighting or where the
     /// last one is torn; `Free` where its record is free; `Dead` where it stood still for `dead`; `Failing` where its run began `fail` ago;
     /// `Live` where another sighting came before the run; else `Unknown`.
@@ -159,20 +140,8 @@ impl Watch {
     }
 
     /// Takes one more look at the sector of an id, 1 to the number of hosts: its read was submitted at the reading `before` and answered
-    /// at `after`, in milliseconds, and gave this sector. It takes no memory, and nothing is hashed.
-    pub fn saw(&mut self, before: u64, after: u64, id: HostId, sector: &Image)
-        requires sector { length sector.now ≡ self.old.sizes.sector }
-        requires id { (1 ≤ id) × (id ≤ self.old.sizes.hosts) }
-        ensures run { (self.new.timing ≡ self.old.timing) × (self.new.sizes ≡ self.old.sizes) }
-        ensures stands { (seen : ℕ → List Sighting) → WatchStands self.old seen → IsReadTrue sector.now
-            → WatchStands self.new (seen_with id (record { before = before; after = after; bytes = sector.now }) seen) }
-        ensures looks { (looks : List Seen) → StandsFor self.old looks → IsReadTrue sector.now
-            → StandsFor self.new (seen_at id before after sector.now ∷ looks) }
-    {
-        self.told(before, after, id, sector.record());
-    }
-
-    /// The same where it is known what the sector spells: what `decode` gives of its bytes.
+    /// at `after`, in milliseconds, and gave a sector that spells this: what `decode` gives of its bytes. It takes no memory, and nothing is
+    /// hashed.
     pub fn told(&mut self, before: u64, after: u64, id: HostId, found: Result<Rec, Bad>)
         requires { (1 ≤ id) × (id ≤ self.old.sizes.hosts) }
         ensures exact { self.new ≡ told_at before after id found self.old }

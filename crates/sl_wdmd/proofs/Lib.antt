@@ -1,3 +1,4 @@
 pub mod KeptLaws
+pub mod MappedLists
 pub mod MoveLaws
 pub mod TestLaws

@@ -11,11 +11,16 @@
 //! - A move leaves every connection of another name as it was, and in its order. Else one lockspace's renewal could hide that another
 //!   was lost.
 //! - A name that is registered stands last, a renewal moves no name, a removal closes the gap.
-//! - A move does to the connection of its own name what it says, and no name is there twice.
+//! - A move does to the connection of its own name what it says, and no name is there twice where none is registered that stands.
+//!
+//! A machine of a replay keeps one, and so does a cell, under its lock, for a live machine: memory for the moves of a step is taken before the
+//! step (`reserve`), and moves take none (`make_moves`).
 #![tactic(auto)]
 
+mod connection;
 pub mod laws;
 mod lockspace;
 pub mod wdmd;
 
+pub use connection::Connection;
 pub use wdmd::Wdmd;

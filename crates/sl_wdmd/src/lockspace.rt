@@ -33,6 +33,13 @@ impl Lockspace {
     {
         Lockspace { name }
     }
+
+    /// Its name.
+    pub fn name(&self) -> Name
+        ensures { result ≡ self.now }
+    {
+        self.name
+    }
 }
 
 impl PartialEq for Lockspace {

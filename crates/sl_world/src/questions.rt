@@ -1,16 +1,13 @@
 //! What a report and a generator of schedules ask of a world.
 
 ghost use Rattle.sl_world_state.specs.KeptWorld.{machine_in};
-ghost use Rattle.sl_world_state.specs.Refusals.{refusal_in};
 ghost use Rattle.sl_machine.specs.KeptParts.{kept_state};
-ghost use Rattle.sl_machine.specs.EventTests.{is_tear};
 ghost use Rattle.sl_world.specs.AllowedEvents.{StandsForSome};
-ghost use Rattle.sl_world.specs.GivenSteps.{IsSame};
 ghost use Rattle.sl_words.specs.Words.{least};
 ghost use Rattle.sl_world_law.specs.DrawnCandidates.{is_useful_in, least_call_in, starves_in};
 ghost use Rattle.sl_world_law.specs.ToldEvents.{asking_in, tested_in};
 ghost use Rattle.std.specs.List.{position};
-ghost use Rattle.std.specs.Prelude.{IfOk, OnErr, filter, is_none, is_some, length, map, not, option_and_then, option_map, true, ◌+◌, ◌≡◌, ◌≤◌};
+ghost use Rattle.std.specs.Prelude.{filter, is_some, length, map, not, option_and_then, option_map, ◌+◌, ◌≡◌, ◌≤◌};
 
 use crate::world::World;
 use sl_machine::{LockTable, Machine};
@@ -44,15 +41,6 @@ fn first_due<L: LockTable>(machines: &[Machine<L>]) -> Option<u32>
 }
 
 impl<D: Daemon, L: LockTable> World<D, L> {
-    /// Whether nothing refuses the event. An `Err` is want of memory, at a tear alone. Nothing that is seen changes.
-    pub fn allows(&mut self, event: &Event) -> Result<bool, AllocError>
-        ensures exact { IfOk result (λ b. b ≡ is_none (refusal_in D.commands (kept_state L.locks self.old.kept) event.now)) }
-        ensures total { OnErr result (is_tear event.now ≡ true) }
-        ensures same { IsSame (kept_state L.locks self.old.kept) self.old.hosts (kept_state L.locks self.new.kept) self.new.hosts }
-    {
-        Ok(self.refusal(event)?.is_none())
-    }
-
     /// Whether the event is a test of the watchdog daemon that holds.
     pub fn test_holds(&self, event: &Event) -> bool
         ensures { result ≡ tested_in (kept_state L.locks self.now.kept) event.now }

@@ -73,7 +73,7 @@ and_all : (b : Bool) → (b && true) ≡ b
 and_all true = refl
 and_all false = refl
 
-process_stays : (i : Input) (k : Child) → (child_after i k).process ≡ k.process
+pub process_stays : (i : Input) (k : Child) → (child_after i k).process ≡ k.process
 process_stays (Told number answer) k = refl
 process_stays (Line text) k = refl
 process_stays (Number text) k = refl

@@ -1,4 +1,5 @@
 -- What a step leaves in a trace: the calls that have no answer, and the children.
+use Rattle.sl_world_law.proofs.NextNumbers.{process_stays}
 use Rattle.sl_world_law.proofs.PlainLists.{all_stay, let_go, range_append}
 use Rattle.sl_trace.specs.Traces.{Answered, Child, Submitted, Trace, answer_of, answered_in, child_after, children, first_child, mark, new_call, new_child, next_child, outstanding, submitted, unanswered}
 use Rattle.sl_trace.specs.declared.effects.Call.{Call}
@@ -64,22 +65,6 @@ open_next es e =
 
 abbrev processes : List Child → List ℕ
 processes ks = map (λ (k : Child). k.process) ks
-
-process_stays : (i : Input) (k : Child) → (child_after i k).process ≡ k.process
-process_stays (Told number answer) k = refl
-process_stays (Line text) k = refl
-process_stays (Number text) k = refl
-process_stays Wake k = refl
-process_stays (Exit p) k = go (p == k.process)
-  where
-    go : (b : Bool) → (elim b as (λ x. Child) [ false ↦ k | true ↦ record k { exited = true } ]).process ≡ k.process
-    go true = refl
-    go false = refl
-process_stays (Spawned p ok) k = go (p == k.process)
-  where
-    go : (b : Bool) → (elim b as (λ x. Child) [ false ↦ k | true ↦ record k { answer = option_or k.answer (Some ok) } ]).process ≡ k.process
-    go true = refl
-    go false = refl
 
 processes_stay : (i : Input) (ks : List Child) → processes (map (child_after i) ks) ≡ processes ks
 processes_stay i [] = refl

@@ -37,7 +37,7 @@ use Rattle.std.specs.Prelude.{Bool, Contains, List, None, Option, Some, [], fals
 -- ---- recovery by a read is that of the survey's session
 
 -- Where a recovery began: before, by time, or by a read.
-begun_where : (st : Setting) (es : Trace) (s : Session) (r : Renewing) (e : Entry) (b : Begun) → (renewing_after st es s r e).recovery ≡ Some b
+pub begun_where : (st : Setting) (es : Trace) (s : Session) (r : Renewing) (e : Entry) (b : Begun) → (renewing_after st es s r e).recovery ≡ Some b
     → (r.recovery ≡ Some b) ⊎ ((b.kills_from ≡ length es) ⊎ ((b.kills_from ≡ length es + 1) × (shows_other st es s e.input ≡ true)))
 begun_where st es s r e b is = by r.recovery refl is where
   by_read : (o : Bool) → (is_joined es s && shows_other st es s e.input) ≡ o → r.recovery ≡ None

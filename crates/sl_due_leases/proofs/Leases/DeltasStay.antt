@@ -1,4 +1,5 @@
 -- What a delta lease decides leaves what the laws of areas, blocks and leaders ask of the calls before.
+use Rattle.sl_run_law.proofs.Place.FoundInLists.{same_text}
 use Rattle.sl_due_facts.proofs.Acts.AddedAtEnd.{contains_at}
 use Rattle.sl_due_facts.proofs.Acts.LoopsKeep.{when_keeps, with_some_keeps}
 use Rattle.sl_due_facts.specs.Acts.Acts.{Has}
@@ -49,7 +50,6 @@ use Rattle.sl_words.specs.Words.{choose, some_is}
 use Rattle.sl_sector.specs.declared.sector.DeltaState.TheVariants.{Free, Live}
 use Rattle.std.proofs.Common.{ap, eqb-true, inl, inr, refl, subst, sym, ◌∙◌}
 use Rattle.std.proofs.lemmas.List.Elements.{Contains-push_cases}
-use Rattle.std.proofs.lemmas.Slice.Eq.{bytes_eq-Decides}
 use Rattle.std.specs.Prelude.{Bool, Contains, List, None, Option, Some, [], bytes_eq, false, filter, fold, if◌then◌else◌, is_none, is_some, not, option_and_then, slice_get, true, ℕ, ◌&&◌, ◌+◌, ◌==◌, ◌||◌, ◌∷◌, ◌≡◌, ◌⊎◌}
 
 -- ---- such calls
@@ -247,9 +247,6 @@ caller_stands x h c z there area its =
     let k = contains_at x.effects.calls c there in
     let active = (h k.0 c z k.1 its).active area in
     parts_of (is_some (joined_after (seen x) z)) (is_none (removed_after (seen x) z)) (is_none (recovery_of x.setting (seen x) z)) (is_none (leaving_job x.setting (cut_at k.0 (entry_of x) ∷ x.past) z)) active
-
-same_text : (a b : List ℕ) → bytes_eq a b ≡ true → a ≡ b
-same_text a b h = (bytes_eq-Decides a b).0 h
 
 -- The removal of another present session spares them.
 pub spares_by : (x : Step) (s : Session) → LawfulSoFar x → NameFacts x.setting (seen x) (heard_by x.input) → Contains (sessions x.setting (seen x)) s → is_present (seen x) s ≡ true

@@ -1,4 +1,5 @@
 -- No recovery begins by an answer to work on an area..
+use Rattle.sl_due_facts.proofs.Jobs.QuietFactsConclude.{begun_where}
 use Rattle.sl_due_facts.specs.Acts.Acts.{Hears}
 use Rattle.sl_due_facts.specs.Acts.TraceSoFar.{entry_of}
 use Rattle.sl_due.specs.CarriedDelta.{begins_by_read}
@@ -6,55 +7,20 @@ use Rattle.sl_due.specs.Steps.{Step, seen}
 use Rattle.sl_due_leases.proofs.Ways.WayFactsHeld.HeardStands.{heard_calls}
 use Rattle.sl_due_leases.proofs.Ways.WayFactsHeld.InputsLeave.{same_call}
 use Rattle.sl_words.proofs.Lists.{contains_map, find_inside}
-use Rattle.sl_trace.specs.Sessions.{generation_of, is_call_of, is_joined, is_survey_purpose, recovers, recovery_of, renewed_by, renewing, renewing_after, shows_other, shows_other_in}
+use Rattle.sl_trace.specs.Sessions.{generation_of, is_call_of, is_survey_purpose, recovery_of, renewing, shows_other, shows_other_in}
 use Rattle.sl_trace.specs.declared.session.Begun.{Begun}
-use Rattle.sl_trace.specs.declared.session.Renewing.{Renewing}
 use Rattle.sl_trace.specs.declared.session.Session.{Session}
 use Rattle.sl_due_facts.specs.Facts.AllFacts.{Whole}
-use Rattle.sl_time.specs.Times.{fail}
 use Rattle.sl_trace.specs.Traces.{Setting, Submitted, Trace, answered_in, call_numbered, submitted}
 use Rattle.sl_trace.specs.declared.effects.Call.{Call}
-use Rattle.sl_trace.specs.declared.effects.Entry.{Entry}
 use Rattle.sl_trace.specs.declared.input.Answer.TheVariants.{Failed, Read, Written}
 use Rattle.sl_trace.specs.declared.input.Answer.{Answer}
 use Rattle.sl_trace.specs.declared.input.Input.TheVariants.{Answer as Told}
-use Rattle.sl_words.proofs.CaseLaws.{false_is_true, is_false, none_some, one_value, some_value, true_is_false}
+use Rattle.sl_words.proofs.CaseLaws.{false_is_true, is_false, none_some, one_value, true_is_false}
 use Rattle.sl_words.proofs.WordLaws.{and_true, some_is_true}
 use Rattle.sl_words.specs.Words.{choose, some_is}
 use Rattle.std.proofs.Common.{ap, arith, eqb-true, inl, inr, refl, subst, sym, ◌∙◌}
-use Rattle.std.specs.Prelude.{Bool, Contains, List, None, Option, Some, [], false, length, nat_le, true, unwrap_or, ℕ, ◌&&◌, ◌+◌, ◌<◌, ◌==◌, ◌∷◌, ◌≡◌, ◌⊎◌}
-
--- Where a recovery began: before, by time, or by a read.
-begun_where : (st : Setting) (es : Trace) (s : Session) (r : Renewing) (e : Entry) (b : Begun) → (renewing_after st es s r e).recovery ≡ Some b
-    → (r.recovery ≡ Some b) ⊎ ((b.kills_from ≡ length es) ⊎ ((b.kills_from ≡ length es + 1) × (shows_other st es s e.input ≡ true)))
-begun_where st es s r e b is = by r.recovery refl is where
-  by_read : (o : Bool) → (is_joined es s && shows_other st es s e.input) ≡ o → r.recovery ≡ None
-      → (elim o as (λ z. Renewing) [ true ↦ recovers es e (length es + 1) r | false ↦ record { last = unwrap_or (renewed_by es s e.input) r.last; recovery = r.recovery } ]).recovery ≡ Some b
-      → (r.recovery ≡ Some b) ⊎ ((b.kills_from ≡ length es) ⊎ ((b.kills_from ≡ length es + 1) × (shows_other st es s e.input ≡ true)))
-  by_read true shows none h =
-      inr (inr (ap (λ (z : Begun). z.kills_from) (sym (some_value (record { at = length es; reading = e.reading; kills_from = length es + 1 }) b h)), (and_true (is_joined es s) (shows_other st es s e.input) shows).1))
-  by_read false shows none h = inl h
-
-  by_time : (o : Bool) → r.recovery ≡ None
-      → (elim o as (λ z. Renewing) [
-        | true ↦ recovers es e (length es) r
-        | false ↦ elim (is_joined es s && shows_other st es s e.input) as (λ z. Renewing) [ true ↦ recovers es e (length es + 1) r | false ↦ record { last = unwrap_or (renewed_by es s e.input) r.last; recovery = r.recovery } ]
-      ]).recovery ≡ Some b
-      → (r.recovery ≡ Some b) ⊎ ((b.kills_from ≡ length es) ⊎ ((b.kills_from ≡ length es + 1) × (shows_other st es s e.input ≡ true)))
-  by_time true none h = inr (inl (ap (λ (z : Begun). z.kills_from) (sym (some_value (record { at = length es; reading = e.reading; kills_from = length es }) b h))))
-  by_time false none h = by_read (is_joined es s && shows_other st es s e.input) refl none h
-
-  by : (o : Option Begun) → r.recovery ≡ o
-      → (elim o as (λ z. Renewing) [
-        | Some c ↦ r
-        | None ↦ elim (is_joined es s && nat_le (r.last + fail st.timing) e.reading) as (λ z. Renewing) [
-          | true ↦ recovers es e (length es) r
-          | false ↦ elim (is_joined es s && shows_other st es s e.input) as (λ z. Renewing) [ true ↦ recovers es e (length es + 1) r | false ↦ record { last = unwrap_or (renewed_by es s e.input) r.last; recovery = r.recovery } ]
-        ]
-      ]).recovery ≡ Some b
-      → (r.recovery ≡ Some b) ⊎ ((b.kills_from ≡ length es) ⊎ ((b.kills_from ≡ length es + 1) × (shows_other st es s e.input ≡ true)))
-  by (Some c) was h = inl h
-  by None was h = by_time (is_joined es s && nat_le (r.last + fail st.timing) e.reading) was h
+use Rattle.std.specs.Prelude.{Bool, Contains, List, None, Option, Some, [], false, length, true, ℕ, ◌&&◌, ◌+◌, ◌<◌, ◌==◌, ◌∷◌, ◌≡◌, ◌⊎◌}
 
 -- A recovery from before has its kills from before.
 kills_before : (st : Setting) (es : Trace) (s : Session) (b : Begun) → recovery_of st es s ≡ Some b → b.kills_from < length es + 1

@@ -16,5 +16,4 @@ pub mod UnjoinedHaveNone
 pub mod LinesKeep
 pub mod ActsKeep
 pub mod StepsBegin
-pub mod LessIsKept
 pub mod FactsAreKept

@@ -1,4 +1,5 @@
 -- The header of lines that were taken is one that a world may begin with.
+use Rattle.sl_run_law.proofs.Place.FoundInLists.{same_text}
 use Rattle.sl_area.specs.AreaSizes.{IsGeometry, Sizes, is_geometry, most_ids, most_ids_of_all, roomy}
 use Rattle.sl_play.proofs.Headers.LineKinds.{area_fits, area_kind, clock_fits, clock_kind, disk_fits, disk_kind, hosts_kind, ids_fit, ids_kind, lease_fits, lease_kind, line_of_times, member_fits, member_kind, retries_kind, sizes_fit, sizes_ranked, times_fit, times_kind, version_kind}
 use Rattle.sl_play.proofs.Headers.ListFacts.{first_inside, none_passes, pairs_append, pairs_map}
@@ -33,9 +34,6 @@ use Rattle.std.specs.List.{AllPairs, Contains, filter_map, list_any}
 use Rattle.std.specs.Prelude.{IsTrue, bytes_eq, nat_le, nat_lt, unwrap_or, ◌==◌, ◌||◌, ◌≢◌, is_none}
 
 -- ---- texts and numbers
-
-same_text : (a b : List ℕ) → bytes_eq a b ≡ true → a ≡ b
-same_text a b h = (bytes_eq-Decides a b).0 h
 
 text_same : (a b : List ℕ) → a ≡ b → bytes_eq a b ≡ true
 text_same a b is = (bytes_eq-Decides a b).1 is

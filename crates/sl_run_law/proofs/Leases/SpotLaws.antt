@@ -1,11 +1,11 @@
 -- Areas are apart.
+use Rattle.sl_run_law.proofs.Place.FoundInLists.{same_text}
 use Rattle.sl_run_law.specs.Leases.LeaseLaws.{AreasAreApart}
 use Rattle.sl_trace.specs.declared.effects.Spot.{Spot}
 use Rattle.sl_words.proofs.WordLaws.{and_true}
 use Rattle.std.proofs.Common.{ap, arith, inl, inr, sym, ◌∙◌}
 use Rattle.std.proofs.Math.Nat.{div-add-mod, mod-lt, mul-le-mul_left}
 use Rattle.std.proofs.lemmas.Bool.{cases_lt, leb-true, ltb-true}
-use Rattle.std.proofs.lemmas.Slice.Eq.{bytes_eq-Decides}
 use Rattle.std.specs.Prelude.{List, bytes_eq, nat_le, nat_lt, true, ℕ, ◌%◌, ◌&&◌, ◌*◌, ◌+◌, ◌-◌, ◌/◌, ◌<◌, ◌≡◌, ◌≤◌}
 
 -- Two multiples of a size with a number less than the size above both are one.
@@ -36,9 +36,6 @@ one_base size o d low high =
 
 abbrev spot_at : List ℕ → ℕ → Spot
 spot_at p n = record { path = p; base = n }
-
-same_text : (a b : List ℕ) → bytes_eq a b ≡ true → a ≡ b
-same_text a b h = (bytes_eq-Decides a b).0 h
 
 spots_are : (p q : List ℕ) (m n : ℕ) → p ≡ q → m ≡ n → spot_at p m ≡ spot_at q n
 spots_are p q m n paths bases = ap (λ x. spot_at x m) paths ∙ ap (λ y. spot_at q y) bases

@@ -64,7 +64,7 @@ descends_kept : (p : Landing → Bool) (ls : List Landing) → Descends ls → D
 descends_kept p [] h = tt
 descends_kept p (l ∷ ls) h = kept_by p l ls (p l) refl h.0 (descends_kept p ls h.1)
 
-descends_then : (ls : List Landing) (z : Landing) → Descends ls → ((x : Landing) → Contains ls x → z.step < x.step) → Descends (ls ++ z ∷ [])
+pub descends_then : (ls : List Landing) (z : Landing) → Descends ls → ((x : Landing) → Contains ls x → z.step < x.step) → Descends (ls ++ z ∷ [])
 descends_then [] z h above = ((λ x there. absurd (contains_none x there)), tt)
 descends_then (l ∷ ls) z h above = (
   (λ x there.

@@ -1,6 +1,7 @@
 -- What a set of a value left at the value's place, and that of a place's landings the numbers are in the order of their steps.
+use Rattle.sl_safety.proofs.GivenReads.NewestShown.{descends_then}
 use Rattle.sl_area.specs.AreaLayout.{value_offset}
-use Rattle.sl_run_law.proofs.Front.JoinedLists.{contains_append, contains_left, placed_at}
+use Rattle.sl_run_law.proofs.Front.JoinedLists.{contains_left, placed_at}
 use Rattle.sl_id_safety.proofs.State.CallLaws.{is_place}
 use Rattle.sl_id_safety.proofs.Steps.Seqs.{has_number}
 use Rattle.sl_run_law.proofs.Landing.LandingOrder.{come_in_order}
@@ -8,7 +9,7 @@ use Rattle.sl_run_law.proofs.Landing.LandingLaws.{done_writes_have_landed, landi
 use Rattle.sl_run_law.proofs.Landing.LandedRemain.{landed_are_there}
 use Rattle.sl_run_law.specs.Landing.Landings.{HasWriter}
 use Rattle.sl_run_law.proofs.Place.FoundInLists.{numbered_inside, place_is}
-use Rattle.sl_words.proofs.Lists.{contains_cases, contains_first, contains_more, contains_none, kept, kept_inside}
+use Rattle.sl_words.proofs.Lists.{kept, kept_inside}
 use Rattle.sl_safety.proofs.Resources.OneSessionStands.{head_pairs, tail_pairs}
 use Rattle.sl_safety.proofs.Resources.Calls.{there_sent, Name, name_of, one_sent}
 use Rattle.sl_safety.proofs.Resources.StepsNameCalls.{write_is}
@@ -25,9 +26,9 @@ use Rattle.sl_sector.specs.declared.sector.ValueRec.{ValueRec}
 use Rattle.sl_trace.specs.Traces.{record_of, same_place}
 use Rattle.sl_trace.specs.declared.effects.Spot.{Spot}
 use Rattle.sl_words.proofs.CaseLaws.{none_some, some_value}
-use Rattle.std.proofs.Common.{ap, arith, inl, inr, refl, subst, sym, ◌∙◌}
+use Rattle.std.proofs.Common.{ap, arith, refl, subst, sym, ◌∙◌}
 use Rattle.std.proofs.lemmas.Bool.{eqb-true}
-use Rattle.std.specs.Prelude.{AllPairs, Bool, Contains, List, Option, Some, [], false, filter, if◌then◌else◌, length, true, ℕ, ◌++◌, ◌<◌, ◌==◌, ◌∷◌, ◌≡◌, ◌≤◌}
+use Rattle.std.specs.Prelude.{AllPairs, Bool, Contains, List, Option, Some, [], false, filter, if◌then◌else◌, length, true, ℕ, ◌<◌, ◌==◌, ◌∷◌, ◌≡◌, ◌≤◌}
 
 -- ---- what a place has held comes in order
 
@@ -50,20 +51,6 @@ kept_by p l ls true is first rest = ((λ x there. first x (kept_inside p ls x th
 descends_kept : (p : Landing → Bool) (ls : List Landing) → Descends ls → Descends (filter p ls)
 descends_kept p [] h = tt
 descends_kept p (l ∷ ls) h = kept_by p l ls (p l) refl h.0 (descends_kept p ls h.1)
-
-descends_then : (ls : List Landing) (z : Landing) → Descends ls → ((x : Landing) → Contains ls x → z.step < x.step) → Descends (ls ++ z ∷ [])
-descends_then [] z h above = ((λ x there. absurd (contains_none x there)), tt)
-descends_then (l ∷ ls) z h above = (
-  (λ x there.
-      elim (contains_append ls (z ∷ []) x there) as (λ y. x.step < l.step) [
-        | inl old ↦ h.0 x old
-        | inr new ↦ elim (contains_cases z [] x new) as (λ y. x.step < l.step) [
-          | inl here ↦ subst (λ (y : Landing). y.step < l.step) here (above l (contains_first l ls))
-          | inr none ↦ absurd (contains_none x none)
-        ]
-      ]),
-  descends_then ls z h.1 (λ x there. above x (contains_more l ls x there)),
-)
 
 order_by : (l : Landing) (ls : List Landing) (i j : ℕ) (x y : Landing) (a b : Bool) → (i == length ls) ≡ a → (j == length ls) ≡ b → ((z : Landing) → Contains ls z → z.step < l.step)
     → elim a as (λ z. Option Landing) [ true ↦ Some l | false ↦ numbered_landing ls i ] ≡ Some x

@@ -21,4 +21,4 @@ returns-in-Err-clause-bad c = λ bad none.
     let app = c.in_ok-command.ensures in
     let ws = map string_bytes c.args.words.now in
     refuses (fault_of (app_of c.in_ok-command.command) ws) c.in-Err.error (c.in-Err.ensures.kinds (free_app (app_of c.in_ok-command.command) app))
-    (c.error_of.ensures (same_error c.error_of.result Bad (Err c.error_of.result) refl bad)) (ap (λ a. fault_of a ws) app ∙ none)
+    (c.error_of.ensures.bad (same_error c.error_of.result Bad (Err c.error_of.result) refl bad)) (ap (λ a. fault_of a ws) app ∙ none)

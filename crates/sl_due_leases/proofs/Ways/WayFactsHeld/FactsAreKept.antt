@@ -1,6 +1,6 @@
 -- Each record of facts of leases is kept by each act, and stands once a step has begun.
 use Rattle.sl_due_leases.proofs.Ways.WayFactsHeld.ActsKeep.{leases_are_kept}
-use Rattle.sl_due_leases.proofs.Ways.WayFactsHeld.LessIsKept.{to_less}
+use Rattle.sl_due_facts.proofs.Jobs.LessIsKept.{to_less}
 use Rattle.sl_due_leases.proofs.Ways.WayFactsHeld.StepsBegin.{leases_begin}
 use Rattle.sl_due_leases.proofs.Ways.WaysAreLawful.GrantsFollow.{grants_follow}
 use Rattle.sl_due_leases.proofs.Ways.NumbersFollow.{numbers_follow}

@@ -1,4 +1,5 @@
 -- What is known when an answer has been heard: which call it is of, that a lease's is its newest, and that no other is open on its area.
+use Rattle.sl_run_law.proofs.Place.FoundInLists.{same_text}
 use Rattle.sl_due_facts.specs.Acts.Acts.{Has, Hears}
 use Rattle.sl_due_facts.specs.Acts.TraceSoFar.{entry_of}
 use Rattle.sl_due.specs.CarriedLease.{goes_on}
@@ -32,7 +33,6 @@ use Rattle.sl_trace.specs.declared.input.Input.TheVariants.{Answer as Told}
 use Rattle.sl_trace.specs.declared.input.Input.{Input}
 use Rattle.sl_words.proofs.Lists.{any_found, contains_map, find_fails, find_inside, kept_inside}
 use Rattle.sl_run_law.proofs.Leases.NumberLaws.{number_is_place}
-use Rattle.std.proofs.lemmas.Slice.Eq.{bytes_eq-Decides}
 use Rattle.sl_words.proofs.Options.{none_is, mapped_value}
 use Rattle.sl_words.proofs.CaseLaws.{false_is_true, is_false, none_some, one_value, true_is_false}
 use Rattle.sl_words.proofs.WordLaws.{and_true}
@@ -168,9 +168,6 @@ lease_ready x s m a h work w =
 not_shared : (b : Bool) → not b ≡ true → b ≡ false
 not_shared false is = refl
 not_shared true is = absurd (false_is_true is)
-
-same_text : (a b : List ℕ) → bytes_eq a b ≡ true → a ≡ b
-same_text a b h = (bytes_eq-Decides a b).0 h
 
 abbrev spot_at : List ℕ → ℕ → Spot
 spot_at p n = record { path = p; base = n }

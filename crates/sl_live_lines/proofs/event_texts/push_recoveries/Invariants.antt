@@ -4,5 +4,5 @@ use Rattle.std.proofs.Common.{take, ◌++◌, ◌≡◌}
 use Rattle.std.specs.Prelude.{flat_map}
 
 -- the lines of those before this one have been added
-abbrev pub invariant-loop-connection : goal.invariant-loop-connection
-invariant-loop-connection l = l.out.items ≡ l.fn.out.items ++ flat_map (recovery_text l.machine l.before l.now) (take l.connection-index l.connections)
+abbrev pub invariant-loop-place : goal.invariant-loop-place
+invariant-loop-place l = l.out.items ≡ l.fn.out.items ++ flat_map (recovery_text l.machine l.before l.now) (take l.place l.connections.connections)

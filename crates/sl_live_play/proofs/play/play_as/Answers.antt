@@ -1,8 +1,8 @@
 use Rattle.sl_reader.specs.Scopes.{scope_of}
-use Rattle.sl_live_play.proofs.MachineBeginnings.{beginnings}
+use Rattle.sl_live_play.proofs.MachineBeginnings.{all_had, beginnings}
 use Rattle.sl_live_play.proofs.LivePlayOwed.{owes_run}
 use Rattle.sl_live_play.proofs.play.play_as.Goals as goal
-use Rattle.sl_reader.specs.ScriptReading.{IsScript, ReadsScript, ScriptState}
+use Rattle.sl_reader.specs.ScriptReading.{IsScript, ReadsScript, ReadsScriptBy, ScriptState}
 use Rattle.sl_reader.specs.HeaderBegins.{HeaderBegins}
 use Rattle.sl_reader.specs.declared.live_lines.LiveLine.{LiveLine}
 use Rattle.std.proofs.Common.{List, ap, subst, sym, ◌∙◌}
@@ -19,9 +19,10 @@ returns g c f first h ground begins vacant =
     = λ given so.
     subst (λ keeps. ReadsScript keeps first (g.S.Source.left c.close-source.result.0) (g.S.Source.faults c.args.source) (g.S.Source.faults c.close-source.result.0) h given c.close-source.result.1) (sym c.requires.keeps)
     (subst (λ n. ReadsScript g.J.Origin.keeps first (g.S.Source.left c.close-source.result.0) n (g.S.Source.faults c.close-source.result.0) h given c.close-source.result.1) (sym c.requires.faults)
-    (c.close-source.ensures.script first h given there (sym (ap scope_of ground.same) ∙ c.requires.scope) so)) in
+    (subst (λ x. ReadsScriptBy x g.J.Origin.keeps first (g.S.Source.left c.close-source.result.0) g.J.Origin.faults (g.S.Source.faults c.close-source.result.0) h given c.close-source.result.1)
+    (sym c.requires.scope ∙ ap scope_of ground.same) (c.close-source.ensures.script first h given there so))) in
     let run = c.run_machines-run.ensures.run in
-    owes_run g.V.Area.Area.content g.V.Area.Area.faults g.V.Spawner.Spawner.acts g.D.Daemon.stands g.D.Daemon.commands f c.args.manner first _ _ _ _ _ _ _ _ _ h (beginnings _ _ _ _ _ _ h c.args.ground ground) _ (has c.new-lines.result) (has c.run_machines-run.new.lines) run.pieces
-    c.run_machines-run.result.0.machines _ c.run_machines-run.result.0.replies c.close-source.result.1 c.put_run-lived.result c.new-lines.ensures.none reads vacant run.ok run.stop
+    owes_run g.D.Daemon.stands g.D.Daemon.commands (record { content = g.V.Area.Area.content; faults = g.V.Area.Area.faults; acts = g.V.Spawner.Spawner.acts }) f c.args.manner first _ _ _ _ _ _ _ _ _ h (beginnings _ _ _ _ _ _ h c.args.ground ground) _ (has c.new-lines.result) (has c.run_machines-run.new.lines) run.pieces
+    c.run_machines-run.result.0.machines _ c.run_machines-run.result.0.replies c.close-source.result.1 c.put_run-lived.result (all_had _ _ _ _ _ _ h c.args.ground ground) c.new-lines.ensures.none reads vacant run.ok run.stop
     (c.put_run-lived.ensures.ok (g.K.Sink.taken c.args.sink) (g.K.Sink.faults c.args.sink) run.pieces run.put)
     (c.put_run-lived.ensures.stop (g.K.Sink.taken c.args.sink) (g.K.Sink.faults c.args.sink) run.pieces run.put)

@@ -12,9 +12,9 @@ play_ground-requires-clause-settings g c κs within =
 
 pub returns-in-Ok : goal.returns-in-Ok
 returns-in-Ok g c f first begins vacant =
-    owes_devices g.D.Daemon.stands g.D.Daemon.commands f c.args.manner first _ _ _ _ _ _ _ _ _ _ c.play_ground.result.0 c.in-Ok.ensures.later
+    owes_devices g.D.Daemon.stands g.D.Daemon.commands _ f c.args.manner first _ _ _ _ _ _ _ _ _ _ c.play_ground.result.0 c.in-Ok.ensures.later
     (c.play_ground.ensures f first c.args.header c.in-Ok.ensures.ok begins vacant)
 
 pub returns-in-Err : goal.returns-in-Err
 returns-in-Err g c f first begins vacant =
-    owes_no_ground g.D.Daemon.stands g.D.Daemon.commands f c.args.manner first _ _ _ _ _ _ _ _ _ c.in-Err.why c.put_no_ground.result c.in-Err.ensures.err c.put_no_ground.ensures
+    owes_no_ground g.D.Daemon.stands g.D.Daemon.commands _ f c.args.manner first _ _ _ _ _ _ _ _ _ c.in-Err.why c.put_no_ground.result c.in-Err.ensures.err c.put_no_ground.ensures

@@ -4,4 +4,4 @@ use Rattle.std.specs.Fork.{ChangesEach}
 
 pub returns-clause-each : goal.returns-clause-each
 returns-clause-each g c =
-    subst (λ ms. ChangesEach g.F.Fn c.args.run.now c.args.machines.now ms) (search rules) c.beside.ensures.rest.met.1.1
+    subst (λ ms. ChangesEach g.F.Fn c.args.run.now c.args.machines.now ms) (search rules) c.beside_script.ensures.rest.met.1.1

@@ -10,8 +10,8 @@ use Rattle.std.specs.Option.{option_to_list}
 pub loop-session-preserved : goal.loop-session-preserved
 loop-session-preserved c =
     one_more_given (λ s. option_map (given_connection c.args.header.now.timing) (given_of c.args.header.now c.args.machine s)) c.as_slice-session-items.result.now
-    c.loop-session.session-index c.session-item.result c.loop-session.connections.items c.push_connection.new.connections.items c.loop-session-test.true c.session-item.is
-    c.loop-session.invariant (c.in_ok-push_connection.ensures ∙ ap (λ o. c.loop-session.connections.items ++ option_to_list o) c.connection_of.ensures)
+    c.loop-session.session-index c.session-item.result c.loop-session.connections.connections c.register.new.connections.connections c.loop-session-test.true c.session-item.is
+    c.loop-session.invariant (c.in_ok-register.ensures ∙ ap (λ o. c.loop-session.connections.connections ++ option_to_list o) c.connection_of.ensures)
 
 pub returns : goal.returns
 returns c =

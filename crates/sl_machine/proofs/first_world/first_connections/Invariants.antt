@@ -7,4 +7,4 @@ use Rattle.std.specs.List.{filter_map}
 -- the sessions before this one have their connections
 abbrev pub invariant-loop-session : goal.invariant-loop-session
 invariant-loop-session l =
-    l.connections.items ≡ filter_map (λ s. option_map (given_connection l.header.timing) (given_of l.header l.machine s)) (take l.session-index l.session-items)
+    l.connections.connections ≡ filter_map (λ s. option_map (given_connection l.header.timing) (given_of l.header l.machine s)) (take l.session-index l.session-items)

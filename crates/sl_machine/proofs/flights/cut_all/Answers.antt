@@ -1,5 +1,5 @@
 use Rattle.sl_world_state.specs.Changes.{cut_flight}
-use Rattle.sl_machine.proofs.PlainFronts.{mapped_all, mapped_one}
+use Rattle.sl_wdmd.proofs.MappedLists.{mapped_all, mapped_one}
 use Rattle.sl_machine.proofs.flights.cut_all.Goals as goal
 use Rattle.std.proofs.Common.{arith}
 

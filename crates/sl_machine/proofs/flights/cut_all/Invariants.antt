@@ -1,5 +1,5 @@
 use Rattle.sl_world_state.specs.Changes.{cut_flight}
-use Rattle.sl_machine.proofs.PlainFronts.{front_mapped}
+use Rattle.sl_wdmd.proofs.MappedLists.{front_mapped}
 use Rattle.sl_machine.proofs.flights.cut_all.Given as goal
 use Rattle.std.proofs.Common.{deque_len, ◌≡◌}
 

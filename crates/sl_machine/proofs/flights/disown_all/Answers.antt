@@ -1,5 +1,5 @@
 use Rattle.sl_world_state.specs.Changes.{disowned}
-use Rattle.sl_machine.proofs.PlainFronts.{mapped_all, mapped_one}
+use Rattle.sl_wdmd.proofs.MappedLists.{mapped_all, mapped_one}
 use Rattle.sl_machine.proofs.flights.disown_all.Goals as goal
 use Rattle.std.proofs.Common.{arith}
 

@@ -1,5 +1,5 @@
 use Rattle.sl_world_state.specs.Changes.{disowned}
-use Rattle.sl_machine.proofs.PlainFronts.{front_mapped}
+use Rattle.sl_wdmd.proofs.MappedLists.{front_mapped}
 use Rattle.sl_machine.proofs.flights.disown_all.Given as goal
 use Rattle.std.proofs.Common.{deque_len, ◌≡◌}
 

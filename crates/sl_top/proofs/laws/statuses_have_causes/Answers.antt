@@ -2,4 +2,4 @@ use Rattle.sl_top.proofs.StatusLaws as its
 use Rattle.sl_top.proofs.laws.statuses_have_causes.Goals as goal
 
 pub returns : goal.returns
-returns c = its.statuses_have_causes
+returns g c = its.statuses_have_causes _

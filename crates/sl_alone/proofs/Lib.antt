@@ -1,0 +1,11 @@
+pub mod BallotRunLaws
+pub mod BallotSteps
+pub mod BallotStops
+pub mod DeltaSafe
+pub mod DeltaTold
+pub mod GivenLaws
+pub mod KeptLaws
+pub mod ListFacts
+pub mod ReadOutcomes
+pub mod SignalLaws
+pub mod ValuesMade

@@ -1,0 +1,10 @@
+pub mod BallotLaws
+pub mod BallotRuns
+pub mod Calls
+pub mod DeltaLaws
+pub mod DeltaSteps
+pub mod DueSignals
+pub mod KeptRecovery
+pub mod SignalLaws
+pub mod Values
+pub mod WholeBallots

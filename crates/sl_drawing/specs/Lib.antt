@@ -1,0 +1,4 @@
+pub mod Classes
+pub mod Elements
+pub mod Sums
+pub mod WellFormed

@@ -1,4 +1,0 @@
-pub mod KeptLaws
-pub mod ListFacts
-pub mod GivenLaws
-pub mod SignalLaws

@@ -1,4 +1,0 @@
-pub mod Calls
-pub mod DueSignals
-pub mod KeptRecovery
-pub mod SignalLaws

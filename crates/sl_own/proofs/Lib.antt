@@ -1,0 +1,6 @@
+pub mod OwnLaws
+pub mod SettleLaws
+pub mod PlayLaws
+pub mod LendLaws
+pub mod PlaceLaws
+pub mod GroundLaws

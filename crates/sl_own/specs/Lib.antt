@@ -1,0 +1,5 @@
+pub mod OwnRuns
+pub mod OwnSettling
+pub mod OwnTexts
+pub mod OwnGrounds
+pub mod OwnOwed

@@ -1,0 +1,9 @@
+pub mod Said
+pub mod Fates
+pub mod Kept
+pub mod Events
+pub mod Tells
+pub mod Layout
+pub mod Bars
+pub mod Signs
+pub mod Page

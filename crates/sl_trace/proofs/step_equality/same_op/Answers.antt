@@ -1,8 +1,0 @@
-use Rattle.sl_trace.proofs.DerivedComparisons.{op_told}
-use Rattle.std.proofs.Common.{sym, ◌∙◌}
-use Rattle.sl_trace.proofs.step_equality.same_op.Goals as goal
-
-pub returns : goal.returns
-returns c =
-    let told = op_told c.args.a.now c.args.b.now in
-    (λ h. told.0 (sym c.eq.ensures ∙ h), λ h. c.eq.ensures ∙ told.1 h)
