@@ -145,6 +145,9 @@ fn parts<R: Files + AllocGlobal>(
             Some(due),
         ));
     }
+    if let Some(said) = line.strip_prefix("words ") {
+        return Ok((words(alloc, said)?, Vec::new(alloc), None));
+    }
     if let Some(said) = line.strip_prefix("told ") {
         return Ok((words(alloc, "replay")?, told(alloc, said)?, None));
     }

@@ -4,6 +4,7 @@
 //!
 //! - `schedule NAME` has the schedule `NAME.schedule` for its source; where it puts out what stands in `NAME.report`, `as due` is printed in
 //!   place of it;
+//! - `words TEXT` has these words, which may begin as another case;
 //! - `told SEED HOSTS EVENTS` replays the schedule that is told of them, and with a 2 behind it that of areas with pairs;
 //! - `behind COUNT NAME TEXT` replays so many lines of that schedule, and behind them the line `TEXT`;
 //! - `lives NAME WORDS` runs live machines by the script `NAME.script`, with these words behind `live`: the folder below which their disks are

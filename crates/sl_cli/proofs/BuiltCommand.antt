@@ -127,7 +127,7 @@ live = built_shape (codes "live") live_rules
 abbrev pub program : App
 program = record {
   top = record (built_shape (codes "sanlock") []) { is_leaf = false; subcommand_required = true };
-  subs = bare_command (codes "replay") ∷ seed_command (codes "draw") ∷ seed_command (codes "gen") ∷ direct ∷ live ∷ [];
+  subs = bare_command (codes "replay") ∷ seed_command (codes "draw") ∷ seed_command (codes "gen") ∷ seed_command (codes "schedule") ∷ direct ∷ live ∷ [];
 }
 
 pub program_is : built command_line ≡ program

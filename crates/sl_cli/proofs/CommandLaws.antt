@@ -15,7 +15,7 @@ use Rattle.sl_cli.proofs.ReaderSteps.{AreTexts}
 use Rattle.sl_cli.proofs.ParserTurns.{Fails, fails_with, first_fails}
 use Rattle.sl_cli.specs.Actions.{action_in}
 use Rattle.sl_cli.specs.ParserShape.{command_line}
-use Rattle.sl_cli.specs.CommandWords.{Use, command_in, ends_here, given_by, nothing_taken, uses_from}
+use Rattle.sl_cli.specs.CommandWords.{Use, command_in, ends_here, generated, given_by, nothing_taken, scheduled, uses_from}
 use Rattle.sl_cli.specs.ParserMeets.{IsRefused, TakenAs, given_in, met_in, said_by}
 use Rattle.sl_cli.specs.declared.parsed_command.Met.{Met}
 use Rattle.sl_cli.specs.declared.command_words.Words.TheVariants.{Direct, Replay}
@@ -157,13 +157,29 @@ gen_fault : (ws : List Text) → fault (codes "gen" ∷ ws) ≡ level (seed_comm
 unfolding clap_on_literals
 gen_fault ws = fault_at (codes "gen") (seed_command (codes "gen")) ws refl (stopped_fault program.top names (walk_from nothing_held) (codes "gen", []) ws) refl
 
-gen_says : (ws : List Text) → option_and_then said_by (met_in (named (codes "gen" ∷ ws))) ≡ says for_seeds (rows_after seed_rules [] ws)
+gen_says : (ws : List Text) → option_and_then said_by (met_in (named (codes "gen" ∷ ws))) ≡ says (for_seeds generated) (rows_after seed_rules [] ws)
 gen_says ws = ap (λ o. option_and_then said_by (met_in o)) (named_at (codes "gen") (seed_command (codes "gen")) ws refl refl)
 
 gen_agrees : (ws : List Text) → AreTexts ws → Agrees (codes "gen" ∷ ws)
-gen_agrees ws texts = elim (seed_read for_seeds (codes "gen") ws texts) [
+gen_agrees ws texts = elim (seed_read (for_seeds generated) (codes "gen") ws texts) [
   | inl both ↦ inl (gen_fault ws ∙ both.0, gen_says ws ∙ both.1)
   | inr neither ↦ inr (λ none. neither.0 (sym (gen_fault ws) ∙ none), neither.1)
+]
+
+-- ---- `schedule`
+
+schedule_fault : (ws : List Text) → fault (codes "schedule" ∷ ws) ≡ level (seed_command (codes "schedule")) ws
+unfolding clap_on_literals
+schedule_fault ws =
+    fault_at (codes "schedule") (seed_command (codes "schedule")) ws refl (stopped_fault program.top names (walk_from nothing_held) (codes "schedule", []) ws) refl
+
+schedule_says : (ws : List Text) → option_and_then said_by (met_in (named (codes "schedule" ∷ ws))) ≡ says (for_seeds scheduled) (rows_after seed_rules [] ws)
+schedule_says ws = ap (λ o. option_and_then said_by (met_in o)) (named_at (codes "schedule") (seed_command (codes "schedule")) ws refl refl)
+
+schedule_agrees : (ws : List Text) → AreTexts ws → Agrees (codes "schedule" ∷ ws)
+schedule_agrees ws texts = elim (seed_read (for_seeds scheduled) (codes "schedule") ws texts) [
+  | inl both ↦ inl (schedule_fault ws ∙ both.0, schedule_says ws ∙ both.1)
+  | inr neither ↦ inr (λ none. neither.0 (sym (schedule_fault ws) ∙ none), neither.1)
 ]
 
 -- ---- `draw`
@@ -218,13 +234,13 @@ other_fails w (v ∷ ws) true none e =
 abbrev IsOther : Text → Type 0
 IsOther w =
     (bytes_eq (codes "replay") w ≡ false) × (bytes_eq (codes "draw") w ≡ false) × (bytes_eq (codes "gen") w ≡ false)
-    × (bytes_eq (codes "direct") w ≡ false) × (bytes_eq (codes "live") w ≡ false)
+    × (bytes_eq (codes "schedule") w ≡ false) × (bytes_eq (codes "direct") w ≡ false) × (bytes_eq (codes "live") w ≡ false)
 
 other_agrees : (w : Text) (ws : List Text) → IsOther w → Agrees (w ∷ ws)
-other_agrees w ws (no_replay, no_draw, no_gen, no_direct, no_live) =
+other_agrees w ws (no_replay, no_draw, no_gen, no_schedule, no_direct, no_live) =
     inr (
-      other_fails w ws (bytes_eq w (codes "--")) (rw (no_replay, no_draw, no_gen, no_direct, no_live) refl) refl,
-      rw (no_replay, no_draw, no_gen, no_direct, no_live) refl,
+      other_fails w ws (bytes_eq w (codes "--")) (rw (no_replay, no_draw, no_gen, no_schedule, no_direct, no_live) refl) refl,
+      rw (no_replay, no_draw, no_gen, no_schedule, no_direct, no_live) refl,
     )
 
 -- ---- all words
@@ -242,8 +258,9 @@ agrees (w ∷ ws) texts =
     named_or (codes "replay") w ws (bare_agrees replay ws) (λ no_replay.
     named_or (codes "draw") w ws (draw_agrees ws texts.1) (λ no_draw.
     named_or (codes "gen") w ws (gen_agrees ws texts.1) (λ no_gen.
+    named_or (codes "schedule") w ws (schedule_agrees ws texts.1) (λ no_schedule.
     named_or (codes "direct") w ws (direct_agrees ws texts.1) (λ no_direct.
-    named_or (codes "live") w ws (live_agrees ws texts.1) (λ no_live. other_agrees w ws (no_replay, no_draw, no_gen, no_direct, no_live))))))
+    named_or (codes "live") w ws (live_agrees ws texts.1) (λ no_live. other_agrees w ws (no_replay, no_draw, no_gen, no_schedule, no_direct, no_live)))))))
 
 -- The same of the command as the parser is told it.
 fault_is : (ws : List Text) → fault_of command_line ws ≡ fault ws

@@ -1,4 +1,4 @@
--- The parser takes the words of a seed, behind `gen`, and of lines, behind `draw`, that the reader takes, and finds in them what the reader finds: up to four words that are no options,
+-- The parser takes the words of a seed, behind `gen` and `schedule`, and of lines, behind `draw`, that the reader takes, and finds in them what the reader finds: up to four words that are no options,
 -- one behind the other, and a first `--` anywhere.
 use Rattle.clap.proofs.OnLiterals.{clap_on_literals}
 use Rattle.clap.specs.Faults.{check_fault, defaults_fault, settle_fault, turn_fault, walk_fault}
@@ -10,7 +10,7 @@ use Rattle.sl_cli.proofs.BuiltCommand.{no_defaults, no_faults, row_for, seed_com
 use Rattle.sl_cli.proofs.Letters.{behind, first_char}
 use Rattle.sl_cli.proofs.ReaderSteps.{AreTexts, word_cases}
 use Rattle.sl_cli.proofs.ParserTurns.{Fails, Pending, Plain, fails_with, first_fails, is_short, no_dashes, no_long, walk_at}
-use Rattle.sl_cli.specs.CommandWords.{generated, is_event_count, is_line, is_machine_count, is_seed, seeded_in, seeding_in, span_in, spanned_in, use_of, without_dashes}
+use Rattle.sl_cli.specs.CommandWords.{Seed, is_event_count, is_line, is_machine_count, is_seed, seeded_in, seeding_in, span_in, spanned_in, use_of, without_dashes}
 use Rattle.sl_cli.specs.ParserMeets.{seeding_of}
 use Rattle.sl_cli.specs.declared.command_words.Words.{Words}
 use Rattle.std.proofs.Common.{Bool, List, None, Option, Some, [], ap, eqb, false, inl, inr, refl, subst, sym, true, ℕ, ◌&&◌, ◌≡◌, ◌∙◌, ◌∷◌, ◌⊎◌}
@@ -84,23 +84,23 @@ rest w ws = or_else (walk_fault generate [] w ws) (settle_fault seed_rules false
 abbrev end_rows : Walk → List Text → List Row
 end_rows w ws = settled_rows seed_rules (held_after w ws).pending (held_after w ws).rows
 
--- Who reads the words: `gen`, or `draw`.
+-- Who reads the words: `gen` or `schedule`, each of which says something of a seed, or `draw`.
 pub data Asking : Type 0 where
-  for_seeds : Asking
+  for_seeds : (Seed → Words) → Asking
   for_spans : Asking
 
 -- What the rows ask for.
 abbrev pub says : Asking → List Row → Option Words
-says for_seeds rows = option_map generated (seeding_in (seeding_of rows).seed (seeding_of rows).hosts (seeding_of rows).events (seeding_of rows).format)
+says (for_seeds make) rows = option_map make (seeding_in (seeding_of rows).seed (seeding_of rows).hosts (seeding_of rows).events (seeding_of rows).format)
 says for_spans rows = span_in (seeding_of rows).seed (seeding_of rows).hosts (seeding_of rows).events (seeding_of rows).format
 
 -- What the words ask for, as the reader has it.
 abbrev pub asked_in : Asking → List Text → Option Words
-asked_in for_seeds ws = option_map generated (seeded_in ws)
+asked_in (for_seeds make) ws = option_map make (seeded_in ws)
 asked_in for_spans ws = spanned_in ws
 
 five_ask : (k : Asking) (a b c d e : Text) (ws : List Text) → asked_in k (a ∷ b ∷ c ∷ d ∷ e ∷ ws) ≡ None
-five_ask for_seeds a b c d e ws = refl
+five_ask (for_seeds make) a b c d e ws = refl
 five_ask for_spans a b c d e ws = refl
 
 -- ---- one word
@@ -205,16 +205,16 @@ refused k g trailing word ws fails says_none = inr (turn_fails (stand g trailing
 
 at_end : (k : Asking) (g : Got) (trailing : Bool) → Agree k g trailing []
 unfolding clap_on_literals
-at_end for_seeds none_got true = inl (refl, refl)
-at_end for_seeds none_got false = inl (refl, refl)
-at_end for_seeds (one_got s) true = inl (refl, refl)
-at_end for_seeds (one_got s) false = inl (refl, refl)
-at_end for_seeds (two_got s h) true = inl (refl, refl)
-at_end for_seeds (two_got s h) false = inl (refl, refl)
-at_end for_seeds (three_got s h e) true = inl (refl, refl)
-at_end for_seeds (three_got s h e) false = inl (refl, refl)
-at_end for_seeds (all_got s h e f) true = inl (refl, refl)
-at_end for_seeds (all_got s h e f) false = inl (refl, refl)
+at_end (for_seeds make) none_got true = inl (refl, refl)
+at_end (for_seeds make) none_got false = inl (refl, refl)
+at_end (for_seeds make) (one_got s) true = inl (refl, refl)
+at_end (for_seeds make) (one_got s) false = inl (refl, refl)
+at_end (for_seeds make) (two_got s h) true = inl (refl, refl)
+at_end (for_seeds make) (two_got s h) false = inl (refl, refl)
+at_end (for_seeds make) (three_got s h e) true = inl (refl, refl)
+at_end (for_seeds make) (three_got s h e) false = inl (refl, refl)
+at_end (for_seeds make) (all_got s h e f) true = inl (refl, refl)
+at_end (for_seeds make) (all_got s h e f) false = inl (refl, refl)
 at_end for_spans none_got true = inl (refl, refl)
 at_end for_spans none_got false = inl (refl, refl)
 at_end for_spans (one_got s) true = inl (refl, refl)
@@ -252,21 +252,21 @@ and_false false = refl
 
 -- It is no number, and no format.
 no_number : (k : Asking) (g : Got) (c : ℕ) (cs : Text) (ws : List Text) → asked_in k (before g ((45 ∷ c ∷ cs) ∷ ws)) ≡ None
-no_number for_seeds none_got c cs [] = refl
-no_number for_seeds none_got c cs (x ∷ []) = refl
-no_number for_seeds none_got c cs (x ∷ y ∷ []) = refl
-no_number for_seeds none_got c cs (x ∷ y ∷ z ∷ []) = refl
-no_number for_seeds none_got c cs (x ∷ y ∷ z ∷ u ∷ ws) = refl
-no_number for_seeds (one_got s) c cs [] = refl
-no_number for_seeds (one_got s) c cs (x ∷ []) = rw (and_false (is_seed s)) refl
-no_number for_seeds (one_got s) c cs (x ∷ y ∷ []) = rw (and_false (is_seed s)) refl
-no_number for_seeds (one_got s) c cs (x ∷ y ∷ z ∷ ws) = refl
-no_number for_seeds (two_got s h) c cs [] = rw (and_false (is_machine_count h)) (rw (and_false (is_seed s)) refl)
-no_number for_seeds (two_got s h) c cs (x ∷ []) = rw (and_false (is_machine_count h)) (rw (and_false (is_seed s)) refl)
-no_number for_seeds (two_got s h) c cs (x ∷ y ∷ ws) = refl
-no_number for_seeds (three_got s h e) c cs [] = rw (and_false (is_event_count e)) (rw (and_false (is_machine_count h)) (rw (and_false (is_seed s)) refl))
-no_number for_seeds (three_got s h e) c cs (x ∷ ws) = refl
-no_number for_seeds (all_got s h e f) c cs ws = refl
+no_number (for_seeds make) none_got c cs [] = refl
+no_number (for_seeds make) none_got c cs (x ∷ []) = refl
+no_number (for_seeds make) none_got c cs (x ∷ y ∷ []) = refl
+no_number (for_seeds make) none_got c cs (x ∷ y ∷ z ∷ []) = refl
+no_number (for_seeds make) none_got c cs (x ∷ y ∷ z ∷ u ∷ ws) = refl
+no_number (for_seeds make) (one_got s) c cs [] = refl
+no_number (for_seeds make) (one_got s) c cs (x ∷ []) = rw (and_false (is_seed s)) refl
+no_number (for_seeds make) (one_got s) c cs (x ∷ y ∷ []) = rw (and_false (is_seed s)) refl
+no_number (for_seeds make) (one_got s) c cs (x ∷ y ∷ z ∷ ws) = refl
+no_number (for_seeds make) (two_got s h) c cs [] = rw (and_false (is_machine_count h)) (rw (and_false (is_seed s)) refl)
+no_number (for_seeds make) (two_got s h) c cs (x ∷ []) = rw (and_false (is_machine_count h)) (rw (and_false (is_seed s)) refl)
+no_number (for_seeds make) (two_got s h) c cs (x ∷ y ∷ ws) = refl
+no_number (for_seeds make) (three_got s h e) c cs [] = rw (and_false (is_event_count e)) (rw (and_false (is_machine_count h)) (rw (and_false (is_seed s)) refl))
+no_number (for_seeds make) (three_got s h e) c cs (x ∷ ws) = refl
+no_number (for_seeds make) (all_got s h e f) c cs ws = refl
 no_number for_spans none_got c cs [] = refl
 no_number for_spans none_got c cs (x ∷ []) = refl
 no_number for_spans none_got c cs (x ∷ y ∷ []) = refl

@@ -1,7 +1,7 @@
 -- Words in any order are read, and no others are.
 use Rattle.sl_cli.proofs.ActionTexts.{actions_have_one_text}
 use Rattle.sl_cli.specs.Actions.{action_in}
-use Rattle.sl_cli.specs.CommandWords.{Placing, Seed, Taken, Use, command_in, direct_in, draw_in, ends_here, generated, given_by, is_given, is_line, is_only, is_plain, live_in, nothing_placed, nothing_taken, option_named, placed_from, placed_in, gen_in, is_timed, labelled, said_in, seeded_in, spanned_in, timed_in, use_of, uses_from, with_use, without_dashes}
+use Rattle.sl_cli.specs.CommandWords.{Placing, Seed, Taken, Use, command_in, direct_in, draw_in, ends_here, generated, given_by, is_given, is_line, is_only, is_plain, live_in, nothing_placed, nothing_taken, option_named, placed_from, placed_in, gen_in, is_timed, labelled, said_in, schedule_in, scheduled, seeded_in, spanned_in, timed_in, use_of, uses_from, with_use, without_dashes}
 use Rattle.sl_area.specs.AreaSizes.{Sizes}
 use Rattle.sl_cli.specs.OwnWords.{Options, is_folder, is_machine, is_own, no_options, options_from, own_in}
 use Rattle.sl_cli.specs.TimesWords.{grace_of, is_times, timing_of}
@@ -212,6 +212,10 @@ no_gen : (o : Option Seed) (a : Action) → AsksDirect (option_map generated o) 
 no_gen None a h = absurd cc
 no_gen (Some s) a h = absurd cc
 
+no_schedule : (o : Option Seed) (a : Action) → AsksDirect (option_map scheduled o) a → ⊥
+no_schedule None a h = absurd cc
+no_schedule (Some s) a h = absurd cc
+
 no_lines : (b : Bool) (first last : ℕ) (a : Action) → AsksDirect (choose b (Draw first last)) a → ⊥
 no_lines true first last a h = absurd cc
 no_lines false first last a h = absurd cc
@@ -251,20 +255,33 @@ command_asks (w ∷ ws) a h = elim (cases_Bool (bytes_eq (codes "replay") w)) [
       ]
     ]
 
+    told_asks : (w : List ℕ) (ws : List (List ℕ)) (a : Action)
+        → (if bytes_eq (codes "schedule") w then schedule_in ws
+        else if bytes_eq (codes "direct") w then direct_in ws
+        else if bytes_eq (codes "live") w then live_in ws
+        else None)
+        ≡ Some (Direct a) → Asks a (w ∷ ws)
+    told_asks w ws a h = elim (cases_Bool (bytes_eq (codes "schedule") w)) [
+      | inl told ↦ absurd (no_schedule (seeded_in (without_dashes ws)) a (rw told at h))
+      | inr other ↦ direct_asks w ws a (rw other at h)
+    ]
+
     seed_asks : (w : List ℕ) (ws : List (List ℕ)) (a : Action)
         → (if bytes_eq (codes "gen") w then gen_in ws
+        else if bytes_eq (codes "schedule") w then schedule_in ws
         else if bytes_eq (codes "direct") w then direct_in ws
         else if bytes_eq (codes "live") w then live_in ws
         else None)
         ≡ Some (Direct a) → Asks a (w ∷ ws)
     seed_asks w ws a h = elim (cases_Bool (bytes_eq (codes "gen") w)) [
       | inl gen ↦ absurd (no_gen (seeded_in (without_dashes ws)) a (rw gen at h))
-      | inr other ↦ direct_asks w ws a (rw other at h)
+      | inr other ↦ told_asks w ws a (rw other at h)
     ]
 
     span_asks : (w : List ℕ) (ws : List (List ℕ)) (a : Action)
         → (if bytes_eq (codes "draw") w then draw_in ws
         else if bytes_eq (codes "gen") w then gen_in ws
+        else if bytes_eq (codes "schedule") w then schedule_in ws
         else if bytes_eq (codes "direct") w then direct_in ws
         else if bytes_eq (codes "live") w then live_in ws
         else None)

@@ -2,7 +2,7 @@
 use Rattle.sl_cli.specs.Actions.{Given, action_in}
 use Rattle.sl_cli.specs.OwnWords.{is_own, own_in}
 use Rattle.sl_cli.specs.TimesWords.{grace_of, is_times, timing_of}
-use Rattle.sl_cli.specs.declared.command_words.Words.TheVariants.{Direct, Draw, Generate, Help, Label, Live, Replay, Version}
+use Rattle.sl_cli.specs.declared.command_words.Words.TheVariants.{Direct, Draw, Generate, Help, Label, Live, Replay, Schedule, Version}
 use Rattle.sl_cli.specs.declared.command_words.Words.{Words}
 use Rattle.sl_direct.specs.declared.action.Action.TheVariants.{InitLockspace}
 use Rattle.sl_text.specs.Numbers.{is_number_that, number_of}
@@ -105,7 +105,7 @@ given_by uses = record {
   format = value_of (codes "format") uses;
 }
 
--- ---- what is given to `gen`
+-- ---- what is given to `gen` and to `schedule`
 
 -- The word of a seed: below 2^64.
 abbrev pub is_seed : List ℕ → Bool
@@ -160,9 +160,17 @@ without_dashes (w ∷ ws) = if bytes_eq w (codes "--") then ws else w ∷ withou
 abbrev pub generated : Seed → Words
 generated s = Generate s.number s.hosts s.events s.paired
 
+-- A seed whose schedule is told.
+abbrev pub scheduled : Seed → Words
+scheduled s = Schedule s.number s.hosts s.events s.paired
+
 -- What the words behind `gen` say.
 abbrev pub gen_in : List (List ℕ) → Option Words
 gen_in ws = option_map generated (seeded_in (without_dashes ws))
+
+-- What those behind `schedule` say.
+abbrev pub schedule_in : List (List ℕ) → Option Words
+schedule_in ws = option_map scheduled (seeded_in (without_dashes ws))
 
 -- ---- what is given to `draw`
 
@@ -266,6 +274,7 @@ command_in (w ∷ ws) =
     if bytes_eq (codes "replay") w then choose (ends_here ws) Replay
     else if bytes_eq (codes "draw") w then draw_in ws
     else if bytes_eq (codes "gen") w then gen_in ws
+    else if bytes_eq (codes "schedule") w then schedule_in ws
     else if bytes_eq (codes "direct") w then direct_in ws
     else if bytes_eq (codes "live") w then live_in ws
     else None

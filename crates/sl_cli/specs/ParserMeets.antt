@@ -4,7 +4,7 @@ use Rattle.clap.specs.Simple.{subcommand_of}
 use Rattle.clap.specs.Walk.{Row, Text, first_of}
 use Rattle.sl_cli.specs.Actions.{Given, action_in}
 use Rattle.sl_cli.specs.ParserShape.{command_line}
-use Rattle.sl_cli.specs.CommandWords.{Placing, Seeding, generated, placed_in, seeding_in, span_in}
+use Rattle.sl_cli.specs.CommandWords.{Placing, Seeding, generated, placed_in, scheduled, seeding_in, span_in}
 use Rattle.sl_cli.specs.declared.parsed_command.Met.{Met}
 use Rattle.sl_cli.specs.declared.command_words.Words.TheVariants.{Direct, Replay}
 use Rattle.sl_cli.specs.declared.command_words.Words.{Words}
@@ -51,6 +51,7 @@ named_met name rows =
     if bytes_eq name (codes "replay") then Some Met.Replay
     else if bytes_eq name (codes "draw") then Some (Met.Draw (seeding_of rows))
     else if bytes_eq name (codes "gen") then Some (Met.Generate (seeding_of rows))
+    else if bytes_eq name (codes "schedule") then Some (Met.Schedule (seeding_of rows))
     else if bytes_eq name (codes "direct") then Some (Met.Direct (given_in rows))
     else if bytes_eq name (codes "live") then Some (Met.Live (placing_of rows))
     else None
@@ -65,6 +66,7 @@ abbrev pub said_by : Met → Option Words
 said_by Met.Replay = Some Replay
 said_by (Met.Draw s) = span_in s.seed s.hosts s.events s.format
 said_by (Met.Generate s) = option_map generated (seeding_in s.seed s.hosts s.events s.format)
+said_by (Met.Schedule s) = option_map scheduled (seeding_in s.seed s.hosts s.events s.format)
 said_by (Met.Direct given) = option_map (λ a. Direct a) (action_in given)
 said_by (Met.Live p) = placed_in p
 

@@ -15,7 +15,7 @@ direct_app =
     (option_rule (codes "lockspace") 115)) (option_rule (codes "resource") 114)) (option_rule (codes "hosts") 110)) (option_rule (codes "stretch") 100))
     (option_rule (codes "geometry") 103)) (option_rule (codes "format") 118)
 
--- `gen SEED HOSTS EVENTS FORMAT`, of which the last word may be left out.
+-- `gen SEED HOSTS EVENTS FORMAT`, or `schedule`, of which the last word may be left out.
 abbrev pub seed_app : List ℕ → App
 seed_app name =
     with_rule (with_rule (with_rule (with_rule (new_app name) (new_rule (codes "seed"))) (new_rule (codes "hosts"))) (new_rule (codes "events")))
@@ -48,9 +48,13 @@ drawing_app = with_subcommand reading_app (seed_app (codes "draw")).top
 abbrev pub playing_app : App
 playing_app = with_subcommand drawing_app (seed_app (codes "gen")).top
 
+-- With that which tells one.
+abbrev pub telling_app : App
+telling_app = with_subcommand playing_app (seed_app (codes "schedule")).top
+
 -- With all that run no machines.
 abbrev pub offline_app : App
-offline_app = with_subcommand playing_app direct_app.top
+offline_app = with_subcommand telling_app direct_app.top
 
 -- The whole command.
 abbrev pub command_line : App

@@ -3,7 +3,7 @@ use Rattle.sl_area.specs.AreaSizes.{IsGeometry, Sizes, geometries, layout_of}
 use Rattle.sl_cli.specs.Actions.{Given, action_in}
 use Rattle.sl_cli.specs.OptionValues.{is_stretch_size, is_stretch_start}
 use Rattle.sl_cli.specs.CommandWords.{Use, given_by, is_given, is_plain, nothing_taken, options, said_in, uses_from}
-use Rattle.sl_cli.specs.declared.command_words.Words.TheVariants.{Direct, Generate, Label, Live, Own}
+use Rattle.sl_cli.specs.declared.command_words.Words.TheVariants.{Direct, Generate, Label, Live, Own, Schedule}
 use Rattle.sl_cli.specs.declared.command_words.Words.{Words}
 use Rattle.sl_direct.specs.Actions.{IsAction}
 use Rattle.sl_direct.specs.declared.action.Action.TheVariants.{Dump, InitLabelled, InitLockspace, InitResource, ReadLeader, Upgrade}
@@ -51,6 +51,7 @@ IsAsked (Dump path offset size g) = IsStretchArg g.sector path offset size × Is
 abbrev pub CanBeDone : Words → Type 0
 CanBeDone (Direct a) = IsAction a
 CanBeDone (Generate seed hosts events paired) = (1 ≤ hosts) × (hosts ≤ 16) × (events ≤ 1000000)
+CanBeDone (Schedule seed hosts events paired) = (1 ≤ hosts) × (hosts ≤ 16) × (events ≤ 1000000)
 CanBeDone (Label l g t grace) = IsAction (InitLabelled l g t grace)
 CanBeDone (Own folder machine watchdog syncs keeps events) = 1 ≤ machine
 CanBeDone w = Unit {0}

@@ -2,7 +2,7 @@
 
 ghost use Rattle.clap.specs.Values.{kind_of};
 ghost use Rattle.sl_cli.specs.Actions.{action_in};
-ghost use Rattle.sl_cli.specs.CommandWords.{asks_of_program, command_in, generated, is_only, said_in, seeding_in};
+ghost use Rattle.sl_cli.specs.CommandWords.{asks_of_program, command_in, generated, is_only, said_in, scheduled, seeding_in};
 ghost use Rattle.sl_cli.specs.ParserMeets.{IsRefused, TakenAs, said_by};
 ghost use Rattle.sl_cli.specs.Spellings.{CanBeDone};
 ghost use Rattle.sl_cli.specs.declared.command_words.Words.TheVariants.{Direct};
@@ -34,6 +34,13 @@ pub enum Words {
     },
     /// Make a schedule of so many events (0 to 1000000) for so many hosts (1 to 16) from a seed, with pairs or without, and run it.
     Generate {
+        seed: u64,
+        hosts: u32,
+        events: u64,
+        paired: bool,
+    },
+    /// Tell a schedule of so many events (0 to 1000000) for so many hosts (1 to 16) from a seed, with pairs or without.
+    Schedule {
         seed: u64,
         hosts: u32,
         events: u64,
@@ -132,6 +139,20 @@ fn generated(given: &Seeding<'_>) -> Option<Words>
     })
 }
 
+/// What was given to `schedule` says.
+fn scheduled(given: &Seeding<'_>) -> Option<Words>
+    ensures exact { result ≡ option_map scheduled (seeding_in given.now.seed given.now.hosts given.now.events given.now.format) }
+    ensures can { IfSome result CanBeDone }
+{
+    let asked = given.seed()?;
+    Some(Words::Schedule {
+        seed: asked.number,
+        hosts: asked.hosts,
+        events: asked.events,
+        paired: asked.paired,
+    })
+}
+
 /// What a command says. An `Err` is want of memory.
 fn said(alloc: Global, met: Met<'_>) -> Result<Option<Words>, AllocError>
     ensures exact { IfOk result (λ words. words ≡ said_by met.entry) }
@@ -141,6 +162,7 @@ fn said(alloc: Global, met: Met<'_>) -> Result<Option<Words>, AllocError>
         Met::Replay => Ok(Some(Words::Replay)),
         Met::Draw(given) => Ok(given.part()),
         Met::Generate(given) => Ok(generated(&given)),
+        Met::Schedule(given) => Ok(scheduled(&given)),
         Met::Direct(given) => Ok(directed(&given)),
         Met::Live(given) => given.words(alloc),
     }

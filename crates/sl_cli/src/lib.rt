@@ -1,6 +1,6 @@
 //! The words of the command line.
 //!
-//! A line's words say `replay`, `gen` with its numbers, `live` with a folder and its flags, or `direct` with an action and its options, or ask for the
+//! A line's words say `replay`, `gen` or `schedule` with its numbers, `live` with a folder and its flags, or `direct` with an action and its options, or ask for the
 //! help or the version; all other words say nothing. `parser_shape` tells the argument parser, the kit's `clap`, which commands and options
 //! there are. `parsed_command` takes what the parser found for each option and makes the action of it; `option_values` reads the words that
 //! stand for something: sizes, an area, its hosts, a stretch of a file. `command_words` puts these together: it is all that the rest of the

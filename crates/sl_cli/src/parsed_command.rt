@@ -398,6 +398,7 @@ pub(crate) enum Met<'a> {
     Replay,
     Draw(Seeding<'a>),
     Generate(Seeding<'a>),
+    Schedule(Seeding<'a>),
     Direct(Given<'a>),
     Live(Placing<'a>),
 }
@@ -412,6 +413,8 @@ fn met_named<'a>(name: &str, matches: &ArgMatches<'a>) -> Option<Met<'a>>
         Some(Met::Draw(Seeding::new(matches)))
     } else if name == "gen" {
         Some(Met::Generate(Seeding::new(matches)))
+    } else if name == "schedule" {
+        Some(Met::Schedule(Seeding::new(matches)))
     } else if name == "direct" {
         Some(Met::Direct(Given::new(matches)))
     } else if name == "live" {

@@ -3,7 +3,7 @@
 ghost use Rattle.clap.specs.Walk.{rule_of};
 ghost use Rattle.clap.specs.Simple.{app_of, new_rule, new_shape, with_rule};
 ghost use Rattle.clap.specs.declared.builder.command.Command.TheViews.{out-Command as fields_of};
-ghost use Rattle.sl_cli.specs.ParserShape.{bare_shape, command_line, direct_app, drawing_app, flag_rule, live_app, offline_app, option_rule, playing_app, reading_app, seed_app};
+ghost use Rattle.sl_cli.specs.ParserShape.{bare_shape, command_line, direct_app, drawing_app, flag_rule, live_app, offline_app, option_rule, playing_app, reading_app, seed_app, telling_app};
 ghost use Rattle.std.specs.Prelude.{IfOk, [], codes, false, ◌≡◌};
 
 use clap::{Arg, ArgAction, Command};
@@ -157,11 +157,18 @@ fn playing<'a>(alloc: Global) -> Result<Command<'a>, AllocError>
     drawing(alloc)?.subcommand(seeded(alloc, "gen")?)
 }
 
+/// The program with the commands that run a schedule, or tell one.
+fn telling<'a>(alloc: Global) -> Result<Command<'a>, AllocError>
+    ensures { IfOk result (λ c. app_of c ≡ telling_app) }
+{
+    playing(alloc)?.subcommand(seeded(alloc, "schedule")?)
+}
+
 /// The program with the commands that run no machines.
 fn offline<'a>(alloc: Global) -> Result<Command<'a>, AllocError>
     ensures { IfOk result (λ c. app_of c ≡ offline_app) }
 {
-    playing(alloc)?.subcommand(direct(alloc)?)
+    telling(alloc)?.subcommand(direct(alloc)?)
 }
 
 /// The whole command.

@@ -12,6 +12,10 @@ usage: sanlock COMMAND
                            run the schedule of a seed, print its words and the
                            last line of its report; with 2 each host's block has
                            a pair of sectors
+  schedule SEED HOSTS EVENTS [2]
+                           print a schedule that tells a story, drawn from a
+                           seed: hosts that mostly work in time, and now and
+                           then hang, crash, are reset and come back
   live FOLDER [--anew] [--keep-going] [--events]
                            run the live script on standard input, with disks in
                            files below FOLDER and child programs; it prints

@@ -91,6 +91,7 @@ fn with_label(words: Words, times: &str) -> Option<Words>
         Words::Replay => None,
         Words::Draw { .. } => None,
         Words::Generate { .. } => None,
+        Words::Schedule { .. } => None,
         Words::Label { .. } => None,
         Words::Live { .. } => None,
         Words::Own { .. } => None,

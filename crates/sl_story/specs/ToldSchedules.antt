@@ -1,7 +1,7 @@
 -- What is owed of a story: it is a schedule that is accepted to its end, with so many events, or as many as a schedule has room for.
 use Rattle.sl_io.specs.FaultCauses.{Rose}
 use Rattle.sl_play.specs.Replays.{played_language}
-use Rattle.sl_report.specs.Languages.{is_skipped}
+use Rattle.sl_report.specs.Languages.{Language, is_skipped}
 use Rattle.sl_report.specs.OwedReports.{IsFrontOf, Promise, ReplayOf}
 use Rattle.sl_report.specs.Schedules.{greatest_source}
 use Rattle.sl_run.specs.declared.header.Header.{Header}
@@ -25,16 +25,16 @@ says line = not (is_skipped line) && is_free_of 10 line
 -- ---- what is written
 
 -- These bytes are a header and so many lines behind it, each of which says something; and the whole report of this source ends with status 0.
-pub record IsTold (promised : Promise) (commands : Header → List (Form Command)) (hosts : ℕ) (paired : Bool) (told : ℕ) (text : List ℕ) : Type 0 where
+pub record IsTold (promised : Promise) (lang : Language) (hosts : ℕ) (paired : Bool) (told : ℕ) (text : List ℕ) : Type 0 where
   pub lines : List (List ℕ)
   pub counted : length lines ≡ told
   pub saying : list_all says lines ≡ true
   pub text_is : text ≡ as_bytes (story_lines hosts paired ++ lines)
   pub report : List ℕ
-  pub accepted : ReplayOf promised (played_language commands) text report 0
+  pub accepted : ReplayOf promised lang text report 0
 
 abbrev pub ToldBy : {D : Type 0} → (Header → List (Form Command)) → (D → Setting → Trace → Type 0) → ℕ → Bool → ℕ → List ℕ → Type 0
-ToldBy commands stands hosts paired told text = IsTold (λ p h xs. MadeRun stands p h xs) commands hosts paired told text
+ToldBy commands stands hosts paired told text = IsTold (λ p h xs. MadeRun stands p h xs) (played_language commands) hosts paired told text
 
 -- What is owed, by how it ended.
 pub data Tells {D : Type 0} (commands : Header → List (Form Command)) (stands : D → Setting → Trace → Type 0) (hosts events : ℕ) (paired : Bool) (taken now : Option (List ℕ))

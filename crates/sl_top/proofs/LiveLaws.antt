@@ -16,7 +16,7 @@ use Rattle.sl_run.specs.declared.header.Header.{Header}
 use Rattle.sl_top.proofs.RunLaws.{nothing_put}
 use Rattle.sl_top.specs.LiveHistories.{LiveHistoriesAreGood}
 use Rattle.sl_top.specs.StatusLaws.{SomeDiffer}
-use Rattle.sl_cli.specs.declared.command_words.Words.TheVariants.{Direct, Draw, Generate, Help, Label, Live, Own, Replay, Version}
+use Rattle.sl_cli.specs.declared.command_words.Words.TheVariants.{Direct, Draw, Generate, Help, Label, Live, Own, Replay, Schedule, Version}
 use Rattle.sl_cli.specs.declared.command_words.Words.{Words}
 use Rattle.sl_top.specs.Runs.{IsLive, IsOwn, Outside, Owes, RunsLive, RunsOwn, asked_in, asked_of, told_from, untold}
 use Rattle.sl_top.specs.Statuses.{status_of_live}
@@ -252,6 +252,7 @@ asked_is (Own folder machine watchdog syncs keeps events) a is = ap words_for (s
 asked_is Replay a is = absurd cc
 asked_is (Draw first last) a is = absurd cc
 asked_is (Generate seed hosts events paired) a is = absurd cc
+asked_is (Schedule seed hosts events paired) a is = absurd cc
 asked_is (Direct b) a is = absurd cc
 asked_is (Label l g t grace) a is = absurd cc
 asked_is Help a is = absurd cc
@@ -284,6 +285,7 @@ live_from at_terminal (Own folder machine watchdog syncs keeps events) p is = ab
 live_from at_terminal Replay p is = absurd cc
 live_from at_terminal (Draw first last) p is = absurd cc
 live_from at_terminal (Generate seed hosts events paired) p is = absurd cc
+live_from at_terminal (Schedule seed hosts events paired) p is = absurd cc
 live_from at_terminal (Direct b) p is = absurd cc
 live_from at_terminal (Label l g t grace) p is = absurd cc
 live_from at_terminal Help p is = absurd cc
@@ -300,6 +302,7 @@ own_from at_terminal (Own folder machine watchdog syncs keeps events) p is =
 own_from at_terminal Replay p is = absurd cc
 own_from at_terminal (Draw first last) p is = absurd cc
 own_from at_terminal (Generate seed hosts events paired) p is = absurd cc
+own_from at_terminal (Schedule seed hosts events paired) p is = absurd cc
 own_from at_terminal (Direct b) p is = absurd cc
 own_from at_terminal (Label l g t grace) p is = absurd cc
 own_from at_terminal Help p is = absurd cc
@@ -325,6 +328,7 @@ owes_still tellers at_terminal (Own folder machine watchdog syncs keeps events) 
 owes_still tellers at_terminal Replay x y st none owes = owes
 owes_still tellers at_terminal (Draw first last) x y st none owes = owes
 owes_still tellers at_terminal (Generate seed hosts events paired) x y st none owes = owes
+owes_still tellers at_terminal (Schedule seed hosts events paired) x y st none owes = owes
 owes_still tellers at_terminal (Direct a) x y st none owes = owes
 owes_still tellers at_terminal (Label l g t grace) x y st none owes = owes
 owes_still tellers at_terminal Help x y st none owes = owes

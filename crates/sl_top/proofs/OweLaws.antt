@@ -1,5 +1,5 @@
 -- What a run owes where there was no memory for its words: nothing was read, and nothing written.
-use Rattle.sl_cli.specs.declared.command_words.Words.TheVariants.{Direct, Draw, Generate, Help, Label, Live, Own, Replay, Version}
+use Rattle.sl_cli.specs.declared.command_words.Words.TheVariants.{Direct, Draw, Generate, Help, Label, Live, Own, Replay, Schedule, Version}
 use Rattle.sl_cli.specs.declared.command_words.Words.{Words}
 use Rattle.sl_direct.specs.declared.action.Action.TheVariants.{InitLabelled}
 use Rattle.sl_live_play.specs.LiveOwed.{Tellers}
@@ -11,6 +11,7 @@ use Rattle.sl_top.proofs.LiveLaws.{never_run}
 use Rattle.sl_top.proofs.OwnLaws.{never_run as never_run_alone}
 use Rattle.sl_top.proofs.PictureLaws.{undrawn}
 use Rattle.sl_top.proofs.RunLaws.{nothing_put, unread}
+use Rattle.sl_top.proofs.StoryLaws.{none_scheduled}
 use Rattle.sl_top.proofs.TopLaws.{none_written}
 use Rattle.sl_top.specs.Runs.{Generates, Outside, Owes, PutsOut, bad_words_text}
 use Rattle.sl_top.specs.declared.status.Status.TheVariants.{Done, NoMemory}
@@ -36,6 +37,7 @@ nothing_done tellers None x = nothing_told x.taken x.sink_faults bad_words_text 
 nothing_done tellers (Some (Draw first last)) x = undrawn (record { first = first; last = last }) x.left x.source_faults x.taken x.sink_faults
 nothing_done tellers (Some Replay) x = unread x.left x.source_faults x.taken x.sink_faults
 nothing_done tellers (Some (Generate seed hosts events paired)) x = none_generated seed hosts events paired x.taken x.sink_faults
+nothing_done tellers (Some (Schedule seed hosts events paired)) x = none_scheduled hosts events paired x.taken x.sink_faults
 nothing_done tellers (Some (Direct a)) x = not_begun a x.disks x.device_faults x.taken x.sink_faults
 nothing_done tellers (Some (Label l g t grace)) x = not_begun (InitLabelled l g t grace) x.disks x.device_faults x.taken x.sink_faults
 nothing_done tellers (Some (Live folder anew keeps events)) x = never_run tellers folder (record { anew = anew; keeps = keeps; events = events }) x

@@ -1,6 +1,6 @@
 -- Which statuses a run may end with, by what its words say, and why.
 use Rattle.sl_area.specs.AreaSizes.{Sizes}
-use Rattle.sl_cli.specs.declared.command_words.Words.TheVariants.{Direct, Draw, Generate, Help, Label, Live, Own, Replay, Version}
+use Rattle.sl_cli.specs.declared.command_words.Words.TheVariants.{Direct, Draw, Generate, Help, Label, Live, Own, Replay, Schedule, Version}
 use Rattle.sl_cli.specs.declared.command_words.Words.{Words}
 use Rattle.sl_cli.specs.declared.texts.TheConstants.{HELP, VERSION}
 use Rattle.sl_direct.proofs.AreaLaws.{leader_is_told}
@@ -29,6 +29,7 @@ use Rattle.sl_top.proofs.RunLaws.{whole_headers}
 use Rattle.sl_top.specs.StatusLaws.{AcceptedSchedulesEndWell, CantBeUpgraded, CausesHaveStatuses, HasItsCause, IsNotTheLeader, NothingFailed, OtherSchedulesAreRefused, StatusesHaveCauses, has_leader}
 use Rattle.sl_top.specs.Runs.{ActsOn, IsCutShort, IsDirect, IsWritten, Outside, PutsOut, Replays, RunsLive, RunsOwn, bad_words_text}
 use Rattle.sl_top.specs.Statuses.{code, status_after}
+use Rattle.sl_top.specs.Stories.{Schedules}
 use Rattle.sl_top.specs.declared.status.Status.TheVariants.{AreaFault, BadWords, Differs, Done, NoMemory, NotTheLeader, ReadFault, Refused, WriteFault}
 use Rattle.sl_top.specs.declared.status.Status.{Status}
 use Rattle.sl_trace.specs.declared.command.LockspaceArg.{LockspaceArg}
@@ -73,6 +74,21 @@ bad_caused x y s put =
       area_fault = λ e. absurd (none_of s AreaFault BadWords ends e (λ no. absurd cc) (λ no. absurd cc) (λ no. absurd cc));
       not_the_leader = λ e. absurd (none_of s NotTheLeader BadWords ends e (λ no. absurd cc) (λ no. absurd cc) (λ no. absurd cc));
       differs = λ e. absurd (none_of s Differs BadWords ends e (λ no. absurd cc) (λ no. absurd cc) (λ no. absurd cc));
+    }
+
+-- ---- a schedule that is told
+
+schedule_caused : (seed hosts events : ℕ) (paired : Bool) (x y : Outside) (s : Status) → Schedules hosts events paired x.taken y.taken x.sink_faults y.sink_faults s
+    → HasItsCause (Some (Schedule seed hosts events paired)) x y s
+schedule_caused seed hosts events paired x y s told =
+    record {
+      refused = λ e. absurd (none_of s Refused Done told.ended e (λ no. absurd cc) (λ no. absurd cc) (λ no. absurd cc));
+      bad_words = λ e. absurd (none_of s BadWords Done told.ended e (λ no. absurd cc) (λ no. absurd cc) (λ no. absurd cc));
+      read_fault = λ e. absurd (none_of s ReadFault Done told.ended e (λ no. absurd cc) (λ no. absurd cc) (λ no. absurd cc));
+      write_fault = told.write_fault;
+      area_fault = λ e. absurd (none_of s AreaFault Done told.ended e (λ no. absurd cc) (λ no. absurd cc) (λ no. absurd cc));
+      not_the_leader = λ e. absurd (none_of s NotTheLeader Done told.ended e (λ no. absurd cc) (λ no. absurd cc) (λ no. absurd cc));
+      differs = λ e. absurd (none_of s Differs Done told.ended e (λ no. absurd cc) (λ no. absurd cc) (λ no. absurd cc));
     }
 
 -- ---- a replay
@@ -322,6 +338,7 @@ statuses_have_causes tellers None x y s h = bad_caused x y s h
 statuses_have_causes tellers (Some Replay) x y s h = replay_caused x y s h
 statuses_have_causes tellers (Some (Draw first last)) x y s h = draw_caused first last x y s h
 statuses_have_causes tellers (Some (Generate seed hosts events paired)) x y s h = done_caused (Some (Generate seed hosts events paired)) x y _ s h.puts
+statuses_have_causes tellers (Some (Schedule seed hosts events paired)) x y s h = schedule_caused seed hosts events paired x y s h
 statuses_have_causes tellers (Some (Direct a)) x y s h = direct_caused a x y s h
 statuses_have_causes tellers (Some (Label l g t grace)) x y s h = label_caused l g t grace x y s h
 statuses_have_causes tellers (Some (Own folder machine watchdog syncs keeps events)) x y s h =

@@ -3,3 +3,4 @@ pub mod Runs
 pub mod StatusLaws
 pub mod LiveHistories
 pub mod Pictures
+pub mod Stories

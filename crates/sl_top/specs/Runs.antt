@@ -1,6 +1,6 @@
 -- What a run of the program owes: by what its words say, what it read and wrote, what it left on the disks, and its status.
 use Rattle.sl_cli.specs.CommandWords.{said_in}
-use Rattle.sl_cli.specs.declared.command_words.Words.TheVariants.{Direct, Draw, Generate, Help, Label, Live, Own, Replay, Version}
+use Rattle.sl_cli.specs.declared.command_words.Words.TheVariants.{Direct, Draw, Generate, Help, Label, Live, Own, Replay, Schedule, Version}
 use Rattle.sl_cli.specs.declared.command_words.Words.{Words}
 use Rattle.sl_cli.specs.declared.texts.TheConstants.{HELP, VERSION}
 use Rattle.sl_direct.specs.Actions.{Directs, path_of}
@@ -27,6 +27,7 @@ use Rattle.sl_text.specs.Forms.{as_bytes}
 use Rattle.sl_time.specs.Times.{TimingNumbers}
 use Rattle.sl_trace.specs.declared.command.LockspaceArg.{LockspaceArg}
 use Rattle.sl_top.specs.Pictures.{Draws}
+use Rattle.sl_top.specs.Stories.{Schedules}
 use Rattle.sl_top.specs.Statuses.{code, status_after, status_of_live}
 use Rattle.sl_top.specs.declared.top.Asked.TheVariants.{All, One}
 use Rattle.sl_top.specs.declared.top.Asked.{Asked}
@@ -154,6 +155,7 @@ Owes tellers (Some Replay) x y s = Replays x.left y.left x.source_faults y.sourc
 Owes tellers (Some (Draw first last)) x y s =
     Draws (record { first = first; last = last }) x.left y.left x.source_faults y.source_faults x.taken y.taken x.sink_faults y.sink_faults s
 Owes tellers (Some (Generate seed hosts events paired)) x y s = Generates seed hosts events paired x.taken y.taken x.sink_faults y.sink_faults s
+Owes tellers (Some (Schedule seed hosts events paired)) x y s = Schedules hosts events paired x.taken y.taken x.sink_faults y.sink_faults s
 Owes tellers (Some (Direct a)) x y s = ActsOn a x.disks y.disks x.device_faults y.device_faults x.taken y.taken x.sink_faults y.sink_faults s
 Owes tellers (Some (Label l g t grace)) x y s = ActsOn (InitLabelled l g t grace) x.disks y.disks x.device_faults y.device_faults x.taken y.taken x.sink_faults y.sink_faults s
 Owes tellers (Some (Live folder anew keeps events)) x y s = RunsLive tellers folder (record { anew = anew; keeps = keeps; events = events }) x y s

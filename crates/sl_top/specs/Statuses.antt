@@ -7,6 +7,8 @@ use Rattle.sl_live_play.specs.declared.play.Lived.TheVariants as lived
 use Rattle.sl_live_play.specs.declared.play.Lived.{Lived}
 use Rattle.sl_play.specs.declared.replay.Played.TheVariants as played
 use Rattle.sl_play.specs.declared.replay.Played.{Played}
+use Rattle.sl_story.specs.declared.story.Told.TheVariants as story
+use Rattle.sl_story.specs.declared.story.Told.{Told}
 use Rattle.sl_top.specs.declared.status.Status.TheVariants.{AreaFault, BadWords, Differs, Done, NoMemory, NotTheLeader, ReadFault, Refused, WriteFault}
 use Rattle.sl_top.specs.declared.status.Status.{Status}
 use Rattle.std.specs.Prelude.{ℕ}
@@ -45,6 +47,13 @@ abbrev pub status_of_generated : Generated → Status
 status_of_generated generated.Done = Done
 status_of_generated generated.WriteFault = WriteFault
 status_of_generated generated.NoMemory = NoMemory
+
+-- The status of a story that ended so: one that is short for want of room is told.
+abbrev pub status_of_told : Told → Status
+status_of_told story.Done = Done
+status_of_told story.Short = Done
+status_of_told story.WriteFault = WriteFault
+status_of_told story.NoMemory = NoMemory
 
 -- The status of a live run that ended so.
 abbrev pub status_of_live : Lived → Status

@@ -1,17 +1,18 @@
 //! What the program ends with.
 
-ghost use Rattle.sl_top.specs.Statuses.{code, status_after, status_of, status_of_generated, status_of_live};
+ghost use Rattle.sl_top.specs.Statuses.{code, status_after, status_of, status_of_generated, status_of_live, status_of_told};
 ghost use Rattle.std.specs.Prelude.{◌≡◌};
 
 use sl_direct::Directed;
 use sl_generate::Generated;
 use sl_live_play::Lived;
 use sl_play::Played;
+use sl_story::Told;
 
 /// How a run of the program ended.
 #[derive(Clone, Copy, Debug, PartialEq, Eq)]
 pub enum Status {
-    /// The source was read to its end and each line was accepted, or each event of a seed happened, or an action was done; the output is whole.
+    /// The source was read to its end and each line was accepted, or each event of a seed happened, or is told, or an action was done; the output is whole.
     Done,
     /// A line can't be read, or isn't allowed; the output ends with its refusal.
     Refused,
@@ -86,6 +87,18 @@ pub(crate) fn status_of_generated(generated: Generated) -> Status
         Generated::Done => Status::Done,
         Generated::WriteFault => Status::WriteFault,
         Generated::NoMemory => Status::NoMemory,
+    }
+}
+
+/// The status of a story that ended so.
+pub(crate) fn status_of_told(told: Told) -> Status
+    ensures { result ≡ status_of_told told }
+{
+    match told {
+        Told::Done => Status::Done,
+        Told::Short => Status::Done,
+        Told::WriteFault => Status::WriteFault,
+        Told::NoMemory => Status::NoMemory,
     }
 }
 

@@ -3,17 +3,20 @@
 //! All but `live` is done by `run_offline`, which takes no handle that waits.
 //!
 //! `replay` plays its source line by line, so where a read fails the report of the lines before it stands written; where a write fails or memory
-//! runs out, a front of the report. `gen` reads nothing: it draws its events as it plays them. `direct` takes one disk of the devices, does its action there, and gives the disk back.
+//! runs out, a front of the report. `gen` reads nothing: it draws its events as it plays them; so does `schedule`, which puts them out. `direct` takes one disk of the devices, does its action there, and gives the disk back.
 
 ghost use Rattle.sl_cli.specs.Spellings.{CanBeDone};
 ghost use Rattle.sl_direct.specs.Actions.{IsAction};
 ghost use Rattle.sl_top.specs.Pictures.{Draws};
+ghost use Rattle.sl_top.specs.Stories.{Schedules};
 ghost use Rattle.sl_top.specs.Runs.{ActsOn, Generates, IsDirect, IsLive, IsNumbered, IsOwn, Owes, PutsOut, ReadsSource, Replays, RunsLive, asked_in, asked_of, said, said_from, told_from, untold};
 ghost use Rattle.sl_top.specs.declared.status.Status.TheVariants.{WriteFault};
 ghost use Rattle.std.specs.Prelude.{IfOk, IfSome, ◌≡◌, ◌≢◌, ◌≤◌};
 
 use crate::own::{OwnPlace, own};
-use crate::status::{Status, status_after, status_of, status_of_generated, status_of_live};
+use crate::status::{
+    Status, status_after, status_of, status_of_generated, status_of_live, status_of_told,
+};
 use sl_area::Area;
 use sl_cli::{Folder, HELP, VERSION, Words, WordsError, read_words};
 use sl_direct::{Action, run_direct};
@@ -29,6 +32,7 @@ use sl_picture::Part;
 use sl_place::StandingDevices;
 use sl_play::laws::headers::whole_language_may_play;
 use sl_play::play_schedule;
+use sl_story::tell_schedule;
 use std::alloc::{AllocError, Global};
 use std::sync::Wait;
 use std::thread::Threads;
@@ -66,6 +70,25 @@ fn generate_from<K: Sink>(
     ensures { Generates seed hosts events paired (K.taken sink.old) (K.taken sink.new) (K.faults sink.old) (K.faults sink.new) result }
 {
     status_of_generated(generate::<K, HostDaemon, LvmLocks>(
+        alloc, seed, hosts, events, paired, sink,
+    ))
+}
+
+/// Tells a schedule of so many events, drawn from a seed, with pairs or without, and puts it out line by line, each once its event has come to pass
+/// in a world of hosts.
+fn schedule<K: Sink>(
+    alloc: Global,
+    seed: u64,
+    hosts: u32,
+    events: u64,
+    paired: bool,
+    sink: &mut K,
+) -> Status
+    requires { (1 ≤ hosts) × (hosts ≤ 16) }
+    ensures { Schedules hosts events paired (K.taken sink.old) (K.taken sink.new) (K.faults sink.old) (K.faults sink.new) result }
+{
+    whole_language_may_play();
+    status_of_told(tell_schedule::<K, HostDaemon, LvmLocks>(
         alloc, seed, hosts, events, paired, sink,
     ))
 }
@@ -136,7 +159,8 @@ where
 /// Does what the words say (those behind the program's name), with no handle that waits: so it returns.
 ///
 /// `replay` reads a schedule from the source to its end, or to one byte past 1000000000, and puts out its report, `draw` the picture of its lines.
-/// `gen` makes a schedule from a seed, plays it, and puts out what was generated and the last line of its report. `direct` does its action to the
+/// `gen` makes a schedule from a seed, plays it, and puts out what was generated and the last line of its report; `schedule` puts out one that it
+/// plays. `direct` does its action to the
 /// disk at the action's path, and puts out what that tells. The help and the version are put out as they are. Words that say none of these put
 /// out one line.
 ///
@@ -172,6 +196,14 @@ pub fn run_offline<S: Source, K: Sink, D: Devices>(
                 paired,
             },
         ) => generate_from(alloc, seed, hosts, events, paired, sink),
+        Ok(
+            Words::Schedule {
+                seed,
+                hosts,
+                events,
+                paired,
+            },
+        ) => schedule(alloc, seed, hosts, events, paired, sink),
         Ok(Words::Direct(action)) => direct(alloc, &action, sink, devices),
         Ok(
             Words::Live {
@@ -263,6 +295,7 @@ fn asked_of(words: Words, at_terminal: bool) -> Option<Asked>
         Words::Replay => None,
         Words::Draw { .. } => None,
         Words::Generate { .. } => None,
+        Words::Schedule { .. } => None,
         Words::Direct(_) => None,
         Words::Label { .. } => None,
         Words::Help => None,
