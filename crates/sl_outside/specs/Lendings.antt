@@ -1,4 +1,5 @@
 -- What devices hand out, and what comes back to them.
+use Rattle.sl_outside.specs.Acts.{Grows}
 use Rattle.sl_outside.specs.declared.act.Act.{Act}
 use Rattle.std.specs.Prelude.{List, Option, ℕ}
 
@@ -12,3 +13,7 @@ pub data Lending : Type 0 where
   SpawnerOut : (machine : ℕ) → Lending
   -- a spawner came back, which was asked for this, where spawners tell what they were asked for
   SpawnerBack : (acts : Option (List Act)) → Lending
+
+-- More was handed out or came back since, or nothing.
+abbrev pub GoesOn : Option (List Lending) → Option (List Lending) → Type 0
+GoesOn before after = (more : List Lending) × Grows before after more
