@@ -140,10 +140,11 @@ pub record RunsLive {A P : Type 0} (tellers : Tellers A P) (folder : List ℕ) (
   pub status : s ≡ status_of_live ended
 
 -- What a run of one machine owes, in this folder, played in this manner: what is told of it, as the history of a host whose records were compared with what its
--- threads did; or why there is none.
+-- threads did, and whose calls, signals and starts came to the areas and the spawner that the devices handed out for it and that came back to the devices; or why
+-- there is none.
 pub record RunsOwn {A P : Type 0} (tellers : Tellers A P) (folder : List ℕ) (manner : OwnManner) (x y : Outside) (s : Status) : Type 0 where
   pub ended : Lived
-  pub owes : OwesOwn Serves whole_commands tellers x.disks folder manner x.left y.left x.taken y.taken x.source_faults y.source_faults x.sink_faults y.sink_faults x.device_faults y.device_faults ended
+  pub owes : OwesOwn Serves whole_commands tellers x.disks folder manner x.left y.left x.taken y.taken x.source_faults y.source_faults x.sink_faults y.sink_faults x.device_faults y.device_faults x.lendings y.lendings ended
   pub status : s ≡ status_of_live ended
 
 -- Nothing is told of areas and spawners, where no machine runs.
