@@ -133,3 +133,11 @@ draws_later commands stands part first after taken now f g later j k sink_later 
 draws_later commands stands part first after taken now f g later j k sink_later ReadFault h i (Breaks x rose none) = Breaks x (rose_later f g later h rose) none
 draws_later commands stands part first after taken now f g later j k sink_later WriteFault h i (Chokes x rose front) = Chokes x (rose_later j k sink_later i rose) front
 draws_later commands stands part first after taken now f g later j k sink_later NoMemory h i (Lacks x none) = Lacks x none
+
+-- ---- a sink that is as it was
+
+pub same_sink : {D K : Type 0} (commands : Header → List (Form Command)) (stands : D → Setting → Trace → Type 0) (part : Part) (first after : Option (List ℕ)) (taken : K → Option (List ℕ)) (count : K → ℕ)
+    (faults later : ℕ) (old now new : K) (s : Played) → now ≡ old → Draws commands stands part first after (taken now) (taken new) faults later (count now) (count new) s
+    → Draws commands stands part first after (taken old) (taken new) faults later (count old) (count new) s
+same_sink {D} {K} commands stands part first after taken count faults later old now new s is d =
+    subst (λ (k : K). Draws commands stands part first after (taken k) (taken new) faults later (count k) (count new) s) is d

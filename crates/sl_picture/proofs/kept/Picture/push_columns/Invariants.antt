@@ -1,4 +1,4 @@
-use Rattle.sl_picture.proofs.signs.Picture.push_columns.Given as goal
+use Rattle.sl_picture.proofs.kept.Picture.push_columns.Given as goal
 use Rattle.sl_picture.specs.Signs.{column_text}
 use Rattle.std.proofs.Common.{take, ◌++◌, ◌≡◌}
 use Rattle.std.specs.List.{flat_map}

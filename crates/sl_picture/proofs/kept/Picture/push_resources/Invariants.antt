@@ -1,4 +1,4 @@
-use Rattle.sl_picture.proofs.page.Picture.push_resources.Given as goal
+use Rattle.sl_picture.proofs.kept.Picture.push_resources.Given as goal
 use Rattle.sl_picture.specs.Page.{resources_to}
 use Rattle.std.proofs.Common.{◌++◌, ◌≡◌}
 

@@ -1,4 +1,4 @@
-use Rattle.sl_picture.proofs.bars.Picture.push_commands.Given as goal
+use Rattle.sl_picture.proofs.kept.Picture.push_commands.Given as goal
 use Rattle.sl_picture.specs.Bars.{commands_to}
 use Rattle.std.proofs.Common.{◌++◌, ◌≡◌}
 

@@ -1,4 +1,4 @@
-use Rattle.sl_picture.proofs.layout.Picture.all_bars.Given as goal
+use Rattle.sl_picture.proofs.kept.Picture.all_bars.Given as goal
 use Rattle.sl_picture.specs.Fates.{ended, is_gap}
 use Rattle.std.proofs.Common.{filter, map, not, take, ◌++◌, ◌≡◌}
 

@@ -1,4 +1,4 @@
-use Rattle.sl_picture.proofs.tells.Picture.tell_all.Given as goal
+use Rattle.sl_picture.proofs.kept.Picture.tell_all.Given as goal
 use Rattle.sl_picture.specs.Tells.{all_told}
 use Rattle.std.proofs.Common.{length, ◌≡◌}
 

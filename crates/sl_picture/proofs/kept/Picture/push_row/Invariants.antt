@@ -1,4 +1,4 @@
-use Rattle.sl_picture.proofs.bars.Picture.push_row.Given as goal
+use Rattle.sl_picture.proofs.kept.Picture.push_row.Given as goal
 use Rattle.sl_picture.specs.Bars.{row_with}
 use Rattle.std.proofs.Common.{[], fold, take, ◌++◌, ◌≡◌}
 

@@ -1,4 +1,4 @@
-use Rattle.sl_picture.proofs.bars.Picture.push_bars.Given as goal
+use Rattle.sl_picture.proofs.kept.Picture.push_bars.Given as goal
 use Rattle.sl_picture.specs.Bars.{bars_text}
 use Rattle.std.proofs.Common.{take, ◌++◌, ◌≡◌}
 

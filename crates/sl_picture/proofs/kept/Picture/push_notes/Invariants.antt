@@ -1,4 +1,4 @@
-use Rattle.sl_picture.proofs.signs.Picture.push_notes.Given as goal
+use Rattle.sl_picture.proofs.kept.Picture.push_notes.Given as goal
 use Rattle.sl_picture.specs.Signs.{notes_to}
 use Rattle.std.proofs.Common.{◌++◌, ◌≡◌}
 

@@ -1,4 +1,4 @@
-use Rattle.sl_picture.proofs.events.Picture.grow_clocks.Given as goal
+use Rattle.sl_picture.proofs.kept.Picture.grow_clocks.Given as goal
 use Rattle.sl_picture.specs.Events.{clocks_grown}
 use Rattle.sl_text.specs.Forms.{words_of}
 use Rattle.std.proofs.Common.{drop, length, ◌+◌, ◌≡◌}
