@@ -104,7 +104,7 @@ module _ {D : Type 0} (commands : Header → List (Form Command)) (stands : D �
 
 module _ {D : Type 0} (commands : Header → List (Form Command)) (stands : D → Setting → Trace → Type 0) (part : Part) (first after taken : Option (List ℕ))
     (faults later sink_faults sink_later : ℕ) where
-  unmoved : (all : List ℕ) → Gives first after [] all → Moved first after taken taken
+  abbrev unmoved : (all : List ℕ) → Gives first after [] all → Moved first after taken taken
   unmoved all g = record { read = all; ended = false; written = []; reads = reads_of first after all g; at_end = never_ended after; writes = Appends-nil taken }
 
   pub lacks_there : (h : Header) (before : Option (List ℕ)) (r : ReaderState) (p : PlayState D) (k : Kept) → Drawing commands stands part h first before r p k → IsCutOff before after r

@@ -77,7 +77,8 @@ fn push_shapes(out: &mut Vec<u8>, x: u64) -> Result<u64, AllocError>
 {
     push_key(out, Class::Held { colour: 0 }, x, b"")?;
     let fails = push_key(out, Class::Shared, x, b"shared")?;
-    push_key(out, Class::Expired, fails, b"watchdog's test fails")
+    let end = push_key(out, Class::Expired, fails, b"watchdog's test fails")?;
+    Ok(end)
 }
 
 /// Adds the unit of the moments.
