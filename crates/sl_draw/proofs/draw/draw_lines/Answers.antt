@@ -101,7 +101,7 @@ loop-sink-preserved g c =
     record {
       runs = λ h first part x. drawn_on g.D.Daemon.commands g.D.Daemon.stands part h first (g.S.Source.left c.loop-sink.source) (g.S.Source.left c.read_line.new.source) c.loop-sink.reader c.read_line.new.self (state_of g.L.LockTable.locks c.loop-sink.play) (state_of g.L.LockTable.locks c.take_line.new.self) c.loop-sink.picture c.take.new.self
           c.take_line.new.out.items (c.loop-sink.invariant.runs h first part x) (subst (Reads (g.S.Source.left c.loop-sink.source) (g.S.Source.left c.read_line.new.source) c.loop-sink.reader c.read_line.new.self) c.in-Ok-Line.field-0-is c.in-Ok-Line.ensures.ok) goes
-          (c.in-Ok-take.ensures ∙ ap (λ (l : NumberedLine). taken l.number l.text c.deref.result.now c.loop-sink.picture) c.line-line.ensures
+          (c.in-Ok.ensures ∙ ap (λ (l : NumberedLine). taken l.number l.text c.deref.result.now c.loop-sink.picture) c.line-line.ensures
           ∙ ap (λ told. taken c.read_line.new.self.number c.read_line.new.self.line told c.loop-sink.picture) c.deref.ensures.value);
       plays = plays_then g.D.Daemon.commands g.D.Daemon.stands (state_of g.L.LockTable.locks c.loop-sink.play) (state_of g.L.LockTable.locks c.take_line.new.self) (line_of c.read_line.new.self) c.take_line.new.out.items c.loop-sink.invariant.plays goes;
       ends = c.read_line.ensures.stands;
