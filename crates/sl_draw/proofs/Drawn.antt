@@ -1,6 +1,5 @@
 -- How a drawing ends: what it has read and written.
 use Rattle.sl_draw.proofs.DrawnLines.{ended_all, header_all, refused_all, stopped_all}
-use Rattle.sl_draw.specs.Drawings.{BeginsPicture, PictureOf}
 use Rattle.sl_draw.specs.Draws.{Breaks, Chokes, Drawing, Draws, DrawsAll, Ends, Lacks, Stops}
 use Rattle.sl_io.specs.FaultCauses.{Rose}
 use Rattle.sl_picture.specs.Kept.{Kept}
@@ -8,7 +7,7 @@ use Rattle.sl_picture.specs.Page.{picture_of}
 use Rattle.sl_picture.specs.declared.kept.Part.{Part}
 use Rattle.sl_play.proofs.LinesPlayed.{WholeIs, rose_later}
 use Rattle.sl_play.specs.Plays.{PlayState, PlaysOn, StopsAt}
-use Rattle.sl_play.specs.Replays.{All, Moved, Nothing, Part as PartOf, Puts, Running}
+use Rattle.sl_play.specs.Replays.{All, Moved, Nothing, Part as PartOf, Puts}
 use Rattle.sl_play.specs.declared.replay.Played.TheVariants.{Done, NoMemory, ReadFault, Refused, WriteFault}
 use Rattle.sl_play.specs.declared.replay.Played.{Played}
 use Rattle.sl_reader.proofs.HeaderSteps.{gives_so, gives_then}
@@ -21,11 +20,10 @@ use Rattle.sl_report.specs.Schedules.{event_line}
 use Rattle.sl_run.specs.Worlds.{World}
 use Rattle.sl_run.specs.declared.event.Refusal.{Refusal}
 use Rattle.sl_run.specs.declared.header.Header.{Header}
-use Rattle.sl_sound.specs.MadeRuns.{MadeRun}
 use Rattle.sl_text.specs.Forms.{Form, as_bytes}
 use Rattle.sl_trace.specs.Traces.{Setting, Trace}
 use Rattle.sl_trace.specs.declared.command.Command.{Command}
-use Rattle.std.proofs.Common.{Bool, List, Option, [], false, refl, subst, sym, true, ℕ, ◌++◌, ◌+◌, ◌∙◌, ◌∷◌, ◌≡◌, ◌≤◌}
+use Rattle.std.proofs.Common.{Bool, List, Option, [], false, refl, subst, sym, true, ℕ, ◌++◌, ◌+◌, ◌∷◌, ◌≡◌, ◌≤◌}
 use Rattle.std.proofs.KnownBytes.{Appends-nil}
 use Rattle.std.proofs.lemmas.List.{append_assoc}
 use Rattle.std.specs.Io.KnownBytes.{Consumes, IsAtEnd}

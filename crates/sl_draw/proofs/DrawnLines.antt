@@ -20,7 +20,7 @@ use Rattle.sl_report.specs.Languages.{Language, whole_language}
 use Rattle.sl_report.specs.OwedReports.{IsFrontOf, MayHaveBeen, Promise, ReplayOf}
 use Rattle.sl_report.specs.RefusalLines.{refusal_line}
 use Rattle.sl_report.specs.Reports.{Counts, end_line, no_counts}
-use Rattle.sl_report.specs.Schedules.{At_end, At_line, Ending, EventLine, HeaderReading, Header_read, NumberedLine, event_line, event_lines_of, line_refusal, numbered_from, numbered_lines, read_header, status_of}
+use Rattle.sl_report.specs.Schedules.{At_end, At_line, Ending, EventLine, Header_read, NumberedLine, event_line, event_lines_of, line_refusal, numbered_from, numbered_lines, read_header, status_of}
 use Rattle.sl_run.specs.Worlds.{World, world_with}
 use Rattle.sl_run.specs.declared.event.Refusal.{Refusal}
 use Rattle.sl_run.specs.declared.header.Header.{Header}
@@ -36,7 +36,7 @@ use Rattle.std.proofs.lemmas.List.{append-nil, append_assoc}
 use Rattle.std.specs.Io.KnownBytes.{Appends}
 use Rattle.std.specs.List.{cons_option}
 use Rattle.std.specs.Option.{option_to_list}
-use Rattle.std.specs.Prelude.{Err, Ok}
+use Rattle.std.specs.Prelude.{Err}
 
 -- ---- events of lines
 

@@ -14,7 +14,7 @@ use Rattle.sl_report.specs.Reports.{Counts, end_line}
 use Rattle.sl_report.specs.Schedules.{NumberedLine}
 use Rattle.sl_schedule.specs.Lines.{line_seen}
 use Rattle.sl_text.specs.Forms.{as_bytes}
-use Rattle.std.proofs.Common.{None, Some, [], ap, arith, refl, subst, sym, ◌∙◌, ◌∷◌, ◌≤◌}
+use Rattle.std.proofs.Common.{None, Some, [], ap, arith, subst, ◌∙◌, ◌∷◌}
 use Rattle.std.specs.Prelude.{Err}
 
 pub returns-in-Err-Failed : goal.returns-in-Err-Failed
