@@ -75,7 +75,6 @@ resources k (suc n) =
     (key (class.Held (n % 8)) (resources_to k n).free (resource_name k n))
 
 shapes : (x : ℕ) → IsDrawn (shapes_text x)
-unfolding shapes_text
 shapes x =
     let fails : ℕ = key_end x (codes "shared") in
     three (key_text (class.Held 0) x []) (key_text class.Shared x (codes "shared")) (key_text class.Expired fails (codes "watchdog's test fails")) (key (class.Held 0) x [])

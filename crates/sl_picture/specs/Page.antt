@@ -54,7 +54,7 @@ time_key k x = key_text class.Passing x (dead_words k)
 abbrev pub shapes_end : ℕ → ℕ
 shapes_end x = key_end (key_end x (codes "shared")) (codes "watchdog's test fails")
 
-unfoldable pub shapes_text : ℕ → List ℕ
+abbrev pub shapes_text : ℕ → List ℕ
 shapes_text x = key_text (class.Held 0) x [] ++ key_text class.Shared x (codes "shared") ++ key_text class.Expired (key_end x (codes "shared")) (codes "watchdog's test fails")
 
 -- The unit of the moments.

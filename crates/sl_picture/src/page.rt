@@ -70,7 +70,6 @@ fn push_key(out: &mut Vec<u8>, class: Class, x: u64, text: &[u8]) -> Result<u64,
 }
 
 /// Adds the keys of what looks the same for each resource; the answer is where the next one stands.
-#[tactic(auto, unfolding(crate::specs::Page::shapes_text))]
 fn push_shapes(out: &mut Vec<u8>, x: u64) -> Result<u64, AllocError>
     ensures text { OnOk result (out.new.items ≡ out.old.items ++ page.shapes_text x) }
     ensures end { IfOk result (λ end. end ≡ page.shapes_end x) }
