@@ -19,7 +19,6 @@ use Rattle.sl_run.specs.declared.header.Disk.{Disk as DiskLine}
 use Rattle.sl_io.specs.FaultCauses.{Rose}
 use Rattle.std.proofs.Common.{ap, append-nil, append_assoc, arith, refl, subst, sym, ◌∙◌}
 use Rattle.std.proofs.lemmas.List.{length-map, map-append, take_more}
-use Rattle.std.specs.Vec.{Vec}
 use Rattle.std.specs.Prelude.{List, Option, get_or, length, map, suc, take, zero, [], ℕ, ◌++◌, ◌+◌, ◌<◌, ◌∷◌, ◌≡◌}
 
 -- ---- faults
@@ -140,15 +139,15 @@ lent_there content m part worker folder path whole a was is same there grows =
     subst (λ w. Grows was is (AreaOut m w (folder ++ path) (content a) ∷ [])) same (subst (λ p. Grows was is (AreaOut m worker p (content a) ∷ [])) there grows)
 
 -- Of both workers, and a spawner behind them.
-pub had_by : {C P D A : Type 0} (content : A → Option (List ℕ)) (folder : List ℕ) (h : Header) (m : ℕ) (p : Parts C P D A) (delta resource : Vec (Disk A)) (first was mid then is : Option (List Lending))
-    → (p.delta ≡ delta) × (p.resource ≡ resource) → was ≡ first → AreLent content folder h m Delta h.disks delta.items was mid → AreLent content folder h m Resource h.disks resource.items mid then
+pub had_by : {C P D A : Type 0} (content : A → Option (List ℕ)) (folder : List ℕ) (h : Header) (m : ℕ) (p : Parts C P D A) (delta resource : List (Disk A)) (first was mid then is : Option (List Lending))
+    → (p.delta.items ≡ delta) × (p.resource.items ≡ resource) → was ≡ first → AreLent content folder h m Delta h.disks delta was mid → AreLent content folder h m Resource h.disks resource mid then
     → Grows then is (SpawnerOut m ∷ []) → AreHad content folder h m (disks_in p) first is
 had_by content folder h m p delta resource first was mid then is areas same delta_lent resource_lent spawner =
     record {
       delta_lent = mid;
-      delta = subst (λ xs. AreLent content folder h m Delta h.disks xs.items first mid) (sym areas.0) (subst (λ x. AreLent content folder h m Delta h.disks delta.items x mid) same delta_lent);
+      delta = subst (λ xs. AreLent content folder h m Delta h.disks xs first mid) (sym areas.0) (subst (λ x. AreLent content folder h m Delta h.disks delta x mid) same delta_lent);
       resource_lent = then;
-      resource = subst (λ xs. AreLent content folder h m Resource h.disks xs.items mid then) (sym areas.1) resource_lent;
+      resource = subst (λ xs. AreLent content folder h m Resource h.disks xs mid then) (sym areas.1) resource_lent;
       spawner = spawner;
     }
 
