@@ -287,7 +287,7 @@ where
     requires header { IsHeader header }
     requires reads { (h : HeaderOf) → IsHeader h → ReadsCommands D.Daemon.commands h }
     requires ends { EndStands (S.left source) reader }
-    ensures { (f : Asked) (first : Option (List ℕ)) → HeaderBegins first (S.left source) reader header → IsVacant f header
+    ensures { (f : Asked) (first : Option (List ℕ)) → f.path ≡ folder.now → HeaderBegins first (S.left source) reader header → IsVacant f header
         → Owes D.Daemon.stands D.Daemon.commands (record { content = V.Area.content; faults = V.Area.faults; acts = V.Spawner.acts }) f manner first (S.left result.1) (K.taken sink) (K.taken result.2) (S.faults source) (S.faults result.1)
         (K.faults sink) (K.faults result.2) (V.Devices.faults devices.old) (V.Devices.faults devices.new) (V.Devices.lendings devices.old) (V.Devices.lendings devices.new) result.0 }
 {
