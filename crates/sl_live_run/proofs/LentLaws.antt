@@ -19,7 +19,6 @@ use Rattle.sl_run.specs.declared.header.Disk.{Disk as DiskLine}
 use Rattle.sl_io.specs.FaultCauses.{Rose}
 use Rattle.std.proofs.Common.{ap, append-nil, append_assoc, arith, refl, subst, sym, ◌∙◌}
 use Rattle.std.proofs.lemmas.List.{length-map, map-append, take_more}
-use Rattle.std.specs.Vec.{Vec}
 use Rattle.std.specs.Prelude.{List, Option, get_or, length, map, suc, take, zero, [], ℕ, ◌++◌, ◌+◌, ◌<◌, ◌∷◌, ◌≡◌}
 
 -- ---- faults
@@ -98,14 +97,14 @@ pub going_more : {A : Type 0} (content : A → Option (List ℕ)) (faults : A �
 going_more content faults all left rest d was now then is grows going =
     record {
       gone = d ∷ going.gone;
-      parts = going.parts ∙ ap (λ (xs : List (Disk _)). xs ++ going.gone) is ∙ append_assoc rest (d ∷ []) going.gone;
+      parts = going.parts ∙ ap (λ xs. xs ++ going.gone) is ∙ append_assoc rest (d ∷ []) going.gone;
       back = (now, going.back, grows);
     }
 
 pub all_gone : {A : Type 0} (content : A → Option (List ℕ)) (faults : A → ℕ) (all left : List (Disk A)) (was now : Option (List Lending)) → left ≡ [] → AreGoing content faults all left was now
     → AreBack content faults all was now
 all_gone content faults all left was now none going =
-    subst (λ xs. AreBack content faults xs was now) (sym (going.parts ∙ ap (λ (xs : List (Disk _)). xs ++ going.gone) none)) going.back
+    subst (λ xs. AreBack content faults xs was now) (sym (going.parts ∙ ap (λ xs. xs ++ going.gone) none)) going.back
 
 -- ---- one of each disk
 
@@ -140,15 +139,15 @@ lent_there content m part worker folder path whole a was is same there grows =
     subst (λ w. Grows was is (AreaOut m w (folder ++ path) (content a) ∷ [])) same (subst (λ p. Grows was is (AreaOut m worker p (content a) ∷ [])) there grows)
 
 -- Of both workers, and a spawner behind them.
-pub had_by : {C P D A : Type 0} (content : A → Option (List ℕ)) (folder : List ℕ) (h : Header) (m : ℕ) (p : Parts C P D A) (delta resource : Vec (Disk A)) (first was mid then is : Option (List Lending))
-    → (p.delta ≡ delta) × (p.resource ≡ resource) → was ≡ first → AreLent content folder h m Delta h.disks delta.items was mid → AreLent content folder h m Resource h.disks resource.items mid then
+pub had_by : {C P D A : Type 0} (content : A → Option (List ℕ)) (folder : List ℕ) (h : Header) (m : ℕ) (p : Parts C P D A) (delta resource : List (Disk A)) (first was mid then is : Option (List Lending))
+    → (p.delta.items ≡ delta) × (p.resource.items ≡ resource) → was ≡ first → AreLent content folder h m Delta h.disks delta was mid → AreLent content folder h m Resource h.disks resource mid then
     → Grows then is (SpawnerOut m ∷ []) → AreHad content folder h m (disks_in p) first is
 had_by content folder h m p delta resource first was mid then is areas same delta_lent resource_lent spawner =
     record {
       delta_lent = mid;
-      delta = subst (λ xs. AreLent content folder h m Delta h.disks xs.items first mid) (sym areas.0) (subst (λ x. AreLent content folder h m Delta h.disks delta.items x mid) same delta_lent);
+      delta = subst (λ xs. AreLent content folder h m Delta h.disks xs first mid) (sym areas.0) (subst (λ x. AreLent content folder h m Delta h.disks delta x mid) same delta_lent);
       resource_lent = then;
-      resource = subst (λ xs. AreLent content folder h m Resource h.disks xs.items mid then) (sym areas.1) resource_lent;
+      resource = subst (λ xs. AreLent content folder h m Resource h.disks xs mid then) (sym areas.1) resource_lent;
       spawner = spawner;
     }
 
@@ -164,14 +163,16 @@ had_behind content folder h m n (x ∷ xs) d was now then place had one =
 pub had_pushed : {V C P D W G A : Type 0} (content : A → Option (List ℕ)) (folder : List ℕ) (h : Header) (ps mid ps' : List (Prepared V C P D W G A)) (p : Prepared V C P D W G A) (n : ℕ) (was now then : Option (List Lending))
     → mid ≡ ps → ps' ≡ mid ++ p ∷ [] → n ≡ length ps + 1 → AreAllHad content folder h 1 (map (λ p. disks_in p.parts) ps) was now → AreHad content folder h n (disks_in p.parts) now then
     → AreAllHad content folder h 1 (map (λ p. disks_in p.parts) ps') was then
-had_pushed content folder h ps mid ps' p n was now then kept pushed place had one =
-    let count = length-map ps (λ p. disks_in p.parts) in
-    subst (λ ds. AreAllHad content folder h 1 ds was then) (sym (ap (map (λ p. disks_in p.parts)) (pushed ∙ ap (λ xs. xs ++ p ∷ []) kept) ∙ map-append (λ p. disks_in p.parts) ps (p ∷ [])))
-    (had_behind content folder h 1 n (map (λ p. disks_in p.parts) ps) (disks_in p.parts) was now then (omega (arith, place, count)) had one)
+had_pushed {V} {C} {P} {D} {W} {G} {A} content folder h ps mid ps' p n was now then kept pushed place had one =
+    let of : Prepared V C P D W G A → Both A = λ (x : Prepared V C P D W G A). disks_in x.parts in
+    let count = length-map ps of in
+    subst (λ (ds : List (Both A)). AreAllHad content folder h 1 ds was then) (sym (ap (map of) (pushed ∙ ap (λ xs. xs ++ p ∷ []) kept) ∙ map-append of ps (p ∷ [])))
+    (had_behind content folder h 1 n (map of ps) (of p) was now then (omega (arith, place, count)) had one)
 
 pub had_none : {V C P D W G A : Type 0} (content : A → Option (List ℕ)) (folder : List ℕ) (h : Header) (ps : List (Prepared V C P D W G A)) (was : Option (List Lending)) → ps ≡ []
     → AreAllHad content folder h 1 (map (λ p. disks_in p.parts) ps) was was
-had_none content folder h ps was none = subst (λ xs. AreAllHad content folder h 1 (map (λ p. disks_in p.parts) xs) was was) (sym none) refl
+had_none {V} {C} {P} {D} {W} {G} {A} content folder h ps was none =
+    subst (λ (xs : List (Prepared V C P D W G A)). AreAllHad content folder h 1 (map (λ p. disks_in p.parts) xs) was was) (sym none) refl
 
 -- Nothing was handed out before, nor behind.
 pub had_since : {A : Type 0} (content : A → Option (List ℕ)) (folder : List ℕ) (h : Header) (m : ℕ) (ds : List (Both A)) (first was mid now then : Option (List Lending)) → mid ≡ was → was ≡ first → then ≡ now

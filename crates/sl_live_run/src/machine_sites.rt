@@ -92,7 +92,7 @@ fn parts_of<V: LiveDevices>(
 ) -> Parts<V::Clock, V::Spawner, V::Device, V::Area>
     requires ticks { clock_reading header.now machine ≡ as_first (V.Clock.last ticks) }
     ensures runs { RunsOn V.Clock.last V.Spawner.running V.Spawner.acts V.Device.last V.Device.fire header.now machine result }
-    ensures areas { (result.delta ≡ delta) × (result.resource ≡ resource) }
+    ensures areas { (result.delta.items ≡ delta.items) × (result.resource.items ≡ resource.items) }
     ensures lendings { Grows (V.Devices.lendings devices.old) (V.Devices.lendings devices.new) (SpawnerOut machine ∷ []) }
     ensures count { V.Devices.faults devices.new ≡ V.Devices.faults devices.old }
 {

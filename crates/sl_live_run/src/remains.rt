@@ -29,10 +29,7 @@ fn give_left<V: LiveDevices>(remains: Remains<V::Area, V::Spawner>, devices: &mu
 }
 
 /// All that machines left goes back to the devices, one machine behind the other.
-pub fn give_all_back<V: LiveDevices>(
-    remains: Vec<Remains<V::Area, V::Spawner>>,
-    devices: &mut V,
-)
+pub fn give_all_back<V: LiveDevices>(remains: Vec<Remains<V::Area, V::Spawner>>, devices: &mut V)
     ensures { AreAllBack V.Area.content V.Area.faults V.Spawner.acts (map remains_of remains.items) (V.Devices.lendings devices.old) (V.Devices.lendings devices.new) }
 {
     for left in remains {
