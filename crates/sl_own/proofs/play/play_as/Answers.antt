@@ -29,6 +29,6 @@ returns g c disks folder lent first h ground may begins =
     (beginning _ _ disks folder h m lent _ c.args.ground ground) (disks_in c.args.ground.ready.parts) (has c.new-lines.result) (has c.run_own-run.new.lines) run.pieces
     c.run_own-run.result.machines _ c.run_own-run.result.replies c.close-source.result.1 c.put_run-lived.result (g.V.Devices.lendings c.args.devices.now) c.new-lines.ensures.none reads may ground.had
     (subst (λ x. AreAllBack g.V.Area.Area.content g.V.Area.Area.faults g.V.Spawner.Spawner.acts (map remains_of c.run_own-run.result.remains.items) (g.V.Devices.lendings c.args.devices.now) x)
-    (sym c.rest_if.ensures) c.give_all_back.ensures) run.ok run.stop
+    (sym c.rest_if.ensures.lendings) c.give_all_back.ensures) run.ok run.stop
     (c.put_run-lived.ensures.ok (g.K.Sink.taken c.args.sink) (g.K.Sink.faults c.args.sink) run.pieces run.put)
     (c.put_run-lived.ensures.stop (g.K.Sink.taken c.args.sink) (g.K.Sink.faults c.args.sink) run.pieces run.put)
