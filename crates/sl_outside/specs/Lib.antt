@@ -1,5 +1,6 @@
 pub mod Acts
 pub mod Disks
+pub mod Lendings
 pub mod MemDisks
 pub mod MemSpawners
 pub mod MemPlans

@@ -273,6 +273,8 @@ impl<R: Wait + Clock + Copy + Drop + Send + Sync> LiveDevices for SharedDevices<
         SharedSpawner::new(self.rt, children, self.slow(machine), self.census(machine))
     }
 
+    fn spawner_back(&mut self, _spawner: SharedSpawner<R>) {}
+
     fn device(&mut self, _machine: u32, now: u64, fire: u64) -> TimedDevice {
         TimedDevice::new(now, fire)
     }

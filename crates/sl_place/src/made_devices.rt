@@ -117,6 +117,10 @@ impl<R: Wait + Clock + Copy + Drop + Send + Sync> LiveDevices for MadeDevices<R>
         self.shared.spawner(machine)
     }
 
+    fn spawner_back(&mut self, spawner: SharedSpawner<R>) {
+        self.shared.spawner_back(spawner);
+    }
+
     fn device(&mut self, machine: u32, now: u64, fire: u64) -> TimedDevice {
         self.shared.device(machine, now, fire)
     }
