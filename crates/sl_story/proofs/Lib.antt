@@ -1,4 +1,5 @@
 pub mod HeaderBefore
+pub mod LineLaws
 pub mod Openings
 pub mod SpareLines
 pub mod StoriesBegin

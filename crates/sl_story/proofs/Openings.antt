@@ -4,8 +4,8 @@ use Rattle.sl_report.specs.Languages.{whole_language}
 use Rattle.sl_report.specs.Schedules.{HeaderReading, Header_read, Header_refused, NumberedLine, numbered_lines, read_header}
 use Rattle.sl_run.specs.declared.event.Refusal.{Refusal}
 use Rattle.sl_run.specs.declared.header.Header.{Header}
-use Rattle.sl_schedule.specs.Lines.{header_reading}
 use Rattle.sl_story.proofs.StoriesBegin.{are_stories}
+use Rattle.sl_story.specs.HeaderReadings.{header_reading}
 use Rattle.sl_story.specs.StoryHeaders.{session_line, story_header, story_lines}
 use Rattle.sl_text.specs.Forms.{as_bytes}
 use Rattle.std.proofs.Common.{Bool, List, [], ap, arith, length, map, sym, true, ℕ, ◌*◌, ◌++◌, ◌+◌, ◌∙◌, ◌∷◌, ◌≡◌, ◌≤◌}

@@ -1,3 +1,4 @@
+pub mod HeaderReadings
 pub mod StoryHeaders
 pub mod StoryPlays
 pub mod ToldSchedules

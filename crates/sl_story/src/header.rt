@@ -6,9 +6,10 @@ ghost use Rattle.sl_text.specs.Forms.{as_bytes};
 ghost use Rattle.std.specs.List.{range_with_len};
 ghost use Rattle.std.specs.Prelude.{IfOk, OnOk, codes, if◌then◌else◌, map, string_bytes, ◌++◌, ◌∷◌, ◌≡◌, ◌≤◌, []};
 
+use crate::header_read::read_header;
+use crate::numbered_lines::NumberedLines;
 use crate::place::Place;
 use sl_run::Header;
-use sl_schedule::{Lines, read_header};
 use std::alloc::{AllocError, Global};
 
 /// Bytes of an area.
@@ -132,7 +133,7 @@ pub(crate) fn first_lines(alloc: Global, hosts: u32, paired: bool) -> Result<Ope
     ensures { IfOk result (Opens hosts paired) }
 {
     let text = header_text(alloc, hosts, paired)?;
-    let mut lines = Lines::new(&text);
+    let mut lines = NumberedLines::new(&text);
     match read_header(alloc, &mut lines)? {
         Ok(header) => {
             let place = Place {

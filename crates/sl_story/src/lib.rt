@@ -7,10 +7,12 @@ mod cast;
 mod commands;
 mod draws;
 mod header;
+mod header_read;
 mod heard;
 pub mod laws;
 mod lvm_lines;
 mod mishaps;
+mod numbered_lines;
 mod place;
 mod story;
 

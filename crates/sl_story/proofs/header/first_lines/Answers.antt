@@ -15,7 +15,7 @@ invariant_of-place c =
 pub unreachable-requires : goal.unreachable-requires
 unreachable-requires c =
     refused_never c.args.hosts c.args.paired c.in_ok-header.field-0 c.in-Err.field-0 c.read_header.new.lines c.new-lines.result c.deref.result.now c.requires.0 c.requires.1
-    (c.deref.ensures.value ∙ c.in_ok-text.ensures) c.new-lines.ensures c.in-Err.is c.in_ok-header.ensures.exact
+    (c.deref.ensures.value ∙ c.in_ok-text.ensures) c.new-lines.ensures c.in-Err.is c.in_ok-header.ensures
 
 pub returns : goal.returns
 returns c =
@@ -23,7 +23,7 @@ returns c =
       hosts_are = c.requires;
       text_is = c.in_ok-text.ensures;
       header_is = read_as c.args.hosts c.args.paired c.in_ok-header.field-0 c.in-Ok.header c.read_header.new.lines c.new-lines.result c.deref.result.now c.requires.0 c.requires.1
-          (c.deref.ensures.value ∙ c.in_ok-text.ensures) c.new-lines.ensures c.in-Ok.is c.in_ok-header.ensures.exact;
+          (c.deref.ensures.value ∙ c.in_ok-text.ensures) c.new-lines.ensures c.in-Ok.is c.in_ok-header.ensures;
       lines_are = ap (λ k. 17 + 2 * k) c.from.ensures;
       bytes_are = c.len.ensures ∙ sym c.deref.ensures.len ∙ ap length c.deref.ensures.value;
     }
