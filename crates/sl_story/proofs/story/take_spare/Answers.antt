@@ -14,14 +14,14 @@ returns-in-Some-clause-takes g c =
 
 pub returns-in_ok-test-in-None-clause-takes : goal.returns-in_ok-test-in-None-clause-takes
 returns-in_ok-test-in-None-clause-takes g c =
-    subst (λ (s : PlayState g.D.Self). IfOk c.take_line-2.result (TakesFirst g.D.Daemon.commands g.D.Daemon.stands c.args.place s (state_of g.L.LockTable.locks c.take_line-2.new.play)))
+    subst (λ (s : PlayState _). IfOk c.take_line-in-None.result (TakesFirst g.D.Daemon.commands g.D.Daemon.stands c.args.place s (state_of g.L.LockTable.locks c.take_line-in-None.new.play)))
     (none_first g.D.Daemon.commands g.D.Daemon.stands c.args.place (state_of g.L.LockTable.locks c.args.play.now) (state_of g.L.LockTable.locks c.take_line.new.play) c.in_ok-taken.field-0
-    c.in-None.is c.in_ok-taken.ensures.takes) c.take_line-2.ensures.takes
+    c.in-None.is c.in_ok-taken.ensures.takes) c.take_line-in-None.ensures.takes
 
 pub returns-in_ok-test-in-None-clause-room : goal.returns-in_ok-test-in-None-clause-room
 returns-in_ok-test-in-None-clause-room g c is =
     no_room_left g.D.Daemon.commands g.D.Daemon.stands (state_of g.L.LockTable.locks c.args.play.now) (state_of g.L.LockTable.locks c.take_line.new.play) c.args.place
-    (string_bytes c.in_ok-restart.restart) (string_bytes c.in_ok-test.test) c.requires
+    (string_bytes c.in_ok-restart.restart) (string_bytes c.in_ok-test-in-None.test) c.requires
     (none_first g.D.Daemon.commands g.D.Daemon.stands c.args.place (state_of g.L.LockTable.locks c.args.play.now) (state_of g.L.LockTable.locks c.take_line.new.play) c.in_ok-taken.field-0
-    c.in-None.is c.in_ok-taken.ensures.takes) c.in_ok-restart.ensures.ok c.in_ok-test.ensures.ok
-    (c.take_line.ensures.stands (c.in_ok-taken.was ∙ ap Ok c.in-None.is)) (c.take_line-2.ensures.stands is)
+    c.in-None.is c.in_ok-taken.ensures.takes) c.in_ok-restart.ensures.ok c.in_ok-test-in-None.ensures.ok
+    (c.take_line.ensures.stands (c.in_ok-taken.was ∙ ap Ok c.in-None.is)) (c.take_line-in-None.ensures.stands is)
