@@ -10,7 +10,7 @@ returns-in_err-written-clause-fault g c = λ same. fault_pushed g.V.Area.Area.fa
 pub loop-disk-init : goal.loop-disk-init
 loop-disk-init g c =
     record {
-      lent = subst (λ ds. AreLent g.V.Area.Area.content c.args.folder.now c.args.header.now c.args.machine c.args.part [] ds _ _) (sym c.requires.first) refl;
+      lent = subst (λ ds. AreLent g.V.Area.Area.content c.args.folder.now c.args.header.now c.args.machine c.args.part [] ds (g.V.Devices.lendings c.args.devices.now) (g.V.Devices.lendings c.args.devices.now)) (sym c.requires.first) refl;
       count = refl;
     }
 
