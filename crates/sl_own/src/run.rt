@@ -61,7 +61,15 @@ fn no_run<K: Sink, O: Press, A: Area, P: Spawner>(
     }
 }
 
-/// Does this to the machine at this place, and gives the script beside it, until all threads have ended: how the script ended.
+/// Does this to the machine at this place.
+fn run_one<M, F: Fn(usize, &mut M)>(run: &F, place: usize, machine: &mut M)
+    requires { AcceptsAt F.Fn run.now place machine.old }
+    ensures { ChangesAt F.Fn run.now place machine.old machine.new }
+{
+    run(place, machine);
+}
+
+/// .. and gives the script beside it, until all threads have ended: how the script ended.
 fn beside_one<
     L: LiveLines + Send,
     M: Send,
@@ -98,7 +106,7 @@ fn beside_one<
         &mut ||
             requires { AcceptsAt F.Fn run.now place machine.now }
             ensures { ChangesAt F.Fn run.entry.now place machine.entry.now machine.exit.now }
-        { run(place, machine) },
+        { run_one(run, place, machine) },
     )
 }
 
