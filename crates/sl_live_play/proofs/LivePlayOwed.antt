@@ -204,6 +204,14 @@ owes_devices stands commands t f w left after taken now faults later sink_faults
     Of text whole s (due_devices stands commands t f w left after faults later first device_faults device_later lent back text whole le due) puts
 owes_devices stands commands t f w left after taken now faults later sink_faults sink_later first device_faults device_later lent back s le (Lacks part nothing) = Lacks part nothing
 
+-- What was handed out before is the same at an earlier moment.
+pub owes_lent : {D A P : Type 0} (stands : D → Setting → Trace → Type 0) (commands : Header → List (Form Command)) (t : Tellers A P) (f : Asked) (w : Manner) (left after taken now : Option (List ℕ))
+    (faults later sink_faults sink_later device_faults device_later : ℕ) (was lent back : Option (List Lending)) (s : Lived) → was ≡ lent
+    → Owes stands commands t f w left after taken now faults later sink_faults sink_later device_faults device_later was back s
+    → Owes stands commands t f w left after taken now faults later sink_faults sink_later device_faults device_later lent back s
+owes_lent stands commands t f w left after taken now faults later sink_faults sink_later device_faults device_later was lent back s same owes =
+    subst (λ x. Owes stands commands t f w left after taken now faults later sink_faults sink_later device_faults device_later x back s) same owes
+
 -- ---- the header
 
 -- Nothing was put out.

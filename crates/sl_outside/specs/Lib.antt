@@ -5,3 +5,5 @@ pub mod MemDisks
 pub mod MemSpawners
 pub mod MemPlans
 pub mod MemBits
+pub mod Notes
+pub mod SharedStates

@@ -110,6 +110,7 @@ pub owes_run_own : {D A P : Type 0} (stands : D → Setting → Trace → Type 0
     → IfOk replies (λ n. PutsEnded taken now sink_faults sink_later pieces machines n end s)
     → IfErr replies (λ e. PutsStop taken now sink_faults sink_later pieces e s)
     → OwesOwn stands commands t disks folder w left after taken now faults later sink_faults sink_later device_faults device_later lent back s
+unfolding lived
 owes_run_own stands commands t disks folder w left after taken now faults later sink_faults sink_later device_faults device_later lent back h begun areas was is pieces machines remains (Ok n) end s between none reads may had returned ok err puts stops =
     let told = ok.3 in
     let one : PutsEnded taken now sink_faults sink_later pieces 1 n end s = subst (λ (k : ℕ). PutsEnded taken now sink_faults sink_later pieces k n end s) ok.0 puts in

@@ -69,7 +69,9 @@ impl<R> MadeDevices<R> {
 impl<R: Wait + Clock + Copy + Drop> Devices for MadeDevices<R> {
     type Area = SharedArea<R>;
 
-    ghost faults = { λ d. d.shared.faults };
+    ghost lendings = { λ d. d.shared.notes };
+
+    ghost faults = { λ d. d.shared.makes.faults };
 
     fn area(&mut self, machine: u32, worker: u32, path: &str) -> SharedArea<R> {
         self.shared.area(machine, worker, path)

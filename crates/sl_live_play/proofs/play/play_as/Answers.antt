@@ -23,7 +23,7 @@ returns g c f lent first h ground had begins vacant =
     (sym c.requires.scope ∙ ap scope_of ground.same) (c.close-source.ensures.script first h given there so))) in
     let run = c.run_machines-run.ensures.run in
     owes_run g.D.Daemon.stands g.D.Daemon.commands (record { content = g.V.Area.Area.content; faults = g.V.Area.Area.faults; acts = g.V.Spawner.Spawner.acts }) f c.args.manner first _ _ _ _ _ _ _ _ _ lent _ h (beginnings _ _ _ _ _ h c.args.ground ground) _ (has c.new-lines.result) (has c.run_machines-run.new.lines) run.pieces
-    c.run_machines-run.result.0.machines _ c.run_machines-run.result.0.replies c.close-source.result.1 c.put_run-lived.result 
+    c.run_machines-run.result.0.machines _ c.run_machines-run.result.0.replies c.close-source.result.1 c.put_run-lived.result
     (record { counted = as_many c.args.ground; between = g.V.Devices.lendings c.args.devices.now; had = had; returned = c.give_all_back.ensures }) c.new-lines.ensures.none reads vacant run.ok run.stop
     (c.put_run-lived.ensures.ok (g.K.Sink.taken c.args.sink) (g.K.Sink.faults c.args.sink) run.pieces run.put)
     (c.put_run-lived.ensures.stop (g.K.Sink.taken c.args.sink) (g.K.Sink.faults c.args.sink) run.pieces run.put)

@@ -17,7 +17,7 @@ pub returns-in-Ok : goal.returns-in-Ok
 returns-in-Ok g c f first same begins vacant =
     owes_devices g.D.Daemon.stands g.D.Daemon.commands _ f c.args.manner first _ _ _ _ _ _ _ _ _ _ _ _ c.play_ground.result.0 c.in-Ok.ensures.later
     (c.play_ground.ensures f (g.V.Devices.lendings c.args.devices.now) first c.args.header c.in-Ok.ensures.ok
-    (subst (λ folder. AreAllHad g.V.Area.Area.content folder c.in-Ok.ground.header 1 (map (λ p. disks_in p.parts) c.in-Ok.ground.machines.items) (g.V.Devices.lendings c.args.devices.now) _) (sym same)
+    (subst (λ folder. AreAllHad g.V.Area.Area.content folder c.in-Ok.ground.header 1 (map (λ p. disks_in p.parts) c.in-Ok.ground.machines.items) (g.V.Devices.lendings c.args.devices.now) (g.V.Devices.lendings c.prepare.new.devices)) (sym same)
     c.in-Ok.ensures.had) begins vacant)
 
 pub returns-in-Err : goal.returns-in-Err

@@ -1,10 +1,18 @@
 -- One area more is handed out; the one that failed has counted a fault.
 use Rattle.sl_live_run.proofs.LentLaws.{fault_pushed, lent_pushed, lent_there}
 use Rattle.sl_live_run.proofs.disks.lend_each.Goals as goal
-use Rattle.std.proofs.Common.{refl, rules, ◌∙◌}
+use Rattle.sl_live_run.specs.Areas.{AreLent}
+use Rattle.std.proofs.Common.{[], refl, rules, subst, sym, ◌∙◌}
 
 pub returns-in_err-written-clause-fault : goal.returns-in_err-written-clause-fault
 returns-in_err-written-clause-fault g c = λ same. fault_pushed g.V.Area.Area.faults _ _ _ _ c.push_reserved.ensures.items c.in_err-written.ensures.cause.failed
+
+pub loop-disk-init : goal.loop-disk-init
+loop-disk-init g c =
+    record {
+      lent = subst (λ ds. AreLent g.V.Area.Area.content c.args.folder.now c.args.header.now c.args.machine c.args.part [] ds (g.V.Devices.lendings c.args.devices.now) (g.V.Devices.lendings c.args.devices.now)) (sym c.requires.first) refl;
+      count = refl;
+    }
 
 pub loop-disk-preserved : goal.loop-disk-preserved
 loop-disk-preserved g c =

@@ -48,4 +48,4 @@ returns-clause-unasked g c =
     c.in_ok-machines.machines.items c.in_ok-machines.ensures.ready
 
 pub returns-clause-had : goal.returns-clause-had
-returns-clause-had g c = had_since g.V.Area.Area.content c.args.folder.now c.with_readings-header.result 1 _ _ _ _ _ c.start_clocks.ensures.lendings c.make_disks.ensures.lendings c.gate.ensures.lendings c.in_ok-machines.ensures.had
+returns-clause-had g c = had_since g.V.Area.Area.content c.args.folder.now c.with_readings-header.result 1 _ _ _ _ _ _ c.start_clocks.ensures.lendings c.make_disks.ensures.lendings c.gate.ensures.lendings c.in_ok-machines.ensures.had

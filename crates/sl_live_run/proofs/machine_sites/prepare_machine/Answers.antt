@@ -27,7 +27,7 @@ returns-in-Ok-clause-ok g c =
 
 pub returns-in-Ok-clause-had : goal.returns-in-Ok-clause-had
 returns-in-Ok-clause-had g c =
-    had_by g.V.Area.Area.content c.args.folder.now c.args.header.now c.args.machine _ _ _ _ _ _ _ _ _ c.parts_of.ensures.areas c.site_of.ensures.lendings c.in_ok-delta.ensures.ok
+    had_by g.V.Area.Area.content c.args.folder.now c.args.header.now c.args.machine c.parts_of.result c.in_ok-delta.delta.items c.in-Ok.resource.items _ _ _ _ _ c.parts_of.ensures.areas c.site_of.ensures.lendings c.in_ok-delta.ensures.ok
     c.in-Ok.ensures.ok c.parts_of.ensures.lendings
 
 pub returns-in-Err-clause-err : goal.returns-in-Err-clause-err

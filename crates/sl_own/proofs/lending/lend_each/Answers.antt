@@ -31,7 +31,7 @@ returns-in_err-stands-clause-not g c =
 pub loop-disk-init : goal.loop-disk-init
 loop-disk-init g c =
     record {
-      left = subst (λ ds. AreLeft g.V.Area.Area.content (FindsOn (g.V.Devices.disks c.args.devices.now) c.args.folder.now c.args.header.now c.args.part) c.args.folder.now c.args.machine c.args.part [] ds _ _)
+      left = subst (λ ds. AreLeft g.V.Area.Area.content (FindsOn (g.V.Devices.disks c.args.devices.now) c.args.folder.now c.args.header.now c.args.part) c.args.folder.now c.args.machine c.args.part [] ds (g.V.Devices.lendings c.args.devices.now) (g.V.Devices.lendings c.args.devices.now))
           (sym c.requires.first) refl;
       untaken = λ other all. refl;
       count = refl;
