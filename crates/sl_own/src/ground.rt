@@ -1,17 +1,21 @@
 //! What a machine in a process of its own begins with.
 
 ghost use Rattle.sl_cell.specs.declared.part.Part.TheVariants.{Delta, Resource};
+ghost use Rattle.sl_io.specs.FaultCauses.{HasCause};
 ghost use Rattle.sl_live_run.specs.Clocks.{with_readings};
 ghost use Rattle.sl_live_run.specs.Grounds.{IsSiteOf};
 ghost use Rattle.sl_outside.specs.Acts.{Tells};
+ghost use Rattle.sl_outside.specs.Disks.{Disks};
 ghost use Rattle.sl_own.specs.OwnGrounds.{AreLeft, Finds, FindsOn, IsOwnGround, NotLent};
 ghost use Rattle.sl_run.specs.Headers.{IsHeader};
+ghost use Rattle.sl_run.specs.declared.header.Header.{Header as HeaderOf};
 ghost use Rattle.sl_world_state.specs.FirstKept.{session_of};
-ghost use Rattle.std.specs.Prelude.{IfErr, IfOk, [], ◌+◌, ◌∷◌, ◌≡◌, ◌≤◌};
+ghost use Rattle.std.specs.Prelude.{IfErr, IfOk, List, [], ℕ, ◌+◌, ◌∷◌, ◌≡◌, ◌≤◌};
 
 use crate::lending::lend;
 use crate::no_place::NoPlace;
 use sl_cell::Part;
+use sl_io::Failed;
 use sl_live::Disk;
 use sl_live_machine::Parts;
 use sl_live_run::{
@@ -19,7 +23,6 @@ use sl_live_run::{
 };
 use sl_place::StandingDevices;
 use sl_run::{FirstReading, Header};
-use sl_standing::NotStanding;
 use sl_time::Clock;
 use sl_world_state::Site;
 use std::alloc::{AllocError, Global};
@@ -82,6 +85,37 @@ fn start_of<V: StandingDevices>(
         ticks,
         reading,
     })
+}
+
+/// Opens the watchdog device of the system at this path, if one is given.
+fn watch_if<V: StandingDevices>(watchdog: Option<&str>, devices: &mut V) -> Result<(), Failed>
+    ensures { HasCause (V.Devices.faults devices.old) (V.Devices.faults devices.new) result }
+{
+    match watchdog {
+        Some(path) => devices.watch(path),
+        None => Ok(()),
+    }
+}
+
+/// .. and opens the watchdog device. It is the last that can be refused: one that is open fires unless keepalives come.
+fn start_watched<V: StandingDevices>(
+    alloc: Global,
+    header: Header,
+    machine: u32,
+    watchdog: Option<&str>,
+    devices: &mut V,
+) -> Result<Start<V::Clock>, NoPlace>
+    requires header { IsHeader header }
+    requires machine { (1 ≤ machine) × (machine ≤ header.machines) }
+    ensures lawful { IfOk result (λ s. IsHeader s.header) }
+    ensures same { IfOk result (λ s. s.header ≡ record header { clocks = s.header.clocks }) }
+    ensures site { IfOk result (λ s. IsSiteOf s.header machine (session_of s.header machine) s.site) }
+    ensures not { (disks : Disks) (folder : List ℕ) (h : HeaderOf) → IfErr result (NotLent disks folder h Delta (V.Devices.faults devices.old) (V.Devices.faults devices.new)) }
+    ensures later { V.Devices.faults devices.old ≤ V.Devices.faults devices.new }
+{
+    let start = start_of(alloc, header, machine, devices)?;
+    watch_if(watchdog, devices)?;
+    Ok(start)
 }
 
 /// The areas of both workers: of the one of the ids' records, and of the other. After an `Err` none is handed out.
@@ -148,12 +182,13 @@ fn ground_of<V: StandingDevices>(
 }
 
 /// Gets all that a machine runs on, in a place that was taken. Its clock is read once its areas were compared, so that its watchdog device counts from
-/// then on. After an `Err` no area is handed out; nothing was written.
+/// then on; one of the system is opened behind that. After an `Err` no area is handed out, and no such device is open; nothing was written.
 pub(crate) fn prepare_own<V: StandingDevices>(
     alloc: Global,
     header: Header,
     folder: &str,
     machine: u32,
+    watchdog: Option<&str>,
     devices: &mut V,
 ) -> Result<OwnGround<V>, NoPlace>
     requires header { IsHeader header }
@@ -163,11 +198,11 @@ pub(crate) fn prepare_own<V: StandingDevices>(
     ensures later { V.Devices.faults devices.old ≤ V.Devices.faults devices.new }
 {
     let (delta, resource) = lend_both(alloc, &header, folder, machine, devices)?;
-    match start_of(alloc, header, machine, devices) {
+    match start_watched(alloc, header, machine, watchdog, devices) {
         Ok(start) => Ok(ground_of(machine, start, delta, resource, devices)),
-        Err(_) => {
+        Err(why) => {
             give_back(delta, resource, devices);
-            Err(NoPlace::NotStanding(NotStanding::NoMemory))
+            Err(why)
         }
     }
 }

@@ -1,6 +1,5 @@
 //! The play of a script for one machine in a process of its own.
 
-ghost use Rattle.sl_io.specs.FaultCauses.{HasCause};
 ghost use Rattle.sl_outside.specs.Acts.{Tells};
 ghost use Rattle.sl_outside.specs.Disks.{Disks};
 ghost use Rattle.sl_own.specs.OwnGrounds.{Bars, IsOwnGround, IsPlaceOf};
@@ -22,7 +21,7 @@ use crate::no_place::{NoPlace, push_no_place};
 use crate::place::take_place;
 use crate::run::run_own;
 use sl_cell::Teller;
-use sl_io::{Failed, Sink, Source};
+use sl_io::{Sink, Source};
 use sl_live_play::{Lived, put, put_refusal, put_run};
 use sl_live_run::{LiveRun, Remains, give_back};
 use sl_place::StandingDevices;
@@ -191,19 +190,8 @@ fn sync_if<V: StandingDevices>(syncs: bool, devices: &mut V)
     }
 }
 
-/// Opens the watchdog device at this path, if one is given.
-fn watch_if<V: StandingDevices>(watchdog: Option<&str>, devices: &mut V) -> Result<(), Failed>
-    ensures cause { HasCause (V.Devices.faults devices.old) (V.Devices.faults devices.new) result }
-    ensures same { V.Devices.disks devices.new ≡ V.Devices.disks devices.old }
-{
-    match watchdog {
-        Some(path) => devices.watch(path),
-        None => Ok(()),
-    }
-}
-
-/// What the machine begins with, in this folder: the folder is claimed, what stands there is seen to, and the watchdog device is opened. After an
-/// `Err` no area is handed out.
+/// What the machine begins with, in this folder: the folder is claimed, what stands there is seen to, and the watchdog device is opened last. After an
+/// `Err` no area is handed out, and no such device is open.
 fn begin<V: StandingDevices>(
     alloc: Global,
     folder: &str,
@@ -221,8 +209,7 @@ fn begin<V: StandingDevices>(
 {
     take_place(alloc, folder, &header, manner.machine, devices)?;
     sync_if(manner.syncs, devices);
-    watch_if(watchdog, devices)?;
-    prepare_own(alloc, header, folder, manner.machine, devices)
+    prepare_own(alloc, header, folder, manner.machine, watchdog, devices)
 }
 
 /// Why this header is none for the machine of this number, if it is none: it has no such machine, or sessions that would be joined at moment 0.
