@@ -69,7 +69,7 @@ owes_ended stands commands t disks folder w left after taken now faults later si
     lacks stands commands t disks folder w left after taken now faults later sink_faults sink_later device_faults device_later s puts.0 puts.1.0 puts.1.1
 
 -- Its lines are those that the script gave it, and its calls are all that was done to its areas.
-lived : {D A P : Type 0} (t : Tellers A P) (events : Bool) (stands : D → Setting → Trace → Type 0) (commands : Header → List (Form Command)) (disks : Disks) (folder : List ℕ) (h : Header) (m : ℕ)
+pub lived : {D A P : Type 0} (t : Tellers A P) (events : Bool) (stands : D → Setting → Trace → Type 0) (commands : Header → List (Form Command)) (disks : Disks) (folder : List ℕ) (h : Header) (m : ℕ)
     (begun : OwnBeginning h m) (areas : Both A) (was is : List LiveLine → Type 0) (pieces : List Piece) (n : ℕ) (left : Leavings A P) → HadOwn t.content disks folder h areas
     → (told : HasToldOwn t.content t.faults t.acts events stands commands begun.header begun.place begun.site areas was is pieces n left)
     → LivesOwn stands commands t disks folder h m told.lines told.history

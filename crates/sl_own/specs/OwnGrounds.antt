@@ -20,7 +20,7 @@ use Rattle.sl_standing.specs.declared.not_standing.NotStanding.TheVariants.{Area
 use Rattle.sl_standing.specs.declared.not_standing.NotStanding.{NotStanding as NotStandingOf}
 use Rattle.sl_world_state.specs.FirstKept.{session_of}
 use Rattle.std.specs.Io.KnownBytes.{Keeps}
-use Rattle.std.specs.Prelude.{All, Contains, Err, List, None, Ok, Option, Result, Some, if◌then◌else◌, [], ℕ, ◌*◌, ◌++◌, ◌+◌, ◌<◌, ◌==◌, ◌^◌, ◌∷◌, ◌≡◌, ◌≢◌}
+use Rattle.std.specs.Prelude.{All, Bool, Contains, Err, IfSome, List, None, Ok, Option, Result, Some, false, if◌then◌else◌, option_map, [], ℕ, ◌*◌, ◌++◌, ◌+◌, ◌<◌, ◌==◌, ◌^◌, ◌∷◌, ◌≡◌, ◌≢◌}
 
 -- ---- why it can't run there
 
@@ -115,3 +115,8 @@ pub record IsOwnGround {V C P D W G A : Type 0} (content : A → Option (List �
   pub unasked : Tells (spawned g.ready.parts.spawner) []
   pub delta : AreLeft content (FindsOn disks folder h Delta) h.disks g.ready.parts.delta.items
   pub resource : AreLeft content (Finds h Resource) h.disks g.ready.parts.resource.items
+
+-- The watchdog device of the system is the one that was asked for, and was not told to rest.
+pub record IsOpened {W : Type 0} (path : W → List ℕ) (rested : W → Bool) (asked : Option (List ℕ)) (w : Option W) : Type 0 where
+  pub at : option_map path w ≡ asked
+  pub awake : IfSome w (λ d. rested d ≡ false)

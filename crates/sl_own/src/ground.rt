@@ -1,21 +1,19 @@
 //! What a machine in a process of its own begins with.
 
 ghost use Rattle.sl_cell.specs.declared.part.Part.TheVariants.{Delta, Resource};
-ghost use Rattle.sl_io.specs.FaultCauses.{HasCause};
 ghost use Rattle.sl_live_run.specs.Clocks.{with_readings};
 ghost use Rattle.sl_live_run.specs.Grounds.{IsSiteOf};
 ghost use Rattle.sl_outside.specs.Acts.{Tells};
 ghost use Rattle.sl_outside.specs.Disks.{Disks};
-ghost use Rattle.sl_own.specs.OwnGrounds.{AreLeft, Finds, FindsOn, IsOwnGround, NotLent};
+ghost use Rattle.sl_own.specs.OwnGrounds.{AreLeft, Finds, FindsOn, IsOpened, IsOwnGround, NotLent};
 ghost use Rattle.sl_run.specs.Headers.{IsHeader};
 ghost use Rattle.sl_run.specs.declared.header.Header.{Header as HeaderOf};
 ghost use Rattle.sl_world_state.specs.FirstKept.{session_of};
-ghost use Rattle.std.specs.Prelude.{IfErr, IfOk, List, [], ℕ, ◌+◌, ◌∷◌, ◌≡◌, ◌≤◌};
+ghost use Rattle.std.specs.Prelude.{IfErr, IfOk, List, [], option_map, ℕ, ◌+◌, ◌∷◌, ◌≡◌, ◌≤◌};
 
 use crate::lending::lend;
 use crate::no_place::NoPlace;
 use sl_cell::Part;
-use sl_io::Failed;
 use sl_live::Disk;
 use sl_live_machine::Parts;
 use sl_live_run::{
@@ -88,12 +86,21 @@ fn start_of<V: StandingDevices>(
 }
 
 /// Opens the watchdog device of the system at this path, if one is given.
-fn watch_if<V: StandingDevices>(watchdog: Option<&str>, devices: &mut V) -> Result<(), Failed>
-    ensures { HasCause (V.Devices.faults devices.old) (V.Devices.faults devices.new) result }
+fn watch_if<V: StandingDevices>(
+    alloc: Global,
+    watchdog: Option<&str>,
+    devices: &mut V,
+) -> Result<Option<V::Watchdog>, NoPlace>
+    ensures opened { IfOk result (IsOpened V.Watchdog.path V.Watchdog.rested (option_map (λ w. w.now) watchdog)) }
+    ensures not { (disks : Disks) (folder : List ℕ) (h : HeaderOf) → IfErr result (NotLent disks folder h Delta (V.Devices.faults devices.old) (V.Devices.faults devices.new)) }
+    ensures later { V.Devices.faults devices.old ≤ V.Devices.faults devices.new }
 {
     match watchdog {
-        Some(path) => devices.watch(path),
-        None => Ok(()),
+        Some(path) => {
+            let path = String::from_str(alloc, path)?;
+            Ok(Some(devices.watch(path)?))
+        }
+        None => Ok(None),
     }
 }
 
@@ -104,18 +111,19 @@ fn start_watched<V: StandingDevices>(
     machine: u32,
     watchdog: Option<&str>,
     devices: &mut V,
-) -> Result<Start<V::Clock>, NoPlace>
+) -> Result<(Start<V::Clock>, Option<V::Watchdog>), NoPlace>
     requires header { IsHeader header }
     requires machine { (1 ≤ machine) × (machine ≤ header.machines) }
-    ensures lawful { IfOk result (λ s. IsHeader s.header) }
-    ensures same { IfOk result (λ s. s.header ≡ record header { clocks = s.header.clocks }) }
-    ensures site { IfOk result (λ s. IsSiteOf s.header machine (session_of s.header machine) s.site) }
+    ensures lawful { IfOk result (λ s. IsHeader s.0.header) }
+    ensures same { IfOk result (λ s. s.0.header ≡ record header { clocks = s.0.header.clocks }) }
+    ensures site { IfOk result (λ s. IsSiteOf s.0.header machine (session_of s.0.header machine) s.0.site) }
+    ensures opened { IfOk result (λ s. IsOpened V.Watchdog.path V.Watchdog.rested (option_map (λ w. w.now) watchdog) s.1) }
     ensures not { (disks : Disks) (folder : List ℕ) (h : HeaderOf) → IfErr result (NotLent disks folder h Delta (V.Devices.faults devices.old) (V.Devices.faults devices.new)) }
     ensures later { V.Devices.faults devices.old ≤ V.Devices.faults devices.new }
 {
     let start = start_of(alloc, header, machine, devices)?;
-    watch_if(watchdog, devices)?;
-    Ok(start)
+    let watchdog = watch_if(alloc, watchdog, devices)?;
+    Ok((start, watchdog))
 }
 
 /// The areas of both workers: of the one of the ids' records, and of the other. After an `Err` none is handed out.
@@ -182,7 +190,8 @@ fn ground_of<V: StandingDevices>(
 }
 
 /// Gets all that a machine runs on, in a place that was taken. Its clock is read once its areas were compared, so that its watchdog device counts from
-/// then on; one of the system is opened behind that. After an `Err` no area is handed out, and no such device is open; nothing was written.
+/// then on; one of the system is opened behind that, if one is asked for. After an `Err` no area is handed out, and no such device is open; nothing was
+/// written.
 pub(crate) fn prepare_own<V: StandingDevices>(
     alloc: Global,
     header: Header,
@@ -190,16 +199,20 @@ pub(crate) fn prepare_own<V: StandingDevices>(
     machine: u32,
     watchdog: Option<&str>,
     devices: &mut V,
-) -> Result<OwnGround<V>, NoPlace>
+) -> Result<(OwnGround<V>, Option<V::Watchdog>), NoPlace>
     requires header { IsHeader header }
     requires machine { (1 ≤ machine) × (machine ≤ header.machines) }
-    ensures ok { IfOk result (IsOwnGround V.Area.content V.Spawner.acts (V.Devices.disks devices.old) folder.now header machine) }
+    ensures ok { IfOk result (λ own. IsOwnGround V.Area.content V.Spawner.acts (V.Devices.disks devices.old) folder.now header machine own.0) }
+    ensures opened { IfOk result (λ own. IsOpened V.Watchdog.path V.Watchdog.rested (option_map (λ w. w.now) watchdog) own.1) }
     ensures not { IfErr result (NotLent (V.Devices.disks devices.old) folder.now header Delta (V.Devices.faults devices.old) (V.Devices.faults devices.new)) }
     ensures later { V.Devices.faults devices.old ≤ V.Devices.faults devices.new }
 {
     let (delta, resource) = lend_both(alloc, &header, folder, machine, devices)?;
     match start_watched(alloc, header, machine, watchdog, devices) {
-        Ok(start) => Ok(ground_of(machine, start, delta, resource, devices)),
+        Ok((start, watchdog)) => Ok((
+            ground_of(machine, start, delta, resource, devices),
+            watchdog,
+        )),
         Err(why) => {
             give_back(delta, resource, devices);
             Err(why)

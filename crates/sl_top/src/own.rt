@@ -49,7 +49,7 @@ where
         result.0 }
 {
     whole_language_may_play();
-    let (lived, source, sink) = play_own::<LiveHost, S, K, D, R>(
+    let (lived, source, sink, _watchdog) = play_own::<LiveHost, S, K, D, R>(
         rt,
         alloc,
         place.folder.as_str(),
