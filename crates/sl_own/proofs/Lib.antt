@@ -5,3 +5,4 @@ pub mod LendLaws
 pub mod PlaceLaws
 pub mod GroundLaws
 pub mod WatchLaws
+pub mod TextLaws

@@ -3,14 +3,16 @@ use Rattle.sl_live_play.specs.LiveOwed.{All, Front, Part, Puts, PutsStop, Teller
 use Rattle.sl_live_play.specs.declared.play.Lived.TheVariants.{AreaFault, Done, NoMemory, Refused}
 use Rattle.sl_live_play.specs.declared.play.Lived.{Lived}
 use Rattle.sl_live_run.proofs.RunLaws.{if_ok_on}
+use Rattle.sl_live_run.specs.Lent.{AreAllBack}
 use Rattle.sl_live_run.specs.Runs.{Both, Leavings}
 use Rattle.sl_live_run.specs.declared.compare.LiveStop.TheVariants as stop
 use Rattle.sl_live_run.specs.declared.compare.LiveStop.{LiveStop}
 use Rattle.sl_outside.specs.Disks.{Disks}
+use Rattle.sl_outside.specs.Lendings.{Lending}
 use Rattle.sl_output.specs.Pieces.{Piece}
-use Rattle.sl_own.proofs.PlayLaws.{lived}
-use Rattle.sl_own.specs.OwnGrounds.{IsOpened}
-use Rattle.sl_own.specs.OwnOwed.{HadOwn, HasLived, MayRun, OwnBeginning, PutsNoPlace, RestsOwn}
+use Rattle.sl_own.proofs.PlayLaws.{lived, one_back}
+use Rattle.sl_own.specs.OwnGrounds.{HadOwn, IsOpened}
+use Rattle.sl_own.specs.OwnOwed.{HasLived, MayRun, OwnBeginning, PutsNoPlace, RestsOwn}
 use Rattle.sl_own.specs.OwnRuns.{HasToldOwn}
 use Rattle.sl_own.specs.declared.no_place.NoPlace.{NoPlace}
 use Rattle.sl_reader.specs.declared.live_lines.LiveLine.{LiveLine}
@@ -101,19 +103,19 @@ rests_behind path rested asked Lives taken now faults later pieces (Err e) in_or
   whole = λ is. absurd (stop_not_done taken now faults later pieces e s stop is);
 }
 
--- A run with replies has a history.
+-- A run with replies has a history, and what was left came back.
 pub has_lived : {D A P : Type 0} (t : Tellers A P) (events : Bool) (stands : D → Setting → Trace → Type 0) (commands : Header → List (Form Command)) (disks : Disks) (folder : List ℕ) (h : Header) (m : ℕ)
     (begun : OwnBeginning h m) (areas : Both A) (was is : List LiveLine → Type 0) (pieces : List Piece) (machines : ℕ) (remains : List (Leavings A P)) (replies : Result ℕ LiveStop)
-    → MayRun disks folder h m → HadOwn t.content disks folder h areas
-    → IfOk replies (λ n. (machines ≡ 1) × (back : Leavings A P) × (remains ≡ back ∷ [])
-    × HasToldOwn t.content t.faults t.acts events stands commands begun.header begun.place begun.site areas was is pieces n back)
-    → IfOk replies (λ n. HasLived stands commands t disks folder m)
-has_lived t events stands commands disks folder h m begun areas was is pieces machines remains (Ok n) may had ok =
+    (lent between back : Option (List Lending)) → MayRun disks folder h m → HadOwn t.content disks folder h m areas lent between → AreAllBack t.content t.faults t.acts remains between back
+    → IfOk replies (λ n. (machines ≡ 1) × (left_there : Leavings A P) × (remains ≡ left_there ∷ [])
+    × HasToldOwn t.content t.faults t.acts events stands commands begun.header begun.place begun.site areas was is pieces n left_there)
+    → IfOk replies (λ n. HasLived stands commands t disks folder lent back m)
+has_lived t events stands commands disks folder h m begun areas was is pieces machines remains (Ok n) lent between back may had returned ok =
     record {
       header = h;
       may = may;
       given = ok.3.lines;
       history = ok.3.history;
-      lives = lived t events stands commands disks folder h m begun areas was is pieces n ok.1 had ok.3;
+      lives = lived t events stands commands disks folder h m begun areas was is pieces n ok.1 lent between back had (one_back t remains ok.1 between back ok.2 returned) ok.3;
     }
-has_lived t events stands commands disks folder h m begun areas was is pieces machines remains (Err e) may had ok = tt
+has_lived t events stands commands disks folder h m begun areas was is pieces machines remains (Err e) lent between back may had returned ok = tt

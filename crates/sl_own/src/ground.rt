@@ -3,13 +3,14 @@
 ghost use Rattle.sl_cell.specs.declared.part.Part.TheVariants.{Delta, Resource};
 ghost use Rattle.sl_live_run.specs.Clocks.{with_readings};
 ghost use Rattle.sl_live_run.specs.Grounds.{IsSiteOf};
-ghost use Rattle.sl_outside.specs.Acts.{Tells};
+ghost use Rattle.sl_outside.specs.Acts.{Grows, Tells};
 ghost use Rattle.sl_outside.specs.Disks.{Disks};
+ghost use Rattle.sl_outside.specs.Lendings.{Lending, SpawnerOut};
 ghost use Rattle.sl_own.specs.OwnGrounds.{AreLeft, Finds, FindsOn, IsOpened, IsOwnGround, NotLent};
 ghost use Rattle.sl_run.specs.Headers.{IsHeader};
 ghost use Rattle.sl_run.specs.declared.header.Header.{Header as HeaderOf};
 ghost use Rattle.sl_world_state.specs.FirstKept.{session_of};
-ghost use Rattle.std.specs.Prelude.{IfErr, IfOk, List, [], option_map, ℕ, ◌+◌, ◌∷◌, ◌≡◌, ◌≤◌};
+ghost use Rattle.std.specs.Prelude.{IfErr, IfOk, List, Option, [], option_map, ℕ, ◌+◌, ◌∷◌, ◌≡◌, ◌≤◌};
 
 use crate::lending::lend;
 use crate::no_place::NoPlace;
@@ -71,6 +72,7 @@ fn start_of<V: StandingDevices>(
     ensures lawful { IfOk result (λ s. IsHeader s.header) }
     ensures same { IfOk result (λ s. s.header ≡ record header { clocks = s.header.clocks }) }
     ensures site { IfOk result (λ s. IsSiteOf s.header machine (session_of s.header machine) s.site) }
+    ensures lendings { V.Devices.lendings devices.new ≡ V.Devices.lendings devices.old }
     ensures count { V.Devices.faults devices.new ≡ V.Devices.faults devices.old }
 {
     let mut ticks = devices.clock(machine, TICKS);
@@ -92,6 +94,8 @@ fn watch_if<V: StandingDevices>(
     devices: &mut V,
 ) -> Result<Option<V::Watchdog>, NoPlace>
     ensures opened { IfOk result (IsOpened V.Watchdog.path V.Watchdog.rested (option_map (λ w. w.now) watchdog)) }
+    ensures same { V.Devices.disks devices.new ≡ V.Devices.disks devices.old }
+    ensures lendings { V.Devices.lendings devices.new ≡ V.Devices.lendings devices.old }
     ensures not { (disks : Disks) (folder : List ℕ) (h : HeaderOf) → IfErr result (NotLent disks folder h Delta (V.Devices.faults devices.old) (V.Devices.faults devices.new)) }
     ensures later { V.Devices.faults devices.old ≤ V.Devices.faults devices.new }
 {
@@ -118,6 +122,7 @@ fn start_watched<V: StandingDevices>(
     ensures same { IfOk result (λ s. s.0.header ≡ record header { clocks = s.0.header.clocks }) }
     ensures site { IfOk result (λ s. IsSiteOf s.0.header machine (session_of s.0.header machine) s.0.site) }
     ensures opened { IfOk result (λ s. IsOpened V.Watchdog.path V.Watchdog.rested (option_map (λ w. w.now) watchdog) s.1) }
+    ensures lendings { V.Devices.lendings devices.new ≡ V.Devices.lendings devices.old }
     ensures not { (disks : Disks) (folder : List ℕ) (h : HeaderOf) → IfErr result (NotLent disks folder h Delta (V.Devices.faults devices.old) (V.Devices.faults devices.new)) }
     ensures later { V.Devices.faults devices.old ≤ V.Devices.faults devices.new }
 {
@@ -135,8 +140,9 @@ fn lend_both<V: StandingDevices>(
     devices: &mut V,
 ) -> Result<(Vec<Disk<V::Area>>, Vec<Disk<V::Area>>), NoPlace>
     requires { IsHeader header.now }
-    ensures delta { IfOk result (λ both. AreLeft V.Area.content (FindsOn (V.Devices.disks devices.old) folder.now header.now Delta) header.now.disks both.0.items) }
-    ensures resource { IfOk result (λ both. AreLeft V.Area.content (Finds header.now Resource) header.now.disks both.1.items) }
+    ensures both { IfOk result (λ both. (between : Option (List Lending))
+        × AreLeft V.Area.content (FindsOn (V.Devices.disks devices.old) folder.now header.now Delta) folder.now machine Delta header.now.disks both.0.items (V.Devices.lendings devices.old) between
+        × AreLeft V.Area.content (Finds header.now Resource) folder.now machine Resource header.now.disks both.1.items between (V.Devices.lendings devices.new)) }
     ensures not { IfErr result (NotLent (V.Devices.disks devices.old) folder.now header.now Delta (V.Devices.faults devices.old) (V.Devices.faults devices.new)) }
     ensures later { V.Devices.faults devices.old ≤ V.Devices.faults devices.new }
 {
@@ -165,6 +171,7 @@ fn ground_of<V: StandingDevices>(
     ensures unasked { Tells (V.Spawner.acts result.ready.parts.spawner) [] }
     ensures delta { result.ready.parts.delta.items ≡ delta.items }
     ensures resource { result.ready.parts.resource.items ≡ resource.items }
+    ensures lendings { Grows (V.Devices.lendings devices.old) (V.Devices.lendings devices.new) (SpawnerOut machine ∷ []) }
     ensures count { V.Devices.faults devices.new ≡ V.Devices.faults devices.old }
 {
     let Start {
@@ -202,7 +209,7 @@ pub(crate) fn prepare_own<V: StandingDevices>(
 ) -> Result<(OwnGround<V>, Option<V::Watchdog>), NoPlace>
     requires header { IsHeader header }
     requires machine { (1 ≤ machine) × (machine ≤ header.machines) }
-    ensures ok { IfOk result (λ own. IsOwnGround V.Area.content V.Spawner.acts (V.Devices.disks devices.old) folder.now header machine own.0) }
+    ensures ok { IfOk result (λ own. IsOwnGround V.Area.content V.Spawner.acts (V.Devices.disks devices.old) folder.now header machine (V.Devices.lendings devices.old) (V.Devices.lendings devices.new) own.0) }
     ensures opened { IfOk result (λ own. IsOpened V.Watchdog.path V.Watchdog.rested (option_map (λ w. w.now) watchdog) own.1) }
     ensures not { IfErr result (NotLent (V.Devices.disks devices.old) folder.now header Delta (V.Devices.faults devices.old) (V.Devices.faults devices.new)) }
     ensures later { V.Devices.faults devices.old ≤ V.Devices.faults devices.new }

@@ -2,6 +2,7 @@
 
 ghost use Rattle.sl_outside.specs.Acts.{Tells};
 ghost use Rattle.sl_outside.specs.Disks.{Disks};
+ghost use Rattle.sl_outside.specs.Lendings.{Lending};
 ghost use Rattle.sl_own.specs.OwnGrounds.{Bars, IsOpened, IsOwnGround, IsPlaceOf};
 ghost use Rattle.sl_own.specs.OwnOwed.{HasLived, MayRun, OwesOwn, PutsNoPlace, RestsOwn, header_refusal};
 ghost use Rattle.sl_reader.specs.HeaderBegins.{HeaderBegins};
@@ -23,7 +24,7 @@ use crate::run::run_own;
 use sl_cell::Teller;
 use sl_io::{Sink, Source};
 use sl_live_play::{Lived, put, put_refusal, put_run};
-use sl_live_run::{LiveRun, Remains, give_back};
+use sl_live_run::{LiveRun, give_all_back};
 use sl_place::{StandingDevices, Watchdog};
 use sl_reader::{LineReader, Origin, ReadError, Scope, ScriptLines, read_header};
 use sl_run::{Header, Refusal};
@@ -65,17 +66,6 @@ fn put_no_place<K: Sink>(alloc: Global, sink: &mut K, why: NoPlace) -> Lived
     let mut out = Vec::new(alloc);
     let pushed = push_no_place(&mut out, &why);
     put(sink, pushed, &out, Lived::AreaFault)
-}
-
-/// Gives the disks back.
-fn give_all_back<V: StandingDevices>(remains: Vec<Remains<V::Area, V::Spawner>>, devices: &mut V) {
-    for Remains {
-        delta,
-        resource,
-        spawners: _,
-    } in remains {
-        give_back(delta, resource, devices);
-    }
 }
 
 /// Tells the watchdog device, if there is one, to rest where the machine ended in order.
@@ -135,14 +125,14 @@ where
     requires began { reader ≡ J.began }
     requires scope { own_scope ground.header manner.machine ≡ J.scope }
     requires keeps { manner.keeps ≡ J.keeps }
-    ensures rests { (asked : Option (List ℕ)) (disks : Disks) (folder : List ℕ) (h : HeaderOf) → IsOwnGround V.Area.content V.Spawner.acts disks folder h manner.machine ground
+    ensures rests { (asked : Option (List ℕ)) (disks : Disks) (folder : List ℕ) (lent : Option (List Lending)) (h : HeaderOf) → IsOwnGround V.Area.content V.Spawner.acts disks folder h manner.machine lent (V.Devices.lendings devices.old) ground
         → MayRun disks folder h manner.machine → IsOpened V.Watchdog.path V.Watchdog.rested asked watchdog
         → RestsOwn V.Watchdog.path V.Watchdog.rested asked
-        (HasLived D.Daemon.stands D.Daemon.commands (record { content = V.Area.content; faults = V.Area.faults; acts = V.Spawner.acts }) disks folder manner.machine) result.3 result.0 }
-    ensures owes { (disks : Disks) (folder : List ℕ) (first : Option (List ℕ)) (h : HeaderOf) → IsOwnGround V.Area.content V.Spawner.acts disks folder h manner.machine ground
+        (HasLived D.Daemon.stands D.Daemon.commands (record { content = V.Area.content; faults = V.Area.faults; acts = V.Spawner.acts }) disks folder lent (V.Devices.lendings devices.new) manner.machine) result.3 result.0 }
+    ensures owes { (disks : Disks) (folder : List ℕ) (lent : Option (List Lending)) (first : Option (List ℕ)) (h : HeaderOf) → IsOwnGround V.Area.content V.Spawner.acts disks folder h manner.machine lent (V.Devices.lendings devices.old) ground
         → MayRun disks folder h manner.machine → HeaderBegins first (S.left source) reader h
         → OwesOwn D.Daemon.stands D.Daemon.commands (record { content = V.Area.content; faults = V.Area.faults; acts = V.Spawner.acts }) disks folder manner first (S.left result.1) (K.taken sink) (K.taken result.2) (S.faults source) (S.faults result.1)
-        (K.faults sink) (K.faults result.2) (V.Devices.faults devices.old) (V.Devices.faults devices.new) result.0 }
+        (K.faults sink) (K.faults result.2) (V.Devices.faults devices.old) (V.Devices.faults devices.new) lent (V.Devices.lendings devices.new) result.0 }
 {
     let scope = Scope::of_machine(&ground.header, manner.machine);
     let mut lines: ScriptLines<S, J> = ScriptLines::new(alloc, source, reader, scope, manner.keeps);
@@ -196,14 +186,14 @@ where
     requires header { IsHeader ground.header }
     requires setting { IsSetting (begun_with D.Daemon.commands ground.header ground.ready.site) }
     requires ends { EndStands (S.left source) reader }
-    ensures rests { (asked : Option (List ℕ)) (disks : Disks) (folder : List ℕ) (h : HeaderOf) → IsOwnGround V.Area.content V.Spawner.acts disks folder h manner.machine ground
+    ensures rests { (asked : Option (List ℕ)) (disks : Disks) (folder : List ℕ) (lent : Option (List Lending)) (h : HeaderOf) → IsOwnGround V.Area.content V.Spawner.acts disks folder h manner.machine lent (V.Devices.lendings devices.old) ground
         → MayRun disks folder h manner.machine → IsOpened V.Watchdog.path V.Watchdog.rested asked watchdog
         → RestsOwn V.Watchdog.path V.Watchdog.rested asked
-        (HasLived D.Daemon.stands D.Daemon.commands (record { content = V.Area.content; faults = V.Area.faults; acts = V.Spawner.acts }) disks folder manner.machine) result.3 result.0 }
-    ensures owes { (disks : Disks) (folder : List ℕ) (first : Option (List ℕ)) (h : HeaderOf) → IsOwnGround V.Area.content V.Spawner.acts disks folder h manner.machine ground
+        (HasLived D.Daemon.stands D.Daemon.commands (record { content = V.Area.content; faults = V.Area.faults; acts = V.Spawner.acts }) disks folder lent (V.Devices.lendings devices.new) manner.machine) result.3 result.0 }
+    ensures owes { (disks : Disks) (folder : List ℕ) (lent : Option (List Lending)) (first : Option (List ℕ)) (h : HeaderOf) → IsOwnGround V.Area.content V.Spawner.acts disks folder h manner.machine lent (V.Devices.lendings devices.old) ground
         → MayRun disks folder h manner.machine → HeaderBegins first (S.left source) reader h
         → OwesOwn D.Daemon.stands D.Daemon.commands (record { content = V.Area.content; faults = V.Area.faults; acts = V.Spawner.acts }) disks folder manner first (S.left result.1) (K.taken sink) (K.taken result.2) (S.faults source) (S.faults result.1)
-        (K.faults sink) (K.faults result.2) (V.Devices.faults devices.old) (V.Devices.faults devices.new) result.0 }
+        (K.faults sink) (K.faults result.2) (V.Devices.faults devices.old) (V.Devices.faults devices.new) lent (V.Devices.lendings devices.new) result.0 }
 {
     play_as::<D, Brand, S, K, V, R>(
         rt, alloc, ground, watchdog, manner, source, reader, sink, devices,
@@ -213,6 +203,7 @@ where
 /// Has writes answered once the storage has them, if that is wanted.
 fn sync_if<V: StandingDevices>(syncs: bool, devices: &mut V)
     ensures same { V.Devices.disks devices.new ≡ V.Devices.disks devices.old }
+    ensures lendings { V.Devices.lendings devices.new ≡ V.Devices.lendings devices.old }
     ensures count { V.Devices.faults devices.new ≡ V.Devices.faults devices.old }
 {
     if syncs {
@@ -232,7 +223,7 @@ fn begin<V: StandingDevices>(
 ) -> Result<(OwnGround<V>, Option<V::Watchdog>), NoPlace>
     requires header { IsHeader header }
     requires machine { (1 ≤ manner.machine) × (manner.machine ≤ header.machines) }
-    ensures ok { IfOk result (λ own. IsOwnGround V.Area.content V.Spawner.acts (V.Devices.disks devices.old) folder.now header manner.machine own.0) }
+    ensures ok { IfOk result (λ own. IsOwnGround V.Area.content V.Spawner.acts (V.Devices.disks devices.old) folder.now header manner.machine (V.Devices.lendings devices.old) (V.Devices.lendings devices.new) own.0) }
     ensures opened { IfOk result (λ own. IsOpened V.Watchdog.path V.Watchdog.rested (option_map (λ w. w.now) watchdog) own.1) }
     ensures place { OnOk result (IsPlaceOf (V.Devices.disks devices.old) folder.now header) }
     ensures bars { IfErr result (Bars (V.Devices.disks devices.old) folder.now header manner.machine (V.Devices.faults devices.old) (V.Devices.faults devices.new)) }
@@ -282,10 +273,10 @@ where
     requires reads { (h : HeaderOf) → IsHeader h → ReadsCommands D.Daemon.commands h }
     requires ends { EndStands (S.left source) reader }
     ensures rests { RestsOwn V.Watchdog.path V.Watchdog.rested (option_map (λ w. w.now) watchdog)
-        (HasLived D.Daemon.stands D.Daemon.commands (record { content = V.Area.content; faults = V.Area.faults; acts = V.Spawner.acts }) (V.Devices.disks devices.old) folder.now manner.machine) result.3 result.0 }
+        (HasLived D.Daemon.stands D.Daemon.commands (record { content = V.Area.content; faults = V.Area.faults; acts = V.Spawner.acts }) (V.Devices.disks devices.old) folder.now (V.Devices.lendings devices.old) (V.Devices.lendings devices.new) manner.machine) result.3 result.0 }
     ensures owes { (first : Option (List ℕ)) → HeaderBegins first (S.left source) reader header
         → OwesOwn D.Daemon.stands D.Daemon.commands (record { content = V.Area.content; faults = V.Area.faults; acts = V.Spawner.acts }) (V.Devices.disks devices.old) folder.now manner first (S.left result.1) (K.taken sink) (K.taken result.2) (S.faults source) (S.faults result.1)
-        (K.faults sink) (K.faults result.2) (V.Devices.faults devices.old) (V.Devices.faults devices.new) result.0 }
+        (K.faults sink) (K.faults result.2) (V.Devices.faults devices.old) (V.Devices.faults devices.new) (V.Devices.lendings devices.old) (V.Devices.lendings devices.new) result.0 }
 {
     let mut sink = sink;
     match header_refusal(&header, manner.machine) {
@@ -337,9 +328,9 @@ where
     requires reads { (h : HeaderOf) → IsHeader h → ReadsCommands D.Daemon.commands h }
     requires headers { HeadersAreGood whole_language }
     ensures rests { RestsOwn V.Watchdog.path V.Watchdog.rested (option_map (λ w. w.now) watchdog)
-        (HasLived D.Daemon.stands D.Daemon.commands (record { content = V.Area.content; faults = V.Area.faults; acts = V.Spawner.acts }) (V.Devices.disks devices.old) folder.now manner.machine) result.3 result.0 }
+        (HasLived D.Daemon.stands D.Daemon.commands (record { content = V.Area.content; faults = V.Area.faults; acts = V.Spawner.acts }) (V.Devices.disks devices.old) folder.now (V.Devices.lendings devices.old) (V.Devices.lendings devices.new) manner.machine) result.3 result.0 }
     ensures owes { OwesOwn D.Daemon.stands D.Daemon.commands (record { content = V.Area.content; faults = V.Area.faults; acts = V.Spawner.acts }) (V.Devices.disks devices.old) folder.now manner (S.left source) (S.left result.1) (K.taken sink) (K.taken result.2) (S.faults source) (S.faults result.1)
-        (K.faults sink) (K.faults result.2) (V.Devices.faults devices.old) (V.Devices.faults devices.new) result.0 }
+        (K.faults sink) (K.faults result.2) (V.Devices.faults devices.old) (V.Devices.faults devices.new) (V.Devices.lendings devices.old) (V.Devices.lendings devices.new) result.0 }
 {
     let mut source = source;
     let mut sink = sink;

@@ -7,7 +7,7 @@
 //!
 //! The axis goes by events and by moments: each event takes one width, so that what happens at one moment can be told apart, and all time that
 //! passes is drawn to one scale. The scale is known at the end alone, so `push_picture` writes the picture then (`layout`, `bars`, `signs`,
-//! `page`): ground, legend, time, bars, signs, words.
+//! `page`): ground, legend, time, bars, signs, words. `laws` says that what is written is a well-formed picture, whatever is kept.
 //!
 //! How many bars are open is bounded by what a host may hold and have under way, so what a line costs does not grow with the run.
 #![tactic(auto)]
@@ -16,6 +16,7 @@ mod bars;
 mod events;
 mod fates;
 mod kept;
+mod laws;
 mod layout;
 mod page;
 mod said;
@@ -24,4 +25,5 @@ mod signs;
 mod tells;
 
 pub use kept::{Part, Picture};
+pub use laws::kept_pictures_are_well_formed;
 pub use shapes::{Bar, Column, Instant, Lane, Mark, Note, Shape, Sign, Text};

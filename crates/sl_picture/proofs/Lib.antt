@@ -1,0 +1,2 @@
+mod DrawnElements
+mod PushedTexts
