@@ -18,6 +18,6 @@ returns-in-Ok-clause-ok g c =
 pub returns-in-Err-clause-not : goal.returns-in-Err-clause-not
 returns-in-Err-clause-not g c =
     let first = c.lend_both.ensures.later in
-    let last = c.give_back.ensures.later in
+    let last = c.give_back.ensures.count.later in
     not_lent_on (g.V.Devices.disks c.args.devices.now) c.args.folder.now c.args.header Delta _ _ (g.V.Devices.faults c.args.devices.now) (g.V.Devices.faults c.give_back.new.devices) c.in-Err.why
     (λ rose. omega (arith, first, rose, last)) (c.in-Err.ensures.not (g.V.Devices.disks c.args.devices.now) c.args.folder.now c.args.header)

@@ -22,8 +22,8 @@ play_ground-requires-clause-header g c κs within = c.in-Ok.ensures.ok.lawful
 
 pub returns-in-Some-clause-owes : goal.returns-in-Some-clause-owes
 returns-in-Some-clause-owes g c first begins =
-    owes_header g.D.Daemon.stands g.D.Daemon.commands _ (g.V.Devices.disks c.args.devices.now) c.args.folder.now c.args.manner first _ _ _ _ _ _ _ _ _ _ _ c.args.reader c.args.header c.line.result.number
-    c.in-Some.why c.put_refusal-lived.result begins (sym c.header_refusal.ensures ∙ c.in-Some.is) (ap (λ (l : NumberedLine). l.number) c.line.ensures) c.put_refusal-lived.ensures
+    owes_header g.D.Daemon.stands g.D.Daemon.commands _ (g.V.Devices.disks c.args.devices.now) c.args.folder.now c.args.manner first _ _ _ _ _ _ _ _ _ _ _ c.args.reader c.args.header c.line-number.result.number
+    c.in-Some.why c.put_refusal-lived.result begins (sym c.header_refusal.ensures ∙ c.in-Some.is) (ap (λ (l : NumberedLine). l.number) c.line-number.ensures) c.put_refusal-lived.ensures
 
 pub returns-in-Ok-clause-owes : goal.returns-in-Ok-clause-owes
 returns-in-Ok-clause-owes g c first begins =
