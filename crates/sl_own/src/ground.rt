@@ -101,8 +101,9 @@ fn watch_if<V: StandingDevices>(
 {
     match watchdog {
         Some(path) => {
-            let path = String::from_str(alloc, path)?;
-            Ok(Some(devices.watch(path)?))
+            let text = String::from_str(alloc, path)?;
+            let device = devices.watch(text)?;
+            Ok(Some(device))
         }
         None => Ok(None),
     }

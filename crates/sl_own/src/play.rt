@@ -86,11 +86,13 @@ fn rest_one<W: Watchdog>(in_order: bool, device: W) -> W
     ensures rests { in_order ≡ true → W.rested result ≡ true }
     ensures stays { in_order ≡ false → result ≡ device }
 {
-    let mut device = device;
     if in_order {
+        let mut device = device;
         device.rest();
+        device
+    } else {
+        device
     }
-    device
 }
 
 /// Runs the machine of this ground, beside the lines that are still to be read, as a script of this origin.
