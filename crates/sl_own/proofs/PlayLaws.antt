@@ -132,17 +132,17 @@ owes_run_own stands commands t disks folder w left after taken now faults later 
 
 -- ---- what the machine begins with
 
-unfoldable pub beginning : {V C P D W G A : Type 0} (content : A → Option (List ℕ)) (spawned : P → Option (List Act)) (disks : Disks) (folder : List ℕ) (h : Header) (m : ℕ) (lent held : Option (List Lending)) (g : OwnGround V C P D W G A)
+unfoldable pub beginning : {V O C P D W G A : Type 0} (content : A → Option (List ℕ)) (spawned : P → Option (List Act)) (disks : Disks) (folder : List ℕ) (h : Header) (m : ℕ) (lent held : Option (List Lending)) (g : OwnGround V O C P D W G A)
     → IsOwnGround content spawned disks folder h m lent held g → OwnBeginning h m
 beginning content spawned disks folder h m lent held g is =
     record { header = g.header; lawful = is.lawful; same = is.same; place = g.place; numbered = is.numbered; site = g.ready.site; begun = is.site }
 
-pub small_place : {V C P D W G A : Type 0} (content : A → Option (List ℕ)) (spawned : P → Option (List Act)) (disks : Disks) (folder : List ℕ) (h : Header) (m : ℕ) (lent held : Option (List Lending)) (g : OwnGround V C P D W G A)
+pub small_place : {V O C P D W G A : Type 0} (content : A → Option (List ℕ)) (spawned : P → Option (List Act)) (disks : Disks) (folder : List ℕ) (h : Header) (m : ℕ) (lent held : Option (List Lending)) (g : OwnGround V O C P D W G A)
     → IsOwnGround content spawned disks folder h m lent held g → g.place + 1 < 2 ^ 32
 small_place content spawned disks folder h m lent held g is = subst (λ (k : ℕ). k < 2 ^ 32) is.numbered is.small
 
-pub own_setting : {V C P D W G A : Type 0} (content : A → Option (List ℕ)) (spawned : P → Option (List Act)) (commands : Header → List (Form Command)) (disks : Disks) (folder : List ℕ) (h : Header) (m : ℕ)
-    (lent held : Option (List Lending)) (g : OwnGround V C P D W G A) → SitesAreSettings → ((header : Header) → IsHeader header → ReadsCommands commands header) → IsOwnGround content spawned disks folder h m lent held g
+pub own_setting : {V O C P D W G A : Type 0} (content : A → Option (List ℕ)) (spawned : P → Option (List Act)) (commands : Header → List (Form Command)) (disks : Disks) (folder : List ℕ) (h : Header) (m : ℕ)
+    (lent held : Option (List Lending)) (g : OwnGround V O C P D W G A) → SitesAreSettings → ((header : Header) → IsHeader header → ReadsCommands commands header) → IsOwnGround content spawned disks folder h m lent held g
     → IsSetting (begun_with commands g.header g.ready.site)
 own_setting content spawned commands disks folder h m lent held g sites reads is = sites commands g.header is.lawful (reads g.header is.lawful) m g.ready.site is.site
 
@@ -163,8 +163,8 @@ text_is (Ok t) text items first due same none is = same ∙ is ∙ ap (λ (xs : 
 text_is (Err e) text items first due same none is = tt
 
 -- The areas of a machine that is ready stand, and so do the disks, with their sizes.
-pub place_stands : {V C P D W G A O : Type 0} (content : A → Option (List ℕ)) (spawned : P → Option (List Act)) (disks : Disks) (folder : List ℕ) (h : Header) (m : ℕ)
-    (lent held : Option (List Lending)) (r : Result (OwnGround V C P D W G A × O) NoPlace) → PreludeAll (HasSize disks folder) h.disks
+pub place_stands : {V O C P D W G A T : Type 0} (content : A → Option (List ℕ)) (spawned : P → Option (List Act)) (disks : Disks) (folder : List ℕ) (h : Header) (m : ℕ)
+    (lent held : Option (List Lending)) (r : Result (OwnGround V O C P D W G A × T) NoPlace) → PreludeAll (HasSize disks folder) h.disks
     → IfOk r (λ own. IsOwnGround content spawned disks folder h m lent held own.0) → OnOk r (IsPlaceOf disks folder h)
 place_stands content spawned disks folder h m lent held (Ok own) sizes is =
     record { sizes = sizes; areas = areas_stand content disks folder h m h.disks own.0.ready.parts.delta.items lent is.had.delta_lent is.had.delta }

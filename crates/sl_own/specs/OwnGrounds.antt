@@ -120,8 +120,8 @@ pub record IsPlaceOf (disks : Disks) (folder : List ℕ) (h : Header) : Type 0 w
 
 -- The header is the given one but for its clocks, and a header still; the machine has its number and the site that the header gives it; and its areas
 -- are of these disks, on which the worker of the ids' records found all that the header has there. The devices handed out just these, and a spawner.
-pub record IsOwnGround {V C P D W G A : Type 0} (content : A → Option (List ℕ)) (spawned : P → Option (List Act)) (disks : Disks) (folder : List ℕ) (h : Header) (machine : ℕ)
-    (lent held : Option (List Lending)) (g : OwnGround V C P D W G A) : Type 0 where
+pub record IsOwnGround {V O C P D W G A : Type 0} (content : A → Option (List ℕ)) (spawned : P → Option (List Act)) (disks : Disks) (folder : List ℕ) (h : Header) (machine : ℕ)
+    (lent held : Option (List Lending)) (g : OwnGround V O C P D W G A) : Type 0 where
   pub lawful : IsHeader g.header
   pub same : g.header ≡ record h { clocks = g.header.clocks }
   pub numbered : machine ≡ g.place + 1

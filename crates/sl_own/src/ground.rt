@@ -93,7 +93,7 @@ fn watch_if<V: StandingDevices>(
     watchdog: Option<&str>,
     devices: &mut V,
 ) -> Result<Option<V::Watchdog>, NoPlace>
-    ensures opened { IfOk result (IsOpened V.Watchdog.path V.Watchdog.rested (option_map (λ w. w.now) watchdog)) }
+    ensures opened { IfOk result (IsOpened V.Watchdog.path V.Watchdog.rested (option_map (λ w. w.now) watchdog.entry)) }
     ensures same { V.Devices.disks devices.new ≡ V.Devices.disks devices.old }
     ensures lendings { V.Devices.lendings devices.new ≡ V.Devices.lendings devices.old }
     ensures not { (disks : Disks) (folder : List ℕ) (h : HeaderOf) → IfErr result (NotLent disks folder h Delta (V.Devices.faults devices.old) (V.Devices.faults devices.new)) }
@@ -101,8 +101,9 @@ fn watch_if<V: StandingDevices>(
 {
     match watchdog {
         Some(path) => {
-            let path = String::from_str(alloc, path)?;
-            Ok(Some(devices.watch(path)?))
+            let text = String::from_str(alloc, path)?;
+            let device = devices.watch(text)?;
+            Ok(Some(device))
         }
         None => Ok(None),
     }
@@ -121,7 +122,7 @@ fn start_watched<V: StandingDevices>(
     ensures lawful { IfOk result (λ s. IsHeader s.0.header) }
     ensures same { IfOk result (λ s. s.0.header ≡ record header { clocks = s.0.header.clocks }) }
     ensures site { IfOk result (λ s. IsSiteOf s.0.header machine (session_of s.0.header machine) s.0.site) }
-    ensures opened { IfOk result (λ s. IsOpened V.Watchdog.path V.Watchdog.rested (option_map (λ w. w.now) watchdog) s.1) }
+    ensures opened { IfOk result (λ s. IsOpened V.Watchdog.path V.Watchdog.rested (option_map (λ w. w.now) watchdog.entry) s.1) }
     ensures lendings { V.Devices.lendings devices.new ≡ V.Devices.lendings devices.old }
     ensures not { (disks : Disks) (folder : List ℕ) (h : HeaderOf) → IfErr result (NotLent disks folder h Delta (V.Devices.faults devices.old) (V.Devices.faults devices.new)) }
     ensures later { V.Devices.faults devices.old ≤ V.Devices.faults devices.new }
@@ -210,7 +211,7 @@ pub(crate) fn prepare_own<V: StandingDevices>(
     requires header { IsHeader header }
     requires machine { (1 ≤ machine) × (machine ≤ header.machines) }
     ensures ok { IfOk result (λ own. IsOwnGround V.Area.content V.Spawner.acts (V.Devices.disks devices.old) folder.now header machine (V.Devices.lendings devices.old) (V.Devices.lendings devices.new) own.0) }
-    ensures opened { IfOk result (λ own. IsOpened V.Watchdog.path V.Watchdog.rested (option_map (λ w. w.now) watchdog) own.1) }
+    ensures opened { IfOk result (λ own. IsOpened V.Watchdog.path V.Watchdog.rested (option_map (λ w. w.now) watchdog.entry) own.1) }
     ensures not { IfErr result (NotLent (V.Devices.disks devices.old) folder.now header Delta (V.Devices.faults devices.old) (V.Devices.faults devices.new)) }
     ensures later { V.Devices.faults devices.old ≤ V.Devices.faults devices.new }
 {

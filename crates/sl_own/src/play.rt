@@ -86,11 +86,13 @@ fn rest_one<W: Watchdog>(in_order: bool, device: W) -> W
     ensures rests { in_order ≡ true → W.rested result ≡ true }
     ensures stays { in_order ≡ false → result ≡ device }
 {
-    let mut device = device;
     if in_order {
+        let mut device = device;
         device.rest();
+        device
+    } else {
+        device
     }
-    device
 }
 
 /// Runs the machine of this ground, beside the lines that are still to be read, as a script of this origin.
@@ -224,7 +226,7 @@ fn begin<V: StandingDevices>(
     requires header { IsHeader header }
     requires machine { (1 ≤ manner.machine) × (manner.machine ≤ header.machines) }
     ensures ok { IfOk result (λ own. IsOwnGround V.Area.content V.Spawner.acts (V.Devices.disks devices.old) folder.now header manner.machine (V.Devices.lendings devices.old) (V.Devices.lendings devices.new) own.0) }
-    ensures opened { IfOk result (λ own. IsOpened V.Watchdog.path V.Watchdog.rested (option_map (λ w. w.now) watchdog) own.1) }
+    ensures opened { IfOk result (λ own. IsOpened V.Watchdog.path V.Watchdog.rested (option_map (λ w. w.now) watchdog.entry) own.1) }
     ensures place { OnOk result (IsPlaceOf (V.Devices.disks devices.old) folder.now header) }
     ensures bars { IfErr result (Bars (V.Devices.disks devices.old) folder.now header manner.machine (V.Devices.faults devices.old) (V.Devices.faults devices.new)) }
     ensures later { V.Devices.faults devices.old ≤ V.Devices.faults devices.new }
@@ -272,7 +274,7 @@ where
     requires machine { 1 ≤ manner.machine }
     requires reads { (h : HeaderOf) → IsHeader h → ReadsCommands D.Daemon.commands h }
     requires ends { EndStands (S.left source) reader }
-    ensures rests { RestsOwn V.Watchdog.path V.Watchdog.rested (option_map (λ w. w.now) watchdog)
+    ensures rests { RestsOwn V.Watchdog.path V.Watchdog.rested (option_map (λ w. w.now) watchdog.entry)
         (HasLived D.Daemon.stands D.Daemon.commands (record { content = V.Area.content; faults = V.Area.faults; acts = V.Spawner.acts }) (V.Devices.disks devices.old) folder.now (V.Devices.lendings devices.old) (V.Devices.lendings devices.new) manner.machine) result.3 result.0 }
     ensures owes { (first : Option (List ℕ)) → HeaderBegins first (S.left source) reader header
         → OwesOwn D.Daemon.stands D.Daemon.commands (record { content = V.Area.content; faults = V.Area.faults; acts = V.Spawner.acts }) (V.Devices.disks devices.old) folder.now manner first (S.left result.1) (K.taken sink) (K.taken result.2) (S.faults source) (S.faults result.1)
@@ -327,7 +329,7 @@ where
     requires machine { 1 ≤ manner.machine }
     requires reads { (h : HeaderOf) → IsHeader h → ReadsCommands D.Daemon.commands h }
     requires headers { HeadersAreGood whole_language }
-    ensures rests { RestsOwn V.Watchdog.path V.Watchdog.rested (option_map (λ w. w.now) watchdog)
+    ensures rests { RestsOwn V.Watchdog.path V.Watchdog.rested (option_map (λ w. w.now) watchdog.entry)
         (HasLived D.Daemon.stands D.Daemon.commands (record { content = V.Area.content; faults = V.Area.faults; acts = V.Spawner.acts }) (V.Devices.disks devices.old) folder.now (V.Devices.lendings devices.old) (V.Devices.lendings devices.new) manner.machine) result.3 result.0 }
     ensures owes { OwesOwn D.Daemon.stands D.Daemon.commands (record { content = V.Area.content; faults = V.Area.faults; acts = V.Spawner.acts }) (V.Devices.disks devices.old) folder.now manner (S.left source) (S.left result.1) (K.taken sink) (K.taken result.2) (S.faults source) (S.faults result.1)
         (K.faults sink) (K.faults result.2) (V.Devices.faults devices.old) (V.Devices.faults devices.new) (V.Devices.lendings devices.old) (V.Devices.lendings devices.new) result.0 }

@@ -1,6 +1,7 @@
 -- What may come at an input is the answer of an open call; and a read of all ids gives their sectors.
 use Rattle.sl_area.specs.AreaSizes.{IsGeometry, Layout, Sizes}
 use Rattle.sl_area.specs.AreaLayout.{read_at}
+use Rattle.sl_delta.proofs.PurposeLaws.{survey_is}
 use Rattle.sl_due.specs.Steps.{Step, seen}
 use Rattle.sl_host_law.proofs.Answers.AnswersSetFree.{of_trace}
 use Rattle.sl_host_law.proofs.StepParts.ExpectedIsOpen.{expected_is_open}
@@ -27,8 +28,7 @@ use Rattle.sl_step_law.proofs.CallsOfMembers.{calls_are_theirs}
 use Rattle.sl_step_law.specs.Answers.{AnswersAreKnown, IsOfBytes}
 use Rattle.sl_step_law.specs.ReadyHosts.{IsReady}
 use Rattle.sl_trace.specs.Traces.{Submitted, submitted}
-use Rattle.sl_trace.specs.declared.effects.Purpose.TheVariants.{Joining, Lease, Leaving, Renewal, RequestRead, RequestWrite, SeeRequest, Survey, ValueRead, ValueWrite}
-use Rattle.sl_trace.specs.declared.effects.Purpose.{Purpose}
+use Rattle.sl_trace.specs.declared.effects.Purpose.TheVariants.{Survey}
 use Rattle.sl_trace.specs.declared.input.Answer.TheVariants.{Failed, Read, Written}
 use Rattle.sl_trace.specs.declared.input.Answer.{Answer}
 use Rattle.sl_run_law.proofs.Sessions.CallOwners.{calls_were_lawful}
@@ -126,19 +126,6 @@ id_sectors g bytes geometry long all = record { within = within; beyond = beyond
     differs d n is from = grind (arith, nat_tests)
 
 -- ---- the answer
-
--- A purpose of a survey is a survey's.
-survey_is : (p : Purpose) → is_survey_purpose p ≡ true → Survey ≡ p
-survey_is Survey e = refl
-survey_is (Joining j step) e = absurd cc
-survey_is Renewal e = absurd cc
-survey_is (Leaving j) e = absurd cc
-survey_is (Lease work step) e = absurd cc
-survey_is (RequestRead j) e = absurd cc
-survey_is (RequestWrite j owner) e = absurd cc
-survey_is SeeRequest e = absurd cc
-survey_is (ValueWrite j) e = absurd cc
-survey_is (ValueRead j) e = absurd cc
 
 module _ (h : HostState) (x : Step) (r : IsReady h x) where
   -- A read of all ids asks for them all.
