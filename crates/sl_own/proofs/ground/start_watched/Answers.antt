@@ -12,6 +12,6 @@ returns-in_err-start-clause-not g c disks folder h = err_on c.from_residual.resu
 pub returns-in_err-watchdog-clause-not : goal.returns-in_err-watchdog-clause-not
 returns-in_err-watchdog-clause-not g c disks folder h =
     let first = g.V.Devices.faults c.args.devices.now in
-    let last = g.V.Devices.faults c.watch_if-watchdog.new.devices in
+    let last = g.V.Devices.faults c.watch_if.new.devices in
     err_on c.from_residual-in_err-watchdog.result c.in_err-watchdog.field-0.0 (NotLent disks folder h Delta first last) c.from_residual-in_err-watchdog.ensures.1
-    (not_lent_on disks folder h Delta (g.V.Devices.faults c.start_of-start.new.devices) last first last _ (rose_behind first _ last c.start_of-start.ensures.count) (c.in_err-watchdog.ensures.not disks folder h))
+    (not_lent_on disks folder h Delta (g.V.Devices.faults c.start_of.new.devices) last first last _ (rose_behind first _ last c.start_of.ensures.count) (c.in_err-watchdog.ensures.not disks folder h))
