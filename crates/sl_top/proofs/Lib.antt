@@ -8,3 +8,4 @@ pub mod LiveLaws
 pub mod OwnLaws
 pub mod PictureLaws
 pub mod StoryLaws
+pub mod WatchLaws
