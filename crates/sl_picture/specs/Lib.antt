@@ -1,4 +1,5 @@
 pub mod Said
+pub mod HeldBars
 pub mod Fates
 pub mod Kept
 pub mod Events

@@ -16,6 +16,7 @@ mod bars;
 mod events;
 mod fates;
 mod kept;
+pub mod laws;
 mod layout;
 mod page;
 mod said;

@@ -1,0 +1,3 @@
+pub mod BarsBegin
+pub mod BarsStay
+pub mod LinesMove
