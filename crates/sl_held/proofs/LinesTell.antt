@@ -202,6 +202,14 @@ reset_gives_none w m (Some a) = refl
 
 -- ---- an event
 
+-- What the machine of an event holds behind it, and that it held what ended.
+record HeldThen (later : World) (n : ℕ) (fx : Effects) (a : Machine) : Type 0 where
+  machine : Machine
+  there : machine_at later n ≡ Some machine
+  holds : machine.holdings ≡ held_after fx a.holdings
+  ends : (y : End) → Contains fx.ends y → (g : Grant) × Contains a.holdings g × (end_of g ≡ y)
+
+
 module _ (p : Program) (h : Header) (now : List Happening) (x : Happening) (run : LawfulRun p h (now ++ x ∷ [])) where
   abbrev w : World
   w = world_at p h now
@@ -231,12 +239,6 @@ module _ (p : Program) (h : Header) (now : List Happening) (x : Happening) (run 
   itself : (a : Machine) → machine_at w n ≡ Some a → input_of w e ≡ None → one.effects ≡ own_effects w e a
   itself a at none = one.own none ∙ ap (λ o. option_map_or (own_effects w e) o no_effects) at
 
-  record HeldThen (a : Machine) : Type 0 where
-    machine : Machine
-    there : machine_at later n ≡ Some machine
-    holds : machine.holdings ≡ held_after one.effects a.holdings
-    ends : (y : End) → Contains one.effects.ends y → (g : Grant) × Contains a.holdings g × (end_of g ≡ y)
-
   kept_held : (a b : Machine) → machine_at w n ≡ Some a → KeptThen w e n a b → held_after one.effects b.holdings ≡ held_after one.effects a.holdings
   kept_held a b at (inl same) = ap (held_after one.effects) same
   kept_held a b at (inr gone) =
@@ -244,7 +246,7 @@ module _ (p : Program) (h : Header) (now : List Happening) (x : Happening) (run 
       let fx : one.effects ≡ ends_of a.holdings = itself a at none ∙ ap (λ (y : Event). own_effects w y a) gone.0 in
       ap (held_after one.effects) gone.1 ∙ ap (λ (f : Effects). held_after f []) fx ∙ all_end a.holdings ∙ sym (ap (λ (f : Effects). held_after f a.holdings) fx)
 
-  by_daemon : (a b : Machine) (i : Input) → machine_at w n ≡ Some a → machine_at (next_step (first_change e w)) n ≡ Some b → Turned w e n a b → input_of w e ≡ Some i → HeldThen a
+  by_daemon : (a b : Machine) (i : Input) → machine_at w n ≡ Some a → machine_at (next_step (first_change e w)) n ≡ Some b → Turned w e n a b → input_of w e ≡ Some i → HeldThen later n one.effects a
   by_daemon a b i at between turned input =
       let v : World = next_step (first_change e w) in
       let stamp : Stamp = stamp_now v b in
@@ -269,7 +271,7 @@ module _ (p : Program) (h : Header) (now : List Happening) (x : Happening) (run 
         ends = λ y has. let l : LawfulEnding d.setting d.trace entry y = law.ends.0.each y has in (l.holding, subst (λ (gs : List Grant). Contains gs l.holding) (sym holds) l.held, l.told);
       }
 
-  by_itself : (a b : Machine) → machine_at w n ≡ Some a → machine_at (next_step (first_change e w)) n ≡ Some b → Turned w e n a b → input_of w e ≡ None → HeldThen a
+  by_itself : (a b : Machine) → machine_at w n ≡ Some a → machine_at (next_step (first_change e w)) n ≡ Some b → Turned w e n a b → input_of w e ≡ None → HeldThen later n one.effects a
   by_itself a b at between turned none =
       let v : World = next_step (first_change e w) in
       let fx : Effects = one.effects in
@@ -280,11 +282,11 @@ module _ (p : Program) (h : Header) (now : List Happening) (x : Happening) (run 
         ends = λ y has. own_ends w e a y (subst (λ (f : Effects). Contains f.ends y) (itself a at none) has);
       }
 
-  held_then : (a : Machine) → machine_at w n ≡ Some a → HeldThen a
+  held_then : (a : Machine) → machine_at w n ≡ Some a → HeldThen later n one.effects a
   held_then a at = by (input_of w e) refl where
     q = becomes w e one.effects may n a at
 
-    by : (o : Option Input) → input_of w e ≡ o → HeldThen a
+    by : (o : Option Input) → input_of w e ≡ o → HeldThen later n one.effects a
     by None none = by_itself a q.2.middle at q.2.between q.2.turned none
     by (Some i) input = by_daemon a q.2.middle i at q.2.between q.2.turned input
 
@@ -317,7 +319,7 @@ module _ (p : Program) (h : Header) (now : List Happening) (x : Happening) (run 
     where
       here : (a : Machine) → machine_at w n ≡ Some a → after_lines n (event_lines w e (one.effects ∷ [])) (held_on w n) ≡ held_on later n
       here a at =
-          let t : HeldThen a = held_then a at in
+          let t : HeldThen later n one.effects a = held_then a at in
           ap (λ o. after_lines n (event_lines w e (one.effects ∷ [])) (map row_of (option_map_or (λ (y : Machine). y.holdings) o []))) at
           ∙ event_own w e one.effects a a.holdings at (few_machines p h now before n a at) (ends_tell w n a at names once one.effects.ends t.ends)
           (λ g new. then.spelt (holding n g)
