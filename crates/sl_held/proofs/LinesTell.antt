@@ -293,8 +293,8 @@ module _ (p : Program) (h : Header) (now : List Happening) (x : Happening) (run 
   -- Another machine holds what it held.
   same_elsewhere : (m : ℕ) → (n ≡ m → ⊥) → held_on later m ≡ held_on w m
   same_elsewhere m other = ap (map row_of) (by (machine_at later m) refl (machine_at w m) refl) where
-    of : Option Machine → List Grant
-    of o = option_map_or (λ (y : Machine). y.holdings) o []
+    grants_of : Option Machine → List Grant
+    grants_of o = option_map_or (λ (y : Machine). y.holdings) o []
 
     kept : (a b : Machine) → KeptThen w e m a b → b.holdings ≡ a.holdings
     kept a b (inl same) = same
@@ -305,10 +305,10 @@ module _ (p : Program) (h : Header) (now : List Happening) (x : Happening) (run 
     still b c (Alone none here is) = absurd (other (sym here))
     still b c (Took i has here is) = absurd (other (sym here))
 
-    by : (o : Option Machine) → machine_at later m ≡ o → (u : Option Machine) → machine_at w m ≡ u → of o ≡ of u
+    by : (o : Option Machine) → machine_at later m ≡ o → (u : Option Machine) → machine_at w m ≡ u → grants_of o ≡ grants_of u
     by o is (Some a) at =
         let q = becomes w e one.effects may m a at in
-        ap of (sym is ∙ ap (λ v. machine_at v m) after ∙ q.1) ∙ still q.2.middle q.0 q.2.stepped ∙ kept a q.2.middle (kept_then w e m a q.2.middle q.2.turned)
+        ap grants_of (sym is ∙ ap (λ v. machine_at v m) after ∙ q.1) ∙ still q.2.middle q.0 q.2.stepped ∙ kept a q.2.middle (kept_then w e m a q.2.middle q.2.turned)
     by None is None at = refl
     by (Some c) is None at = absurd (none_some (was_before p h now x run m c is).0 (sym at ∙ (was_before p h now x run m c is).1.at))
 

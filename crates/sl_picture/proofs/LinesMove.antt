@@ -9,7 +9,7 @@ use Rattle.sl_picture.specs.Said.{number_at, text_behind, two_parts, word_at}
 use Rattle.sl_picture.specs.Tells.{all_told, call_of, connected, granted, happening, is_silent, mode_of, noted, renewed, replied, signal_of, silence, stepped, submitted, taken, test_of, told, told_of, with_column, with_line}
 use Rattle.sl_picture.specs.declared.events.Verb.TheVariants as verb
 use Rattle.sl_picture.specs.declared.events.Verb.{Verb}
-use Rattle.sl_picture.specs.declared.fates.Deed.TheVariants.{CameUp, Crashed, Hidden, Released, Started, WentDown}
+use Rattle.sl_picture.specs.declared.fates.Deed.TheVariants.{CameUp, Crashed, Released, Removed, WentDown}
 use Rattle.sl_picture.specs.declared.fates.Deed.{Deed}
 use Rattle.sl_picture.specs.declared.kept.Part.{Part}
 use Rattle.sl_picture.specs.declared.shapes.Bar.{Bar}
