@@ -20,7 +20,7 @@ use Rattle.sl_words.proofs.CaseLaws.{is_false, true_is_false}
 use Rattle.sl_words.specs.Words.{first_of_list}
 use Rattle.std.proofs.Common.{ap, arith, refl, sym, ◌∙◌}
 use Rattle.std.proofs.lemmas.Bool.{and_from, eq-eqb, eqb-true}
-use Rattle.std.proofs.lemmas.List.Quantifiers.{list_all-append}
+use Rattle.std.proofs.lemmas.List.Folds.{list_all-append}
 use Rattle.std.specs.List.{join_with_byte, list_all}
 use Rattle.std.specs.Option.{option_map_or}
 use Rattle.std.specs.Prelude.{Bool, IsTrue, List, codes, decimal, drop, false, if◌then◌else◌, length, map, min, not, true, [], ℕ, ◌++◌, ◌-◌, ◌<◌, ◌==◌, ◌^◌, ◌∷◌, ◌≡◌}

@@ -356,9 +356,9 @@ module _ (p : Program) (h : Header) (now : List Happening) (x : Happening) (run 
 
 -- Nothing is held at first.
 none_first : (p : Program) (h : Header) (m : ℕ) → held_on (world_with p h) m ≡ []
+unfolding machine_of_header
 none_first p h m = ap (map row_of) (by (machine_at (world_with p h) m) refl) where
   empty : (m : ℕ) → (machine_of_header p (layout_with p.digest h.geometry) h m).holdings ≡ []
-  unfolding machine_of_header
   empty m = refl
 
   by : (o : Option Machine) → machine_at (world_with p h) m ≡ o → option_map_or (λ (y : Machine). y.holdings) o [] ≡ []

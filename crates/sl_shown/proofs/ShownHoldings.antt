@@ -13,8 +13,10 @@ use Rattle.sl_picture.specs.declared.kept.Part.{Part}
 use Rattle.sl_picture.specs.declared.shapes.Bar.{Bar}
 use Rattle.sl_picture.specs.declared.shapes.Shape.TheVariants as shape
 use Rattle.sl_picture.specs.declared.shapes.Shape.{Shape}
-use Rattle.sl_report.specs.Languages.{Language}
-use Rattle.sl_report.specs.OwedReports.{In_events, In_header, Promise, ReplayOf, SoundRun}
+use Rattle.sl_headline.specs.PromisedRuns.{PromisedRun}
+use Rattle.sl_play.proofs.Headers.HeadersAreGood.{headers_are_good}
+use Rattle.sl_report.specs.Languages.{Language, is_skipped, whole_language}
+use Rattle.sl_report.specs.OwedReports.{HeadersAreGood, In_events, In_header, Promise, ReplayOf, SoundRun}
 use Rattle.sl_report.specs.Reports.{Counts, end_line, no_counts, run_counts, run_lines}
 use Rattle.sl_report.specs.Schedules.{At_end, At_line, Ending, EventLine, Follows, IsAskOf, HeaderReading, Header_read, Header_refused, NumberedLine, event_line, event_lines_of, event_or_syntax, line_refusal, numbered_lines, read_header, replay_from, replay_lines, report_of, status_of}
 use Rattle.sl_report.specs.ReadLines.{event_in}
@@ -23,20 +25,22 @@ use Rattle.sl_run.specs.Conflicts.{Holding, IsExclusive, conflicts, has_conflict
 use Rattle.sl_run.specs.EventChanges.{happens}
 use Rattle.sl_run.specs.Inputs.{asking}
 use Rattle.sl_run.specs.Refusals.{may_happen}
-use Rattle.sl_run.specs.Runs.{EachDaemon, Happening}
+use Rattle.sl_run.specs.Runs.{AfterEachFront, Happening}
 use Rattle.sl_run.specs.Safety.{LawfulRun, world_at}
-use Rattle.sl_run.specs.Worlds.{Machine, World, machine_at, world_with}
+use Rattle.sl_run.specs.Worlds.{Machine, World, machine_at, whole_program, world_with}
 use Rattle.sl_run.specs.declared.event.Event.{Event}
 use Rattle.sl_run.specs.declared.event.Refusal.{Refusal}
 use Rattle.sl_run.specs.declared.header.Header.{Header}
 use Rattle.sl_run_law.proofs.Front.JoinedLists.{contains_left, contains_right}
+use Rattle.sl_sector.proofs.WrittenBytes.{sha256_is_digest}
+use Rattle.sl_sector.specs.SectorLayouts.{IsDigest}
 use Rattle.sl_shown.proofs.WholeLines.{WholeLines, before_end, lines_are_whole, lines_before_end, lines_joined}
-use Rattle.sl_shown.specs.ShownHoldings.{AreDrawn, AreOfOne, BarsAreHoldings, BarsAreShared, IsGood, IsRunOf, IsToldByNames, ShowsHoldings}
+use Rattle.sl_shown.specs.ShownHoldings.{AreOfOne, BarsAreHoldings, BarsAreShared, IsShown, ShowsHoldings}
 use Rattle.sl_sound.proofs.OwedGrows.{replay_grows}
 use Rattle.sl_sound.proofs.Reports.OneReport.{runs_have_one_report}
 use Rattle.sl_sound.specs.MadeRuns.{ServedRun}
 use Rattle.sl_text.proofs.LineLaws.{lines_of-as_bytes}
-use Rattle.sl_text.specs.Forms.{as_bytes, lines_of}
+use Rattle.sl_text.specs.Forms.{as_bytes, is_free_of, lines_of}
 use Rattle.sl_trace.specs.EffectTexts.{of_resource}
 use Rattle.sl_trace.specs.Traces.{is_shared, same_place}
 use Rattle.sl_trace.specs.declared.effects.Grant.{Grant}
@@ -50,9 +54,25 @@ use Rattle.std.proofs.lemmas.Bool.{and_from, eq-eqb, eqb-true}
 use Rattle.std.proofs.lemmas.List.Elements.{filter_map-append}
 use Rattle.std.proofs.lemmas.List.Sums.{fold-append}
 use Rattle.std.proofs.lemmas.List.{append-nil, append_assoc, append_cancel_left}
-use Rattle.std.specs.List.{cons_option, list_any}
+use Rattle.std.specs.List.{cons_option, list_all, list_any}
 use Rattle.std.specs.Option.{option_map_or, option_to_list}
 use Rattle.std.specs.Prelude.{Bool, Contains, Err, IsTrue, List, None, Ok, Option, Result, Some, false, filter, filter_map, map, not, suc, true, zero, [], ℕ, ◌&&◌, ◌++◌, ◌==◌, ◌∷◌, ◌≡◌, ◌≤◌, ◌⊎◌, ◌||◌}
+
+-- ---- of whatever language
+
+-- A language whose headers are good, whose digests have 32 bytes, and in which empty lines and comments say nothing.
+record IsGood (lang : Language) : Type 0 where
+  headers : HeadersAreGood lang
+  digest : IsDigest lang.program.digest
+  skips : (text : List ℕ) → is_silent text ≡ true → lang.skips text ≡ true
+
+-- The run of these lines.
+record IsRunOf (lang : Language) (h : Header) (steps : List Step) (xs : List Happening) : Type 0 where
+  follows : Follows (world_with lang.program h) (event_lines_of lang h (lines_of_steps steps)) xs At_end
+  served : ServedRun lang.program h xs
+
+abbrev AreDrawn : Part → List Step → Type 0
+AreDrawn part steps = (s : Step) → Contains steps s → s.line.number ≤ part.last
 
 -- ---- what a front is told
 
@@ -214,8 +234,10 @@ shows_told lang part source h (s ∷ ss) good told drawn_all =
       (ap (λ (ls : List (List ℕ)). after_lines m ls []) (lines_joined (told_of_steps ss) s.told whole) ∙ fold-append _ [] (lines_of (told_of_steps ss)) (lines_of s.told)),
     )
 
-pub bars_are_holdings : BarsAreHoldings
-bars_are_holdings lang part source h steps xs good told drawn_all run tells m =
+shows_held : (lang : Language) (part : Part) (source : List ℕ) (h : Header) (steps : List Step) (xs : List Happening) → IsGood lang → AreTold ServedRun lang source h steps
+    → AreDrawn part steps → IsRunOf lang h steps xs → IsTrue (list_all (is_free_of 10) (run_lines (world_with lang.program h) xs))
+    → AfterEachFront xs (λ now. NamesTell (world_at lang.program h now)) → ShowsHoldings (drawn part h steps) (world_at lang.program h xs)
+shows_held lang part source h steps xs good told drawn_all run lines names m =
     let t : IsTold ServedRun lang source h steps = told_first ServedRun lang source h steps told in
     let lawful : LawfulRun lang.program h xs =
     record {
@@ -226,8 +248,37 @@ bars_are_holdings lang part source h steps xs good told drawn_all run tells m =
     } in
     (shows_told lang part source h steps good told drawn_all).2 m
     ∙ ap (λ (bs : List ℕ). after_lines m (lines_of bs) []) (told_by lang h steps good source xs t run)
-    ∙ ap (λ (ls : List (List ℕ)). after_lines m ls []) (lines_of-as_bytes (run_lines (world_with lang.program h) xs) tells.lines)
-    ∙ lines_tell_holdings lang.program h xs lawful run.served.once tells.names m
+    ∙ ap (λ (ls : List (List ℕ)). after_lines m ls []) (lines_of-as_bytes (run_lines (world_with lang.program h) xs) lines)
+    ∙ lines_tell_holdings lang.program h xs lawful run.served.once names m
+
+-- ---- of the whole language
+
+silent_skips : (text : List ℕ) → is_silent text ≡ true → is_skipped text ≡ true
+silent_skips [] h = refl
+silent_skips (c ∷ cs) h = h
+
+whole_is_good : IsGood whole_language
+whole_is_good = record { headers = headers_are_good whole_program; digest = sha256_is_digest; skips = silent_skips }
+
+one_served : (source : List ℕ) (h : Header) (steps : List Step) → IsTold PromisedRun whole_language source h steps → IsTold ServedRun whole_language source h steps
+one_served source h steps t =
+    record {
+      front = t.front;
+      begins = t.begins;
+      header = t.header;
+      counts = t.counts;
+      report = replay_grows PromisedRun ServedRun whole_language whole_is_good.headers (λ i ys header promised. promised.served) t.front
+          (told_of_steps steps ++ as_bytes (end_line t.counts ∷ [])) 0 t.report;
+    }
+
+told_served : (source : List ℕ) (h : Header) (steps : List Step) → AreTold PromisedRun whole_language source h steps → AreTold ServedRun whole_language source h steps
+told_served source h [] t = one_served source h [] t
+told_served source h (s ∷ ss) t = (one_served source h (s ∷ ss) t.0, told_served source h ss t.1)
+
+pub bars_are_holdings : BarsAreHoldings
+bars_are_holdings part source h steps xs x =
+    shows_held whole_language part source h steps xs whole_is_good (told_served source h steps x.told) x.drawn_all
+    (record { follows = x.follows; served = x.promised.served }) x.lines x.names
 
 -- ---- two bars of one resource
 
@@ -287,14 +338,14 @@ shape_shared Exclusive h = absurd (false_is_true h)
 shape_shared Shared h = refl
 
 pub bars_are_shared : BarsAreShared
-bars_are_shared lang part source h steps xs good told drawn_all run tells a b one =
+bars_are_shared part source h steps xs shown a b one =
     let k : Kept = drawn part h steps in
-    let w : World = world_at lang.program h xs in
-    let shows : ShowsHoldings k w = bars_are_holdings lang part source h steps xs good told drawn_all run tells in
+    let w : World = world_at whole_program h xs in
+    let shows : ShowsHoldings k w = bars_are_holdings part source h steps xs shown in
     let x : StandsFor w k a = stands_for w k shows a one.opened.0 one.held.0 in
     let y : StandsFor w k b = stands_for w k shows b one.opened.1 one.held.1 in
-    let names : NamesTell w = tells.names xs [] (sym (append-nil xs)) in
-    let safe : IsExclusive w = run.served.sound.safe xs [] (sym (append-nil xs)) in
+    let names : NamesTell w = shown.names xs [] (sym (append-nil xs)) in
+    let safe : IsExclusive w = shown.promised.served.sound.safe xs [] (sym (append-nil xs)) in
     let same : of_resource x.held.lockspace x.held.resource ≡ of_resource y.held.lockspace y.held.resource =
     ap (λ (r : Row). r.resource) x.row ∙ one.resource ∙ sym (ap (λ (r : Row). r.resource) y.row) in
     let place = names.place (holding a.machine x.held) (holding b.machine y.held) x.there y.there same in
