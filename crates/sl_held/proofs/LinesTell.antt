@@ -209,7 +209,6 @@ record HeldThen (later : World) (n : ℕ) (fx : Effects) (a : Machine) : Type 0 
   holds : machine.holdings ≡ held_after fx a.holdings
   ends : (y : End) → Contains fx.ends y → (g : Grant) × Contains a.holdings g × (end_of g ≡ y)
 
-
 module _ (p : Program) (h : Header) (now : List Happening) (x : Happening) (run : LawfulRun p h (now ++ x ∷ [])) where
   abbrev w : World
   w = world_at p h now

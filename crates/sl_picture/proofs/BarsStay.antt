@@ -106,12 +106,11 @@ one_more_in b k inside names c has =
     ]
 
 pub begun : (b : Bar) (k : Kept) → is_holding b.shape ≡ false → IsIn k.texts b.name → Stays k (begun_with b k)
-begun b k other inside part rows s =
-    (
-      s.0,
-      one_more_in b k inside s.1,
-      λ m. rows_more k.texts m k.opened b ∙ ap (λ (rs : List Row). bars_on k m ++ rs) (unshown k.texts m b [] (no_row m b other)) ∙ append-nil (bars_on k m) ∙ s.2 m,
-    )
+begun b k other inside part rows s = (
+  s.0,
+  one_more_in b k inside s.1,
+  λ m. rows_more k.texts m k.opened b ∙ ap (λ (rs : List Row). bars_on k m ++ rs) (unshown k.texts m b [] (no_row m b other)) ∙ append-nil (bars_on k m) ∙ s.2 m,
+)
 
 -- The rows of a machine with one more.
 abbrev pub with_row : ℕ → Row → (ℕ → List Row) → ℕ → List Row
@@ -119,13 +118,12 @@ with_row m r rows n = if m == n then rows n ++ r ∷ [] else rows n
 
 pub holding_begun : (b : Bar) (k : Kept) (part : Part) (rows : ℕ → List Row) → is_holding b.shape ≡ true → IsIn k.texts b.name → Shows part k rows
     → Shows part (begun_with b k) (with_row b.machine (row_of_bar k.texts b) rows)
-holding_begun b k part rows held inside s =
-    (
-      s.0,
-      one_more_in b k inside s.1,
-      λ m. rows_more k.texts m k.opened b
+holding_begun b k part rows held inside s = (
+  s.0,
+  one_more_in b k inside s.1,
+  λ m. rows_more k.texts m k.opened b
       ∙ ap (λ (t : Bool). bars_on k m ++ map (row_of_bar k.texts) (cond (t && (b.machine == m)) (b ∷ []) [])) held ∙ by m (b.machine == m),
-    )
+)
   where
     by : (m : ℕ) (t : Bool) → bars_on k m ++ map (row_of_bar k.texts) (cond t (b ∷ []) []) ≡ (if t then rows m ++ row_of_bar k.texts b ∷ [] else rows m)
     by m true = ap (λ (rs : List Row). rs ++ row_of_bar k.texts b ∷ []) (s.2 m)
@@ -195,12 +193,11 @@ named b (Some c) left d is = subst (λ (x : Bar). x.name ≡ b.name) (some_value
 
 pub happens_quietly : (a : Act) (name : List ℕ) (k : Kept) → ((b : Bar) → Leaves b (fate_of a name k b).stays) → Stays k (happened a name k)
 unfolding happened
-happens_quietly a name k leaves part rows s =
-    (
-      s.0,
-      left_names k.texts (λ b. (fate_of a name k b).stays) k.opened (λ b d is. named b (fate_of a name k b).stays (leaves b) d is) s.1,
-      λ m. left_rows k.texts m (λ b. (fate_of a name k b).stays) k.opened leaves ∙ s.2 m,
-    )
+happens_quietly a name k leaves part rows s = (
+  s.0,
+  left_names k.texts (λ b. (fate_of a name k b).stays) k.opened (λ b d is. named b (fate_of a name k b).stays (leaves b) d is) s.1,
+  λ m. left_rows k.texts m (λ b. (fate_of a name k b).stays) k.opened leaves ∙ s.2 m,
+)
 
 -- ---- by what happens
 

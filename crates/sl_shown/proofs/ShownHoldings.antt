@@ -225,13 +225,12 @@ shows_told lang part source h (s ∷ ss) good told drawn_all =
     let rest = shows_told lang part source h ss good told.1 (λ x has. drawn_all x (contains_more s ss x has)) in
     let moved =
     lines_move_bars part s.line.number s.line.text s.told (drawn part h ss) (λ m. after_lines m (lines_of (told_of_steps ss)) []) (drawn_all s (contains_first s ss))
-    (λ silent. ap lines_of (told_nothing lang h good source s ss silent told.0 before)) rest in
-    (
+    (λ silent. ap lines_of (told_nothing lang h good source s ss silent told.0 before)) rest in (
       moved.0,
       moved.1,
       λ m. moved.2 m
-      ∙ sym
-      (ap (λ (ls : List (List ℕ)). after_lines m ls []) (lines_joined (told_of_steps ss) s.told whole) ∙ fold-append _ [] (lines_of (told_of_steps ss)) (lines_of s.told)),
+          ∙ sym
+          (ap (λ (ls : List (List ℕ)). after_lines m ls []) (lines_joined (told_of_steps ss) s.told whole) ∙ fold-append _ [] (lines_of (told_of_steps ss)) (lines_of s.told)),
     )
 
 shows_held : (lang : Language) (part : Part) (source : List ℕ) (h : Header) (steps : List Step) (xs : List Happening) → IsGood lang → AreTold ServedRun lang source h steps
@@ -289,14 +288,14 @@ record StandsFor (w : World) (k : Kept) (b : Bar) : Type 0 where
   row : row_of held ≡ row_of_bar k.texts b
 
 stands_for : (w : World) (k : Kept) → ShowsHoldings k w → (b : Bar) → Contains k.opened b → is_holding b.shape ≡ true → StandsFor w k b
-stands_for w k shows b open held = by (machine_at w b.machine) refl where
+stands_for w k shows b opened held = by (machine_at w b.machine) refl where
   on : is_bar_on b.machine b ≡ true
   on = and_from (is_holding b.shape) (b.machine == b.machine) held (eq-eqb b.machine b.machine refl)
 
   shown : Contains (held_on w b.machine) (row_of_bar k.texts b)
   shown =
       subst (λ (rs : List Row). Contains rs (row_of_bar k.texts b)) (shows b.machine)
-      (contains_map (row_of_bar k.texts) (filter (is_bar_on b.machine) k.opened) b (kept (is_bar_on b.machine) k.opened b on open))
+      (contains_map (row_of_bar k.texts) (filter (is_bar_on b.machine) k.opened) b (kept (is_bar_on b.machine) k.opened b on opened))
 
   by : (o : Option Machine) → machine_at w b.machine ≡ o → StandsFor w k b
   by None is =
@@ -349,8 +348,7 @@ bars_are_shared part source h steps xs shown a b one =
     let same : of_resource x.held.lockspace x.held.resource ≡ of_resource y.held.lockspace y.held.resource =
     ap (λ (r : Row). r.resource) x.row ∙ one.resource ∙ sym (ap (λ (r : Row). r.resource) y.row) in
     let place = names.place (holding a.machine x.held) (holding b.machine y.held) x.there y.there same in
-    let both = and_true (is_shared x.held.mode) (is_shared y.held.mode) (both_shared w (holding a.machine x.held) (holding b.machine y.held) safe x.there y.there one.apart place) in
-    (
+    let both = and_true (is_shared x.held.mode) (is_shared y.held.mode) (both_shared w (holding a.machine x.held) (holding b.machine y.held) safe x.there y.there one.apart place) in (
       sym (ap (λ (r : Row). r.shape) x.row) ∙ shape_shared x.held.mode both.0,
       sym (ap (λ (r : Row). r.shape) y.row) ∙ shape_shared y.held.mode both.1,
     )
