@@ -1,5 +1,5 @@
 -- What a drawing owes, by its status.
-use Rattle.sl_draw.specs.Draws.{Breaks, Chokes, Draws, DrawingsAreOwed, Ends, IsDrawn, Lacks, Stops}
+use Rattle.sl_draw.specs.Draws.{Breaks, Chokes, DrawingsAreOwed, Ends, Lacks, Stops}
 use Rattle.sl_play.specs.declared.replay.Played.TheVariants.{Done, NoMemory, ReadFault, Refused, WriteFault}
 use Rattle.sl_run.specs.declared.header.Header.{Header}
 use Rattle.sl_text.specs.Forms.{Form}

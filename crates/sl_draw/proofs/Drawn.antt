@@ -1,6 +1,5 @@
 -- How a drawing ends: what it has read and written.
 use Rattle.sl_draw.proofs.DrawnLines.{ended_all, header_all, refused_all, stopped_all}
-use Rattle.sl_draw.specs.Drawings.{BeginsPicture, PictureOf}
 use Rattle.sl_draw.specs.Draws.{Breaks, Chokes, Drawing, Draws, DrawsAll, Ends, Lacks, Stops}
 use Rattle.sl_io.specs.FaultCauses.{Rose}
 use Rattle.sl_picture.specs.Kept.{Kept}
@@ -8,7 +7,7 @@ use Rattle.sl_picture.specs.Page.{picture_of}
 use Rattle.sl_picture.specs.declared.kept.Part.{Part}
 use Rattle.sl_play.proofs.LinesPlayed.{WholeIs, rose_later}
 use Rattle.sl_play.specs.Plays.{PlayState, PlaysOn, StopsAt}
-use Rattle.sl_play.specs.Replays.{All, Moved, Nothing, Part as PartOf, Puts, Running}
+use Rattle.sl_play.specs.Replays.{All, Moved, Nothing, Part as PartOf, Puts}
 use Rattle.sl_play.specs.declared.replay.Played.TheVariants.{Done, NoMemory, ReadFault, Refused, WriteFault}
 use Rattle.sl_play.specs.declared.replay.Played.{Played}
 use Rattle.sl_reader.proofs.HeaderSteps.{gives_so, gives_then}
@@ -21,11 +20,10 @@ use Rattle.sl_report.specs.Schedules.{event_line}
 use Rattle.sl_run.specs.Worlds.{World}
 use Rattle.sl_run.specs.declared.event.Refusal.{Refusal}
 use Rattle.sl_run.specs.declared.header.Header.{Header}
-use Rattle.sl_sound.specs.MadeRuns.{MadeRun}
 use Rattle.sl_text.specs.Forms.{Form, as_bytes}
 use Rattle.sl_trace.specs.Traces.{Setting, Trace}
 use Rattle.sl_trace.specs.declared.command.Command.{Command}
-use Rattle.std.proofs.Common.{Bool, List, Option, [], false, refl, subst, sym, true, ℕ, ◌++◌, ◌+◌, ◌∙◌, ◌∷◌, ◌≡◌, ◌≤◌}
+use Rattle.std.proofs.Common.{Bool, List, Option, [], false, refl, subst, sym, true, ℕ, ◌++◌, ◌+◌, ◌∷◌, ◌≡◌, ◌≤◌}
 use Rattle.std.proofs.KnownBytes.{Appends-nil}
 use Rattle.std.proofs.lemmas.List.{append_assoc}
 use Rattle.std.specs.Io.KnownBytes.{Consumes, IsAtEnd}
@@ -104,7 +102,7 @@ module _ {D : Type 0} (commands : Header → List (Form Command)) (stands : D �
 
 module _ {D : Type 0} (commands : Header → List (Form Command)) (stands : D → Setting → Trace → Type 0) (part : Part) (first after taken : Option (List ℕ))
     (faults later sink_faults sink_later : ℕ) where
-  unmoved : (all : List ℕ) → Gives first after [] all → Moved first after taken taken
+  abbrev unmoved : (all : List ℕ) → Gives first after [] all → Moved first after taken taken
   unmoved all g = record { read = all; ended = false; written = []; reads = reads_of first after all g; at_end = never_ended after; writes = Appends-nil taken }
 
   pub lacks_there : (h : Header) (before : Option (List ℕ)) (r : ReaderState) (p : PlayState D) (k : Kept) → Drawing commands stands part h first before r p k → IsCutOff before after r
@@ -133,3 +131,11 @@ draws_later commands stands part first after taken now f g later j k sink_later 
 draws_later commands stands part first after taken now f g later j k sink_later ReadFault h i (Breaks x rose none) = Breaks x (rose_later f g later h rose) none
 draws_later commands stands part first after taken now f g later j k sink_later WriteFault h i (Chokes x rose front) = Chokes x (rose_later j k sink_later i rose) front
 draws_later commands stands part first after taken now f g later j k sink_later NoMemory h i (Lacks x none) = Lacks x none
+
+-- ---- a sink that is as it was
+
+pub same_sink : {D K : Type 0} (commands : Header → List (Form Command)) (stands : D → Setting → Trace → Type 0) (part : Part) (first after : Option (List ℕ)) (taken : K → Option (List ℕ)) (count : K → ℕ)
+    (faults later : ℕ) (old now new : K) (s : Played) → now ≡ old → Draws commands stands part first after (taken now) (taken new) faults later (count now) (count new) s
+    → Draws commands stands part first after (taken old) (taken new) faults later (count old) (count new) s
+same_sink {D} {K} commands stands part first after taken count faults later old now new s is d =
+    subst (λ (k : K). Draws commands stands part first after (taken k) (taken new) faults later (count k) (count new) s) is d

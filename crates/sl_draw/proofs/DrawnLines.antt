@@ -5,23 +5,23 @@ use Rattle.sl_picture.specs.Kept.{Kept, first_kept}
 use Rattle.sl_picture.specs.Page.{picture_of}
 use Rattle.sl_picture.specs.Tells.{taken}
 use Rattle.sl_picture.specs.declared.kept.Part.{Part}
-use Rattle.sl_play.proofs.EndsFinish.{ends_finish}
-use Rattle.sl_play.proofs.LinesPlayed.{read_same, started, taken_on}
+use Rattle.sl_play.proofs.EndsFinish.{ends_finish, leading_is_chained}
+use Rattle.sl_play.proofs.LinesPlayed.{read_same}
 use Rattle.sl_play.proofs.PlayIsOwed.{play_is_owed}
-use Rattle.sl_play.proofs.ReportsShift.{shift_finish}
+use Rattle.sl_play.proofs.ReportsShift.{shift, shift_finish}
 use Rattle.sl_play.specs.PlayIsOwed.{EachStood}
 use Rattle.sl_play.specs.Plays.{Begins, GoesOn, PlayState, PlaysOn, StopsAt}
 use Rattle.sl_play.specs.Replays.{LeadsFrom, Running, played_language}
-use Rattle.sl_play.specs.RunEndings.{Finishes}
-use Rattle.sl_reader.proofs.HeaderSteps.{next_line, open_follows}
+use Rattle.sl_play.specs.RunEndings.{Finishes, LeadsBack}
+use Rattle.sl_reader.proofs.HeaderSteps.{gives_so, gives_then, has_read_more, next_line, open_follows}
 use Rattle.sl_reader.specs.HeaderBegins.{HasRead, HeaderBegins, HeaderStops, lines_left}
-use Rattle.sl_reader.specs.LineReads.{EndStands, MayFollow, ReaderState, ReadsLine, ReadsRefused, line_of}
+use Rattle.sl_reader.specs.LineReads.{EndStands, Gives, MayFollow, ReaderState, ReadsLine, ReadsRefused, line_of}
 use Rattle.sl_report.specs.Languages.{Language, whole_language}
 use Rattle.sl_report.specs.OwedReports.{IsFrontOf, MayHaveBeen, Promise, ReplayOf}
 use Rattle.sl_report.specs.RefusalLines.{refusal_line}
-use Rattle.sl_report.specs.Reports.{Counts, end_line}
-use Rattle.sl_report.specs.Schedules.{At_end, At_line, Ending, EventLine, HeaderReading, Header_read, NumberedLine, event_line, event_lines_of, line_refusal, numbered_from, numbered_lines, read_header, status_of}
-use Rattle.sl_run.specs.Worlds.{World}
+use Rattle.sl_report.specs.Reports.{Counts, end_line, no_counts}
+use Rattle.sl_report.specs.Schedules.{At_end, At_line, Ending, EventLine, Header_read, NumberedLine, event_line, event_lines_of, line_refusal, numbered_from, numbered_lines, read_header, status_of}
+use Rattle.sl_run.specs.Worlds.{World, world_with}
 use Rattle.sl_run.specs.declared.event.Refusal.{Refusal}
 use Rattle.sl_run.specs.declared.header.Header.{Header}
 use Rattle.sl_sound.specs.MadeRuns.{MadeRun}
@@ -31,10 +31,12 @@ use Rattle.sl_trace.specs.declared.command.Command.{Command}
 use Rattle.sl_world_law.proofs.FirstStanding.{each_stood}
 use Rattle.sl_world_state.specs.Daemons.{program_of}
 use Rattle.std.proofs.Common.{Bool, List, None, Option, Some, [], ap, false, length, length-append, refl, subst, sym, true, ℕ, ◌++◌, ◌+◌, ◌∙◌, ◌∷◌, ◌≡◌}
+use Rattle.std.proofs.KnownBytes.{Appends-nil, Appends-trans}
 use Rattle.std.proofs.lemmas.List.{append-nil, append_assoc}
+use Rattle.std.specs.Io.KnownBytes.{Appends}
 use Rattle.std.specs.List.{cons_option}
 use Rattle.std.specs.Option.{option_to_list}
-use Rattle.std.specs.Prelude.{Err, Ok}
+use Rattle.std.specs.Prelude.{Err}
 
 -- ---- events of lines
 
@@ -110,23 +112,88 @@ module _ {D : Type 0} (commands : Header → List (Form Command)) (stands : D �
   told_grow source more h [] t = one_grows source more h [] t
   told_grow source more h (s ∷ ss) t = (one_grows source more h (s ∷ ss) t.0, told_grow source more h ss t.1)
 
-  -- ---- at first
-
-  pub drawing_started : (part : Part) (h : Header) (first left : Option (List ℕ)) (r : ReaderState) (p : PlayState D) (k : Kept) → HeaderBegins first left r h → Begins commands stands h p
-      → k ≡ first_kept part h → Drawing commands stands part h first left r p k
-  drawing_started part h first left r p k b begins is =
-      let x = started commands stands h first left (Some []) r p b begins in
-      let lines : (rest : List ℕ) → MayFollow r.ended rest → read_header lang [] 1 (numbered_lines (x.consumed ++ rest)) ≡ Header_read h (lines_of_steps [] ++ lines_left x.consumed rest r) =
-      λ rest follows. read_same (program_of commands) (numbered_lines (b.consumed ++ rest)) [] 1 ∙ b.reads rest follows in
-      record { steps = []; runs = x; kept = is; lines = lines; told = told_there h first left r p [] x lines }
-
-  -- ---- a line
+  -- ---- what is read and played, in the open
 
   -- The events from there on: that of the line, and those behind it.
   events_next : (before after : Option (List ℕ)) (h : Header) (consumed : List ℕ) (r n : ReaderState) → HasRead consumed r → (l : ReadsLine before after r n) → (rest : List ℕ)
       → MayFollow n.ended rest → event_lines_of lang h (lines_left consumed (l.taken ++ rest) r) ≡ option_to_list (event_line lang h (line_of n)) ++ event_lines_of lang h (lines_left (consumed ++ l.taken) rest n)
   events_next before after h consumed r n has l rest follows =
       ap (event_lines_of lang h) (next_line before after consumed r n has.behind l rest follows) ∙ events_first lang h (line_of n) (lines_left (consumed ++ l.taken) rest n)
+
+  gives_line : (h : Header) (first before after since : Option (List ℕ)) (r n : ReaderState) (p : PlayState D) (x : Running commands stands h first before (Some []) since r p) (l : ReadsLine before after r n)
+      → Gives first after [] ((x.consumed ++ l.taken) ++ n.left)
+  gives_line h first before after since r n p x l =
+      gives_so first after [] (x.consumed ++ (l.taken ++ n.left)) ((x.consumed ++ l.taken) ++ n.left) (gives_then first before after [] x.consumed r.left (l.taken ++ n.left) x.gives l.gives)
+      (sym (append_assoc x.consumed l.taken n.left))
+
+  leads_on : (h : Header) (first before after since : Option (List ℕ)) (r n : ReaderState) (p q : PlayState D) (text : List ℕ) (x : Running commands stands h first before (Some []) since r p)
+      (l : ReadsLine before after r n) (g : GoesOn commands stands x.world p (option_to_list (event_line whole_language p.kept.header (line_of n))) [] q text) (rest : List ℕ) → MayFollow n.ended rest
+      → LeadsFrom commands stands h ((x.consumed ++ l.taken) ++ rest) g.world q.counts (lines_left (x.consumed ++ l.taken) rest n) (x.written ++ text)
+  leads_on h first before after since r n p q text x l g rest follows =
+      let from = x.leads (l.taken ++ rest) (open_follows r.ended (l.taken ++ rest) l.began) in
+      let left : List EventLine = event_lines_of lang h (lines_left (x.consumed ++ l.taken) rest n) in
+      let here : List EventLine = option_to_list (event_line whole_language p.kept.header (line_of n)) ++ left in
+      let events : event_lines_of lang h (lines_left x.consumed (l.taken ++ rest) r) ≡ here =
+      events_next before after h x.consumed r n x.has_read l rest follows ∙ ap (λ k. option_to_list (event_line whole_language k (line_of n)) ++ left) (sym x.header) in
+      subst (λ c. LeadsFrom commands stands h c g.world q.counts (lines_left (x.consumed ++ l.taken) rest n) (x.written ++ text)) (sym (append_assoc x.consumed l.taken rest))
+      (record {
+        behind = from.behind;
+        header = from.header;
+        leads = leading_is_chained (EachStood stands) lang (world_with (program_of commands) h) x.world g.world no_counts p.counts q.counts (event_lines_of lang h from.behind) here left [] x.written
+            (x.written ++ text)
+            (subst (λ ls. LeadsBack (EachStood stands) lang (world_with (program_of commands) h) no_counts (event_lines_of lang h from.behind) [] x.world p.counts ls x.written) events from.leads)
+            (shift (EachStood stands) lang x.world g.world p.counts q.counts here left text (g.leads lang left) x.written);
+      })
+
+  abbrev taken_on : (h : Header) (first before after since now : Option (List ℕ)) (r n : ReaderState) (p q : PlayState D) (text : List ℕ) → Running commands stands h first before (Some []) since r p
+      → ReadsLine before after r n → ((w : World) → PlaysOn commands stands p w → GoesOn commands stands w p (option_to_list (event_line whole_language p.kept.header (line_of n))) [] q text)
+      → Appends since now text → Running commands stands h first after (Some []) now n q
+  taken_on h first before after since now r n p q text x l goes appends =
+      let g = goes x.world x.plays in
+      record {
+        consumed = x.consumed ++ l.taken;
+        written = x.written ++ text;
+        gives = gives_line h first before after since r n p x l;
+        has_read = has_read_more before after x.consumed r n x.has_read l;
+        writes = Appends-trans (Some []) since now x.written text x.writes appends;
+        world = g.world;
+        plays = g.plays;
+        header = g.header ∙ x.header;
+        leads = leads_on h first before after since r n p q text x l g;
+      }
+
+  abbrev started : (h : Header) (first left : Option (List ℕ)) (r : ReaderState) (p : PlayState D) → HeaderBegins first left r h → Begins commands stands h p
+      → Running commands stands h first left (Some []) (Some []) r p
+  started h first left r p b begins =
+      record {
+        consumed = b.consumed;
+        written = [];
+        gives = b.gives;
+        has_read = b.has_read;
+        writes = Appends-nil (Some []);
+        world = world_with (program_of commands) h;
+        plays = begins.plays;
+        header = begins.header;
+        leads = λ rest follows. record {
+          behind = lines_left b.consumed rest r;
+          header = read_same (program_of commands) (numbered_lines (b.consumed ++ rest)) [] 1 ∙ b.reads rest follows;
+          leads = subst (λ k. LeadsBack (EachStood stands) lang (world_with (program_of commands) h) no_counts (event_lines_of lang h (lines_left b.consumed rest r)) []
+              (world_with (program_of commands) h) k (event_lines_of lang h (lines_left b.consumed rest r)) []) (sym begins.counts)
+              (record { finishes = λ total end f. f; breaks = λ total f. f });
+        };
+      }
+
+  -- ---- at first
+
+  pub drawing_started : (part : Part) (h : Header) (first left : Option (List ℕ)) (r : ReaderState) (p : PlayState D) (k : Kept) → HeaderBegins first left r h → Begins commands stands h p
+      → k ≡ first_kept part h → Drawing commands stands part h first left r p k
+  drawing_started part h first left r p k b begins is =
+      let x = started h first left r p b begins in
+      let lines : (rest : List ℕ) → MayFollow r.ended rest → read_header lang [] 1 (numbered_lines (x.consumed ++ rest)) ≡ Header_read h (lines_of_steps [] ++ lines_left x.consumed rest r) =
+      λ rest follows. read_same (program_of commands) (numbered_lines (b.consumed ++ rest)) [] 1 ∙ b.reads rest follows in
+      record { steps = []; runs = x; kept = is; lines = lines; told = told_there h first left r p [] x lines }
+
+  -- ---- a line
 
   -- The lines of a source in which this one was read.
   lines_with : (part : Part) (h : Header) (first before after : Option (List ℕ)) (r n : ReaderState) (p : PlayState D) (k : Kept) (d : Drawing commands stands part h first before r p k)
@@ -144,7 +211,7 @@ module _ {D : Type 0} (commands : Header → List (Form Command)) (stands : D �
   drawn_on part h first before after r n p q k m text d l goes is =
       let s : Step = record { line = line_of n; told = text } in
       let steps : List Step = s ∷ d.steps in
-      let x = taken_on commands stands h first before after (Some []) (Some (told_of_steps d.steps)) (Some (told_of_steps d.steps ++ text)) r n p q text d.runs l goes refl in
+      let x = taken_on h first before after (Some (told_of_steps d.steps)) (Some (told_of_steps d.steps ++ text)) r n p q text d.runs l goes refl in
       let lines : (rest : List ℕ) → MayFollow n.ended rest → read_header lang [] 1 (numbered_lines (x.consumed ++ rest)) ≡ Header_read h (lines_of_steps steps ++ lines_left x.consumed rest n) =
       λ rest follows. ap (λ b. read_header lang [] 1 (numbered_lines b)) (append_assoc d.runs.consumed l.taken rest) ∙ lines_with part h first before after r n p k d l rest follows
       ∙ ap (λ ls. Header_read h ls) (sym (append_assoc (lines_of_steps d.steps) (line_of n ∷ []) (lines_left x.consumed rest n))) in

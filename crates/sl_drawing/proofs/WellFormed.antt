@@ -1,6 +1,6 @@
 -- Pictures are well formed.
 use Rattle.sl_drawing.specs.Classes.{class_text, held_text, symbol_text}
-use Rattle.sl_drawing.specs.Elements.{Element, Label as LabelOf, Rect, Sign as SignOf, Titled as TitledOf, area_text, attribute_text, element_text, escaped, escaped_byte, head_text, svg_text, tag_text, use_text}
+use Rattle.sl_drawing.specs.Elements.{Element, Label as LabelOf, Rect, Sign as SignOf, Titled as TitledOf, area_text, attribute_text, element_text, escaped, escaped_byte, front_text, head_text, svg_text, tag_text, use_text}
 use Rattle.sl_drawing.specs.WellFormed.{AreAttributes, AreElements, Empty, Entity, IsElement, IsEscaped, IsPicture, Label, More, No_element, No_more, Nothing, Number, Numbers, One_more, PicturesAreWellFormed, Plain, Sign, Titled, is_plain, is_value}
 use Rattle.sl_drawing.specs.declared.classes.Class.TheVariants.{Accepted, Bad, Crash, Dim, Down, Expired, Flying, Gap, Grid, Ground, Held, Hit, Idle, Inside, Joined, Joining, Lane, Late, Left, Number as NumberClass, Orphan, Passing, Plain as PlainClass, Read, Refused, Renewed, Reset, Shared, Unclear, Up, Waiting, Wanted, Write}
 use Rattle.sl_drawing.specs.declared.classes.Class.{Class}
@@ -154,6 +154,7 @@ sign_text s x y close =
     sign_joined (codes "<use") (codes " href='") (codes "#") (symbol_text s) (codes "'") (codes " x='") (decimal x) (codes " y='") (decimal y) close
 
 element_is : (e : Element) → IsElement (element_text e)
+unfolding element_text
 element_is (Rect c a) = subst IsElement (sym (rect_text c a (codes "/>\n"))) (Empty (rect_attributes c a) (rect_are c a))
 element_is (TitledOf c a title) =
     subst IsElement (sym (rect_text c a (codes "><title>" ++ escaped title ++ codes "</title></rect>\n"))) (Titled (rect_attributes c a) (escaped title) (rect_are c a) (all_escaped title))
@@ -190,7 +191,7 @@ whole_joined : (f g v q o w a h b c close rest : List ℕ)
 whole_joined f g v q o w a h b c close rest = simp append_assoc
 
 pub pictures_are_well_formed : PicturesAreWellFormed
-unfolding svg_text
+unfolding front_text svg_text
 pictures_are_well_formed width height es =
     record {
       attributes = front_attributes width height;

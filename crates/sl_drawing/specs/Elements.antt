@@ -41,7 +41,7 @@ abbrev pub use_text : List ℕ → Symbol → List ℕ
 use_text front s = front ++ symbol_text s ++ codes "'"
 
 -- An element's text.
-abbrev pub element_text : Element → List ℕ
+unfoldable pub element_text : Element → List ℕ
 element_text (Rect class area) = tag_text (codes "<rect class='") class ++ area_text area ++ codes "/>\n"
 element_text (Titled class area title) =
     tag_text (codes "<rect class='") class ++ area_text area ++ (codes "><title>" ++ escaped title ++ codes "</title></rect>\n")
@@ -57,7 +57,7 @@ svg_text = codes "<svg xmlns='http://www.w3.org/2000/svg' viewBox='0 0 "
 abbrev pub view_text : ℕ → ℕ → List ℕ
 view_text width height = svg_text ++ decimal width ++ attribute_text (codes " ") height
 
-abbrev pub front_text : ℕ → ℕ → List ℕ
+unfoldable pub front_text : ℕ → ℕ → List ℕ
 front_text width height = view_text width height ++ attribute_text (codes " width='") width ++ attribute_text (codes " height='") height ++ codes ">\n"
 
 -- Its head and its end.

@@ -78,6 +78,7 @@ fn push_tag(out: &mut Vec<u8>, front: &[u8], class: Class) -> Result<(), AllocEr
 }
 
 /// Adds a rectangle.
+#[tactic(auto, unfolding(crate::specs::Elements::element_text))]
 pub fn push_rect(out: &mut Vec<u8>, class: Class, area: Area) -> Result<(), AllocError>
     ensures { OnOk result (out.new.items ≡ out.old.items ++ elements.element_text (elements.Rect class area)) }
 {
@@ -87,6 +88,7 @@ pub fn push_rect(out: &mut Vec<u8>, class: Class, area: Area) -> Result<(), Allo
 }
 
 /// Adds a rectangle with a title.
+#[tactic(auto, unfolding(crate::specs::Elements::element_text))]
 pub fn push_titled(
     out: &mut Vec<u8>,
     class: Class,
@@ -103,6 +105,7 @@ pub fn push_titled(
 }
 
 /// Adds a label that begins there, on this line.
+#[tactic(auto, unfolding(crate::specs::Elements::element_text))]
 pub fn push_label(
     out: &mut Vec<u8>,
     class: Class,
@@ -130,6 +133,7 @@ fn push_use(out: &mut Vec<u8>, front: &[u8], symbol: Symbol) -> Result<(), Alloc
 }
 
 /// Adds a sign that stands there.
+#[tactic(auto, unfolding(crate::specs::Elements::element_text))]
 pub fn push_symbol(out: &mut Vec<u8>, symbol: Symbol, x: u64, y: u64) -> Result<(), AllocError>
     ensures { OnOk result (out.new.items ≡ out.old.items ++ elements.element_text (elements.Sign symbol x y)) }
 {
@@ -157,6 +161,7 @@ fn push_view(out: &mut Vec<u8>, width: u64, height: u64) -> Result<(), AllocErro
 }
 
 /// Adds the front of a picture so wide and so high.
+#[tactic(auto, unfolding(crate::specs::Elements::front_text))]
 pub fn push_front(out: &mut Vec<u8>, width: u64, height: u64) -> Result<(), AllocError>
     ensures { OnOk result (out.new.items ≡ out.old.items ++ elements.front_text width height) }
 {

@@ -119,16 +119,26 @@ area_of l b =
 
 -- ---- its words
 
-abbrev pub link_words : Shape → List ℕ
-link_words s =
+-- What stands behind the name or the text that a title begins with.
+unfoldable pub middle_words : Shape → List ℕ
+middle_words s =
     elim s [
+      | shape.Waiting ↦ codes ": no answer"
+      | shape.Accepted ↦ codes ": "
+      | shape.Refused ↦ codes ": "
+      | shape.Unclear ↦ codes ": one of the commands that wait is answered "
       | shape.Joining ↦ codes ": joining, expires at reading "
+      | shape.Joined ↦ codes ": renewed, expires at reading "
       | shape.Left ↦ codes ": its daemon has crashed, expires at reading "
       | shape.Expired ↦ codes ": expired, the test fails, since reading "
-      | _ ↦ codes ": renewed, expires at reading "
+      | shape.Exclusive ↦ codes " held ex by process "
+      | shape.Shared ↦ codes " held sh by process "
+      | shape.Gap ↦ codes " held by nobody"
+      | shape.Wanted ↦ codes " held by nobody"
+      | _ ↦ []
     ]
 
-abbrev pub held_words : List ℕ → List ℕ → Bar → List ℕ
+unfoldable pub held_words : List ℕ → List ℕ → Bar → List ℕ
 held_words name held b = name ++ held ++ decimal b.number ++ codes ", instance " ++ decimal b.until
 
 abbrev pub call_words : List ℕ → Bar → List ℕ → List ℕ
@@ -144,21 +154,21 @@ what k b =
       | shape.Passing ↦ codes "time passes"
       | shape.Down ↦ codes "down"
       | shape.Idle ↦ codes "no daemon"
-      | shape.Waiting ↦ text ++ codes ": no answer" ++ []
-      | shape.Accepted ↦ text ++ codes ": " ++ reply
-      | shape.Refused ↦ text ++ codes ": " ++ reply
-      | shape.Unclear ↦ text ++ codes ": one of the commands that wait is answered " ++ reply
+      | shape.Waiting ↦ text ++ middle_words b.shape ++ reply
+      | shape.Accepted ↦ text ++ middle_words b.shape ++ reply
+      | shape.Refused ↦ text ++ middle_words b.shape ++ reply
+      | shape.Unclear ↦ text ++ middle_words b.shape ++ reply
       | shape.Read ↦ call_words (codes "call ") b name
       | shape.Write ↦ call_words (codes "call ") b name
       | shape.Orphan ↦ call_words (codes "its daemon has ended: call ") b name
-      | shape.Joining ↦ name ++ link_words b.shape ++ decimal b.until
-      | shape.Joined ↦ name ++ link_words b.shape ++ decimal b.until
-      | shape.Left ↦ name ++ link_words b.shape ++ decimal b.until
-      | shape.Expired ↦ name ++ link_words b.shape ++ decimal b.until
-      | shape.Exclusive ↦ held_words name (codes " held ex by process ") b
-      | shape.Shared ↦ held_words name (codes " held sh by process ") b
-      | shape.Gap ↦ name ++ codes " held by nobody" ++ []
-      | shape.Wanted ↦ name ++ codes " held by nobody" ++ []
+      | shape.Joining ↦ name ++ middle_words b.shape ++ decimal b.until
+      | shape.Joined ↦ name ++ middle_words b.shape ++ decimal b.until
+      | shape.Left ↦ name ++ middle_words b.shape ++ decimal b.until
+      | shape.Expired ↦ name ++ middle_words b.shape ++ decimal b.until
+      | shape.Exclusive ↦ held_words name (middle_words b.shape) b
+      | shape.Shared ↦ held_words name (middle_words b.shape) b
+      | shape.Gap ↦ name ++ middle_words b.shape ++ []
+      | shape.Wanted ↦ name ++ middle_words b.shape ++ []
     ]
 
 -- What it is, from when to when, and how long.

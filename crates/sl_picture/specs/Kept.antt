@@ -92,12 +92,15 @@ marked m s k = record k { marks = k.marks ++ record { machine = m; sign = s; at 
 abbrev pub fate_of : Act → List ℕ → Kept → Bar → Fate
 fate_of a name k b = fate a (is_text k.texts b.name name) (reading_at k.lanes b.machine) k.here b
 
+-- The bars that it leaves open, and those that it ends: one each, or none.
+unfoldable pub stays_of : Act → List ℕ → Kept → Bar → List Bar
+stays_of a name k b = option_to_list (fate_of a name k b).stays
+
+unfoldable pub ends_of : Act → List ℕ → Kept → Bar → List Bar
+ends_of a name k b = option_to_list (fate_of a name k b).ends
+
 unfoldable pub happened : Act → List ℕ → Kept → Kept
-happened a name k =
-    record k {
-      opened = flat_map (λ b. option_to_list (fate_of a name k b).stays) k.opened;
-      done = k.done ++ flat_map (λ b. option_to_list (fate_of a name k b).ends) k.opened;
-    }
+happened a name k = record k { opened = flat_map (stays_of a name k) k.opened; done = k.done ++ flat_map (ends_of a name k) k.opened }
 
 -- ---- rows
 

@@ -8,3 +8,4 @@ pub mod Layout
 pub mod Bars
 pub mod Signs
 pub mod Page
+pub mod WellFormed

@@ -16,7 +16,7 @@ use Rattle.std.specs.Prelude.{List, codes, decimal, length, min, slice_index_or,
 
 -- ---- the legend
 
-abbrev pub key_text : Class → ℕ → List ℕ → List ℕ
+unfoldable pub key_text : Class → ℕ → List ℕ → List ℕ
 key_text c x text = element_text (Rect c (record { x = x; y = 4; width = 10; height = 9 })) ++ element_text (Label class.Plain (plus x 14) 12 text)
 
 abbrev pub key_end : ℕ → List ℕ → ℕ
@@ -50,21 +50,31 @@ late_end k x = key_end x (late_words k)
 abbrev pub time_key : Kept → ℕ → List ℕ
 time_key k x = key_text class.Passing x (dead_words k)
 
+-- The keys of what looks the same for each resource, from a place on, and where they end.
+abbrev pub shapes_end : ℕ → ℕ
+shapes_end x = key_end (key_end x (codes "shared")) (codes "watchdog's test fails")
+
+abbrev pub shapes_text : ℕ → List ℕ
+shapes_text x = key_text (class.Held 0) x [] ++ key_text class.Shared x (codes "shared") ++ key_text class.Expired (key_end x (codes "shared")) (codes "watchdog's test fails")
+
+-- The unit of the moments.
+unfoldable pub unit_text : List ℕ
+unit_text = element_text (Label class.Dim 88 28 (codes "ms"))
+
 -- The keys of what is not a resource, from a place on.
 abbrev pub keys_text : Kept → ℕ → List ℕ
-keys_text k x =
-    let fails : ℕ = key_end x (codes "shared") in
-    let late : ℕ = key_end fails (codes "watchdog's test fails") in
-    let passing : ℕ = late_end k late in
-    key_text (class.Held 0) x [] ++ key_text class.Shared x (codes "shared") ++ key_text class.Expired fails (codes "watchdog's test fails")
-    ++ late_key k late ++ time_key k passing ++ element_text (Label class.Dim 88 28 (codes "ms"))
+keys_text k x = shapes_text x ++ late_key k (shapes_end x) ++ time_key k (late_end k (shapes_end x)) ++ unit_text
 
 -- ---- machines
 
+unfoldable pub upper_rows : Place → List ℕ
+upper_rows p = element_text (Label class.Dim 50 (plus (commands_top p) 9) (codes "commands")) ++ element_text (Label class.Dim 72 (plus (calls_top p) 9) (codes "disk"))
+
+unfoldable pub lower_rows : Place → List ℕ
+lower_rows p = element_text (Label class.Dim 56 (plus (links_top p) 6) (codes "session")) ++ element_text (Label class.Dim 67 (plus (held_top p) 9) (codes "holds"))
+
 abbrev pub rows_text : Place → List ℕ
-rows_text p =
-    element_text (Label class.Dim 50 (plus (commands_top p) 9) (codes "commands")) ++ element_text (Label class.Dim 72 (plus (calls_top p) 9) (codes "disk"))
-    ++ element_text (Label class.Dim 56 (plus (links_top p) 6) (codes "session")) ++ element_text (Label class.Dim 67 (plus (held_top p) 9) (codes "holds"))
+rows_text p = upper_rows p ++ lower_rows p
 
 abbrev pub lane_text : Plan → List ℕ → Place → List ℕ
 lane_text l digits p =

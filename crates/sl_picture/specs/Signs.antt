@@ -79,11 +79,13 @@ note_at k n = slice_index_or k.notes n no_note
 abbrev pub note_x : Kept → Plan → ℕ → ℕ
 note_x k l n = plus (x_of l.scale (note_at k n).at) 4
 
-abbrev pub note_text : Kept → Plan → ℕ → ℕ → List ℕ
-note_text k l n free =
+abbrev pub note_words : Kept → Plan → ℕ → List ℕ → List ℕ
+note_words k l n number =
     let y : ℕ = plus (plus l.bottom 18) (times n 13) in
-    let number : List ℕ = decimal (plus n 1) in
-    element_text (Label class.Dim 84 y number) ++ element_text (Label class.Dim 104 y (text_at k.texts (note_at k n).text)) ++ note_sign (note_x k l n) number free
+    element_text (Label class.Dim 84 y number) ++ element_text (Label class.Dim 104 y (text_at k.texts (note_at k n).text))
+
+abbrev pub note_text : Kept → Plan → ℕ → ℕ → List ℕ
+note_text k l n free = note_words k l n (decimal (plus n 1)) ++ note_sign (note_x k l n) (decimal (plus n 1)) free
 
 abbrev pub note_free : Kept → Plan → ℕ → ℕ → ℕ
 note_free k l n free = note_end (note_x k l n) (decimal (plus n 1)) free

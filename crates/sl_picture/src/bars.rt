@@ -189,6 +189,7 @@ fn push_until(out: &mut Vec<u8>, a: &[u8], b: &[u8], number: u64) -> Result<(), 
 }
 
 /// Adds a resource, how it is held, by whom, and in which instance.
+#[tactic(auto, unfolding(crate::specs::Bars::held_words))]
 fn push_held(out: &mut Vec<u8>, name: &[u8], held: &[u8], bar: Bar) -> Result<(), AllocError>
     ensures { OnOk result (out.new.items ≡ out.old.items ++ shown.held_words name.now held.now bar) }
 {
@@ -205,15 +206,25 @@ fn push_call(out: &mut Vec<u8>, what: &[u8], bar: Bar, name: &[u8]) -> Result<()
     out.extend_from_slice(name)
 }
 
-/// The word of a connection's shape, up to its expiry.
-fn link_words(shape: Shape) -> &'static [u8]
-    ensures { result.now ≡ shown.link_words shape }
+/// What a title says behind the name or the text that it begins with.
+#[tactic(auto, unfolding(crate::specs::Bars::middle_words))]
+fn middle_words(shape: Shape) -> &'static [u8]
+    ensures { result.now ≡ shown.middle_words shape }
 {
     match shape {
+        Shape::Waiting => b": no answer",
+        Shape::Accepted => b": ",
+        Shape::Refused => b": ",
+        Shape::Unclear => b": one of the commands that wait is answered ",
         Shape::Joining => b": joining, expires at reading ",
+        Shape::Joined => b": renewed, expires at reading ",
         Shape::Left => b": its daemon has crashed, expires at reading ",
         Shape::Expired => b": expired, the test fails, since reading ",
-        _ => b": renewed, expires at reading ",
+        Shape::Exclusive => b" held ex by process ",
+        Shape::Shared => b" held sh by process ",
+        Shape::Gap => b" held by nobody",
+        Shape::Wanted => b" held by nobody",
+        _ => b"",
     }
 }
 
@@ -339,28 +350,21 @@ impl Picture {
         let name = text_at(&self.texts, bar.name);
         let text = text_at(&self.texts, bar.text);
         let reply = text_at(&self.texts, bar.reply);
+        let middle = middle_words(bar.shape);
         match bar.shape {
             Shape::Passing => out.extend_from_slice(b"time passes"),
             Shape::Down => out.extend_from_slice(b"down"),
             Shape::Idle => out.extend_from_slice(b"no daemon"),
-            Shape::Waiting => push_three(out, text, b": no answer", b""),
-            Shape::Accepted | Shape::Refused => push_three(out, text, b": ", reply),
-            Shape::Unclear => {
-                push_three(
-                    out,
-                    text,
-                    b": one of the commands that wait is answered ",
-                    reply,
-                )
+            Shape::Waiting | Shape::Accepted | Shape::Refused | Shape::Unclear => {
+                push_three(out, text, middle, reply)
             }
             Shape::Read | Shape::Write => push_call(out, b"call ", bar, name),
             Shape::Orphan => push_call(out, b"its daemon has ended: call ", bar, name),
             Shape::Joining | Shape::Joined | Shape::Left | Shape::Expired => {
-                push_until(out, name, link_words(bar.shape), bar.until)
+                push_until(out, name, middle, bar.until)
             }
-            Shape::Exclusive => push_held(out, name, b" held ex by process ", bar),
-            Shape::Shared => push_held(out, name, b" held sh by process ", bar),
-            Shape::Gap | Shape::Wanted => push_three(out, name, b" held by nobody", b""),
+            Shape::Exclusive | Shape::Shared => push_held(out, name, middle, bar),
+            Shape::Gap | Shape::Wanted => push_three(out, name, middle, b""),
         }
     }
 

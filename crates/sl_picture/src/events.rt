@@ -1,12 +1,13 @@
 //! What a line of a schedule means for the picture.
 
 ghost use Rattle.sl_picture.specs.Events as events;
-ghost use Rattle.std.specs.Option.{option_map_or};
-ghost use Rattle.std.specs.Prelude.{OnOk, [], length, ◌≡◌};
+ghost use Rattle.std.specs.Prelude.{OnOk, length, ◌≡◌};
 
 use crate::fates::{Deed, deed_on};
 use crate::kept::{Picture, lane_at};
-use crate::said::{is, number_at, number_in, push_two_parts, text_behind, word_at, words_behind};
+use crate::said::{
+    is, next_word, number_at, number_in, push_two_parts, text_behind, word_at, words_behind,
+};
 use crate::shapes::{Bar, Instant, Lane, Shape, Sign};
 use sl_drawing::{plus, times};
 use std::alloc::AllocError;
@@ -69,16 +70,6 @@ fn machine_verb(word: &[u8]) -> Verb
     }
 }
 
-/// The word, or an empty one.
-fn or_none(word: Option<&[u8]>) -> &[u8]
-    ensures { result.now ≡ option_map_or (λ w. w.now) word.entry [] }
-{
-    match word {
-        Some(word) => word,
-        None => b"",
-    }
-}
-
 /// How much a clock grows, in thousandths of a millisecond, by its word: as told, else as much as time.
 fn growth_of(word: &[u8], time: u64) -> u64
     ensures { result ≡ events.growth_of time word.now }
@@ -115,7 +106,7 @@ impl Picture {
     {
         let mut words = words_behind(line, 2);
         for index in 0..self.lanes.len() {
-            let growth = growth_of(or_none(words.next_piece()), time);
+            let growth = growth_of(next_word(&mut words), time);
             self.grow_clock(index as u64 + 1, growth);
         }
     }

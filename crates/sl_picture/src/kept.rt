@@ -1,9 +1,9 @@
 //! What is kept of a run for its picture.
 
 ghost use Rattle.sl_picture.specs.Kept as kept;
-ghost use Rattle.std.specs.List.{flat_map};
+ghost use Rattle.std.specs.List.{flat_map, position};
 ghost use Rattle.std.specs.Option.{option_to_list};
-ghost use Rattle.std.specs.Prelude.{IfOk, OnOk, fold, length, replicate, ◌++◌, ◌≡◌};
+ghost use Rattle.std.specs.Prelude.{IfOk, OnOk, find, fold, length, replicate, ◌++◌, ◌≡◌};
 
 use crate::fates::{Act, Deed, Fate, NO_TEXT, becomes, deed_on, is_holding, is_link, is_waiting};
 use crate::shapes::{Bar, Column, Instant, Lane, Mark, Note, Shape, Sign, Text};
@@ -139,14 +139,20 @@ fn is_text(texts: &[u8], text: Text, name: &[u8]) -> bool
     text_at(texts, text) == name
 }
 
+/// Which of the resources has this name.
+fn place_of(texts: &[u8], resources: &[Text], name: &[u8]) -> Option<usize>
+    ensures { result ≡ position (λ r. kept.is_text texts.now r name.now) resources.now }
+{
+    resources
+        .iter()
+        .position(|resource| is_text(texts, *resource, name))
+}
+
 /// The place of a resource in the header; 0 where it has none.
 fn colour_of(texts: &[u8], resources: &[Text], name: &[u8]) -> u64
     ensures { result ≡ kept.colour_of texts.now resources.now name.now }
 {
-    match resources
-        .iter()
-        .position(|resource| is_text(texts, *resource, name))
-    {
+    match place_of(texts, resources, name) {
         Some(place) => place as u64,
         None => 0,
     }
@@ -211,11 +217,21 @@ fn is_alone(opened: &[Bar], machine: u64) -> bool
     opened.iter().filter(|bar| waits(bar, machine, 0)).count() == 1
 }
 
-/// What the first such command is about; nothing where there is none.
+/// The first such command, if there is one.
+fn first_waiting(opened: &[Bar], machine: u64, number: u64) -> Option<Bar>
+    ensures { result ≡ find (kept.waits machine number) opened.now }
+{
+    opened
+        .iter()
+        .copied()
+        .find(|bar| waits(bar, machine, number))
+}
+
+/// What it is about; nothing where there is none.
 fn asked(opened: &[Bar], machine: u64, number: u64) -> Text
     ensures { result ≡ kept.asked opened.now machine number }
 {
-    match opened.iter().find(|bar| waits(bar, machine, number)) {
+    match first_waiting(opened, machine, number) {
         Some(bar) => bar.name,
         None => NO_TEXT,
     }
@@ -412,17 +428,33 @@ impl Picture {
         becomes(act, same, reading, self.here, bar)
     }
 
+    /// Adds an open bar to which something happens, as it stays, and as it ends.
+    #[tactic(auto, unfolding(crate::specs::Kept::stays_of, crate::specs::Kept::ends_of))]
+    fn push_fate(
+        &self,
+        act: Act,
+        name: &[u8],
+        bar: Bar,
+        stay: &mut Vec<Bar>,
+        end: &mut Vec<Bar>,
+    ) -> Result<(), AllocError>
+        ensures stay { OnOk result (stay.new.items ≡ stay.old.items ++ kept.stays_of act name.now self.now bar) }
+        ensures end { OnOk result (end.new.items ≡ end.old.items ++ kept.ends_of act name.now self.now bar) }
+    {
+        let fate = self.fate_of(act, name, bar);
+        push_some(stay, fate.stays)?;
+        push_some(end, fate.ends)
+    }
+
     /// The open bars to which something happens, as they stay, and as they end.
     fn sort_out(&self, act: Act, name: &[u8]) -> Result<(Vec<Bar>, Vec<Bar>), AllocError>
-        ensures stay { IfOk result (λ bars. bars.0.items ≡ flat_map (λ b. option_to_list (kept.fate_of act name.now self.now b).stays) self.now.opened) }
-        ensures end { IfOk result (λ bars. bars.1.items ≡ flat_map (λ b. option_to_list (kept.fate_of act name.now self.now b).ends) self.now.opened) }
+        ensures stay { IfOk result (λ bars. bars.0.items ≡ flat_map (kept.stays_of act name.now self.now) self.now.opened) }
+        ensures end { IfOk result (λ bars. bars.1.items ≡ flat_map (kept.ends_of act name.now self.now) self.now.opened) }
     {
         let mut stay = Vec::new(self.alloc());
         let mut end = Vec::new(self.alloc());
         for bar in &self.opened {
-            let fate = self.fate_of(act, name, *bar);
-            push_some(&mut stay, fate.stays)?;
-            push_some(&mut end, fate.ends)?;
+            self.push_fate(act, name, *bar, &mut stay, &mut end)?;
         }
         Ok((stay, end))
     }

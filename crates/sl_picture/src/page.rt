@@ -22,41 +22,38 @@ use std::alloc::AllocError;
 /// The resources of a legend, as many as have room.
 const MOST_KEYS: usize = 12;
 
+/// Adds the names of a machine's upper rows.
+#[tactic(auto, unfolding(crate::specs::Page::upper_rows))]
+fn push_upper_rows(out: &mut Vec<u8>, place: Place) -> Result<(), AllocError>
+    ensures { OnOk result (out.new.items ≡ out.old.items ++ page.upper_rows place) }
+{
+    let commands = plus(commands_top(place), 9);
+    let calls = plus(calls_top(place), 9);
+    push_label(out, Class::Dim, LEFT - 54, commands, b"commands")?;
+    push_label(out, Class::Dim, LEFT - 32, calls, b"disk")
+}
+
+/// .. and of its lower ones.
+#[tactic(auto, unfolding(crate::specs::Page::lower_rows))]
+fn push_lower_rows(out: &mut Vec<u8>, place: Place) -> Result<(), AllocError>
+    ensures { OnOk result (out.new.items ≡ out.old.items ++ page.lower_rows place) }
+{
+    let links = plus(links_top(place), 6);
+    let held = plus(held_top(place), 9);
+    push_label(out, Class::Dim, LEFT - 48, links, b"session")?;
+    push_label(out, Class::Dim, LEFT - 37, held, b"holds")
+}
+
 /// Adds the names of a machine's rows.
 fn push_rows(out: &mut Vec<u8>, place: Place) -> Result<(), AllocError>
     ensures { OnOk result (out.new.items ≡ out.old.items ++ page.rows_text place) }
 {
-    push_label(
-        out,
-        Class::Dim,
-        LEFT - 54,
-        plus(commands_top(place), 9),
-        b"commands",
-    )?;
-    push_label(
-        out,
-        Class::Dim,
-        LEFT - 32,
-        plus(calls_top(place), 9),
-        b"disk",
-    )?;
-    push_label(
-        out,
-        Class::Dim,
-        LEFT - 48,
-        plus(links_top(place), 6),
-        b"session",
-    )?;
-    push_label(
-        out,
-        Class::Dim,
-        LEFT - 37,
-        plus(held_top(place), 9),
-        b"holds",
-    )
+    push_upper_rows(out, place)?;
+    push_lower_rows(out, place)
 }
 
 /// Adds a key of the legend at a place of the axis; the answer is where the next one stands.
+#[tactic(auto, unfolding(crate::specs::Page::key_text))]
 fn push_key(out: &mut Vec<u8>, class: Class, x: u64, text: &[u8]) -> Result<u64, AllocError>
     ensures text { OnOk result (out.new.items ≡ out.old.items ++ page.key_text class x text.now) }
     ensures end { IfOk result (λ end. end ≡ page.key_end x text.now) }
@@ -70,6 +67,25 @@ fn push_key(out: &mut Vec<u8>, class: Class, x: u64, text: &[u8]) -> Result<u64,
     push_rect(out, class, area)?;
     push_label(out, Class::Plain, plus(x, 14), 12, text)?;
     Ok(plus(x, plus(letters(text.len()), 28)))
+}
+
+/// Adds the keys of what looks the same for each resource; the answer is where the next one stands.
+fn push_shapes(out: &mut Vec<u8>, x: u64) -> Result<u64, AllocError>
+    ensures text { OnOk result (out.new.items ≡ out.old.items ++ page.shapes_text x) }
+    ensures end { IfOk result (λ end. end ≡ page.shapes_end x) }
+{
+    push_key(out, Class::Held { colour: 0 }, x, b"")?;
+    let fails = push_key(out, Class::Shared, x, b"shared")?;
+    let end = push_key(out, Class::Expired, fails, b"watchdog's test fails")?;
+    Ok(end)
+}
+
+/// Adds the unit of the moments.
+#[tactic(auto, unfolding(crate::specs::Page::unit_text))]
+fn push_unit(out: &mut Vec<u8>) -> Result<(), AllocError>
+    ensures { OnOk result (out.new.items ≡ out.old.items ++ page.unit_text) }
+{
+    push_label(out, Class::Dim, LEFT - 16, TOP - 24, b"ms")
 }
 
 /// Adds the ground of a machine, with its number and the names of its rows.
@@ -154,12 +170,10 @@ impl Picture {
     fn push_keys(&self, out: &mut Vec<u8>, x: u64) -> Result<(), AllocError>
         ensures { OnOk result (out.new.items ≡ out.old.items ++ page.keys_text self.now x) }
     {
-        push_key(out, Class::Held { colour: 0 }, x, b"")?;
-        let fails = push_key(out, Class::Shared, x, b"shared")?;
-        let late = push_key(out, Class::Expired, fails, b"watchdog's test fails")?;
+        let late = push_shapes(out, x)?;
         let passing = self.push_late_key(out, late)?;
         self.push_time_key(out, passing)?;
-        push_label(out, Class::Dim, LEFT - 16, TOP - 24, b"ms")
+        push_unit(out)
     }
 
     /// Adds the ground of a machine that has this index.

@@ -1,6 +1,7 @@
 //! The words of a line of a schedule or of a report.
 
 ghost use Rattle.sl_picture.specs.Said as said;
+ghost use Rattle.sl_text.specs.Walks.{past_word};
 ghost use Rattle.std.specs.Prelude.{OnOk, bytes_eq, ◌++◌, ◌≡◌};
 
 use sl_text::number::read_number;
@@ -18,14 +19,23 @@ pub(crate) fn words_behind(line: &[u8], count: u32) -> Words<'_>
     words
 }
 
+/// The next word, which is passed; empty where none is left.
+pub(crate) fn next_word<'a>(words: &mut Words<'a>) -> &'a [u8]
+    ensures word { result.now ≡ said.first_word words.old.words }
+    ensures left { words.new ≡ past_word words.old }
+{
+    match words.next_piece() {
+        Some(word) => word,
+        None => b"",
+    }
+}
+
 /// A word of a line, counted from 0; empty where there is none.
 pub(crate) fn word_at(line: &[u8], place: u32) -> &[u8]
     ensures { result.now ≡ said.word_at line.now place }
 {
-    match words_behind(line, place).peek() {
-        Some(word) => word,
-        None => b"",
-    }
+    let mut words = words_behind(line, place);
+    next_word(&mut words)
 }
 
 /// What stands behind the first so many words of a line.

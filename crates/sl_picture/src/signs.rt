@@ -8,7 +8,7 @@ use crate::kept::{Picture, text_at};
 use crate::layout::{
     LEFT, Layout, Place, TOP, bottom_of, calls_top, held_top, links_top, place_of, x_of,
 };
-use crate::shapes::{Column, Mark, Sign};
+use crate::shapes::{Column, Mark, Note, Sign};
 use sl_drawing::{
     Area, Class, Symbol, letters, minus, plus, push_label, push_rect, push_symbol, push_titled,
     times,
@@ -167,7 +167,32 @@ impl Picture {
         Ok(())
     }
 
-    /// Adds a comment below the machines, and its number on the axis where there is room; the answer is where the next number has room.
+    /// A comment, by its index.
+    fn note_at(&self, index: usize) -> Note
+        requires { index < length self.now.notes }
+        ensures { result ≡ signs.note_at self.now index }
+    {
+        self.notes[index]
+    }
+
+    /// Adds a comment below the machines, behind its number.
+    fn push_note_words(
+        &self,
+        out: &mut Vec<u8>,
+        layout: &Layout,
+        index: usize,
+        number: &[u8],
+    ) -> Result<(), AllocError>
+        requires { index < length self.now.notes }
+        ensures { OnOk result (out.new.items ≡ out.old.items ++ signs.note_words self.now layout.now index number.now) }
+    {
+        let note = self.note_at(index);
+        let y = plus(plus(layout.bottom, 18), times(index as u64, 13));
+        push_label(out, Class::Dim, LEFT - 20, y, number)?;
+        push_label(out, Class::Dim, LEFT, y, text_at(&self.texts, note.text))
+    }
+
+    /// Adds a comment, and its number on the axis where there is room; the answer is where the next number has room.
     fn push_note(
         &self,
         out: &mut Vec<u8>,
@@ -179,13 +204,10 @@ impl Picture {
         ensures text { OnOk result (out.new.items ≡ out.old.items ++ signs.note_text self.now layout.now index free) }
         ensures end { IfOk result (λ end. end ≡ signs.note_free self.now layout.now index free) }
     {
-        let note = self.notes[index];
-        let x = plus(x_of(layout.scale, note.at), 4);
-        let y = plus(plus(layout.bottom, 18), times(index as u64, 13));
+        let x = plus(x_of(layout.scale, self.note_at(index).at), 4);
         let mut number = Vec::new(self.alloc());
         push_number(&mut number, plus(index as u64, 1))?;
-        push_label(out, Class::Dim, LEFT - 20, y, &number)?;
-        push_label(out, Class::Dim, LEFT, y, text_at(&self.texts, note.text))?;
+        self.push_note_words(out, layout, index, &number)?;
         push_note_sign(out, x, &number, free)?;
         Ok(note_end(x, &number, free))
     }

@@ -1,5 +1,4 @@
 pub mod WritingLaws
-pub mod LineLaws
 pub mod ReadLaws
 pub mod EventLaws
 pub mod HeaderReadLaws

@@ -8,5 +8,5 @@ returns-in-Err g c first b =
     header_lacks g.D.Daemon.commands g.D.Daemon.stands c.args.part first (g.S.Source.left c.args.source.now) (g.K.Sink.taken c.args.sink.now) (g.S.Source.faults c.args.source.now)
     (g.S.Source.faults c.args.source.now) (g.K.Sink.faults c.args.sink.now) (g.K.Sink.faults c.args.sink.now) (b.consumed ++ c.args.reader.now.left, b.gives)
 
-pub returns : goal.returns
-returns g c first b = c.draw_begun.ensures first c.args.part b c.in-Ok.ensures
+pub returns-in-Ok : goal.returns-in-Ok
+returns-in-Ok g c first b = c.draw_begun.ensures first c.args.part b c.in-Ok.ensures

@@ -14,6 +14,7 @@ invariant-loop-sink g l = record {
       → Drawing g.D.Daemon.commands g.D.Daemon.stands part h first (g.S.Source.left l.source) l.reader (state_of g.L.LockTable.locks l.play) l.picture;
   plays : IsPlaying g.D.Daemon.commands g.D.Daemon.stands (state_of g.L.LockTable.locks l.play);
   ends : EndStands (g.S.Source.left l.source) l.reader;
+  sink : l.sink ≡ l.fn.sink;
   faults : g.S.Source.faults l.fn.source ≤ g.S.Source.faults l.source;
 }
 

@@ -1,5 +1,0 @@
-use Rattle.sl_schedule.proofs.schedule.pass_header.Goals as goal
-use Rattle.std.proofs.Common.{[]}
-
-pub returns : goal.returns
-returns c = c.pass_lines.ensures [] c.new-reader.ensures.stands
