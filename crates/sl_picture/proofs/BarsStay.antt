@@ -1,7 +1,7 @@
 -- What touches no bar of a holding; and what a grant and an end make of them.
 use Rattle.sl_picture.specs.HeldBars.{NamesAreKept, Row, Shows, bars_on, is_bar_on, is_row_of, row_of_bar, without}
 use Rattle.sl_picture.specs.Fates.{act, changed, concerns, concerns_there, dropped, ended, ends, fate, hidden, is_call, is_down, is_gap, is_holding, is_idle, is_link, is_live_link, is_of_daemon, is_orphan, is_waiting, orphaned, stays, turns}
-use Rattle.sl_picture.specs.Kept.{Kept, begun_with, fate_of, happened, is_text, keeping, reading_at, text_at}
+use Rattle.sl_picture.specs.Kept.{Kept, begun_with, fate_of, happened, is_text, keeping, reading_at, stays_of, text_at}
 use Rattle.sl_picture.specs.declared.fates.Act.{Act}
 use Rattle.sl_picture.specs.declared.fates.Deed.TheVariants.{Answered, CallOver, CameUp, Crashed, Denied, Granted, Hidden, Landed, Released, Removed, Renewed, Started, Ticked, WentDown}
 use Rattle.sl_picture.specs.declared.fates.Fate.{Fate}
@@ -192,7 +192,7 @@ named b None gone d is = absurd (none d is) where
 named b (Some c) left d is = subst (λ (x : Bar). x.name ≡ b.name) (some_value c d is) left.0
 
 pub happens_quietly : (a : Act) (name : List ℕ) (k : Kept) → ((b : Bar) → Leaves b (fate_of a name k b).stays) → Stays k (happened a name k)
-unfolding happened
+unfolding happened stays_of
 happens_quietly a name k leaves part rows s = (
   s.0,
   left_names k.texts (λ b. (fate_of a name k b).stays) k.opened (λ b d is. named b (fate_of a name k b).stays (leaves b) d is) s.1,

@@ -4,7 +4,7 @@ use Rattle.sl_picture.proofs.BarsStay.{IsIn, Stays, answered_stays, begun, crash
 use Rattle.sl_picture.specs.HeldBars.{LinesMoveBars, Row, Shows, after_line, after_lines, granted_row, is_bar_on, is_row_of, row_of_bar, told_rows, without}
 use Rattle.sl_picture.specs.Events.{call_answered, call_dropped, call_seen, clock_grown, clocks_grown, command, daemon_line, growth_of, locks_line, machine_reset, machine_seen, passed, put_out, seen, time_passed, torn, turned, verb_of}
 use Rattle.sl_picture.specs.Fates.{act, changed, concerns, concerns_there, ends, is_holding, stays}
-use Rattle.sl_picture.specs.Kept.{Kept, answered, asked, bar, begun_with, bridging, colour_of, command_ended, denied, fate_of, free_row, freed, gap, happened, hiding, is_alone, is_held, is_text, keeping, lane_at, marked, one_answered, place_of, text_at, with_command, with_holding, with_lane, with_link, without_holding}
+use Rattle.sl_picture.specs.Kept.{Kept, answered, asked, bar, begun_with, bridging, colour_of, command_ended, denied, fate_of, free_row, freed, gap, happened, hiding, is_alone, is_held, is_text, keeping, lane_at, marked, one_answered, place_of, stays_of, text_at, with_command, with_holding, with_lane, with_link, without_holding}
 use Rattle.sl_picture.specs.Said.{number_at, text_behind, two_parts, word_at}
 use Rattle.sl_picture.specs.Tells.{all_told, call_of, connected, granted, happening, is_silent, mode_of, noted, renewed, replied, signal_of, silence, stepped, submitted, taken, test_of, told, told_of, with_column, with_line}
 use Rattle.sl_picture.specs.declared.events.Verb.TheVariants as verb
@@ -127,7 +127,7 @@ module _ (k : Kept) (m p : ℕ) (name : List ℕ) where
   -- The rows without what has ended.
   pub released : (part : Part) (rows : ℕ → List Row) → Shows part k rows
       → Shows part (happened (act Released m p) name k) (λ n. if m == n then without p name (rows n) else rows n)
-  unfolding happened
+  unfolding happened stays_of
   released part rows s = (s.0, left_names k.texts left k.opened left_named s.1, λ n. by n (true_or_false (m == n))) where
     by : (n : ℕ) → ((m == n) ≡ true) ⊎ ((m == n) ≡ false)
         → shown k.texts n (flat_map (λ b. option_to_list (left b)) k.opened) ≡ (if m == n then without p name (rows n) else rows n)
