@@ -2,7 +2,7 @@
 use Rattle.sl_held.proofs.LinesRead.{end_line_so, grant_line_so}
 use Rattle.sl_held.specs.HeldLaws.{IsSpelt}
 use Rattle.sl_held.specs.HeldRows.{row_of}
-use Rattle.sl_picture.specs.HeldBars.{Row, after_lines, is_row_of, without}
+use Rattle.sl_picture.specs.HeldBars.{Row, after_lines, is_row_of}
 use Rattle.sl_text.specs.Names.{is_name}
 use Rattle.sl_trace.specs.EffectTexts.{end_words, grant_words, machine_line, of_resource}
 use Rattle.sl_trace.specs.Traces.{is_ended_by, same_place}
@@ -11,7 +11,7 @@ use Rattle.sl_trace.specs.declared.effects.Grant.{Grant}
 use Rattle.sl_words.proofs.Lists.{contains_first, contains_more, filter_both, kept_inside, next_before}
 use Rattle.std.proofs.Common.{ap, refl, sym, ◌∙◌}
 use Rattle.std.proofs.lemmas.List.{append-nil}
-use Rattle.std.specs.Prelude.{Bool, Contains, List, bytes_eq, cond, false, filter, map, not, true, [], ℕ, ◌&&◌, ◌++◌, ◌<◌, ◌==◌, ◌^◌, ◌∷◌, ◌≡◌, ◌||◌}
+use Rattle.std.specs.Prelude.{Bool, Contains, List, cond, false, filter, map, not, true, [], ℕ, ◌&&◌, ◌++◌, ◌<◌, ◌==◌, ◌^◌, ◌∷◌, ◌≡◌, ◌||◌}
 
 -- Whether this end ends the holding: by its names, as bars have it; and by its place, as a machine has it.
 abbrev pub by_name : End → Grant → Bool

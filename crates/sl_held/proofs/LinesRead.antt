@@ -8,7 +8,7 @@ use Rattle.sl_picture.specs.declared.shapes.Shape.{Shape}
 use Rattle.sl_text.proofs.FreeLaws.{decimal_free, name_free}
 use Rattle.sl_text.proofs.NumberLaws.{is_number_text-decimal, number_of-decimal}
 use Rattle.sl_text.proofs.PieceLaws.{pieces-front, pieces-join_with_byte}
-use Rattle.sl_text.specs.Forms.{coloned, is_free_of, pieces, spaced, words_of}
+use Rattle.sl_text.specs.Forms.{is_free_of, pieces, words_of}
 use Rattle.sl_text.specs.Names.{is_name}
 use Rattle.sl_text.specs.Numbers.{number_of}
 use Rattle.sl_trace.specs.EffectTexts.{end_words, grant_words, machine_line, mode_word, of_resource}
@@ -16,14 +16,14 @@ use Rattle.sl_trace.specs.declared.effects.End.{End}
 use Rattle.sl_trace.specs.declared.effects.Grant.{Grant}
 use Rattle.sl_trace.specs.declared.effects.Mode.TheVariants.{Exclusive, Shared}
 use Rattle.sl_trace.specs.declared.effects.Mode.{Mode}
-use Rattle.sl_words.proofs.CaseLaws.{is_false, true_is_false}
+use Rattle.sl_words.proofs.CaseLaws.{is_false}
 use Rattle.sl_words.specs.Words.{first_of_list}
 use Rattle.std.proofs.Common.{ap, arith, refl, sym, ◌∙◌}
 use Rattle.std.proofs.lemmas.Bool.{and_from, eq-eqb, eqb-true}
 use Rattle.std.proofs.lemmas.List.Folds.{list_all-append}
 use Rattle.std.specs.List.{join_with_byte, list_all}
 use Rattle.std.specs.Option.{option_map_or}
-use Rattle.std.specs.Prelude.{Bool, IsTrue, List, codes, decimal, drop, false, if◌then◌else◌, length, map, min, not, true, [], ℕ, ◌++◌, ◌-◌, ◌<◌, ◌==◌, ◌^◌, ◌∷◌, ◌≡◌}
+use Rattle.std.specs.Prelude.{Bool, List, codes, decimal, drop, if◌then◌else◌, map, min, not, true, [], ℕ, ◌++◌, ◌-◌, ◌<◌, ◌==◌, ◌^◌, ◌∷◌, ◌≡◌}
 
 -- ---- words of a line
 

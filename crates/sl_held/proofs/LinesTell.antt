@@ -6,13 +6,13 @@ use Rattle.sl_held.specs.HeldLaws.{HoldsOnce, IsSpelt, LinesTellHoldings, NamesT
 use Rattle.sl_held.specs.HeldRows.{held_on, holdings_on, row_of}
 use Rattle.sl_picture.specs.HeldBars.{Row, after_lines}
 use Rattle.sl_report.specs.Reports.{event_lines, run_lines}
-use Rattle.sl_run.specs.Conflicts.{Holding, holding, world_holdings}
+use Rattle.sl_run.specs.Conflicts.{holding, world_holdings}
 use Rattle.sl_run.specs.EventChanges.{after_effects, after_step, ends_of, first_change, happens, next_step, own_effects, take_step, with_entry}
 use Rattle.sl_run.specs.Inputs.{input_at, input_of, machine_of}
 use Rattle.sl_run.specs.Lawful.{Orderly}
 use Rattle.sl_run.specs.LawfulEnd.{LawfulEnding}
 use Rattle.sl_run.specs.Refusals.{may_happen}
-use Rattle.sl_run.specs.Runs.{AfterEachFront, Happening, own_effects_of}
+use Rattle.sl_run.specs.Runs.{AfterEachFront, Happening}
 use Rattle.sl_run.specs.Safety.{LawfulRun, world_at}
 use Rattle.sl_text.specs.Names.{is_name}
 use Rattle.sl_run.specs.Worlds.{Daemon, Machine, Program, Stamp, World, daemons_on, machine_at, machine_of_header, stamp_now, world_with}

@@ -3,7 +3,8 @@
 //!
 //! Lines tell a resource by its name alone. A host verifies the name that a command gives where it reads the area, and not where it shares
 //! what it holds already, or lets an orphan be taken over: there it tells the name of the command. So it is asked that what is held at one
-//! time under one name is one place; where commands name each area as the header does there are no other names.
+//! time under one name is one place. Where the header gives each resource a name of its own, and commands name each area as it does, there
+//! are no other names.
 #![tactic(auto)]
 
 pub mod laws;

@@ -2,11 +2,9 @@
 use Rattle.sl_picture.proofs.BarsStay.{Stays, begun, new_is_in, nothing_in, text_kept}
 use Rattle.sl_picture.specs.HeldBars.{BarsBegin, Shows}
 use Rattle.sl_picture.specs.Kept.{Kept, bar, clock_set, clocks_set, empty, first_kept, free_row, idle_to, is_taken, keeping, place_of, reading_at, resource_text, with_idle, with_resource, with_session}
-use Rattle.sl_picture.specs.declared.kept.Part.{Part}
 use Rattle.sl_picture.specs.declared.shapes.Shape.TheVariants as shape
 use Rattle.sl_drawing.specs.Sums.{plus}
 use Rattle.sl_run.specs.declared.header.FirstReading.{FirstReading}
-use Rattle.sl_run.specs.declared.header.Header.{Header}
 use Rattle.sl_run.specs.declared.header.ResourceLine.{ResourceLine}
 use Rattle.sl_run.specs.declared.header.SessionLine.{SessionLine}
 use Rattle.sl_time.specs.Times.{fail}

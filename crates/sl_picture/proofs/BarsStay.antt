@@ -1,9 +1,9 @@
 -- What touches no bar of a holding; and what a grant and an end make of them.
-use Rattle.sl_picture.specs.HeldBars.{NamesAreKept, Row, Shows, bars_on, is_bar_on, is_row_of, row_of_bar, without}
-use Rattle.sl_picture.specs.Fates.{act, changed, concerns, concerns_there, dropped, ended, ends, fate, hidden, is_call, is_down, is_gap, is_holding, is_idle, is_link, is_live_link, is_of_daemon, is_orphan, is_waiting, orphaned, stays, turns}
-use Rattle.sl_picture.specs.Kept.{Kept, begun_with, fate_of, happened, is_text, keeping, reading_at, stays_of, text_at}
+use Rattle.sl_picture.specs.HeldBars.{NamesAreKept, Row, Shows, bars_on, is_bar_on, row_of_bar}
+use Rattle.sl_picture.specs.Fates.{act, changed, concerns, concerns_there, dropped, ends, is_call, is_down, is_gap, is_holding, is_idle, is_link, is_live_link, is_of_daemon, is_orphan, is_waiting, orphaned, stays, turns}
+use Rattle.sl_picture.specs.Kept.{Kept, begun_with, fate_of, happened, is_text, keeping, stays_of, text_at}
 use Rattle.sl_picture.specs.declared.fates.Act.{Act}
-use Rattle.sl_picture.specs.declared.fates.Deed.TheVariants.{Answered, CallOver, CameUp, Crashed, Denied, Granted, Hidden, Landed, Released, Removed, Renewed, Started, Ticked, WentDown}
+use Rattle.sl_picture.specs.declared.fates.Deed.TheVariants.{Answered, CallOver, CameUp, Crashed, Denied, Granted, Hidden, Landed, Removed, Renewed, Started, Ticked, WentDown}
 use Rattle.sl_picture.specs.declared.fates.Fate.{Fate}
 use Rattle.sl_picture.specs.declared.kept.Part.{Part}
 use Rattle.sl_picture.specs.declared.shapes.Bar.{Bar}
@@ -11,16 +11,15 @@ use Rattle.sl_picture.specs.declared.shapes.Instant.{Instant}
 use Rattle.sl_picture.specs.declared.shapes.Shape.TheVariants as shape
 use Rattle.sl_picture.specs.declared.shapes.Shape.{Shape}
 use Rattle.sl_picture.specs.declared.shapes.Text.{Text}
-use Rattle.sl_words.proofs.CaseLaws.{false_is_true, is_false, some_value, true_is_false, true_or_false}
+use Rattle.sl_words.proofs.CaseLaws.{false_is_true, is_false, some_value, true_is_false}
 use Rattle.sl_words.proofs.Lists.{contains_cases, contains_first, contains_more, contains_none}
 use Rattle.sl_words.proofs.WordLaws.{and_true}
 use Rattle.std.proofs.Common.{ap, arith, inl, inr, refl, subst, sym, ◌∙◌}
-use Rattle.std.proofs.lemmas.Bool.{eq-eqb, eqb-true}
 use Rattle.std.proofs.lemmas.List.Elements.{Contains-append_cases, Contains-push_cases, filter-append}
 use Rattle.std.proofs.lemmas.List.{append-nil, drop-append-le, drop_at, length-append, length-drop, map-append, take-append-le, take_all}
 use Rattle.std.specs.List.{flat_map}
 use Rattle.std.specs.Option.{option_to_list}
-use Rattle.std.specs.Prelude.{Bool, Contains, List, None, Option, Some, bytes_eq, cond, drop, false, filter, if◌then◌else◌, length, map, not, take, true, [], ℕ, ◌&&◌, ◌++◌, ◌+◌, ◌==◌, ◌∷◌, ◌≡◌, ◌≤◌, ◌⊎◌, ◌||◌}
+use Rattle.std.specs.Prelude.{Bool, Contains, List, None, Option, Some, cond, drop, false, filter, if◌then◌else◌, length, map, take, true, [], ℕ, ◌&&◌, ◌++◌, ◌+◌, ◌==◌, ◌∷◌, ◌≡◌, ◌≤◌, ◌⊎◌, ◌||◌}
 
 -- ---- texts
 

@@ -1,34 +1,31 @@
 -- What a line of a schedule, with its lines of the report, makes of the bars of holdings.
 use Rattle.sl_drawing.specs.Sums.{plus}
-use Rattle.sl_picture.proofs.BarsStay.{IsIn, Stays, answered_stays, begun, crashed_stays, denied_stays, down_stays, found_text, granted_stays, hidden_stays, holding_begun, landed_stays, left_names, made_row, new_is_in, no_row, nothing_in, over_stays, removed_stays, renewed_stays, same_rows, shown, shown_first, started_stays, stays_in, text_kept, ticked_stays, unshown, up_stays, with_row}
+use Rattle.sl_picture.proofs.BarsStay.{Stays, answered_stays, begun, crashed_stays, denied_stays, down_stays, found_text, granted_stays, hidden_stays, holding_begun, landed_stays, left_names, made_row, new_is_in, nothing_in, over_stays, removed_stays, renewed_stays, same_rows, shown, shown_first, started_stays, stays_in, text_kept, ticked_stays, unshown, up_stays, with_row}
 use Rattle.sl_picture.specs.HeldBars.{LinesMoveBars, Row, Shows, after_line, after_lines, granted_row, is_bar_on, is_row_of, row_of_bar, told_rows, without}
-use Rattle.sl_picture.specs.Events.{call_answered, call_dropped, call_seen, clock_grown, clocks_grown, command, daemon_line, growth_of, locks_line, machine_reset, machine_seen, passed, put_out, seen, time_passed, torn, turned, verb_of}
+use Rattle.sl_picture.specs.Events.{call_answered, call_seen, clocks_grown, command, daemon_line, locks_line, machine_reset, machine_seen, passed, put_out, seen, time_passed, turned, verb_of}
 use Rattle.sl_picture.specs.Fates.{act, changed, concerns, concerns_there, ends, is_holding, stays}
-use Rattle.sl_picture.specs.Kept.{Kept, answered, asked, bar, begun_with, bridging, colour_of, command_ended, denied, fate_of, free_row, freed, gap, happened, hiding, is_alone, is_held, is_text, keeping, lane_at, marked, one_answered, place_of, stays_of, text_at, with_command, with_holding, with_lane, with_link, without_holding}
+use Rattle.sl_picture.specs.Kept.{Kept, answered, asked, bar, begun_with, bridging, colour_of, command_ended, denied, fate_of, free_row, freed, gap, happened, hiding, is_alone, is_held, is_text, keeping, lane_at, marked, one_answered, place_of, stays_of, text_at, with_command, with_lane, with_link, without_holding}
 use Rattle.sl_picture.specs.Said.{number_at, text_behind, two_parts, word_at}
-use Rattle.sl_picture.specs.Tells.{all_told, call_of, connected, granted, happening, is_silent, mode_of, noted, renewed, replied, signal_of, silence, stepped, submitted, taken, test_of, told, told_of, with_column, with_line}
+use Rattle.sl_picture.specs.Tells.{all_told, call_of, connected, granted, happening, is_silent, mode_of, noted, renewed, replied, signal_of, silence, submitted, taken, test_of, told, told_of, with_column, with_line}
 use Rattle.sl_picture.specs.declared.events.Verb.TheVariants as verb
 use Rattle.sl_picture.specs.declared.events.Verb.{Verb}
 use Rattle.sl_picture.specs.declared.fates.Deed.TheVariants.{CameUp, Crashed, Released, Removed, WentDown}
-use Rattle.sl_picture.specs.declared.fates.Deed.{Deed}
 use Rattle.sl_picture.specs.declared.kept.Part.{Part}
 use Rattle.sl_picture.specs.declared.shapes.Bar.{Bar}
 use Rattle.sl_picture.specs.declared.shapes.Lane.{Lane}
 use Rattle.sl_picture.specs.declared.shapes.Shape.TheVariants as shape
 use Rattle.sl_picture.specs.declared.shapes.Shape.{Shape}
 use Rattle.sl_picture.specs.declared.shapes.Sign.TheVariants as sign
-use Rattle.sl_picture.specs.declared.shapes.Sign.{Sign}
-use Rattle.sl_picture.specs.declared.shapes.Text.{Text}
 use Rattle.sl_picture.specs.declared.tells.Told.TheVariants as told_as
 use Rattle.sl_picture.specs.declared.tells.Told.{Told}
 use Rattle.sl_text.specs.Forms.{lines_of}
-use Rattle.sl_words.proofs.CaseLaws.{false_is_true, is_false, some_value, true_is_false, true_or_false}
+use Rattle.sl_words.proofs.CaseLaws.{is_false, some_value, true_is_false, true_or_false}
 use Rattle.sl_words.proofs.WordLaws.{and_true}
-use Rattle.std.proofs.Common.{ap, arith, inl, inr, refl, subst, sym, ◌∙◌}
+use Rattle.std.proofs.Common.{ap, inl, inr, refl, subst, sym, ◌∙◌}
 use Rattle.std.proofs.lemmas.Bool.{eq-eqb, eqb-true, le-ltb}
 use Rattle.std.specs.List.{flat_map}
 use Rattle.std.specs.Option.{option_to_list}
-use Rattle.std.specs.Prelude.{Bool, Contains, List, None, Option, Some, bytes_eq, codes, cond, drop, false, fold, if◌then◌else◌, length, nat_lt, not, suc, true, zero, [], ℕ, ◌%◌, ◌&&◌, ◌++◌, ◌+◌, ◌==◌, ◌∷◌, ◌≡◌, ◌≤◌, ◌⊎◌, ◌||◌}
+use Rattle.std.specs.Prelude.{Bool, List, None, Option, Some, bytes_eq, codes, cond, drop, false, fold, if◌then◌else◌, length, nat_lt, not, suc, true, zero, [], ℕ, ◌%◌, ◌&&◌, ◌++◌, ◌+◌, ◌==◌, ◌∷◌, ◌≡◌, ◌≤◌, ◌⊎◌, ◌||◌}
 
 -- ---- an end
 

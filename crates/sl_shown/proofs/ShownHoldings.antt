@@ -2,17 +2,16 @@
 use Rattle.sl_draw.specs.Drawings.{AreTold, IsTold, Step, drawn, lines_of_steps, told_of_steps}
 use Rattle.sl_held.proofs.LinesTell.{in_world, lines_tell_holdings}
 use Rattle.sl_held.specs.HeldLaws.{NamesTell}
-use Rattle.sl_held.specs.HeldRows.{held_on, holdings_on, row_of, shape_of}
+use Rattle.sl_held.specs.HeldRows.{held_on, row_of, shape_of}
 use Rattle.sl_picture.proofs.BarsBegin.{bars_begin}
 use Rattle.sl_picture.proofs.LinesMove.{lines_move_bars}
 use Rattle.sl_picture.specs.Fates.{is_holding}
-use Rattle.sl_picture.specs.HeldBars.{Row, Shows, after_lines, bars_on, is_bar_on, row_of_bar}
-use Rattle.sl_picture.specs.Kept.{Kept, text_at}
+use Rattle.sl_picture.specs.HeldBars.{Row, Shows, after_lines, is_bar_on, row_of_bar}
+use Rattle.sl_picture.specs.Kept.{Kept}
 use Rattle.sl_picture.specs.Tells.{is_silent}
 use Rattle.sl_picture.specs.declared.kept.Part.{Part}
 use Rattle.sl_picture.specs.declared.shapes.Bar.{Bar}
 use Rattle.sl_picture.specs.declared.shapes.Shape.TheVariants as shape
-use Rattle.sl_picture.specs.declared.shapes.Shape.{Shape}
 use Rattle.sl_headline.specs.PromisedRuns.{PromisedRun}
 use Rattle.sl_play.proofs.Headers.HeadersAreGood.{headers_are_good}
 use Rattle.sl_report.specs.Languages.{Language, is_skipped, whole_language}
@@ -21,7 +20,7 @@ use Rattle.sl_report.specs.Reports.{Counts, end_line, no_counts, run_counts, run
 use Rattle.sl_report.specs.Schedules.{At_end, At_line, Ending, EventLine, Follows, IsAskOf, HeaderReading, Header_read, Header_refused, NumberedLine, event_line, event_lines_of, event_or_syntax, line_refusal, numbered_lines, read_header, replay_from, replay_lines, report_of, status_of}
 use Rattle.sl_report.specs.ReadLines.{event_in}
 use Rattle.sl_report.specs.RefusalLines.{refusal_line}
-use Rattle.sl_run.specs.Conflicts.{Holding, IsExclusive, conflicts, has_conflict, holding, is_one_user, world_holdings, world_lingering, world_uses}
+use Rattle.sl_run.specs.Conflicts.{Holding, IsExclusive, conflicts, holding, is_one_user, world_holdings, world_lingering, world_uses}
 use Rattle.sl_run.specs.EventChanges.{happens}
 use Rattle.sl_run.specs.Inputs.{asking}
 use Rattle.sl_run.specs.Refusals.{may_happen}
@@ -35,7 +34,7 @@ use Rattle.sl_run_law.proofs.Front.JoinedLists.{contains_left, contains_right}
 use Rattle.sl_sector.proofs.WrittenBytes.{sha256_is_digest}
 use Rattle.sl_sector.specs.SectorLayouts.{IsDigest}
 use Rattle.sl_shown.proofs.WholeLines.{WholeLines, before_end, lines_are_whole, lines_before_end, lines_joined}
-use Rattle.sl_shown.specs.ShownHoldings.{AreOfOne, BarsAreHoldings, BarsAreShared, IsShown, ShowsHoldings}
+use Rattle.sl_shown.specs.ShownHoldings.{BarsAreHoldings, BarsAreShared, ShowsHoldings}
 use Rattle.sl_sound.proofs.OwedGrows.{replay_grows}
 use Rattle.sl_sound.proofs.Reports.OneReport.{runs_have_one_report}
 use Rattle.sl_sound.specs.MadeRuns.{ServedRun}
@@ -46,17 +45,17 @@ use Rattle.sl_trace.specs.Traces.{is_shared, same_place}
 use Rattle.sl_trace.specs.declared.effects.Grant.{Grant}
 use Rattle.sl_trace.specs.declared.effects.Mode.TheVariants.{Exclusive, Shared}
 use Rattle.sl_trace.specs.declared.effects.Mode.{Mode}
-use Rattle.sl_words.proofs.CaseLaws.{false_is_true, is_false, none_some, some_value, true_is_false, true_or_false}
+use Rattle.sl_words.proofs.CaseLaws.{false_is_true, is_false, true_is_false, true_or_false}
 use Rattle.sl_words.proofs.Lists.{any_of, contains_cases, contains_first, contains_map, contains_more, contains_none, in_map, kept}
 use Rattle.sl_words.proofs.WordLaws.{and_true}
 use Rattle.std.proofs.Common.{ap, inl, inr, refl, subst, sym, ◌∙◌}
 use Rattle.std.proofs.lemmas.Bool.{and_from, eq-eqb, eqb-true}
 use Rattle.std.proofs.lemmas.List.Elements.{filter_map-append}
 use Rattle.std.proofs.lemmas.List.Sums.{fold-append}
-use Rattle.std.proofs.lemmas.List.{append-nil, append_assoc, append_cancel_left}
+use Rattle.std.proofs.lemmas.List.{append-nil, append_cancel_left}
 use Rattle.std.specs.List.{cons_option, list_all, list_any}
 use Rattle.std.specs.Option.{option_map_or, option_to_list}
-use Rattle.std.specs.Prelude.{Bool, Contains, Err, IsTrue, List, None, Ok, Option, Result, Some, false, filter, filter_map, map, not, suc, true, zero, [], ℕ, ◌&&◌, ◌++◌, ◌==◌, ◌∷◌, ◌≡◌, ◌≤◌, ◌⊎◌, ◌||◌}
+use Rattle.std.specs.Prelude.{Bool, Contains, Err, IsTrue, List, None, Ok, Option, Some, false, filter, map, not, true, [], ℕ, ◌&&◌, ◌++◌, ◌==◌, ◌∷◌, ◌≡◌, ◌≤◌, ◌⊎◌, ◌||◌}
 
 -- ---- of whatever language
 
