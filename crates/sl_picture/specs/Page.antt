@@ -1,5 +1,5 @@
 -- The whole picture, as text.
-use Rattle.sl_drawing.specs.Elements.{Label, Rect, element_text, front_text, head_text, tail_text}
+use Rattle.sl_drawing.specs.Elements.{Label, Rect, element_text, front_text, head_text, lowered_text, tail_text}
 use Rattle.sl_drawing.specs.Sums.{letters, minus, plus, times}
 use Rattle.sl_drawing.specs.declared.classes.Class.TheVariants as class
 use Rattle.sl_drawing.specs.declared.classes.Class.{Class}
@@ -94,11 +94,31 @@ lanes_to l (suc n) = lanes_to l n ++ lane_at l n
 
 -- ---- the whole
 
-abbrev pub sheet_text : Plan → List ℕ
-sheet_text l = front_text l.width l.height ++ head_text ++ element_text (Rect class.Ground (record { x = 0; y = 0; width = l.width; height = l.height }))
+-- How high the caption is, and with it the whole.
+abbrev pub caption_height : Kept → ℕ
+caption_height k = times (length k.caption) 14
+
+abbrev pub full_height : Kept → Plan → ℕ
+full_height k l = plus l.height (caption_height k)
+
+-- The first so many of its lines.
+abbrev pub caption_line : Kept → ℕ → List ℕ
+caption_line k n = element_text (Label class.Plain 10 (plus (times n 14) 12) (text_at k.texts (slice_index_or k.caption n no_text)))
+
+abbrev pub caption_to : Kept → ℕ → List ℕ
+caption_to k zero = []
+caption_to k (suc n) = caption_to k n ++ caption_line k n
+
+abbrev pub sheet_text : Kept → Plan → List ℕ
+sheet_text k l =
+    front_text l.width (full_height k l) ++ head_text ++ element_text (Rect class.Ground (record { x = 0; y = 0; width = l.width; height = full_height k l }))
+
+-- What stands above the picture, and the front of that.
+abbrev pub above_text : Kept → Plan → List ℕ
+above_text k l = sheet_text k l ++ caption_to k (length k.caption) ++ lowered_text (caption_height k)
 
 abbrev pub ground_text : Kept → Plan → List ℕ
-ground_text k l = sheet_text l ++ (resources_row k).text ++ keys_text k (resources_row k).free ++ lanes_to l (length l.places)
+ground_text k l = above_text k l ++ (resources_row k).text ++ keys_text k (resources_row k).free ++ lanes_to l (length l.places)
 
 abbrev pub last_text : Kept → Plan → List ℕ → List ℕ
 last_text k l last = element_text (Label class.Plain 104 (plus (plus l.bottom 24) (times (length k.notes) 13)) last)
@@ -112,7 +132,7 @@ abbrev pub words_text : Kept → Plan → List Bar → List ℕ → List ℕ
 words_text k l bs last = commands_to k l bs (length l.places) ++ marks_text l k.marks ++ notes_text k l ++ last_text k l last
 
 abbrev pub planned_text : Kept → Plan → List Bar → List ℕ → List ℕ
-planned_text k l bs last = ground_text k l ++ layers_text k l bs ++ words_text k l bs last ++ tail_text
+planned_text k l bs last = ground_text k l ++ layers_text k l bs ++ words_text k l bs last ++ tail_text ++ tail_text
 
 -- The picture of what is kept, with this last line.
 unfoldable pub picture_of : Kept → List ℕ → List ℕ
