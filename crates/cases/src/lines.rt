@@ -1,5 +1,8 @@
 //! Lines of schedules.
 
+ghost use Rattle.sl_reader.specs.LineReads.{EndStands, no_line};
+ghost use Rattle.std.specs.Prelude.{Some, ◌≡◌};
+
 use crate::told::Told;
 use crate::word_values::{number_at, short_at, word};
 use sl_io::MemSource;
@@ -178,7 +181,10 @@ fn tell_line(told: &mut Told, header: &Header, reader: &LineReader) {
 }
 
 /// What the next line gives, if there is one.
-fn tell_next(told: &mut Told, header: &Header, source: &mut MemSource, reader: &mut LineReader) {
+fn tell_next(told: &mut Told, header: &Header, source: &mut MemSource, reader: &mut LineReader)
+    requires { EndStands (Some source.old.left) reader.old }
+    ensures { EndStands (Some source.new.left) reader.new }
+{
     match reader.read_line(source) {
         Ok(Next::Line) => tell_line(told, header, reader),
         Ok(Next::Refused(why)) => number_text(told, reader.next_number(), Some(why)),
@@ -194,15 +200,19 @@ fn tell_events(
     source: &mut MemSource,
     reader: &mut LineReader,
     text: &str,
-) {
+)
+    requires { EndStands (Some source.old.left) reader.old }
+{
     header_text(told, header);
-    for _ in text.split('|') {
+    for place in 0..text.split('|').count() {
         tell_next(told, header, source, reader);
     }
 }
 
 /// Some numbers of a header that is read from a source, and the numbers of the lines of its events; or what is refused.
-fn tell_header(told: &mut Told, source: &mut MemSource, reader: &mut LineReader, text: &str) {
+fn tell_header(told: &mut Told, source: &mut MemSource, reader: &mut LineReader, text: &str)
+    requires { reader.old ≡ no_line }
+{
     match read_header(told.alloc, source, reader) {
         Ok(Ok(header)) => tell_events(told, &header, source, reader, text),
         Ok(Err((number, why))) => refusal(told, number, why),

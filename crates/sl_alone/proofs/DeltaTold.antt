@@ -89,18 +89,6 @@ told_gives now call p made a l over n out survey is decided e =
 
 -- ---- what is answered
 
-pub survey_is : (p : Purpose) → is_survey_purpose p ≡ true → Survey ≡ p
-survey_is Survey e = refl
-survey_is (Joining j step) e = absurd cc
-survey_is Renewal e = absurd cc
-survey_is (Leaving j) e = absurd cc
-survey_is (Lease work step) e = absurd cc
-survey_is (RequestRead j) e = absurd cc
-survey_is (RequestWrite j owner) e = absurd cc
-survey_is SeeRequest e = absurd cc
-survey_is (ValueWrite j) e = absurd cc
-survey_is (ValueRead j) e = absurd cc
-
 -- A run's sectors can be read.
 sector_fits : (z : Sizes) → IsGeometry z → IsSectorSize z.sector
 sector_fits z g = (grind (arith, nat_tests, g), grind (arith, nat_tests, g))

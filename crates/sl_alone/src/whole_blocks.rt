@@ -33,7 +33,7 @@ fn best_in(n: u64, blocks: &[Block]) -> Option<Block>
         .iter()
         .copied()
         .filter(|block| block.lver == n)
-        .fold(None, greater_bal)
+        .fold(None, |best, block| greater_bal(best, block))
 }
 
 /// The value that a session's ballot in instance `n` has to write, by these blocks: that of the greatest bal there, of two that tie the

@@ -158,13 +158,13 @@ left_goes part es q q' None left goes =
 
 pub rest_goes : (st : Setting) (h handed : List Signed) (part : Part) (r r' : Rest) (o : Option Call) → IsRest st h handed r → GoesOf part r r' o → IsRest st h handed r'
 rest_goes st h handed Delta r r' o rest goes = record {
-  connected = ap (λ v. v.items) goes.connected ∙ rest.connected;
+  connected = ap (λ v. v.connections) goes.connected ∙ rest.connected;
   delta = left_goes Delta (entries h) r.delta r'.delta o rest.delta goes.here;
   resource = subst (λ (q : Queue). IsLeft Resource (entries h) q.taken q.calls.items) (sym goes.there) rest.resource;
   waits = subst (λ v. IsWaiting h handed v.items) (sym goes.waits) rest.waits;
 }
 rest_goes st h handed Resource r r' o rest goes = record {
-  connected = ap (λ v. v.items) goes.connected ∙ rest.connected;
+  connected = ap (λ v. v.connections) goes.connected ∙ rest.connected;
   delta = subst (λ (q : Queue). IsLeft Delta (entries h) q.taken q.calls.items) (sym goes.there) rest.delta;
   resource = left_goes Resource (entries h) r.resource r'.resource o rest.resource goes.here;
   waits = subst (λ v. IsWaiting h handed v.items) (sym goes.waits) rest.waits;
@@ -209,7 +209,7 @@ taken_told st h handed part r r' None s s' rest goes had has seen front =
 pub rest_handed : (st : Setting) (h handed : List Signed) (r r' : Rest) → IsRest st h handed r → r'.connections ≡ r.connections → r'.delta ≡ r.delta → r'.resource ≡ r.resource
     → r'.waiting.items ≡ [] → IsRest st h h r'
 rest_handed st h handed r r' rest connected delta resource none = record {
-  connected = ap (λ v. v.items) connected ∙ rest.connected;
+  connected = ap (λ v. v.connections) connected ∙ rest.connected;
   delta = subst (λ (q : Queue). IsLeft Delta (entries h) q.taken q.calls.items) (sym delta) rest.delta;
   resource = subst (λ (q : Queue). IsLeft Resource (entries h) q.taken q.calls.items) (sym resource) rest.resource;
   waits = record { behind = prefix_self h; others = sym (append-nil (entries h)) ∙ ap (λ xs. entries h ++ xs) (sym none) };

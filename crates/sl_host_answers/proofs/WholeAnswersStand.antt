@@ -21,7 +21,6 @@ use Rattle.sl_sector.specs.declared.sector.Block.{Block}
 use Rattle.sl_trace.specs.declared.effects.Work.{Work}
 use Rattle.sl_member.specs.HostMembers.{member_with}
 use Rattle.sl_words.proofs.Lists.{find_inside}
-use Rattle.sl_trace.specs.Sessions.{is_survey_purpose}
 use Rattle.sl_trace.specs.declared.command.Command.{Command}
 use Rattle.sl_trace.specs.declared.effects.JoinStep.{JoinStep}
 use Rattle.sl_trace.specs.declared.effects.LeaseStep.{LeaseStep}
@@ -240,19 +239,7 @@ told_known k g c work step bytes told blocks shown run same tells known m there 
     (subst (λ bs. IsTold k.config.sizes (first_by (lease_at m (spot_in (layout_of k.config.sizes) c)).pair step) step bytes told bs) (sym same) (tells m there)) in
     record { shown = record { told = said; known = it.stands }; known = it.known }
 
--- ---- a call that reads all ids
-
-pub survey_is : (p : Purpose) → is_survey_purpose p ≡ true → p ≡ Survey
-survey_is (Joining j step) is = none_true is
-survey_is Renewal is = none_true is
-survey_is Survey is = refl
-survey_is (Leaving j) is = none_true is
-survey_is (Lease work step) is = none_true is
-survey_is (RequestRead j) is = none_true is
-survey_is (RequestWrite j owner) is = none_true is
-survey_is SeeRequest is = none_true is
-survey_is (ValueWrite j) is = none_true is
-survey_is (ValueRead j) is = none_true is
+-- ---- at least so many
 
 pub at_least_three : (b : Bool) (n : ℕ) → 3 ≤ cond b (n + 3) 3
 at_least_three true n = omega arith

@@ -6,7 +6,7 @@ use Rattle.sl_book.specs.Logs.{entries}
 use Rattle.sl_cell.specs.Histories.{Signed}
 use Rattle.sl_cell.specs.Seats.{SeatState}
 use Rattle.sl_cell.specs.Told.{Gave}
-use Rattle.sl_live.proofs.TurnLaws.{grows_none, grows_on}
+use Rattle.sl_outside.proofs.ActLaws.{grows_none, grows_on}
 use Rattle.sl_live.specs.CarriedOut.{AreCarried, AreMarked, HasSignalled, IsLet, IsQueue, Kept, TookStart, acts_along, acts_at, after_all, after_moment, as_moment, entries_in, is_childless, is_for, is_named, is_next, kept_in, late_kill, no_children, start_of, starts_of, with_effects, with_told}
 use Rattle.sl_live.specs.Turns.{Carries, ChildrenState, Does, Guards, IsQuiet, TellsExit, TellsStart, MakesTurn, doomed, is_lapsed, kill_of, marked, names, number_of, ordered, sent_by, told_off, without}
 use Rattle.sl_live.specs.declared.children.Awaited.{Awaited}

@@ -1,28 +1,14 @@
 -- Signals one after another, and lists of a machine's children without one of them.
 use Rattle.sl_live.specs.Turns.{Does, sent_by, told_off, without}
 use Rattle.sl_live.specs.declared.children.Awaited.{Awaited}
+use Rattle.sl_outside.proofs.ActLaws.{grows_none, grows_on}
 use Rattle.sl_outside.specs.Acts.{Grows}
 use Rattle.sl_outside.specs.declared.act.Act.{Act}
 use Rattle.sl_trace.specs.declared.effects.Sent.{Sent}
-use Rattle.std.proofs.Common.{append_assoc, append-nil, ap, arith, refl, subst, sym, ◌∙◌}
+use Rattle.std.proofs.Common.{ap, arith, refl, subst, sym, ◌∙◌}
 use Rattle.std.proofs.lemmas.List.{map_more, take_all}
 use Rattle.std.specs.List.{position, remove}
 use Rattle.std.specs.Prelude.{List, None, Option, Some, get_or, length, map, take, [], ℕ, ◌++◌, ◌+◌, ◌<◌, ◌==◌, ◌∷◌, ◌≡◌, ◌≤◌}
-
--- ---- what a spawner tells
-
-pub grows_none : (a b : Option (List Act)) → b ≡ a → Grows a b []
-grows_none None b same = same
-grows_none (Some xs) None same = absurd cc
-grows_none (Some xs) (Some ys) same = let e : ys ≡ xs = cc in e ∙ sym (append-nil xs)
-
-pub grows_on : (a b c : Option (List Act)) (xs ys : List Act) → Grows a b xs → Grows b c ys → Grows a c (xs ++ ys)
-grows_on None None c xs ys first then = then
-grows_on None (Some b) c xs ys first then = absurd cc
-grows_on (Some a) None None xs ys first then = tt
-grows_on (Some a) None (Some c) xs ys first then = absurd cc
-grows_on (Some a) (Some b) None xs ys first then = tt
-grows_on (Some a) (Some b) (Some c) xs ys first then = then ∙ ap (λ zs. zs ++ ys) first ∙ append_assoc a xs ys
 
 -- ---- what it does
 

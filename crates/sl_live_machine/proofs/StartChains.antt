@@ -9,7 +9,7 @@ use Rattle.sl_cell.specs.Histories.{Signed}
 use Rattle.sl_cell.specs.Seats.{SeatState}
 use Rattle.sl_cell.specs.Told.{Gave, IsUnasked}
 use Rattle.sl_live.proofs.CarriedLaws.{let_more, starts_more}
-use Rattle.sl_live.proofs.TurnLaws.{grows_none, grows_on}
+use Rattle.sl_outside.proofs.ActLaws.{grows_none, grows_on}
 use Rattle.sl_live.proofs.WorkLaws.{next_within, take_next, take_same}
 use Rattle.sl_live.specs.CarriedOut.{AreStarted, IsActed, IsLet, IsUntold, TookStart, starts_of}
 use Rattle.sl_live.specs.Turns.{Starts}

@@ -5,9 +5,9 @@ use Rattle.sl_world_state.specs.FirstKept.{session_of}
 use Rattle.sl_world_state.specs.SaneWorlds.{ReadsCommands}
 use Rattle.sl_live_run.specs.Grounds.{IsGroundOf, IsSiteOf}
 use Rattle.sl_live_run.specs.Laws.{SitesAreSettings}
-use Rattle.sl_live_run.specs.Runs.{Both, disks_in}
+use Rattle.sl_live_run.specs.Runs.{disks_in}
 use Rattle.sl_live_run.specs.declared.ground.Ground.{Ground}
-use Rattle.sl_live_play.specs.LiveOwed.{AreAllHad, AreHad, Beginnings}
+use Rattle.sl_live_play.specs.LiveOwed.{Beginnings}
 use Rattle.sl_words.proofs.Lists.{got_index, there_is}
 use Rattle.sl_outside.specs.declared.act.Act.{Act}
 use Rattle.sl_run.specs.Headers.{IsHeader}
@@ -27,42 +27,28 @@ made_of f (x ∷ xs) zero y at = (x, refl, some_value (f x) y at)
 made_of f (x ∷ xs) (suc k) y at = made_of f xs k y at
 
 -- The site of each machine is the one that the header gives it.
-pub site_at : {V C P D W G A : Type 0} (last : C → ℕ) (running : P → List ℕ) (spawned : P → Option (List Act)) (since fire : D → ℕ) (content : A → Option (List ℕ)) (h : Header) (g : Ground V C P D W G A)
-    → IsGroundOf last running spawned since fire content h g → (place : ℕ) (s : Site) → slice_get (map (λ p. p.site) g.machines.items) place ≡ Some s
+pub site_at : {V C P D W G A : Type 0} (last : C → ℕ) (running : P → List ℕ) (spawned : P → Option (List Act)) (since fire : D → ℕ) (h : Header) (g : Ground V C P D W G A)
+    → IsGroundOf last running spawned since fire h g → (place : ℕ) (s : Site) → slice_get (map (λ p. p.site) g.machines.items) place ≡ Some s
     → IsSiteOf g.header (place + 1) (session_of g.header (place + 1)) s
-site_at last running spawned since fire content h g is place s at =
+site_at last running spawned since fire h g is place s at =
     let p = made_of (λ p. p.site) g.machines.items place s at in
     subst (IsSiteOf g.header (place + 1) (session_of g.header (place + 1))) p.2 (is.ready place p.0 p.1).site
 
-unfoldable pub beginnings : {V C P D W G A : Type 0} (last : C → ℕ) (running : P → List ℕ) (spawned : P → Option (List Act)) (since fire : D → ℕ) (content : A → Option (List ℕ)) (h : Header) (g : Ground V C P D W G A)
-    → IsGroundOf last running spawned since fire content h g → Beginnings h
-beginnings last running spawned since fire content h g is =
+unfoldable pub beginnings : {V C P D W G A : Type 0} (last : C → ℕ) (running : P → List ℕ) (spawned : P → Option (List Act)) (since fire : D → ℕ) (h : Header) (g : Ground V C P D W G A)
+    → IsGroundOf last running spawned since fire h g → Beginnings h
+beginnings last running spawned since fire h g is =
     record {
       header = g.header;
       lawful = is.lawful;
       same = is.same;
       sites = map (λ p. p.site) g.machines.items;
       counted = length-map g.machines.items (λ p. p.site) ∙ is.counted;
-      begun = site_at last running spawned since fire content h g is;
+      begun = site_at last running spawned since fire h g is;
     }
 
--- What the ground hands out to each is lent as its header says.
-had_at : {V C P D W G A : Type 0} (last : C → ℕ) (running : P → List ℕ) (spawned : P → Option (List Act)) (since fire : D → ℕ) (content : A → Option (List ℕ)) (h : Header) (g : Ground V C P D W G A)
-    → IsGroundOf last running spawned since fire content h g → (place : ℕ) (d : Both A) → slice_get (map (λ p. disks_in p.parts) g.machines.items) place ≡ Some d
-    → AreHad content g.header (place + 1) d
-had_at last running spawned since fire content h g is place d at =
-    let p = made_of (λ p. disks_in p.parts) g.machines.items place d at in
-    let runs = (is.ready place p.0 p.1).parts in
-    subst (AreHad content g.header (place + 1)) p.2 (record { delta = runs.delta; resource = runs.resource })
-
-pub all_had : {V C P D W G A : Type 0} (last : C → ℕ) (running : P → List ℕ) (spawned : P → Option (List Act)) (since fire : D → ℕ) (content : A → Option (List ℕ)) (h : Header) (g : Ground V C P D W G A)
-    → IsGroundOf last running spawned since fire content h g
-    → AreAllHad content g.header (length (map (λ p. p.site) g.machines.items)) (map (λ p. disks_in p.parts) g.machines.items)
-all_had last running spawned since fire content h g is =
-    record {
-      counted = length-map g.machines.items (λ p. disks_in p.parts) ∙ sym (length-map g.machines.items (λ p. p.site));
-      each = had_at last running spawned since fire content h g is;
-    }
+-- As many have areas as have sites.
+pub as_many : {V C P D W G A : Type 0} (g : Ground V C P D W G A) → length (map (λ p. disks_in p.parts) g.machines.items) ≡ length (map (λ p. p.site) g.machines.items)
+as_many g = length-map g.machines.items (λ p. disks_in p.parts) ∙ sym (length-map g.machines.items (λ p. p.site))
 
 -- What holds of each by its place holds of all.
 all_there : {A : Type 0} (P : A → Type 0) (xs : List A) → ((k : ℕ) (x : A) → slice_get xs k ≡ Some x → P x) → All P xs
@@ -71,10 +57,10 @@ all_there P xs each k d lt =
     subst P (sym (got_index xs k there.0 d there.1)) (each k there.0 there.1)
 
 -- Each makes a setting of a daemon.
-pub are_settings : {V C P D W G A : Type 0} (last : C → ℕ) (running : P → List ℕ) (spawned : P → Option (List Act)) (since fire : D → ℕ) (content : A → Option (List ℕ)) (commands : Header → List (Form Command))
+pub are_settings : {V C P D W G A : Type 0} (last : C → ℕ) (running : P → List ℕ) (spawned : P → Option (List Act)) (since fire : D → ℕ) (commands : Header → List (Form Command))
     (h : Header) (g : Ground V C P D W G A) → SitesAreSettings → ((header : Header) → IsHeader header → ReadsCommands commands header)
-    → IsGroundOf last running spawned since fire content h g
+    → IsGroundOf last running spawned since fire h g
     → All (λ s. IsSetting (begun_with commands g.header s)) (map (λ p. p.site) g.machines.items)
-are_settings last running spawned since fire content commands h g sites reads is =
+are_settings last running spawned since fire commands h g sites reads is =
     all_there (λ s. IsSetting (begun_with commands g.header s)) (map (λ p. p.site) g.machines.items)
-    (λ k s at. sites commands g.header is.lawful (reads g.header is.lawful) (k + 1) s (site_at last running spawned since fire content h g is k s at))
+    (λ k s at. sites commands g.header is.lawful (reads g.header is.lawful) (k + 1) s (site_at last running spawned since fire h g is k s at))

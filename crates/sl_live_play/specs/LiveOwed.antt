@@ -1,10 +1,9 @@
 -- What a live script owes that is played: what is read and put out, by how it ends.
 use Rattle.sl_world_state.specs.declared.daemon.Site.{Site}
 use Rattle.sl_world_state.specs.FirstKept.{session_of}
-use Rattle.sl_cell.specs.declared.part.Part.TheVariants.{Delta, Resource}
-use Rattle.sl_live_run.specs.Areas.{AreLent, first_writes}
 use Rattle.sl_live_run.specs.Folders.{Asked, IsDiskThere, IsVacant}
 use Rattle.sl_live_run.specs.Grounds.{IsSiteOf}
+use Rattle.sl_live_run.specs.Lent.{AreAllBack, AreAllHad}
 use Rattle.sl_live_run.specs.declared.folder.NoEntry.TheVariants as no_entry
 use Rattle.sl_live_run.specs.declared.folder.NoEntry.{NoEntry}
 use Rattle.sl_live_run.specs.declared.ground.NoGround.TheVariants as no_ground
@@ -20,6 +19,7 @@ use Rattle.sl_reader.specs.declared.script_reading.ScriptEnd.{ScriptEnd}
 use Rattle.sl_book.specs.Closings.{AreBelow}
 use Rattle.sl_live_lines.specs.LiveTexts.{history_text, last_text}
 use Rattle.sl_live_lines.specs.declared.live_texts.Ending.{Ending}
+use Rattle.sl_outside.specs.Lendings.{Lending}
 use Rattle.sl_outside.specs.declared.act.Act.{Act}
 use Rattle.sl_output.specs.Pieces.{Piece, text_by, text_of}
 use Rattle.sl_live_lines.specs.declared.live_texts.Ending.TheVariants as ending
@@ -60,30 +60,25 @@ pub record Tellers (A P : Type 0) : Type 0 where
   pub faults : A → ℕ
   pub acts : P → Option (List Act)
 
--- What machine m had for its workers: for each one of each disk of the header, with what its part has there written before.
-pub record AreHad {A : Type 0} (content : A → Option (List ℕ)) (h : Header) (m : ℕ) (d : Both A) : Type 0 where
-  pub delta : AreLent content (first_writes h m Delta) h.disks d.0
-  pub resource : AreLent content (first_writes h m Resource) h.disks d.1
-
--- .. so many machines, each by its place.
-pub record AreAllHad {A : Type 0} (content : A → Option (List ℕ)) (h : Header) (machines : ℕ) (disks : List (Both A)) : Type 0 where
-  pub counted : length disks ≡ machines
-  pub each : (place : ℕ) (d : Both A) → slice_get disks place ≡ Some d → AreHad content h (place + 1) d
-
--- Machines of these sites had such disks, and the disks that they left were made of those by just the calls of these histories; and the spawners that they
--- left were asked for just the signals and the starts of these, beside the kills that are told with them.
-pub record Served {A P : Type 0} (t : Tellers A P) (commands : Header → List (Form Command)) (header : Header) (sites : List Site) (hs : List (List Entry)) : Type 0 where
+-- Devices handed out areas and a spawner to each machine of these sites, in this folder, and they were served by just these histories: the areas that the
+-- machines left were made of those by just the calls of these histories, and the spawners that they left were asked for just the signals and the starts of these,
+-- beside the kills that are told with them. All that was left came back to the devices, as it was then; and nothing else was handed out, and nothing else came back.
+pub record Served {A P : Type 0} (t : Tellers A P) (commands : Header → List (Form Command)) (folder : List ℕ) (lent back : Option (List Lending)) (header : Header) (sites : List Site)
+    (hs : List (List Entry)) : Type 0 where
   pub disks : List (Both A)
-  pub had : AreAllHad t.content header (length sites) disks
+  pub counted : length disks ≡ length sites
+  pub between : Option (List Lending)
+  pub had : AreAllHad t.content folder header 1 disks lent between
   pub left : List (Leavings A P)
   pub served : AreAllServed t.content t.faults t.acts commands header sites hs disks left
+  pub returned : AreAllBack t.content t.faults t.acts left between back
 
 -- These are their histories, where the script gave these lines; and what they say of disks, of signals and of starts was done.
-pub record Lives {D A P : Type 0} (stands : D → Setting → Trace → Type 0) (commands : Header → List (Form Command)) (t : Tellers A P) (h : Header) (given : List LiveLine)
-    (hs : List (List Entry)) : Type 0 where
+pub record Lives {D A P : Type 0} (stands : D → Setting → Trace → Type 0) (commands : Header → List (Form Command)) (t : Tellers A P) (folder : List ℕ)
+    (lent back : Option (List Lending)) (h : Header) (given : List LiveLine) (hs : List (List Entry)) : Type 0 where
   pub begun : Beginnings h
   pub histories : AreLiveHistories stands commands begun.header begun.sites given hs
-  pub served : Served t commands begun.header begun.sites hs
+  pub served : Served t commands folder lent back begun.header begun.sites hs
 
 -- Machines of these sites, with these histories, put out these pieces, signed by their places: each what is told of its own, in order; and the script, signed
 -- by their number, the lines that it gave as refused.
@@ -117,41 +112,42 @@ in_use_text = codes "folder in use" ++ 10 ∷ []
 abbrev pub disk_there_text : List ℕ → List ℕ
 disk_there_text path = codes "disk there " ++ path ++ 10 ∷ []
 
--- What is to be put out, and how the play then ended, by what was read of the source. Machines run where no disk is told to stand, or where
+-- What is to be put out, and how the play then ended, by what was read of the source; and, where machines ran, what devices handed out for them and what came
+-- back. Machines run where no disk is told to stand, or where
 -- disks are to be made anew.
 pub data Due {D A P : Type 0} (stands : D → Setting → Trace → Type 0) (commands : Header → List (Form Command)) (t : Tellers A P) (f : Asked) (w : Manner) (left after : Option (List ℕ))
-    (faults later device_faults device_later : ℕ) : List ℕ → Lived → Type 0 where
+    (faults later device_faults device_later : ℕ) (lent back : Option (List Lending)) : List ℕ → Lived → Type 0 where
   -- the script was read to its end
   Ends : (h : Header) (given : List LiveLine) (hs : List (List Entry)) (pieces : List Piece) → ReadsScript w.keeps left after faults later h given (Some script.End)
-      → (l : Lives stands commands t h given hs) → IsWoven w.events l.begun.header l.begun.sites given hs pieces → IsVacant f h
-      → Due stands commands t f w left after faults later device_faults device_later (told_text l.begun.header l.begun.sites hs pieces ending.Whole) Done
+      → (l : Lives stands commands t f.path lent back h given hs) → IsWoven w.events l.begun.header l.begun.sites given hs pieces → IsVacant f h
+      → Due stands commands t f w left after faults later device_faults device_later lent back (told_text l.begun.header l.begun.sites hs pieces ending.Whole) Done
   -- a line of its header is refused
   Stops_early : (r : ReaderState) (number : ℕ) (why : Refusal) → HeaderStops left after r number why
-      → Due stands commands t f w left after faults later device_faults device_later (as_bytes (refusal_line number why ∷ [])) Refused
+      → Due stands commands t f w left after faults later device_faults device_later lent back (as_bytes (refusal_line number why ∷ [])) Refused
   -- .. or a line behind it, at which it ends
   Stops : (h : Header) (given : List LiveLine) (hs : List (List Entry)) (pieces : List Piece) (number : ℕ) (why : Refusal)
-      → ReadsScript w.keeps left after faults later h given (Some (script.Refused number why)) → (l : Lives stands commands t h given hs) → IsWoven w.events l.begun.header l.begun.sites given hs pieces → IsVacant f h
-      → Due stands commands t f w left after faults later device_faults device_later (told_text l.begun.header l.begun.sites hs pieces (ending.Refused number why)) Refused
+      → ReadsScript w.keeps left after faults later h given (Some (script.Refused number why)) → (l : Lives stands commands t f.path lent back h given hs) → IsWoven w.events l.begun.header l.begun.sites given hs pieces → IsVacant f h
+      → Due stands commands t f w left after faults later device_faults device_later lent back (told_text l.begun.header l.begun.sites hs pieces (ending.Refused number why)) Refused
   -- a read failed within the header
   Breaks_early : HeaderBreaks left after → Rose faults later
-      → Due stands commands t f w left after faults later device_faults device_later [] ReadFault
+      → Due stands commands t f w left after faults later device_faults device_later lent back [] ReadFault
   -- .. or behind it: what the machines did is put out
   Breaks : (h : Header) (given : List LiveLine) (hs : List (List Entry)) (pieces : List Piece) → ReadsScript w.keeps left after faults later h given (Some script.ReadFault)
-      → (l : Lives stands commands t h given hs) → IsWoven w.events l.begun.header l.begun.sites given hs pieces → IsVacant f h
-      → Due stands commands t f w left after faults later device_faults device_later (told_text l.begun.header l.begun.sites hs pieces ending.Cut) ReadFault
+      → (l : Lives stands commands t f.path lent back h given hs) → IsWoven w.events l.begun.header l.begun.sites given hs pieces → IsVacant f h
+      → Due stands commands t f w left after faults later device_faults device_later lent back (told_text l.begun.header l.begun.sites hs pieces ending.Cut) ReadFault
   -- a disk can't be made, or a sector of an area can't be written before the threads begin
   Faults : Rose device_faults device_later
-      → Due stands commands t f w left after faults later device_faults device_later area_fault_text AreaFault
+      → Due stands commands t f w left after faults later device_faults device_later lent back area_fault_text AreaFault
   -- another program has the folder
   In_use : Rose device_faults device_later
-      → Due stands commands t f w left after faults later device_faults device_later in_use_text AreaFault
+      → Due stands commands t f w left after faults later device_faults device_later lent back in_use_text AreaFault
   -- a disk of the header stands there
   Disk_there : (r : ReaderState) (h : Header) (path : List ℕ) → HeaderBegins left after r h → IsDiskThere f.anew h path → Rose device_faults device_later
-      → Due stands commands t f w left after faults later device_faults device_later (disk_there_text path) AreaFault
+      → Due stands commands t f w left after faults later device_faults device_later lent back (disk_there_text path) AreaFault
   -- records of a machine differ, where the script gave these lines, however it ended: the case stands behind what was put out before
   Parts : (h : Header) (given : List LiveLine) (end : Option ScriptEnd) (before : List ℕ) (machine : ℕ) (d : LiveDiffer)
       → ReadsScript w.keeps left after faults later h given end → Differing stands commands h given machine d → IsVacant f h
-      → Due stands commands t f w left after faults later device_faults device_later (before ++ differ_text machine d) Differs
+      → Due stands commands t f w left after faults later device_faults device_later lent back (before ++ differ_text machine d) Differs
 
 -- What was put out of a text, and how the play ended: all of it, or a front of it, after a fault of the sink or for want of memory.
 pub data Puts (taken now : Option (List ℕ)) (faults later : ℕ) (text : List ℕ) (whole : Lived) : Lived → Type 0 where
@@ -161,11 +157,11 @@ pub data Puts (taken now : Option (List ℕ)) (faults later : ℕ) (text : List 
 
 -- What is owed: of what is due what was put out; or want of memory, where what machines replied before stays put out.
 pub data Owes {D A P : Type 0} (stands : D → Setting → Trace → Type 0) (commands : Header → List (Form Command)) (t : Tellers A P) (f : Asked) (w : Manner) (left after taken now : Option (List ℕ))
-    (faults later sink_faults sink_later device_faults device_later : ℕ) : Lived → Type 0 where
-  Of : (text : List ℕ) (whole s : Lived) → Due stands commands t f w left after faults later device_faults device_later text whole
+    (faults later sink_faults sink_later device_faults device_later : ℕ) (lent back : Option (List Lending)) : Lived → Type 0 where
+  Of : (text : List ℕ) (whole s : Lived) → Due stands commands t f w left after faults later device_faults device_later lent back text whole
       → Puts taken now sink_faults sink_later text whole s
-      → Owes stands commands t f w left after taken now faults later sink_faults sink_later device_faults device_later s
-  Lacks : (part : List ℕ) → Appends taken now part → Owes stands commands t f w left after taken now faults later sink_faults sink_later device_faults device_later NoMemory
+      → Owes stands commands t f w left after taken now faults later sink_faults sink_later device_faults device_later lent back s
+  Lacks : (part : List ℕ) → Appends taken now part → Owes stands commands t f w left after taken now faults later sink_faults sink_later device_faults device_later lent back NoMemory
 
 -- ---- step by step
 

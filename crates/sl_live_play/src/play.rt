@@ -4,11 +4,14 @@ ghost use Rattle.sl_world_state.specs.Daemons.{begun_with};
 ghost use Rattle.sl_world_state.specs.SaneWorlds.{ReadsCommands};
 ghost use Rattle.sl_live_run.specs.Folders.{Asked, IsVacant};
 ghost use Rattle.sl_live_run.specs.Grounds.{IsGroundOf};
+ghost use Rattle.sl_live_run.specs.Lent.{AreAllHad};
+ghost use Rattle.sl_live_run.specs.Runs.{disks_in};
 ghost use Rattle.sl_reader.specs.Scopes.{scope_of};
 ghost use Rattle.sl_live_play.specs.LiveOwed.{Owes, PutsEnded, PutsNoEntry, PutsNoGround, PutsStop};
 ghost use Rattle.sl_run.specs.Headers.{IsHeader};
 ghost use Rattle.sl_run.specs.Lawful.{IsSetting};
 ghost use Rattle.sl_outside.specs.Acts.{Tells};
+ghost use Rattle.sl_outside.specs.Lendings.{Lending};
 ghost use Rattle.sl_output.specs.Outputs.{IsPut};
 ghost use Rattle.sl_output.specs.Pieces.{Piece};
 ghost use Rattle.sl_run.specs.declared.header.Header.{Header as HeaderOf};
@@ -25,7 +28,7 @@ use sl_cell::Teller;
 use sl_io::{Sink, Source};
 use sl_live_lines::Ending;
 use sl_live_run::{
-    Ground, LiveRun, LiveStop, NoEntry, NoGround, Remains, enter, give_back, prepare, run_machines,
+    Ground, LiveRun, LiveStop, NoEntry, NoGround, enter, give_all_back, prepare, run_machines,
 };
 use sl_outside::LiveDevices;
 use sl_reader::{LineReader, Origin, ReadError, Scope, ScriptEnd, ScriptLines, read_header};
@@ -65,17 +68,6 @@ pub enum Lived {
     AreaFault,
     /// Records of a machine differ; the case is put out behind what machines replied.
     Differs,
-}
-
-/// Gives the disks of all machines back.
-fn give_all_back<V: LiveDevices>(remains: Vec<Remains<V::Area, V::Spawner>>, devices: &mut V) {
-    for Remains {
-        delta,
-        resource,
-        spawners: _,
-    } in remains {
-        give_back(delta, resource, devices);
-    }
 }
 
 /// Puts out how a run of so many machines ended whose script ended so, behind what they told, with so many replies.
@@ -204,10 +196,11 @@ where
     requires began { reader ≡ J.began }
     requires scope { scope_of ground.header ≡ J.scope }
     requires keeps { manner.keeps ≡ J.keeps }
-    ensures { (f : Asked) (first : Option (List ℕ)) (h : HeaderOf) → IsGroundOf V.Clock.last V.Spawner.running V.Spawner.acts V.Device.last V.Device.fire V.Area.content h ground
+    ensures { (f : Asked) (lent : Option (List Lending)) (first : Option (List ℕ)) (h : HeaderOf) → IsGroundOf V.Clock.last V.Spawner.running V.Spawner.acts V.Device.last V.Device.fire h ground
+        → AreAllHad V.Area.content f.path ground.header 1 (map (λ p. disks_in p.parts) ground.machines.items) lent (V.Devices.lendings devices.old)
         → HeaderBegins first (S.left source) reader h → IsVacant f h
         → Owes D.Daemon.stands D.Daemon.commands (record { content = V.Area.content; faults = V.Area.faults; acts = V.Spawner.acts }) f manner first (S.left result.1) (K.taken sink) (K.taken result.2) (S.faults source) (S.faults result.1)
-        (K.faults sink) (K.faults result.2) (V.Devices.faults devices.old) (V.Devices.faults devices.new) result.0 }
+        (K.faults sink) (K.faults result.2) (V.Devices.faults devices.old) (V.Devices.faults devices.new) lent (V.Devices.lendings devices.new) result.0 }
 {
     let mut lines: ScriptLines<S, J> = ScriptLines::new(
         alloc,
@@ -262,10 +255,11 @@ where
     requires settings { All (λ s. IsSetting (begun_with D.Daemon.commands ground.header s)) (map (λ p. p.site) ground.machines.items) }
     requires unasked { All (λ p. Tells (V.Spawner.acts p.parts.spawner) []) ground.machines.items }
     requires ends { EndStands (S.left source) reader }
-    ensures { (f : Asked) (first : Option (List ℕ)) (h : HeaderOf) → IsGroundOf V.Clock.last V.Spawner.running V.Spawner.acts V.Device.last V.Device.fire V.Area.content h ground
+    ensures { (f : Asked) (lent : Option (List Lending)) (first : Option (List ℕ)) (h : HeaderOf) → IsGroundOf V.Clock.last V.Spawner.running V.Spawner.acts V.Device.last V.Device.fire h ground
+        → AreAllHad V.Area.content f.path ground.header 1 (map (λ p. disks_in p.parts) ground.machines.items) lent (V.Devices.lendings devices.old)
         → HeaderBegins first (S.left source) reader h → IsVacant f h
         → Owes D.Daemon.stands D.Daemon.commands (record { content = V.Area.content; faults = V.Area.faults; acts = V.Spawner.acts }) f manner first (S.left result.1) (K.taken sink) (K.taken result.2) (S.faults source) (S.faults result.1)
-        (K.faults sink) (K.faults result.2) (V.Devices.faults devices.old) (V.Devices.faults devices.new) result.0 }
+        (K.faults sink) (K.faults result.2) (V.Devices.faults devices.old) (V.Devices.faults devices.new) lent (V.Devices.lendings devices.new) result.0 }
 {
     play_as::<D, Brand, S, K, V, R>(rt, alloc, ground, manner, source, reader, sink, devices)
 }
@@ -293,9 +287,9 @@ where
     requires header { IsHeader header }
     requires reads { (h : HeaderOf) → IsHeader h → ReadsCommands D.Daemon.commands h }
     requires ends { EndStands (S.left source) reader }
-    ensures { (f : Asked) (first : Option (List ℕ)) → HeaderBegins first (S.left source) reader header → IsVacant f header
+    ensures { (f : Asked) (first : Option (List ℕ)) → f.path ≡ folder.now → HeaderBegins first (S.left source) reader header → IsVacant f header
         → Owes D.Daemon.stands D.Daemon.commands (record { content = V.Area.content; faults = V.Area.faults; acts = V.Spawner.acts }) f manner first (S.left result.1) (K.taken sink) (K.taken result.2) (S.faults source) (S.faults result.1)
-        (K.faults sink) (K.faults result.2) (V.Devices.faults devices.old) (V.Devices.faults devices.new) result.0 }
+        (K.faults sink) (K.faults result.2) (V.Devices.faults devices.old) (V.Devices.faults devices.new) (V.Devices.lendings devices.old) (V.Devices.lendings devices.new) result.0 }
 {
     match prepare::<V>(alloc, header, folder, manner.anew, devices) {
         Ok(ground) => {
@@ -333,7 +327,7 @@ where
     requires ends { EndStands (S.left source) reader }
     ensures { (first : Option (List ℕ)) → HeaderBegins first (S.left source) reader header
         → Owes D.Daemon.stands D.Daemon.commands (record { content = V.Area.content; faults = V.Area.faults; acts = V.Spawner.acts }) (record { path = folder.now; anew = manner.anew; disks = V.Devices.disks devices.old }) manner first (S.left result.1) (K.taken sink) (K.taken result.2) (S.faults source) (S.faults result.1)
-        (K.faults sink) (K.faults result.2) (V.Devices.faults devices.old) (V.Devices.faults devices.new) result.0 }
+        (K.faults sink) (K.faults result.2) (V.Devices.faults devices.old) (V.Devices.faults devices.new) (V.Devices.lendings devices.old) (V.Devices.lendings devices.new) result.0 }
 {
     match enter::<V>(alloc, &header, folder, manner.anew, devices) {
         Ok(()) => play_entered::<D, S, K, V, R>(
@@ -354,7 +348,8 @@ where
 /// long or the source is; and what becomes of children and of connections is put out beside the replies.
 ///
 /// A machine ends when the script has ended, no child of it runs and nothing of it is unanswered. What its areas and its spawner then tell of
-/// themselves, where they tell it, is what its history says. The source and the sink come back.
+/// themselves, where they tell it, is what its history says; they are those that the devices handed out for it, and so they come back to the devices,
+/// with nothing else. The source and the sink come back.
 pub fn play_live<
     D: Teller + Send,
     S: Source + Send,
@@ -375,7 +370,7 @@ where
     requires reads { (h : HeaderOf) → IsHeader h → ReadsCommands D.Daemon.commands h }
     requires headers { HeadersAreGood whole_language }
     ensures { Owes D.Daemon.stands D.Daemon.commands (record { content = V.Area.content; faults = V.Area.faults; acts = V.Spawner.acts }) (record { path = folder.now; anew = manner.anew; disks = V.Devices.disks devices.old }) manner (S.left source) (S.left result.1) (K.taken sink) (K.taken result.2) (S.faults source) (S.faults result.1)
-        (K.faults sink) (K.faults result.2) (V.Devices.faults devices.old) (V.Devices.faults devices.new) result.0 }
+        (K.faults sink) (K.faults result.2) (V.Devices.faults devices.old) (V.Devices.faults devices.new) (V.Devices.lendings devices.old) (V.Devices.lendings devices.new) result.0 }
 {
     let mut source = source;
     let mut reader = match LineReader::new(alloc) {

@@ -8,3 +8,4 @@ pub mod WriteLaws
 pub mod LentLaws
 pub mod ReadyLaws
 pub mod FolderLaws
+pub mod LendingLaws

@@ -94,32 +94,32 @@ ticks_first last h m cs c rest is ticks = subst (AreTicks last h m) is ticks
 
 -- ---- machines
 
-ready_placed : {V C P D W G A : Type 0} (last : C → ℕ) (running : P → List ℕ) (spawned : P → Option (List Act)) (since fire : D → ℕ) (content : A → Option (List ℕ)) (h : Header) (ps : List (Prepared V C P D W G A))
-    (p : Prepared V C P D W G A) (n : ℕ) → n ≡ length ps + 1 → AreReady last running spawned since fire content h ps → IsReady last running spawned since fire content h n p.site p.parts
-    → (k : ℕ) (x : Prepared V C P D W G A) → PlacedBehind ps p k x → IsReady last running spawned since fire content h (k + 1) x.site x.parts
-ready_placed last running spawned since fire content h ps p n is ready one k x (Stood at) = ready k x at
-ready_placed {V} {C} {P} {D} {W} {G} {A} last running spawned since fire content h ps p n is ready one k x (Came here same) =
+ready_placed : {V C P D W G A : Type 0} (last : C → ℕ) (running : P → List ℕ) (spawned : P → Option (List Act)) (since fire : D → ℕ) (h : Header) (ps : List (Prepared V C P D W G A))
+    (p : Prepared V C P D W G A) (n : ℕ) → n ≡ length ps + 1 → AreReady last running spawned since fire h ps → IsReady last running spawned since fire h n p.site p.parts
+    → (k : ℕ) (x : Prepared V C P D W G A) → PlacedBehind ps p k x → IsReady last running spawned since fire h (k + 1) x.site x.parts
+ready_placed last running spawned since fire h ps p n is ready one k x (Stood at) = ready k x at
+ready_placed {V} {C} {P} {D} {W} {G} {A} last running spawned since fire h ps p n is ready one k x (Came here same) =
     let place : n ≡ k + 1 = omega (arith, is, here) in
-    subst (λ (j : ℕ). IsReady last running spawned since fire content h j x.site x.parts) place
-    (subst (λ (y : Prepared V C P D W G A). IsReady last running spawned since fire content h n y.site y.parts) (sym same) one)
+    subst (λ (j : ℕ). IsReady last running spawned since fire h j x.site x.parts) place
+    (subst (λ (y : Prepared V C P D W G A). IsReady last running spawned since fire h n y.site y.parts) (sym same) one)
 
 -- One machine more.
-pub ready_pushed : {V C P D W G A : Type 0} (last : C → ℕ) (running : P → List ℕ) (spawned : P → Option (List Act)) (since fire : D → ℕ) (content : A → Option (List ℕ)) (h : Header) (ps mid ps' : List (Prepared V C P D W G A))
-    (p : Prepared V C P D W G A) (n : ℕ) → mid ≡ ps → ps' ≡ mid ++ p ∷ [] → n ≡ length ps + 1 → AreReady last running spawned since fire content h ps
-    → IsReady last running spawned since fire content h n p.site p.parts → AreReady last running spawned since fire content h ps'
-ready_pushed {V} {C} {P} {D} {W} {G} {A} last running spawned since fire content h ps mid ps' p n kept pushed is ready one k x at =
-    ready_placed last running spawned since fire content h ps p n is ready one k x
+pub ready_pushed : {V C P D W G A : Type 0} (last : C → ℕ) (running : P → List ℕ) (spawned : P → Option (List Act)) (since fire : D → ℕ) (h : Header) (ps mid ps' : List (Prepared V C P D W G A))
+    (p : Prepared V C P D W G A) (n : ℕ) → mid ≡ ps → ps' ≡ mid ++ p ∷ [] → n ≡ length ps + 1 → AreReady last running spawned since fire h ps
+    → IsReady last running spawned since fire h n p.site p.parts → AreReady last running spawned since fire h ps'
+ready_pushed {V} {C} {P} {D} {W} {G} {A} last running spawned since fire h ps mid ps' p n kept pushed is ready one k x at =
+    ready_placed last running spawned since fire h ps p n is ready one k x
     (placed_behind ps p k x (subst (λ (ys : List (Prepared V C P D W G A)). slice_get ys k ≡ Some x) (pushed ∙ ap (λ ys. ys ++ p ∷ []) kept) at))
 
-pub ready_none : {V C P D W G A : Type 0} (last : C → ℕ) (running : P → List ℕ) (spawned : P → Option (List Act)) (since fire : D → ℕ) (content : A → Option (List ℕ)) (h : Header) (ps : List (Prepared V C P D W G A))
-    → ps ≡ [] → AreReady last running spawned since fire content h ps
-ready_none {V} {C} {P} {D} {W} {G} {A} last running spawned since fire content h ps none k x at =
+pub ready_none : {V C P D W G A : Type 0} (last : C → ℕ) (running : P → List ℕ) (spawned : P → Option (List Act)) (since fire : D → ℕ) (h : Header) (ps : List (Prepared V C P D W G A))
+    → ps ≡ [] → AreReady last running spawned since fire h ps
+ready_none {V} {C} {P} {D} {W} {G} {A} last running spawned since fire h ps none k x at =
     absurd (none_some x (subst (λ (ys : List (Prepared V C P D W G A)). slice_get ys k ≡ Some x) none at))
 
 -- The spawner of each was asked for nothing.
-pub ready_unasked : {V C P D W G A : Type 0} (last : C → ℕ) (running : P → List ℕ) (spawned : P → Option (List Act)) (since fire : D → ℕ) (content : A → Option (List ℕ)) (h : Header)
-    (ps : List (Prepared V C P D W G A)) → AreReady last running spawned since fire content h ps → All (λ (p : Prepared V C P D W G A). Tells (spawned p.parts.spawner) []) ps
-ready_unasked {V} {C} {P} {D} {W} {G} {A} last running spawned since fire content h ps ready k d lt =
+pub ready_unasked : {V C P D W G A : Type 0} (last : C → ℕ) (running : P → List ℕ) (spawned : P → Option (List Act)) (since fire : D → ℕ) (h : Header)
+    (ps : List (Prepared V C P D W G A)) → AreReady last running spawned since fire h ps → All (λ (p : Prepared V C P D W G A). Tells (spawned p.parts.spawner) []) ps
+ready_unasked {V} {C} {P} {D} {W} {G} {A} last running spawned since fire h ps ready k d lt =
     let there = there_is ps k lt in
     let p : Prepared V C P D W G A = there.0 in
     subst (λ (x : Prepared V C P D W G A). Tells (spawned x.parts.spawner) []) (sym (got_index ps k p d there.1)) (ready k p there.1).parts.unasked

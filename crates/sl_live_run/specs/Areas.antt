@@ -6,6 +6,8 @@ use Rattle.sl_cell.specs.declared.part.Part.{Part}
 use Rattle.sl_direct.specs.FreshAreas.{Write, resource_writes, write_of}
 use Rattle.sl_direct.specs.HalfDone.{Wrote}
 use Rattle.sl_live.specs.declared.disks.Disk.{Disk}
+use Rattle.sl_outside.specs.Acts.{Grows}
+use Rattle.sl_outside.specs.Lendings.{AreaBack, AreaOut, Lending}
 use Rattle.sl_run.specs.Worlds.{initial_delta}
 use Rattle.sl_run.specs.declared.header.Disk.{Disk as DiskLine}
 use Rattle.sl_run.specs.declared.header.Header.{Header}
@@ -13,7 +15,7 @@ use Rattle.sl_run.specs.declared.header.LockspaceLine.{LockspaceLine}
 use Rattle.sl_run.specs.declared.header.ResourceLine.{ResourceLine}
 use Rattle.sl_sector.specs.declared.sector.Rec.TheVariants.{DeltaIs}
 use Rattle.std.specs.List.{range_with_len}
-use Rattle.std.specs.Prelude.{List, Option, bytes_eq, flat_map, if◌then◌else◌, map, [], ℕ, ◌+◌, ◌==◌, ◌∷◌, ◌≡◌}
+use Rattle.std.specs.Prelude.{List, Option, bytes_eq, flat_map, if◌then◌else◌, map, [], ℕ, ◌++◌, ◌+◌, ◌==◌, ◌∷◌, ◌≡◌}
 
 -- ---- what stands at moment 0
 
@@ -56,19 +58,26 @@ abbrev pub worker_of : Part → ℕ
 worker_of Delta = 1
 worker_of Resource = 2
 
--- An area of the disk at this path, through which these sectors were written and no other: where areas tell what they have, it has what one had
--- before, with each of these in its place.
-pub record IsLent {A : Type 0} (content : A → Option (List ℕ)) (writes : List ℕ → List Write) (path : List ℕ) (d : Disk A) : Type 0 where
+-- An area that devices handed out of the disk at this path of a folder, to a worker of machine m, through which its part's first sectors were written and no
+-- other: where areas tell what they have, it has what it had then, with each of these in its place.
+pub record IsLent {A : Type 0} (content : A → Option (List ℕ)) (folder : List ℕ) (h : Header) (m : ℕ) (part : Part) (path : List ℕ) (d : Disk A) (was is : Option (List Lending)) : Type 0 where
   pub path_is : d.path ≡ path
   pub before : A
-  pub wrote : Wrote (writes path) (content before) (content d.area)
+  pub lent : Grows was is (AreaOut m (worker_of part) (folder ++ path) (content before) ∷ [])
+  pub wrote : Wrote (first_writes h m part path) (content before) (content d.area)
 
--- One of each disk, in the order of the header.
-abbrev pub AreLent : {A : Type 0} → (A → Option (List ℕ)) → (List ℕ → List Write) → List DiskLine → List (Disk A) → Type 0
-AreLent content writes [] [] = Unit {0}
-AreLent content writes [] (d ∷ ds) = ⊥
-AreLent content writes (l ∷ ls) [] = ⊥
-AreLent content writes (l ∷ ls) (d ∷ ds) = IsLent content writes l.path d × AreLent content writes ls ds
+-- One of each disk, in the order of the header, and nothing else was handed out between.
+abbrev pub AreLent : {A : Type 0} → (A → Option (List ℕ)) → List ℕ → Header → ℕ → Part → List DiskLine → List (Disk A) → Option (List Lending) → Option (List Lending) → Type 0
+AreLent content folder h m part [] [] was is = is ≡ was
+AreLent content folder h m part [] (d ∷ ds) was is = ⊥
+AreLent content folder h m part (l ∷ ls) [] was is = ⊥
+AreLent content folder h m part (l ∷ ls) (d ∷ ds) was is =
+    (between : Option (List Lending)) × IsLent content folder h m part l.path d was between × AreLent content folder h m part ls ds between is
+
+-- Areas came back, the one that was handed out last first, and nothing else between.
+abbrev pub AreBack : {A : Type 0} → (A → Option (List ℕ)) → (A → ℕ) → List (Disk A) → Option (List Lending) → Option (List Lending) → Type 0
+AreBack content faults [] was is = is ≡ was
+AreBack content faults (d ∷ ds) was is = (between : Option (List Lending)) × AreBack content faults ds was between × Grows between is (AreaBack (content d.area) (faults d.area) ∷ [])
 
 -- The faults that these areas counted.
 abbrev pub faults_in : {A : Type 0} → (A → ℕ) → List (Disk A) → ℕ

@@ -1,9 +1,7 @@
 -- What a live run begins with.
-use Rattle.sl_cell.specs.declared.part.Part.TheVariants.{Delta, Resource}
 use Rattle.sl_command.specs.DefaultNames.{default_name_text}
 use Rattle.sl_world_state.specs.declared.daemon.Site.{Site}
 use Rattle.sl_world_state.specs.FirstKept.{session_of}
-use Rattle.sl_live_run.specs.Areas.{AreLent, first_writes}
 use Rattle.sl_live_run.specs.Clocks.{as_first}
 use Rattle.sl_live_run.specs.declared.ground.Ground.{Ground}
 use Rattle.sl_live_run.specs.declared.ground.Prepared.{Prepared}
@@ -30,8 +28,8 @@ IsSiteOf h m None s = (bits : ℕ) × (s ≡ drawn_site m bits)
 
 -- ---- machines
 
--- What machine m runs on.
-pub record RunsOn {C P D A : Type 0} (last : C → ℕ) (running : P → List ℕ) (spawned : P → Option (List Act)) (since fire : D → ℕ) (content : A → Option (List ℕ))
+-- What machine m runs on beside its areas.
+pub record RunsOn {C P D A : Type 0} (last : C → ℕ) (running : P → List ℕ) (spawned : P → Option (List Act)) (since fire : D → ℕ)
     (h : Header) (m : ℕ) (p : Parts C P D A) : Type 0 where
   -- its first reading, at which its sessions count as renewed, is what its ticker's clock read last
   pub reading : clock_reading h m ≡ as_first (last p.clocks.ticks)
@@ -40,27 +38,25 @@ pub record RunsOn {C P D A : Type 0} (last : C → ℕ) (running : P → List �
   -- its device counts from that reading on
   pub since_then : since p.device ≡ clock_reading h m
   pub fires : fire p.device ≡ h.timing.fire
-  pub delta : AreLent content (first_writes h m Delta) h.disks p.delta.items
-  pub resource : AreLent content (first_writes h m Resource) h.disks p.resource.items
 
 -- Machine m is ready.
-pub record IsReady {C P D A : Type 0} (last : C → ℕ) (running : P → List ℕ) (spawned : P → Option (List Act)) (since fire : D → ℕ) (content : A → Option (List ℕ))
+pub record IsReady {C P D A : Type 0} (last : C → ℕ) (running : P → List ℕ) (spawned : P → Option (List Act)) (since fire : D → ℕ)
     (h : Header) (m : ℕ) (s : Site) (p : Parts C P D A) : Type 0 where
   pub machine : s.machine ≡ m
   pub site : IsSiteOf h m (session_of h m) s
-  pub parts : RunsOn last running spawned since fire content h m p
+  pub parts : RunsOn last running spawned since fire h m p
 
 -- Each is ready, by its place.
-abbrev pub AreReady : {V C P D W G A : Type 0} → (C → ℕ) → (P → List ℕ) → (P → Option (List Act)) → (D → ℕ) → (D → ℕ) → (A → Option (List ℕ)) → Header → List (Prepared V C P D W G A) → Type 0
-AreReady {V} {C} {P} {D} {W} {G} {A} last running spawned since fire content h ps =
-    (k : ℕ) (p : Prepared V C P D W G A) → slice_get ps k ≡ Some p → IsReady last running spawned since fire content h (k + 1) p.site p.parts
+abbrev pub AreReady : {V C P D W G A : Type 0} → (C → ℕ) → (P → List ℕ) → (P → Option (List Act)) → (D → ℕ) → (D → ℕ) → Header → List (Prepared V C P D W G A) → Type 0
+AreReady {V} {C} {P} {D} {W} {G} {A} last running spawned since fire h ps =
+    (k : ℕ) (p : Prepared V C P D W G A) → slice_get ps k ≡ Some p → IsReady last running spawned since fire h (k + 1) p.site p.parts
 
 -- ---- all of them
 
 -- The header is the given one but for its clocks, and a header still; and each of its machines is ready.
-pub record IsGroundOf {V C P D W G A : Type 0} (last : C → ℕ) (running : P → List ℕ) (spawned : P → Option (List Act)) (since fire : D → ℕ) (content : A → Option (List ℕ))
+pub record IsGroundOf {V C P D W G A : Type 0} (last : C → ℕ) (running : P → List ℕ) (spawned : P → Option (List Act)) (since fire : D → ℕ)
     (h : Header) (g : Ground V C P D W G A) : Type 0 where
   pub lawful : IsHeader g.header
   pub same : g.header ≡ record h { clocks = g.header.clocks }
   pub counted : length g.machines.items ≡ h.machines
-  pub ready : AreReady last running spawned since fire content g.header g.machines.items
+  pub ready : AreReady last running spawned since fire g.header g.machines.items

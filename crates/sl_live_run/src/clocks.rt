@@ -39,6 +39,7 @@ pub(crate) fn start_clocks<V: LiveDevices>(
 ) -> Result<Started<V::Clock>, AllocError>
     ensures readings { IfOk result (λ s. s.readings.items ≡ readings_from V.Clock.last 1 s.clocks.items) }
     ensures each { IfOk result (λ s. length s.clocks.items ≡ machines) }
+    ensures lendings { V.Devices.lendings devices.new ≡ V.Devices.lendings devices.old }
     ensures count { V.Devices.faults devices.new ≡ V.Devices.faults devices.old }
 {
     let mut clocks = VecDeque::new(alloc);

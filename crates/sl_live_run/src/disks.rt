@@ -2,13 +2,14 @@
 
 ghost use Rattle.sl_direct.specs.HalfDone.{Wrote};
 ghost use Rattle.sl_live_run.specs.Areas as areas;
-ghost use Rattle.sl_live_run.specs.Areas.{AreLent, faults_in, first_writes};
+ghost use Rattle.sl_live_run.specs.Areas.{AreBack, AreLent, faults_in, first_writes};
 ghost use Rattle.sl_live_run.specs.Causes.{Explains};
 ghost use Rattle.sl_live_run.specs.declared.ground.NoGround.TheVariants.{AreaFault};
 ghost use Rattle.sl_outside.specs.Disks.{CountsBack, Stay};
+ghost use Rattle.sl_outside.specs.Lendings.{Lending};
 ghost use Rattle.sl_run.specs.Headers.{IsHeader};
 ghost use Rattle.sl_io.specs.FaultCauses.{HasCause};
-ghost use Rattle.std.specs.Prelude.{Err, IfErr, IfOk, OnOk, [], false, ◌<◌, ◌+◌, ◌≡◌, ◌≤◌};
+ghost use Rattle.std.specs.Prelude.{Err, IfErr, IfOk, List, OnOk, Option, [], false, ◌<◌, ◌+◌, ◌≡◌, ◌≤◌};
 
 use crate::ground::NoGround;
 use crate::initial::{write_lockspaces, write_resources};
@@ -38,6 +39,7 @@ pub(crate) fn make_disks<V: LiveDevices>(
     requires { IsHeader header.now }
     ensures cause { HasCause (V.Devices.faults devices.old) (V.Devices.faults devices.new) result }
     ensures kept { anew ≡ false → Stay (V.Devices.disks devices.old) (V.Devices.disks devices.new) }
+    ensures lendings { V.Devices.lendings devices.new ≡ V.Devices.lendings devices.old }
 {
     for disk in header.disks.as_slice() {
         let size = disk.mebibytes * MEBIBYTE;
@@ -113,7 +115,7 @@ fn lend_each<V: LiveDevices>(
 ) -> Result<(), NoGround>
     requires header { IsHeader header.now }
     requires first { disks.old.items ≡ [] }
-    ensures ok { OnOk result (AreLent V.Area.content (first_writes header.now machine part) header.now.disks disks.new.items) }
+    ensures ok { OnOk result (AreLent V.Area.content folder.now header.now machine part header.now.disks disks.new.items (V.Devices.lendings devices.old) (V.Devices.lendings devices.new)) }
     ensures fault { result ≡ Err AreaFault → 0 < faults_in V.Area.faults disks.new.items }
     ensures count { V.Devices.faults devices.new ≡ V.Devices.faults devices.old }
 {
@@ -149,7 +151,7 @@ pub(crate) fn lend<V: LiveDevices>(
     devices: &mut V,
 ) -> Result<Vec<Disk<V::Area>>, NoGround>
     requires { IsHeader header.now }
-    ensures ok { IfOk result (λ disks. AreLent V.Area.content (first_writes header.now machine part) header.now.disks disks.items) }
+    ensures ok { IfOk result (λ disks. AreLent V.Area.content folder.now header.now machine part header.now.disks disks.items (V.Devices.lendings devices.old) (V.Devices.lendings devices.new)) }
     ensures err { IfErr result (Explains (V.Devices.faults devices.old) (V.Devices.faults devices.new)) }
     ensures later { V.Devices.faults devices.old ≤ V.Devices.faults devices.new }
 {
@@ -165,7 +167,8 @@ pub(crate) fn lend<V: LiveDevices>(
 
 /// Takes areas back, those that were handed out last first.
 pub fn take_back<V: Devices>(disks: Vec<Disk<V::Area>>, devices: &mut V)
-    ensures { CountsBack (faults_in V.Area.faults disks.items) (V.faults devices.old) (V.faults devices.new) }
+    ensures count { CountsBack (faults_in V.Area.faults disks.items) (V.faults devices.old) (V.faults devices.new) }
+    ensures back { AreBack V.Area.content V.Area.faults disks.items (V.lendings devices.old) (V.lendings devices.new) }
 {
     let mut disks = disks;
     while let Some(disk) = disks.pop() {
@@ -180,7 +183,8 @@ pub fn give_back<V: Devices>(
     resource: Vec<Disk<V::Area>>,
     devices: &mut V,
 )
-    ensures { CountsBack (faults_in V.Area.faults delta.items + faults_in V.Area.faults resource.items) (V.faults devices.old) (V.faults devices.new) }
+    ensures count { CountsBack (faults_in V.Area.faults delta.items + faults_in V.Area.faults resource.items) (V.faults devices.old) (V.faults devices.new) }
+    ensures back { (between : Option (List Lending)) × AreBack V.Area.content V.Area.faults resource.items (V.lendings devices.old) between × AreBack V.Area.content V.Area.faults delta.items between (V.lendings devices.new) }
 {
     take_back(resource, devices);
     take_back(delta, devices);

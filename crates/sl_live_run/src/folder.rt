@@ -57,6 +57,7 @@ fn look_at<V: LiveDevices>(
     ensures free { OnOk result (V.Devices.disks devices.old (folder.now ++ disk.now.path) ≡ None) }
     ensures bars { IfErr result (BarsDisk disk.now.path (V.Devices.faults devices.old) (V.Devices.faults devices.new)) }
     ensures same { V.Devices.disks devices.new ≡ V.Devices.disks devices.old }
+    ensures lendings { V.Devices.lendings devices.new ≡ V.Devices.lendings devices.old }
     ensures later { V.Devices.faults devices.old ≤ V.Devices.faults devices.new }
 {
     let whole = disk_path(alloc, folder, disk.path.as_str())?;
@@ -76,6 +77,7 @@ fn look_at_each<V: LiveDevices>(
     ensures vacant { OnOk result (IsVacant (record { path = folder.now; anew = false; disks = V.Devices.disks devices.old }) header.now) }
     ensures bars { IfErr result (Bars false header.now (V.Devices.faults devices.old) (V.Devices.faults devices.new)) }
     ensures same { V.Devices.disks devices.new ≡ V.Devices.disks devices.old }
+    ensures lendings { V.Devices.lendings devices.new ≡ V.Devices.lendings devices.old }
     ensures later { V.Devices.faults devices.old ≤ V.Devices.faults devices.new }
 {
     for disk in header.disks.as_slice() {
@@ -98,6 +100,7 @@ pub fn enter<V: LiveDevices>(
     ensures vacant { OnOk result (IsVacant (record { path = folder.now; anew = anew; disks = V.Devices.disks devices.old }) header.now) }
     ensures bars { IfErr result (Bars anew header.now (V.Devices.faults devices.old) (V.Devices.faults devices.new)) }
     ensures same { V.Devices.disks devices.new ≡ V.Devices.disks devices.old }
+    ensures lendings { V.Devices.lendings devices.new ≡ V.Devices.lendings devices.old }
     ensures later { V.Devices.faults devices.old ≤ V.Devices.faults devices.new }
 {
     devices.take(folder)?;

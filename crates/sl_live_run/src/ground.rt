@@ -2,9 +2,11 @@
 
 ghost use Rattle.sl_live_run.specs.Causes.{Explains};
 ghost use Rattle.sl_live_run.specs.Grounds.{IsGroundOf};
+ghost use Rattle.sl_live_run.specs.Lent.{AreAllHad};
+ghost use Rattle.sl_live_run.specs.Runs.{disks_in};
 ghost use Rattle.sl_run.specs.Headers.{IsHeader};
 ghost use Rattle.sl_outside.specs.Acts.{Tells};
-ghost use Rattle.std.specs.Prelude.{All, IfErr, IfOk, [], ◌≤◌};
+ghost use Rattle.std.specs.Prelude.{All, IfErr, IfOk, [], map, ◌≤◌};
 
 use crate::clocks::{start_clocks, with_readings};
 use crate::disks::make_disks;
@@ -67,8 +69,8 @@ impl From<AllocError> for NoGround {
 
 /// Makes the disks of a header in a folder that was entered, writes what stands on them at moment 0, and gets all that its machines run on.
 ///
-/// An `Ok` has the header with the clocks' readings in place of its `clock` lines, and a machine for each of its machines, in order. An
-/// `Err` is a fault of the devices, whose count then rose, or want of memory; no area is handed out then, and disks that were made stay. No
+/// An `Ok` has the header with the clocks' readings in place of its `clock` lines, and a machine for each of its machines, in order; the devices handed
+/// out just the areas and the spawner of each, one machine behind the other. An `Err` is a fault of the devices, whose count then rose, or want of memory; no area is handed out then, and disks that were made stay. No
 /// spawner was asked for anything.
 pub fn prepare<V: LiveDevices>(
     alloc: Global,
@@ -78,8 +80,9 @@ pub fn prepare<V: LiveDevices>(
     devices: &mut V,
 ) -> Result<Ground<V>, NoGround>
     requires { IsHeader header }
-    ensures ok { IfOk result (IsGroundOf V.Clock.last V.Spawner.running V.Spawner.acts V.Device.last V.Device.fire V.Area.content header) }
+    ensures ok { IfOk result (IsGroundOf V.Clock.last V.Spawner.running V.Spawner.acts V.Device.last V.Device.fire header) }
     ensures unasked { IfOk result (λ g. All (λ p. Tells (V.Spawner.acts p.parts.spawner) []) g.machines.items) }
+    ensures had { IfOk result (λ g. AreAllHad V.Area.content folder.now g.header 1 (map (λ p. disks_in p.parts) g.machines.items) (V.Devices.lendings devices.old) (V.Devices.lendings devices.new)) }
     ensures err { IfErr result (Explains (V.Devices.faults devices.old) (V.Devices.faults devices.new)) }
     ensures later { V.Devices.faults devices.old ≤ V.Devices.faults devices.new }
 {

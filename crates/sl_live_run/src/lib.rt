@@ -8,7 +8,8 @@
 //! (`folder`). Disks are made next (`disks`), then the clocks are read (`clocks`). Then each
 //! machine is given its parts (`machine_sites`), its areas among them; the areas of machine 1 are the ones through which the sectors of moment 0
 //! are written (`initial`), so that they stand before any thread runs. An area that was handed out goes back to the devices if the run can't
-//! begin: that is how a fault of it is counted.
+//! begin: that is how a fault of it is counted. At the end all that machines leave goes back, their spawners too (`remains`); so where devices tell what they
+//! handed out and what came back, they tell that their own areas and spawners served the histories.
 //!
 //! Each machine is a closed unit: it makes its cell, runs its threads over it and closes it, and no other thread sees the cell. So each run of a
 //! machine picks the setting that its cell is of, and its history is one of that setting. The script reaches a machine through its post. A
@@ -33,6 +34,7 @@ mod initial;
 pub mod laws;
 mod machine_runs;
 mod machine_sites;
+mod remains;
 mod run;
 mod script;
 mod script_lines;
@@ -45,5 +47,6 @@ pub use folder::{NoEntry, enter};
 pub use ground::{Ground, NoGround, Prepared, prepare};
 pub use machine_runs::{Machine, Shared, Work};
 pub use machine_sites::{clocks_of, site_of};
+pub use remains::give_all_back;
 pub use run::{LiveRun, MACHINE_THREADS, Remains, ended_early, run_machines};
 pub use script::Ways;

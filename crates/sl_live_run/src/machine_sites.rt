@@ -3,15 +3,17 @@
 //! A machine's daemon is begun as the world of a replay begins it: with the sessions of the header, renewed at the machine's first reading. One
 //! that has none begins with no session, under a name that was drawn for it.
 
-ghost use Rattle.sl_live_run.specs.Areas.{AreLent, first_writes};
 ghost use Rattle.sl_live_run.specs.Causes.{Explains};
 ghost use Rattle.sl_live_run.specs.Clocks.{AreTicks, as_first};
 ghost use Rattle.sl_live_run.specs.Grounds.{AreReady, IsReady, IsSiteOf, RunsOn, drawn_site};
-ghost use Rattle.sl_cell.specs.declared.part.Part.TheVariants.{Delta, Resource};
+ghost use Rattle.sl_live_run.specs.Lent.{AreAllHad, AreHad};
+ghost use Rattle.sl_live_run.specs.Runs.{disks_in};
+ghost use Rattle.sl_outside.specs.Acts.{Grows};
+ghost use Rattle.sl_outside.specs.Lendings.{SpawnerOut};
 ghost use Rattle.sl_world_state.specs.FirstKept as first_kept;
 ghost use Rattle.sl_run.specs.Headers.{IsHeader};
 ghost use Rattle.sl_run.specs.Worlds.{clock_reading};
-ghost use Rattle.std.specs.Prelude.{IfErr, IfOk, OnOk, [], length, ◌≡◌, ◌≤◌};
+ghost use Rattle.std.specs.Prelude.{IfErr, IfOk, OnOk, [], length, map, ◌∷◌, ◌≡◌, ◌≤◌};
 
 use crate::clocks::TICKS;
 use crate::disks::{give_back, lend, take_back};
@@ -50,6 +52,7 @@ pub fn site_of<V: LiveDevices>(
     devices: &mut V,
 ) -> Result<Site, AllocError>
     ensures ok { IfOk result (IsSiteOf header.now machine (first_kept.session_of header.now machine)) }
+    ensures lendings { V.Devices.lendings devices.new ≡ V.Devices.lendings devices.old }
     ensures count { V.Devices.faults devices.new ≡ V.Devices.faults devices.old }
 {
     match session_of(header, machine) {
@@ -64,6 +67,7 @@ pub fn site_of<V: LiveDevices>(
 /// The clocks of a machine's threads, the first of which was read.
 pub fn clocks_of<V: LiveDevices>(machine: u32, ticks: V::Clock, devices: &mut V) -> Clocks<V::Clock>
     ensures ticks { result.ticks ≡ ticks }
+    ensures lendings { V.Devices.lendings devices.new ≡ V.Devices.lendings devices.old }
     ensures count { V.Devices.faults devices.new ≡ V.Devices.faults devices.old }
 {
     Clocks {
@@ -87,9 +91,9 @@ fn parts_of<V: LiveDevices>(
     devices: &mut V,
 ) -> Parts<V::Clock, V::Spawner, V::Device, V::Area>
     requires ticks { clock_reading header.now machine ≡ as_first (V.Clock.last ticks) }
-    requires delta { AreLent V.Area.content (first_writes header.now machine Delta) header.now.disks delta.items }
-    requires resource { AreLent V.Area.content (first_writes header.now machine Resource) header.now.disks resource.items }
-    ensures runs { RunsOn V.Clock.last V.Spawner.running V.Spawner.acts V.Device.last V.Device.fire V.Area.content header.now machine result }
+    ensures runs { RunsOn V.Clock.last V.Spawner.running V.Spawner.acts V.Device.last V.Device.fire header.now machine result }
+    ensures areas { (result.delta.items ≡ delta.items) × (result.resource.items ≡ resource.items) }
+    ensures lendings { Grows (V.Devices.lendings devices.old) (V.Devices.lendings devices.new) (SpawnerOut machine ∷ []) }
     ensures count { V.Devices.faults devices.new ≡ V.Devices.faults devices.old }
 {
     let now = clock_reading(header, machine);
@@ -113,8 +117,9 @@ fn prepare_machine<V: LiveDevices>(
 ) -> Result<Prepared<V>, NoGround>
     requires header { IsHeader header.now }
     requires ticks { clock_reading header.now machine ≡ as_first (V.Clock.last ticks) }
-    ensures ok { IfOk result (λ p. IsReady V.Clock.last V.Spawner.running V.Spawner.acts V.Device.last V.Device.fire V.Area.content header.now machine
+    ensures ok { IfOk result (λ p. IsReady V.Clock.last V.Spawner.running V.Spawner.acts V.Device.last V.Device.fire header.now machine
         p.site p.parts) }
+    ensures had { IfOk result (λ p. AreHad V.Area.content folder.now header.now machine (disks_in p.parts) (V.Devices.lendings devices.old) (V.Devices.lendings devices.new)) }
     ensures err { IfErr result (Explains (V.Devices.faults devices.old) (V.Devices.faults devices.new)) }
     ensures later { V.Devices.faults devices.old ≤ V.Devices.faults devices.new }
 {
@@ -146,7 +151,8 @@ fn prepare_each<V: LiveDevices>(
     requires each { length clocks.items ≡ header.now.machines }
     requires first { machines.old.items ≡ [] }
     ensures each { OnOk result (length machines.new.items ≡ header.now.machines) }
-    ensures ready { OnOk result (AreReady V.Clock.last V.Spawner.running V.Spawner.acts V.Device.last V.Device.fire V.Area.content header.now machines.new.items) }
+    ensures ready { OnOk result (AreReady V.Clock.last V.Spawner.running V.Spawner.acts V.Device.last V.Device.fire header.now machines.new.items) }
+    ensures had { OnOk result (AreAllHad V.Area.content folder.now header.now 1 (map (λ p. disks_in p.parts) machines.new.items) (V.Devices.lendings devices.old) (V.Devices.lendings devices.new)) }
     ensures err { IfErr result (Explains (V.Devices.faults devices.old) (V.Devices.faults devices.new)) }
     ensures later { V.Devices.faults devices.old ≤ V.Devices.faults devices.new }
 {
@@ -192,7 +198,8 @@ pub(crate) fn prepare_all<V: LiveDevices>(
     requires ticks { AreTicks V.Clock.last header.now 1 clocks.items }
     requires each { length clocks.items ≡ header.now.machines }
     ensures each { IfOk result (λ machines. length machines.items ≡ header.now.machines) }
-    ensures ready { IfOk result (λ machines. AreReady V.Clock.last V.Spawner.running V.Spawner.acts V.Device.last V.Device.fire V.Area.content header.now machines.items) }
+    ensures ready { IfOk result (λ machines. AreReady V.Clock.last V.Spawner.running V.Spawner.acts V.Device.last V.Device.fire header.now machines.items) }
+    ensures had { IfOk result (λ machines. AreAllHad V.Area.content folder.now header.now 1 (map (λ p. disks_in p.parts) machines.items) (V.Devices.lendings devices.old) (V.Devices.lendings devices.new)) }
     ensures err { IfErr result (Explains (V.Devices.faults devices.old) (V.Devices.faults devices.new)) }
     ensures later { V.Devices.faults devices.old ≤ V.Devices.faults devices.new }
 {

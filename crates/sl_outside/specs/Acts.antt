@@ -2,8 +2,8 @@
 use Rattle.sl_outside.specs.declared.act.Act.{Act}
 use Rattle.std.specs.Prelude.{List, None, Option, Some, ⊤, ℕ, ◌++◌, ◌∷◌, ◌≡◌}
 
--- These acts came on top, where that is told. What is not told once is never told again.
-abbrev pub Grows : Option (List Act) → Option (List Act) → List Act → Type 0
+-- These came on top, where that is told. What is not told once is never told again.
+abbrev pub Grows : {E : Type 0} → Option (List E) → Option (List E) → List E → Type 0
 Grows None after xs = after ≡ None
 Grows (Some before) None xs = ⊤
 Grows (Some before) (Some after) xs = after ≡ before ++ xs

@@ -201,6 +201,8 @@ impl<
         ChildSpawner::new(self.rt, self.alloc)
     }
 
+    fn spawner_back(&mut self, _spawner: ChildSpawner<R>) {}
+
     fn device(&mut self, _machine: u32, now: u64, fire: u64) -> TimedDevice {
         TimedDevice::new(now, fire)
     }

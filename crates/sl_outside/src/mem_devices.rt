@@ -275,6 +275,8 @@ impl LiveDevices for MemDevices {
         MemSpawner::idle(self.alloc)
     }
 
+    fn spawner_back(&mut self, _spawner: MemSpawner) {}
+
     fn device(&mut self, _machine: u32, now: u64, fire: u64) -> TimedDevice {
         TimedDevice::new(now, fire)
     }

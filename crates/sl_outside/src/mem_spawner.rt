@@ -175,6 +175,23 @@ impl MemSpawner {
         }
     }
 
+    /// What it was asked to do, where there was room to note it all.
+    pub(crate) fn into_acts(self) -> Option<Room<Act>>
+        ensures { told result ≡ told self.acts }
+    {
+        let MemSpawner {
+            alloc: _,
+            to_start: _,
+            lives: _,
+            deaf: _,
+            starts: _,
+            polls: _,
+            children: _,
+            acts,
+        } = self;
+        acts
+    }
+
     /// How many children run that were neither ended nor have come to their end by the last poll.
     pub(crate) fn alive(&self) -> usize {
         self.children.alive(self.polls)

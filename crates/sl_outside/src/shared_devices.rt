@@ -1,14 +1,16 @@
 //! Devices in memory for live machines: disks that all threads share, children and faults that come as planned, the clock of the system.
 //!
-//! Nothing is told of the disks: another thread may write at any time.
+//! Nothing is told of the disks: another thread may write at any time. What was handed out and what came back is told, for as long as there is memory
+//! to note it.
 ghost use Rattle.sl_outside.specs.MemSpawners.{IsFresh};
-ghost use Rattle.std.specs.Prelude.{IfSome, length, [], ◌<◌, ◌≡◌};
+ghost use Rattle.std.specs.Prelude.{IfSome, Some, length, [], ◌<◌, ◌≡◌};
 
 use crate::device::TimedDevice;
 use crate::devices::Devices;
 use crate::folders::NotTaken;
 use crate::live_devices::LiveDevices;
 use crate::mem_spawner::MemSpawner;
+use crate::notes::{Note, Notes};
 use crate::paths::disk_path;
 use crate::planned_spawner::PlannedSpawner;
 use crate::real_clock::RealClock;
@@ -63,7 +65,7 @@ pub struct SharedPlan<R> {
     pub gate: Option<TurnGate<R>>,
 }
 
-/// Devices in memory. Contracts see the plan of `make`, with the faults.
+/// Devices in memory. Contracts see the plan of `make`, with the faults, and what was handed out and what came back.
 #[derive(Drop)]
 pub struct SharedDevices<R> {
     rt: R,
@@ -76,14 +78,15 @@ pub struct SharedDevices<R> {
     census: Option<Census<R>>,
     gate: Option<TurnGate<R>>,
     makes: PlannedFaults,
+    notes: Notes,
 }
 
 impl<R> Model for SharedDevices<R> {
-    ghost use Rattle.sl_io.specs.Planned.{Planned};
+    ghost use Rattle.sl_outside.specs.SharedStates.{SharedState};
 
-    ghost Value = { Planned };
+    ghost Value = { SharedState };
 
-    ghost view = { λ d. d.makes };
+    ghost view = { λ d. record { makes = d.makes; notes = d.notes } };
 }
 
 /// A disk of so many zeros at the folder's text followed by the path.
@@ -123,7 +126,7 @@ fn put_at(
 impl<R: Wait + Clock + Copy> SharedDevices<R> {
     /// Devices by this plan, with no disk yet. Clocks count from now on.
     pub fn new(rt: R, alloc: Global, plan: SharedPlan<R>) -> SharedDevices<R>
-        ensures { result ≡ record { made = 0; failing = plan.makes.items; faults = 0 } }
+        ensures { result ≡ record { makes = record { made = 0; failing = plan.makes.items; faults = 0 }; notes = Some [] } }
     {
         let SharedPlan {
             areas,
@@ -144,12 +147,13 @@ impl<R: Wait + Clock + Copy> SharedDevices<R> {
             census,
             gate,
             makes: PlannedFaults::new(makes),
+            notes: Notes::new(alloc),
         }
     }
 
     /// The faults so far.
     pub fn faults(&self) -> u64
-        ensures { result ≡ self.now.faults }
+        ensures { result ≡ self.now.makes.faults }
     {
         self.makes.faults()
     }
@@ -212,15 +216,20 @@ impl<R: Wait + Clock + Copy> SharedDevices<R> {
 impl<R: Wait + Clock + Copy + Drop> Devices for SharedDevices<R> {
     type Area = SharedArea<R>;
 
-    ghost faults = { λ d. d.faults };
+    ghost lendings = { λ d. d.notes };
+
+    ghost faults = { λ d. d.makes.faults };
 
     fn area(&mut self, machine: u32, worker: u32, path: &str) -> SharedArea<R> {
         let failing = self.failing(machine, worker);
+        self.notes.add_area(machine, worker, path);
         SharedArea::new(self.rt, self.share(path), failing)
     }
 
     fn back(&mut self, area: SharedArea<R>) {
-        if area.faults() > 0 {
+        let faults = area.faults();
+        self.notes.add(Note::AreaBack { faults });
+        if faults > 0 {
             self.makes.raise();
         }
     }
@@ -270,7 +279,13 @@ impl<R: Wait + Clock + Copy + Drop + Send + Sync> LiveDevices for SharedDevices<
 
     fn spawner(&mut self, machine: u32) -> SharedSpawner<R> {
         let children = self.children(machine);
+        self.notes.add(Note::SpawnerOut { machine });
         SharedSpawner::new(self.rt, children, self.slow(machine), self.census(machine))
+    }
+
+    fn spawner_back(&mut self, spawner: SharedSpawner<R>) {
+        let acts = spawner.into_acts();
+        self.notes.add(Note::SpawnerBack { acts });
     }
 
     fn device(&mut self, _machine: u32, now: u64, fire: u64) -> TimedDevice {

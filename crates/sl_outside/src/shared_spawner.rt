@@ -2,11 +2,13 @@
 ghost use Rattle.sl_outside.specs.MemSpawners.{numbers, told};
 ghost use Rattle.std.specs.Prelude.{◌≡◌};
 
+use crate::act::Act;
 use crate::mem_spawner::MemSpawner;
 use crate::spawner::Spawner;
 use crate::started_child::StartedChild;
 use sl_io::Failed;
 use sl_trace::Signal;
+use sl_words::Room;
 use std::alloc::{AllocError, Global};
 use std::marker::Model;
 use std::sync::{Arc, Mutex, Wait};
@@ -92,6 +94,19 @@ impl<R: Wait + Copy> SharedSpawner<R> {
             slow,
             census,
         }
+    }
+
+    /// What it was asked to do, where there was room to note it all.
+    pub(crate) fn into_acts(self) -> Option<Room<Act>>
+        ensures { told result ≡ told self.acts }
+    {
+        let SharedSpawner {
+            rt: _,
+            spawner,
+            slow: _,
+            census: _,
+        } = self;
+        spawner.into_acts()
     }
 
     /// Counts those that run now, where so many ran before.

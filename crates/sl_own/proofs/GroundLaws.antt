@@ -3,8 +3,9 @@ use Rattle.sl_cell.specs.declared.part.Part.TheVariants.{Delta, Resource}
 use Rattle.sl_live.specs.declared.disks.Disk.{Disk}
 use Rattle.sl_live_run.specs.Clocks.{as_first, with_readings}
 use Rattle.sl_live_run.specs.Grounds.{IsSiteOf}
-use Rattle.sl_outside.specs.Acts.{Tells}
+use Rattle.sl_outside.specs.Acts.{Grows, Tells}
 use Rattle.sl_outside.specs.Disks.{Disks}
+use Rattle.sl_outside.specs.Lendings.{Lending, SpawnerOut}
 use Rattle.sl_outside.specs.declared.act.Act.{Act}
 use Rattle.sl_own.specs.OwnGrounds.{AreLeft, Finds, FindsOn, IsOwnGround}
 use Rattle.sl_own.specs.declared.ground.OwnGround.{OwnGround}
@@ -63,11 +64,12 @@ own_same h n rs same = subst (λ (x : Header). x ≡ record h { clocks = x.clock
 
 -- What was made of all this is a ground.
 pub own_ground : {V C P D W G A : Type 0} (content : A → Option (List ℕ)) (spawned : P → Option (List Act)) (disks : Disks) (folder : List ℕ) (h : Header) (machine : ℕ) (g : OwnGround V C P D W G A)
-    (n : Header) (site : Site) (delta resource : List (Disk A)) → IsHeader h → machine ≤ h.machines → g.header ≡ n → IsHeader n → n ≡ record h { clocks = n.clocks } → machine ≡ g.place + 1
+    (n : Header) (site : Site) (delta resource : List (Disk A)) (lent first_lent both_lent started held : Option (List Lending)) → IsHeader h → machine ≤ h.machines → g.header ≡ n → IsHeader n → n ≡ record h { clocks = n.clocks } → machine ≡ g.place + 1
     → g.ready.site ≡ site → IsSiteOf n machine (session_of n machine) site → Tells (spawned g.ready.parts.spawner) [] → g.ready.parts.delta.items ≡ delta
-    → AreLeft content (FindsOn disks folder h Delta) h.disks delta → g.ready.parts.resource.items ≡ resource → AreLeft content (Finds h Resource) h.disks resource
-    → IsOwnGround content spawned disks folder h machine g
-own_ground content spawned disks folder h machine g n site delta resource is few as_read lawful same numbered at begun unasked first found other plain =
+    → AreLeft content (FindsOn disks folder h Delta) folder machine Delta h.disks delta lent first_lent → g.ready.parts.resource.items ≡ resource
+    → AreLeft content (Finds h Resource) folder machine Resource h.disks resource first_lent both_lent → started ≡ both_lent → Grows started held (SpawnerOut machine ∷ [])
+    → IsOwnGround content spawned disks folder h machine lent held g
+own_ground content spawned disks folder h machine g n site delta resource lent first_lent both_lent started held is few as_read lawful same numbered at begun unasked first found other plain start spawner =
     let most = is.machines.1 in
     record {
       lawful = subst IsHeader (sym as_read) lawful;
@@ -76,6 +78,11 @@ own_ground content spawned disks folder h machine g n site delta resource is few
       small = omega (arith, most, few);
       site = subst (λ (x : Header). IsSiteOf x machine (session_of x machine) g.ready.site) (sym as_read) (subst (λ (s : Site). IsSiteOf n machine (session_of n machine) s) (sym at) begun);
       unasked = unasked;
-      delta = subst (AreLeft content (FindsOn disks folder h Delta) h.disks) (sym first) found;
-      resource = subst (AreLeft content (Finds h Resource) h.disks) (sym other) plain;
+      had = record {
+        delta_lent = first_lent;
+        delta = subst (λ ds. AreLeft content (FindsOn disks folder h Delta) folder machine Delta h.disks ds lent first_lent) (sym first) found;
+        resource_lent = both_lent;
+        resource = subst (λ ds. AreLeft content (Finds h Resource) folder machine Resource h.disks ds first_lent both_lent) (sym other) plain;
+        spawner = subst (λ x. Grows x held (SpawnerOut machine ∷ [])) start spawner;
+      };
     }

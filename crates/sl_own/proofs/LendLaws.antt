@@ -6,6 +6,7 @@ use Rattle.sl_live.specs.declared.disks.Disk.{Disk}
 use Rattle.sl_live_run.proofs.LentLaws.{fault_pushed}
 use Rattle.sl_live_run.specs.Areas.{faults_in}
 use Rattle.sl_outside.specs.Disks.{CountsBack, Disks, KeepsAllBut}
+use Rattle.sl_outside.specs.Lendings.{Lending}
 use Rattle.sl_own.specs.OwnGrounds.{AreLeft, AreaDiffers, Differs as LentDiffers, FindsNot, HasAreas, Has_fault, IsLeft, FindsOn, No_memory, NotLent}
 use Rattle.sl_own.specs.declared.no_place.NoPlace.TheVariants.{NotStanding}
 use Rattle.sl_own.specs.declared.no_place.NoPlace.{NoPlace}
@@ -68,41 +69,45 @@ told_here before now folder ds k d whole content apart inside is path untaken ke
 
 -- ---- one of each disk
 
-left_behind : {A : Type 0} (content : A → Option (List ℕ)) (Found : List ℕ → Option (List ℕ) → Type 0) (ls : List DiskLine) (ds : List (Disk A)) (l : DiskLine) (d : Disk A)
-    → AreLeft content Found ls ds → IsLeft content Found l.path d → AreLeft content Found (ls ++ l ∷ []) (ds ++ d ∷ [])
-left_behind content Found [] [] l d left one = (one, tt)
-left_behind content Found [] (x ∷ xs) l d left one = absurd left
-left_behind content Found (k ∷ ks) [] l d left one = absurd left
-left_behind content Found (k ∷ ks) (x ∷ xs) l d left one = (left.0, left_behind content Found ks xs l d left.1 one)
+left_behind : {A : Type 0} (content : A → Option (List ℕ)) (Found : List ℕ → Option (List ℕ) → Type 0) (folder : List ℕ) (m : ℕ) (part : Part) (ls : List DiskLine) (ds : List (Disk A)) (l : DiskLine) (d : Disk A)
+    (was now then : Option (List Lending)) → AreLeft content Found folder m part ls ds was now → IsLeft content Found folder m part l.path d now then
+    → AreLeft content Found folder m part (ls ++ l ∷ []) (ds ++ d ∷ []) was then
+left_behind content Found folder m part [] [] l d was now then left one = (then, subst (λ x. IsLeft content Found folder m part l.path d x then) left one, refl)
+left_behind content Found folder m part [] (x ∷ xs) l d was now then left one = absurd left
+left_behind content Found folder m part (k ∷ ks) [] l d was now then left one = absurd left
+left_behind content Found folder m part (k ∷ ks) (x ∷ xs) l d was now then left one = (left.0, left.1, left_behind content Found folder m part ks xs l d left.0 now then left.2 one)
 
 -- An area of the next disk.
-pub left_pushed : {A : Type 0} (content : A → Option (List ℕ)) (Found : List ℕ → Option (List ℕ) → Type 0) (ls : List DiskLine) (k : ℕ) (l : DiskLine) (ds mid ds' : List (Disk A)) (d : Disk A)
-    → k < length ls → l ≡ get_or ls k l → mid ≡ ds → ds' ≡ mid ++ d ∷ [] → AreLeft content Found (take k ls) ds → IsLeft content Found l.path d
-    → AreLeft content Found (take (k + 1) ls) ds'
-left_pushed content Found ls k l ds mid ds' d inside is kept pushed left one =
+pub left_pushed : {A : Type 0} (content : A → Option (List ℕ)) (Found : List ℕ → Option (List ℕ) → Type 0) (folder : List ℕ) (m : ℕ) (part : Part) (ls : List DiskLine) (k : ℕ) (l : DiskLine)
+    (ds mid ds' : List (Disk A)) (d : Disk A) (was now then : Option (List Lending)) → k < length ls → l ≡ get_or ls k l → mid ≡ ds → ds' ≡ mid ++ d ∷ []
+    → AreLeft content Found folder m part (take k ls) ds was now → IsLeft content Found folder m part l.path d now then → AreLeft content Found folder m part (take (k + 1) ls) ds' was then
+left_pushed content Found folder m part ls k l ds mid ds' d was now then inside is kept pushed left one =
     let more : take (k + 1) ls ≡ take k ls ++ l ∷ [] = take_more ls k l inside ∙ ap (λ (y : DiskLine). take k ls ++ y ∷ []) (sym is) in
-    subst (λ (xs : List DiskLine). AreLeft content Found xs ds') (sym more)
-    (subst (AreLeft content Found (take k ls ++ l ∷ [])) (sym (pushed ∙ ap (λ xs. xs ++ d ∷ []) kept)) (left_behind content Found (take k ls) ds l d left one))
+    subst (λ (xs : List DiskLine). AreLeft content Found folder m part xs ds' was then) (sym more)
+    (subst (λ xs. AreLeft content Found folder m part (take k ls ++ l ∷ []) xs was then) (sym (pushed ∙ ap (λ xs. xs ++ d ∷ []) kept))
+    (left_behind content Found folder m part (take k ls) ds l d was now then left one))
 
 -- The other worker's are so, whatever the disks had.
-pub left_plainly : {A : Type 0} (content : A → Option (List ℕ)) (First Then : List ℕ → Option (List ℕ) → Type 0) (ls : List DiskLine) (ds : List (Disk A))
-    → ((path : List ℕ) (c : Option (List ℕ)) → First path c → Then path c) → AreLeft content First ls ds → AreLeft content Then ls ds
-left_plainly content First Then [] [] on left = tt
-left_plainly content First Then [] (d ∷ ds) on left = absurd left
-left_plainly content First Then (l ∷ ls) [] on left = absurd left
-left_plainly content First Then (l ∷ ls) (d ∷ ds) on left = (
-  record { path_is = left.0.path_is; before = left.0.before; found = on l.path left.0.before left.0.found; kept = left.0.kept },
-  left_plainly content First Then ls ds on left.1,
+pub left_plainly : {A : Type 0} (content : A → Option (List ℕ)) (First Then : List ℕ → Option (List ℕ) → Type 0) (folder : List ℕ) (m : ℕ) (part : Part) (ls : List DiskLine) (ds : List (Disk A))
+    (was is : Option (List Lending)) → ((path : List ℕ) (c : Option (List ℕ)) → First path c → Then path c) → AreLeft content First folder m part ls ds was is
+    → AreLeft content Then folder m part ls ds was is
+left_plainly content First Then folder m part [] [] was is on left = left
+left_plainly content First Then folder m part [] (d ∷ ds) was is on left = absurd left
+left_plainly content First Then folder m part (l ∷ ls) [] was is on left = absurd left
+left_plainly content First Then folder m part (l ∷ ls) (d ∷ ds) was is on left = (
+  left.0,
+  record { path_is = left.1.path_is; before = left.1.before; lent = left.1.lent; found = on l.path left.1.before left.1.found; kept = left.1.kept },
+  left_plainly content First Then folder m part ls ds left.0 is on left.2,
 )
 
 -- On each disk that was compared all stands.
-pub areas_stand : {A : Type 0} (content : A → Option (List ℕ)) (disks : Disks) (folder : List ℕ) (h : Header) (ls : List DiskLine) (ds : List (Disk A))
-    → AreLeft content (FindsOn disks folder h Delta) ls ds → All (HasAreas disks folder h) ls
-areas_stand content disks folder h [] [] left = All-nil (HasAreas disks folder h)
-areas_stand content disks folder h [] (d ∷ ds) left = absurd left
-areas_stand content disks folder h (l ∷ ls) [] left = absurd left
-areas_stand content disks folder h (l ∷ ls) (d ∷ ds) left =
-    All-cons (HasAreas disks folder h) l ls (record { content = left.0.before; told = left.0.found.0; stand = left.0.found.1 }) (areas_stand content disks folder h ls ds left.1)
+pub areas_stand : {A : Type 0} (content : A → Option (List ℕ)) (disks : Disks) (folder : List ℕ) (h : Header) (m : ℕ) (ls : List DiskLine) (ds : List (Disk A)) (was is : Option (List Lending))
+    → AreLeft content (FindsOn disks folder h Delta) folder m Delta ls ds was is → All (HasAreas disks folder h) ls
+areas_stand content disks folder h m [] [] was is left = All-nil (HasAreas disks folder h)
+areas_stand content disks folder h m [] (d ∷ ds) was is left = absurd left
+areas_stand content disks folder h m (l ∷ ls) [] was is left = absurd left
+areas_stand content disks folder h m (l ∷ ls) (d ∷ ds) was is left =
+    All-cons (HasAreas disks folder h) l ls (record { content = left.1.before; told = left.1.found.0; stand = left.1.found.1 }) (areas_stand content disks folder h m ls ds left.0 is left.2)
 
 -- ---- why areas can't be had
 

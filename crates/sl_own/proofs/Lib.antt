@@ -4,3 +4,4 @@ pub mod PlayLaws
 pub mod LendLaws
 pub mod PlaceLaws
 pub mod GroundLaws
+pub mod TextLaws

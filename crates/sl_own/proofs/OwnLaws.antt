@@ -111,7 +111,9 @@ own_told content area_faults spawned events stands commands header place site di
     let read : lines_read r.reader ≡ lines_for (place + 1) tells.lines
     = ap entries settled.read ∙ ap (λ k. entries (given_by k l.front)) by ∙ well.0.each place (omega arith) in
     let its : HasToldOf t a h r.reader r.writer r.replies = subst (Told t a h r.reader r.writer r.replies) settled.ended run.told in
-    let here : AreExact place (r.writer ∷ w ∷ []) pieces = subst (λ (n : ℕ). AreExact n (r.writer ∷ w ∷ []) pieces) so.counted (exact_behind 0 so.before (r.writer ∷ w ∷ []) pieces so.exact) in
+    let counted : length so.before ≡ place = so.counted in
+    let at : 0 + length so.before ≡ place = omega (arith, counted) in
+    let here : AreExact place (r.writer ∷ w ∷ []) pieces = subst (λ (n : ℕ). AreExact n (r.writer ∷ w ∷ []) pieces) at (exact_behind 0 so.before (r.writer ∷ w ∷ []) pieces so.exact) in
     record {
       lines = tells.lines;
       gave = tells.gave;
@@ -121,7 +123,7 @@ own_told content area_faults spawned events stands commands header place site di
       refused = put_at (place + 1) w well.1.texts pieces here.1.0 well.1.mine ∙ well.1.text_is;
       others = λ other less.
           ap (λ xs. concat (entries xs)) (no_list (given_by other pieces)
-          (none_given 0 other so.before pieces (exact_front 0 so.before (r.writer ∷ w ∷ []) pieces so.exact) so.none (omega arith) (omega (arith, less, so.counted))));
+          (none_given 0 other so.before pieces (exact_front 0 so.before (r.writer ∷ w ∷ []) pieces so.exact) so.none (omega arith) (omega (arith, less, counted))));
       below = so.below;
       count = settled.count ∙ its.count;
       served = record {

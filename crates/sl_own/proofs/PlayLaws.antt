@@ -6,15 +6,17 @@ use Rattle.sl_live_play.specs.LiveOwed.{All, Puts, PutsEnded, PutsStop, Tellers}
 use Rattle.sl_live_play.specs.declared.play.Lived.TheVariants.{AreaFault, Differs, Done, NoMemory, ReadFault, Refused}
 use Rattle.sl_live_play.specs.declared.play.Lived.{Lived}
 use Rattle.sl_live_run.specs.Laws.{SitesAreSettings}
+use Rattle.sl_live_run.specs.Lent.{AreAllBack, IsBack}
 use Rattle.sl_live_run.specs.Runs.{Both, IsLiveCase, IsLiveHistory, Leavings, begun_on, lines_for}
 use Rattle.sl_live_run.specs.declared.compare.LiveStop.TheVariants as stop
 use Rattle.sl_live_run.specs.declared.compare.LiveStop.{LiveStop}
 use Rattle.sl_outside.specs.Disks.{Disks}
+use Rattle.sl_outside.specs.Lendings.{Lending}
 use Rattle.sl_outside.specs.declared.act.Act.{Act}
 use Rattle.sl_output.specs.Pieces.{Piece, text_of}
 use Rattle.sl_own.proofs.LendLaws.{areas_stand, not_lent_on}
-use Rattle.sl_own.specs.OwnGrounds.{Area_bars, Bars, Folder_bars, HasSize, IsOwnGround, IsPlaceOf, Machine_bars, NotLent, Size_bars}
-use Rattle.sl_own.specs.OwnOwed.{Breaks, Breaks_early, DifferingOwn, Ends, HadOwn, Is_barred, IsWovenOwn, Lacks, LivesOwn, MayRun, Of, OwesOwn, OwnBeginning, OwnDue, Parts, PutsNoPlace, ReadsOwn, Stops, Stops_early, Stops_header, header_refusal}
+use Rattle.sl_own.specs.OwnGrounds.{Area_bars, Bars, Folder_bars, HadOwn, HasSize, IsOwnGround, IsPlaceOf, Machine_bars, NotLent, Size_bars}
+use Rattle.sl_own.specs.OwnOwed.{Breaks, Breaks_early, DifferingOwn, Ends, Is_barred, IsWovenOwn, Lacks, LivesOwn, MayRun, Of, OwesOwn, OwnBeginning, OwnDue, Parts, PutsNoPlace, ReadsOwn, Stops, Stops_early, Stops_header, header_refusal}
 use Rattle.sl_own.specs.OwnRuns.{HasToldOwn, IsOwnStop}
 use Rattle.sl_own.specs.declared.ground.OwnGround.{OwnGround}
 use Rattle.sl_own.specs.declared.no_place.NoPlace.{NoPlace}
@@ -45,41 +47,43 @@ use Rattle.std.specs.Prelude.{All as PreludeAll, IfErr, IfOk, OnOk}
 
 -- For want of memory a part may have been put out.
 lacks : {D A P : Type 0} (stands : D → Setting → Trace → Type 0) (commands : Header → List (Form Command)) (t : Tellers A P) (disks : Disks) (folder : List ℕ) (w : OwnManner) (left after taken now : Option (List ℕ))
-    (faults later sink_faults sink_later device_faults device_later : ℕ) (s : Lived) → s ≡ NoMemory → (part : List ℕ) → Appends taken now part
-    → OwesOwn stands commands t disks folder w left after taken now faults later sink_faults sink_later device_faults device_later s
-lacks stands commands t disks folder w left after taken now faults later sink_faults sink_later device_faults device_later s is part appends =
-    subst (OwesOwn stands commands t disks folder w left after taken now faults later sink_faults sink_later device_faults device_later) (sym is) (Lacks part appends)
+    (faults later sink_faults sink_later device_faults device_later : ℕ) (lent back : Option (List Lending)) (s : Lived) → s ≡ NoMemory → (part : List ℕ) → Appends taken now part
+    → OwesOwn stands commands t disks folder w left after taken now faults later sink_faults sink_later device_faults device_later lent back s
+lacks stands commands t disks folder w left after taken now faults later sink_faults sink_later device_faults device_later lent back s is part appends =
+    subst (OwesOwn stands commands t disks folder w left after taken now faults later sink_faults sink_later device_faults device_later lent back) (sym is) (Lacks part appends)
 
 -- The history of the machine, by how its script ended.
 owes_ended : {D A P : Type 0} (stands : D → Setting → Trace → Type 0) (commands : Header → List (Form Command)) (t : Tellers A P) (disks : Disks) (folder : List ℕ) (w : OwnManner) (left after taken now : Option (List ℕ))
-    (faults later sink_faults sink_later device_faults device_later : ℕ) (h : Header) (given : List LiveLine) (hist : List Entry) (pieces : List Piece) (end : Option ScriptEnd) (s : Lived)
-    → ReadsOwn w left after faults later h given end → MayRun disks folder h w.machine → (l : LivesOwn stands commands t disks folder h w.machine given hist)
+    (faults later sink_faults sink_later device_faults device_later : ℕ) (lent back : Option (List Lending)) (h : Header) (given : List LiveLine) (hist : List Entry) (pieces : List Piece) (end : Option ScriptEnd) (s : Lived)
+    → ReadsOwn w left after faults later h given end → MayRun disks folder h w.machine → (l : LivesOwn stands commands t disks folder lent back h w.machine given hist)
     → IsWovenOwn w.events l.begun.header l.begun.place l.begun.site given hist pieces
     → PutsEnded taken now sink_faults sink_later pieces 1 (count_replies (begun_on l.begun.header l.begun.site) hist) end s
-    → OwesOwn stands commands t disks folder w left after taken now faults later sink_faults sink_later device_faults device_later s
-owes_ended stands commands t disks folder w left after taken now faults later sink_faults sink_later device_faults device_later h given hist pieces (Some script.End) s reads may lives woven puts =
+    → OwesOwn stands commands t disks folder w left after taken now faults later sink_faults sink_later device_faults device_later lent back s
+owes_ended stands commands t disks folder w left after taken now faults later sink_faults sink_later device_faults device_later lent back h given hist pieces (Some script.End) s reads may lives woven puts =
     Of _ Done s (Ends h given hist pieces reads may lives woven) puts
-owes_ended stands commands t disks folder w left after taken now faults later sink_faults sink_later device_faults device_later h given hist pieces (Some (script.Refused number why)) s reads may lives woven puts =
+owes_ended stands commands t disks folder w left after taken now faults later sink_faults sink_later device_faults device_later lent back h given hist pieces (Some (script.Refused number why)) s reads may lives woven puts =
     Of _ Refused s (Stops h given hist pieces number why reads may lives woven) puts
-owes_ended stands commands t disks folder w left after taken now faults later sink_faults sink_later device_faults device_later h given hist pieces (Some script.ReadFault) s reads may lives woven puts =
+owes_ended stands commands t disks folder w left after taken now faults later sink_faults sink_later device_faults device_later lent back h given hist pieces (Some script.ReadFault) s reads may lives woven puts =
     Of _ ReadFault s (Breaks h given hist pieces reads may lives woven) puts
-owes_ended stands commands t disks folder w left after taken now faults later sink_faults sink_later device_faults device_later h given hist pieces (Some script.NoMemory) s reads may lives woven puts =
-    lacks stands commands t disks folder w left after taken now faults later sink_faults sink_later device_faults device_later s puts.0 puts.1.0 puts.1.1
-owes_ended stands commands t disks folder w left after taken now faults later sink_faults sink_later device_faults device_later h given hist pieces None s reads may lives woven puts =
-    lacks stands commands t disks folder w left after taken now faults later sink_faults sink_later device_faults device_later s puts.0 puts.1.0 puts.1.1
+owes_ended stands commands t disks folder w left after taken now faults later sink_faults sink_later device_faults device_later lent back h given hist pieces (Some script.NoMemory) s reads may lives woven puts =
+    lacks stands commands t disks folder w left after taken now faults later sink_faults sink_later device_faults device_later lent back s puts.0 puts.1.0 puts.1.1
+owes_ended stands commands t disks folder w left after taken now faults later sink_faults sink_later device_faults device_later lent back h given hist pieces None s reads may lives woven puts =
+    lacks stands commands t disks folder w left after taken now faults later sink_faults sink_later device_faults device_later lent back s puts.0 puts.1.0 puts.1.1
 
 -- Its lines are those that the script gave it, and its calls are all that was done to its areas.
 lived : {D A P : Type 0} (t : Tellers A P) (events : Bool) (stands : D → Setting → Trace → Type 0) (commands : Header → List (Form Command)) (disks : Disks) (folder : List ℕ) (h : Header) (m : ℕ)
-    (begun : OwnBeginning h m) (areas : Both A) (was is : List LiveLine → Type 0) (pieces : List Piece) (n : ℕ) (left : Leavings A P) → HadOwn t.content disks folder h areas
-    → (told : HasToldOwn t.content t.faults t.acts events stands commands begun.header begun.place begun.site areas was is pieces n left)
-    → LivesOwn stands commands t disks folder h m told.lines told.history
-lived t events stands commands disks folder h m begun areas was is pieces n left had told = record {
+    (begun : OwnBeginning h m) (areas : Both A) (was is : List LiveLine → Type 0) (pieces : List Piece) (n : ℕ) (left : Leavings A P) (lent between back : Option (List Lending)) → HadOwn t.content disks folder h m areas lent between
+    → IsBack t.content t.faults t.acts left between back → (told : HasToldOwn t.content t.faults t.acts events stands commands begun.header begun.place begun.site areas was is pieces n left)
+    → LivesOwn stands commands t disks folder lent back h m told.lines told.history
+lived t events stands commands disks folder h m begun areas was is pieces n left lent between back had returned told = record {
   begun = begun;
   history = subst (λ (k : ℕ). IsLiveHistory stands (begun_with commands begun.header begun.site) (begun_on begun.header begun.site) (lines_for k told.lines) told.history) (sym begun.numbered) told.live;
   areas = areas;
+  between = between;
   had = had;
   left = left;
   served = told.served;
+  returned = returned;
 }
 
 woven : {D A P : Type 0} (content : A → Option (List ℕ)) (area_faults : A → ℕ) (spawned : P → Option (List Act)) (events : Bool) (stands : D → Setting → Trace → Type 0)
@@ -88,25 +92,33 @@ woven : {D A P : Type 0} (content : A → Option (List ℕ)) (area_faults : A �
     → IsWovenOwn events begun.header begun.place begun.site told.lines told.history pieces
 woven content area_faults spawned events stands commands h m begun disks was is pieces n left told = record { below = told.below; text = told.text; refused = told.refused; others = told.others }
 
+-- All that was left is what one machine left.
+one_back : {A P : Type 0} (t : Tellers A P) (remains : List (Leavings A P)) (left : Leavings A P) (was is : Option (List Lending)) → remains ≡ left ∷ [] → AreAllBack t.content t.faults t.acts remains was is
+    → IsBack t.content t.faults t.acts left was is
+one_back t remains left was is one back =
+    let those : AreAllBack t.content t.faults t.acts (left ∷ []) was is = subst (λ ls. AreAllBack t.content t.faults t.acts ls was is) one back in
+    subst (λ x. IsBack t.content t.faults t.acts left was x) (sym those.2) those.1
+
 -- What came of a run, of a script that has given nothing before, and of whose source the lines that it has given are read now.
 pub owes_run_own : {D A P : Type 0} (stands : D → Setting → Trace → Type 0) (commands : Header → List (Form Command)) (t : Tellers A P) (disks : Disks) (folder : List ℕ) (w : OwnManner)
-    (left after taken now : Option (List ℕ)) (faults later sink_faults sink_later device_faults device_later : ℕ) (h : Header) (begun : OwnBeginning h w.machine) (areas : Both A)
-    (was is : List LiveLine → Type 0) (pieces : List Piece) (machines : ℕ) (remains : List (Leavings A P)) (replies : Result ℕ LiveStop) (end : Option ScriptEnd) (s : Lived) → was []
-    → ((given : List LiveLine) → is given → ReadsOwn w left after faults later h given end) → MayRun disks folder h w.machine → HadOwn t.content disks folder h areas
-    → IfOk replies (λ n. (machines ≡ 1) × (back : Leavings A P) × (remains ≡ back ∷ [])
-    × HasToldOwn t.content t.faults t.acts w.events stands commands begun.header begun.place begun.site areas was is pieces n back)
+    (left after taken now : Option (List ℕ)) (faults later sink_faults sink_later device_faults device_later : ℕ) (lent back : Option (List Lending)) (h : Header) (begun : OwnBeginning h w.machine) (areas : Both A)
+    (was is : List LiveLine → Type 0) (pieces : List Piece) (machines : ℕ) (remains : List (Leavings A P)) (replies : Result ℕ LiveStop) (end : Option ScriptEnd) (s : Lived) (between : Option (List Lending)) → was []
+    → ((given : List LiveLine) → is given → ReadsOwn w left after faults later h given end) → MayRun disks folder h w.machine → HadOwn t.content disks folder h w.machine areas lent between
+    → AreAllBack t.content t.faults t.acts remains between back → IfOk replies (λ n. (machines ≡ 1) × (left_there : Leavings A P) × (remains ≡ left_there ∷ [])
+    × HasToldOwn t.content t.faults t.acts w.events stands commands begun.header begun.place begun.site areas was is pieces n left_there)
     → IfErr replies (IsOwnStop stands commands begun.header begun.place begun.site was is)
     → IfOk replies (λ n. PutsEnded taken now sink_faults sink_later pieces machines n end s)
     → IfErr replies (λ e. PutsStop taken now sink_faults sink_later pieces e s)
-    → OwesOwn stands commands t disks folder w left after taken now faults later sink_faults sink_later device_faults device_later s
-owes_run_own stands commands t disks folder w left after taken now faults later sink_faults sink_later device_faults device_later h begun areas was is pieces machines remains (Ok n) end s none reads may had ok err puts stops =
+    → OwesOwn stands commands t disks folder w left after taken now faults later sink_faults sink_later device_faults device_later lent back s
+unfolding lived
+owes_run_own stands commands t disks folder w left after taken now faults later sink_faults sink_later device_faults device_later lent back h begun areas was is pieces machines remains (Ok n) end s between none reads may had returned ok err puts stops =
     let told = ok.3 in
     let one : PutsEnded taken now sink_faults sink_later pieces 1 n end s = subst (λ (k : ℕ). PutsEnded taken now sink_faults sink_later pieces k n end s) ok.0 puts in
-    owes_ended stands commands t disks folder w left after taken now faults later sink_faults sink_later device_faults device_later h told.lines told.history pieces end s (reads told.lines (told.gave [] none)) may
-    (lived t w.events stands commands disks folder h w.machine begun areas was is pieces n ok.1 had told)
+    owes_ended stands commands t disks folder w left after taken now faults later sink_faults sink_later device_faults device_later lent back h told.lines told.history pieces end s (reads told.lines (told.gave [] none)) may
+    (lived t w.events stands commands disks folder h w.machine begun areas was is pieces n ok.1 lent between back had (one_back t remains ok.1 between back ok.2 returned) told)
     (woven t.content t.faults t.acts w.events stands commands h w.machine begun areas was is pieces n ok.1 told)
     (subst (λ (k : ℕ). PutsEnded taken now sink_faults sink_later pieces 1 k end s) told.count one)
-owes_run_own stands commands t disks folder w left after taken now faults later sink_faults sink_later device_faults device_later h begun areas was is pieces machines remains (Err (stop.Differ machine d)) end s none reads may had ok err puts stops =
+owes_run_own stands commands t disks folder w left after taken now faults later sink_faults sink_later device_faults device_later lent back h begun areas was is pieces machines remains (Err (stop.Differ machine d)) end s between none reads may had returned ok err puts stops =
     let same : machine ≡ w.machine = subst (λ (k : ℕ). machine ≡ k) (sym begun.numbered) err.numbered in
     Of _ Differs s
     (Parts h err.lines end (text_of pieces) d (reads err.lines (err.gave [] none)) may
@@ -115,34 +127,34 @@ owes_run_own stands commands t disks folder w left after taken now faults later 
       differs = subst (λ (k : ℕ). IsLiveCase stands (begun_with commands begun.header begun.site) (begun_on begun.header begun.site) (lines_for k err.lines) d) same err.case_of;
     }))
     (subst (λ (k : ℕ). PutsStop taken now sink_faults sink_later pieces (stop.Differ k d) s) same stops)
-owes_run_own stands commands t disks folder w left after taken now faults later sink_faults sink_later device_faults device_later h begun areas was is pieces machines remains (Err stop.NoMemory) end s none reads may had ok err puts stops =
-    lacks stands commands t disks folder w left after taken now faults later sink_faults sink_later device_faults device_later s stops.0 stops.1.0 stops.1.1
+owes_run_own stands commands t disks folder w left after taken now faults later sink_faults sink_later device_faults device_later lent back h begun areas was is pieces machines remains (Err stop.NoMemory) end s between none reads may had returned ok err puts stops =
+    lacks stands commands t disks folder w left after taken now faults later sink_faults sink_later device_faults device_later lent back s stops.0 stops.1.0 stops.1.1
 
 -- ---- what the machine begins with
 
-unfoldable pub beginning : {V C P D W G A : Type 0} (content : A → Option (List ℕ)) (spawned : P → Option (List Act)) (disks : Disks) (folder : List ℕ) (h : Header) (m : ℕ) (g : OwnGround V C P D W G A)
-    → IsOwnGround content spawned disks folder h m g → OwnBeginning h m
-beginning content spawned disks folder h m g is =
+unfoldable pub beginning : {V C P D W G A : Type 0} (content : A → Option (List ℕ)) (spawned : P → Option (List Act)) (disks : Disks) (folder : List ℕ) (h : Header) (m : ℕ) (lent held : Option (List Lending)) (g : OwnGround V C P D W G A)
+    → IsOwnGround content spawned disks folder h m lent held g → OwnBeginning h m
+beginning content spawned disks folder h m lent held g is =
     record { header = g.header; lawful = is.lawful; same = is.same; place = g.place; numbered = is.numbered; site = g.ready.site; begun = is.site }
 
-pub small_place : {V C P D W G A : Type 0} (content : A → Option (List ℕ)) (spawned : P → Option (List Act)) (disks : Disks) (folder : List ℕ) (h : Header) (m : ℕ) (g : OwnGround V C P D W G A)
-    → IsOwnGround content spawned disks folder h m g → g.place + 1 < 2 ^ 32
-small_place content spawned disks folder h m g is = subst (λ (k : ℕ). k < 2 ^ 32) is.numbered is.small
+pub small_place : {V C P D W G A : Type 0} (content : A → Option (List ℕ)) (spawned : P → Option (List Act)) (disks : Disks) (folder : List ℕ) (h : Header) (m : ℕ) (lent held : Option (List Lending)) (g : OwnGround V C P D W G A)
+    → IsOwnGround content spawned disks folder h m lent held g → g.place + 1 < 2 ^ 32
+small_place content spawned disks folder h m lent held g is = subst (λ (k : ℕ). k < 2 ^ 32) is.numbered is.small
 
 pub own_setting : {V C P D W G A : Type 0} (content : A → Option (List ℕ)) (spawned : P → Option (List Act)) (commands : Header → List (Form Command)) (disks : Disks) (folder : List ℕ) (h : Header) (m : ℕ)
-    (g : OwnGround V C P D W G A) → SitesAreSettings → ((header : Header) → IsHeader header → ReadsCommands commands header) → IsOwnGround content spawned disks folder h m g
+    (lent held : Option (List Lending)) (g : OwnGround V C P D W G A) → SitesAreSettings → ((header : Header) → IsHeader header → ReadsCommands commands header) → IsOwnGround content spawned disks folder h m lent held g
     → IsSetting (begun_with commands g.header g.ready.site)
-own_setting content spawned commands disks folder h m g sites reads is = sites commands g.header is.lawful (reads g.header is.lawful) m g.ready.site is.site
+own_setting content spawned commands disks folder h m lent held g sites reads is = sites commands g.header is.lawful (reads g.header is.lawful) m g.ready.site is.site
 
 -- ---- a machine that can't run there
 
 pub owes_no_place : {D A P : Type 0} (stands : D → Setting → Trace → Type 0) (commands : Header → List (Form Command)) (t : Tellers A P) (disks : Disks) (folder : List ℕ) (w : OwnManner) (left after taken now : Option (List ℕ))
-    (faults later sink_faults sink_later device_faults device_later : ℕ) (h : Header) (r : ReaderState) (why : NoPlace) (s : Lived) → HeaderBegins left after r h
+    (faults later sink_faults sink_later device_faults device_later : ℕ) (lent back : Option (List Lending)) (h : Header) (r : ReaderState) (why : NoPlace) (s : Lived) → HeaderBegins left after r h
     → Bars disks folder h w.machine device_faults device_later why → PutsNoPlace taken now sink_faults sink_later why s
-    → OwesOwn stands commands t disks folder w left after taken now faults later sink_faults sink_later device_faults device_later s
-owes_no_place stands commands t disks folder w left after taken now faults later sink_faults sink_later device_faults device_later h r why s begins bars (inl none) =
-    lacks stands commands t disks folder w left after taken now faults later sink_faults sink_later device_faults device_later s none.0 [] none.1
-owes_no_place stands commands t disks folder w left after taken now faults later sink_faults sink_later device_faults device_later h r why s begins bars (inr puts) =
+    → OwesOwn stands commands t disks folder w left after taken now faults later sink_faults sink_later device_faults device_later lent back s
+owes_no_place stands commands t disks folder w left after taken now faults later sink_faults sink_later device_faults device_later lent back h r why s begins bars (inl none) =
+    lacks stands commands t disks folder w left after taken now faults later sink_faults sink_later device_faults device_later lent back s none.0 [] none.1
+owes_no_place stands commands t disks folder w left after taken now faults later sink_faults sink_later device_faults device_later lent back h r why s begins bars (inr puts) =
     Of _ AreaFault s (Is_barred r h why begins bars) puts
 
 -- What stands in a text that was empty is put out.
@@ -152,10 +164,10 @@ text_is (Err e) text items first due same none is = tt
 
 -- The areas of a machine that is ready stand, and so do the disks, with their sizes.
 pub place_stands : {V C P D W G A : Type 0} (content : A → Option (List ℕ)) (spawned : P → Option (List Act)) (disks : Disks) (folder : List ℕ) (h : Header) (m : ℕ)
-    (r : Result (OwnGround V C P D W G A) NoPlace) → PreludeAll (HasSize disks folder) h.disks → IfOk r (IsOwnGround content spawned disks folder h m) → OnOk r (IsPlaceOf disks folder h)
-place_stands content spawned disks folder h m (Ok g) sizes is =
-    record { sizes = sizes; areas = areas_stand content disks folder h h.disks g.ready.parts.delta.items is.delta }
-place_stands content spawned disks folder h m (Err e) sizes is = tt
+    (lent held : Option (List Lending)) (r : Result (OwnGround V C P D W G A) NoPlace) → PreludeAll (HasSize disks folder) h.disks → IfOk r (IsOwnGround content spawned disks folder h m lent held) → OnOk r (IsPlaceOf disks folder h)
+place_stands content spawned disks folder h m lent held (Ok g) sizes is =
+    record { sizes = sizes; areas = areas_stand content disks folder h m h.disks g.ready.parts.delta.items lent is.had.delta_lent is.had.delta }
+place_stands content spawned disks folder h m lent held (Err e) sizes is = tt
 
 -- ---- faults before
 
@@ -185,29 +197,29 @@ reads_since : (w : OwnManner) (left after : Option (List ℕ)) (first faults lat
 reads_since w left after first faults later h given end le reads = script_since _ w.keeps left after first faults later h given end le reads
 
 due_since : {D A P : Type 0} (stands : D → Setting → Trace → Type 0) (commands : Header → List (Form Command)) (t : Tellers A P) (disks : Disks) (folder : List ℕ) (w : OwnManner) (left after : Option (List ℕ))
-    (first faults later device_faults device_later : ℕ) (text : List ℕ) (whole : Lived) → first ≤ faults
-    → OwnDue stands commands t disks folder w left after faults later device_faults device_later text whole
-    → OwnDue stands commands t disks folder w left after first later device_faults device_later text whole
-due_since stands commands t disks folder w left after first faults later device_faults device_later text whole le (Ends h given hist pieces reads may lives woven) =
+    (first faults later device_faults device_later : ℕ) (lent back : Option (List Lending)) (text : List ℕ) (whole : Lived) → first ≤ faults
+    → OwnDue stands commands t disks folder w left after faults later device_faults device_later lent back text whole
+    → OwnDue stands commands t disks folder w left after first later device_faults device_later lent back text whole
+due_since stands commands t disks folder w left after first faults later device_faults device_later lent back text whole le (Ends h given hist pieces reads may lives woven) =
     Ends h given hist pieces (reads_since w left after first faults later h given _ le reads) may lives woven
-due_since stands commands t disks folder w left after first faults later device_faults device_later text whole le (Stops_early r number why stops) = Stops_early r number why stops
-due_since stands commands t disks folder w left after first faults later device_faults device_later text whole le (Stops_header r h why begins is) = Stops_header r h why begins is
-due_since stands commands t disks folder w left after first faults later device_faults device_later text whole le (Stops h given hist pieces number why reads may lives woven) =
+due_since stands commands t disks folder w left after first faults later device_faults device_later lent back text whole le (Stops_early r number why stops) = Stops_early r number why stops
+due_since stands commands t disks folder w left after first faults later device_faults device_later lent back text whole le (Stops_header r h why begins is) = Stops_header r h why begins is
+due_since stands commands t disks folder w left after first faults later device_faults device_later lent back text whole le (Stops h given hist pieces number why reads may lives woven) =
     Stops h given hist pieces number why (reads_since w left after first faults later h given _ le reads) may lives woven
-due_since stands commands t disks folder w left after first faults later device_faults device_later text whole le (Breaks_early breaks rose) = Breaks_early breaks (rose_since first faults later le rose)
-due_since stands commands t disks folder w left after first faults later device_faults device_later text whole le (Breaks h given hist pieces reads may lives woven) =
+due_since stands commands t disks folder w left after first faults later device_faults device_later lent back text whole le (Breaks_early breaks rose) = Breaks_early breaks (rose_since first faults later le rose)
+due_since stands commands t disks folder w left after first faults later device_faults device_later lent back text whole le (Breaks h given hist pieces reads may lives woven) =
     Breaks h given hist pieces (reads_since w left after first faults later h given _ le reads) may lives woven
-due_since stands commands t disks folder w left after first faults later device_faults device_later text whole le (Is_barred r h why begins bars) = Is_barred r h why begins bars
-due_since stands commands t disks folder w left after first faults later device_faults device_later text whole le (Parts h given end before d reads may case_of) =
+due_since stands commands t disks folder w left after first faults later device_faults device_later lent back text whole le (Is_barred r h why begins bars) = Is_barred r h why begins bars
+due_since stands commands t disks folder w left after first faults later device_faults device_later lent back text whole le (Parts h given end before d reads may case_of) =
     Parts h given end before d (reads_since w left after first faults later h given end le reads) may case_of
 
 pub owes_since : {D A P : Type 0} (stands : D → Setting → Trace → Type 0) (commands : Header → List (Form Command)) (t : Tellers A P) (disks : Disks) (folder : List ℕ) (w : OwnManner) (left after taken now : Option (List ℕ))
-    (first faults later sink_faults sink_later device_faults device_later : ℕ) (s : Lived) → first ≤ faults
-    → OwesOwn stands commands t disks folder w left after taken now faults later sink_faults sink_later device_faults device_later s
-    → OwesOwn stands commands t disks folder w left after taken now first later sink_faults sink_later device_faults device_later s
-owes_since stands commands t disks folder w left after taken now first faults later sink_faults sink_later device_faults device_later s le (Of text whole x due puts) =
-    Of text whole s (due_since stands commands t disks folder w left after first faults later device_faults device_later text whole le due) puts
-owes_since stands commands t disks folder w left after taken now first faults later sink_faults sink_later device_faults device_later s le (Lacks part nothing) = Lacks part nothing
+    (first faults later sink_faults sink_later device_faults device_later : ℕ) (lent back : Option (List Lending)) (s : Lived) → first ≤ faults
+    → OwesOwn stands commands t disks folder w left after taken now faults later sink_faults sink_later device_faults device_later lent back s
+    → OwesOwn stands commands t disks folder w left after taken now first later sink_faults sink_later device_faults device_later lent back s
+owes_since stands commands t disks folder w left after taken now first faults later sink_faults sink_later device_faults device_later lent back s le (Of text whole x due puts) =
+    Of text whole s (due_since stands commands t disks folder w left after first faults later device_faults device_later lent back text whole le due) puts
+owes_since stands commands t disks folder w left after taken now first faults later sink_faults sink_later device_faults device_later lent back s le (Lacks part nothing) = Lacks part nothing
 
 -- .. and of the devices.
 pub bars_since : (disks : Disks) (folder : List ℕ) (h : Header) (machine first faults later : ℕ) (why : NoPlace) → first ≤ faults → Bars disks folder h machine faults later why
@@ -226,26 +238,26 @@ bars_area (Err e) disks now folder h machine first faults later same le not =
     (not_lent_on disks folder h Delta faults later first later e (rose_since first faults later le) (subst (λ (x : Disks). NotLent x folder h Delta faults later e) same not))
 
 due_devices : {D A P : Type 0} (stands : D → Setting → Trace → Type 0) (commands : Header → List (Form Command)) (t : Tellers A P) (disks : Disks) (folder : List ℕ) (w : OwnManner) (left after : Option (List ℕ))
-    (faults later first device_faults device_later : ℕ) (text : List ℕ) (whole : Lived) → first ≤ device_faults
-    → OwnDue stands commands t disks folder w left after faults later device_faults device_later text whole
-    → OwnDue stands commands t disks folder w left after faults later first device_later text whole
-due_devices stands commands t disks folder w left after faults later first device_faults device_later text whole le (Ends h given hist pieces reads may lives woven) = Ends h given hist pieces reads may lives woven
-due_devices stands commands t disks folder w left after faults later first device_faults device_later text whole le (Stops_early r number why stops) = Stops_early r number why stops
-due_devices stands commands t disks folder w left after faults later first device_faults device_later text whole le (Stops_header r h why begins is) = Stops_header r h why begins is
-due_devices stands commands t disks folder w left after faults later first device_faults device_later text whole le (Stops h given hist pieces number why reads may lives woven) = Stops h given hist pieces number why reads may lives woven
-due_devices stands commands t disks folder w left after faults later first device_faults device_later text whole le (Breaks_early breaks rose) = Breaks_early breaks rose
-due_devices stands commands t disks folder w left after faults later first device_faults device_later text whole le (Breaks h given hist pieces reads may lives woven) = Breaks h given hist pieces reads may lives woven
-due_devices stands commands t disks folder w left after faults later first device_faults device_later text whole le (Is_barred r h why begins bars) =
+    (faults later first device_faults device_later : ℕ) (lent back : Option (List Lending)) (text : List ℕ) (whole : Lived) → first ≤ device_faults
+    → OwnDue stands commands t disks folder w left after faults later device_faults device_later lent back text whole
+    → OwnDue stands commands t disks folder w left after faults later first device_later lent back text whole
+due_devices stands commands t disks folder w left after faults later first device_faults device_later lent back text whole le (Ends h given hist pieces reads may lives woven) = Ends h given hist pieces reads may lives woven
+due_devices stands commands t disks folder w left after faults later first device_faults device_later lent back text whole le (Stops_early r number why stops) = Stops_early r number why stops
+due_devices stands commands t disks folder w left after faults later first device_faults device_later lent back text whole le (Stops_header r h why begins is) = Stops_header r h why begins is
+due_devices stands commands t disks folder w left after faults later first device_faults device_later lent back text whole le (Stops h given hist pieces number why reads may lives woven) = Stops h given hist pieces number why reads may lives woven
+due_devices stands commands t disks folder w left after faults later first device_faults device_later lent back text whole le (Breaks_early breaks rose) = Breaks_early breaks rose
+due_devices stands commands t disks folder w left after faults later first device_faults device_later lent back text whole le (Breaks h given hist pieces reads may lives woven) = Breaks h given hist pieces reads may lives woven
+due_devices stands commands t disks folder w left after faults later first device_faults device_later lent back text whole le (Is_barred r h why begins bars) =
     Is_barred r h why begins (bars_since disks folder h w.machine first device_faults device_later why le bars)
-due_devices stands commands t disks folder w left after faults later first device_faults device_later text whole le (Parts h given end before d reads may case_of) = Parts h given end before d reads may case_of
+due_devices stands commands t disks folder w left after faults later first device_faults device_later lent back text whole le (Parts h given end before d reads may case_of) = Parts h given end before d reads may case_of
 
 pub owes_devices : {D A P : Type 0} (stands : D → Setting → Trace → Type 0) (commands : Header → List (Form Command)) (t : Tellers A P) (disks : Disks) (folder : List ℕ) (w : OwnManner) (left after taken now : Option (List ℕ))
-    (faults later sink_faults sink_later first device_faults device_later : ℕ) (s : Lived) → first ≤ device_faults
-    → OwesOwn stands commands t disks folder w left after taken now faults later sink_faults sink_later device_faults device_later s
-    → OwesOwn stands commands t disks folder w left after taken now faults later sink_faults sink_later first device_later s
-owes_devices stands commands t disks folder w left after taken now faults later sink_faults sink_later first device_faults device_later s le (Of text whole x due puts) =
-    Of text whole s (due_devices stands commands t disks folder w left after faults later first device_faults device_later text whole le due) puts
-owes_devices stands commands t disks folder w left after taken now faults later sink_faults sink_later first device_faults device_later s le (Lacks part nothing) = Lacks part nothing
+    (faults later sink_faults sink_later first device_faults device_later : ℕ) (lent back : Option (List Lending)) (s : Lived) → first ≤ device_faults
+    → OwesOwn stands commands t disks folder w left after taken now faults later sink_faults sink_later device_faults device_later lent back s
+    → OwesOwn stands commands t disks folder w left after taken now faults later sink_faults sink_later first device_later lent back s
+owes_devices stands commands t disks folder w left after taken now faults later sink_faults sink_later first device_faults device_later lent back s le (Of text whole x due puts) =
+    Of text whole s (due_devices stands commands t disks folder w left after faults later first device_faults device_later lent back text whole le due) puts
+owes_devices stands commands t disks folder w left after taken now faults later sink_faults sink_later first device_faults device_later lent back s le (Lacks part nothing) = Lacks part nothing
 
 -- ---- the header
 
@@ -255,29 +267,29 @@ none_put None = tt
 none_put (Some xs) = sym (append-nil xs)
 
 pub owes_nothing : {D A P : Type 0} (stands : D → Setting → Trace → Type 0) (commands : Header → List (Form Command)) (t : Tellers A P) (disks : Disks) (folder : List ℕ) (w : OwnManner) (left after taken : Option (List ℕ))
-    (faults later sink_faults device_faults device_later : ℕ)
-    → OwesOwn stands commands t disks folder w left after taken taken faults later sink_faults sink_faults device_faults device_later NoMemory
-owes_nothing stands commands t disks folder w left after taken faults later sink_faults device_faults device_later = Lacks [] (none_put taken)
+    (faults later sink_faults device_faults device_later : ℕ) (lent back : Option (List Lending))
+    → OwesOwn stands commands t disks folder w left after taken taken faults later sink_faults sink_faults device_faults device_later lent back NoMemory
+owes_nothing stands commands t disks folder w left after taken faults later sink_faults device_faults device_later lent back = Lacks [] (none_put taken)
 
 -- A read failed within it.
 pub owes_break : {D A P : Type 0} (stands : D → Setting → Trace → Type 0) (commands : Header → List (Form Command)) (t : Tellers A P) (disks : Disks) (folder : List ℕ) (w : OwnManner) (left after taken : Option (List ℕ))
-    (faults later sink_faults device_faults device_later : ℕ) → HeaderBreaks left after → Rose faults later
-    → OwesOwn stands commands t disks folder w left after taken taken faults later sink_faults sink_faults device_faults device_later ReadFault
-owes_break stands commands t disks folder w left after taken faults later sink_faults device_faults device_later breaks rose =
+    (faults later sink_faults device_faults device_later : ℕ) (lent back : Option (List Lending)) → HeaderBreaks left after → Rose faults later
+    → OwesOwn stands commands t disks folder w left after taken taken faults later sink_faults sink_faults device_faults device_later lent back ReadFault
+owes_break stands commands t disks folder w left after taken faults later sink_faults device_faults device_later lent back breaks rose =
     Of [] ReadFault ReadFault (Breaks_early breaks rose) (All (none_put taken))
 
 -- A line of it is refused.
 pub owes_refusal : {D A P : Type 0} (stands : D → Setting → Trace → Type 0) (commands : Header → List (Form Command)) (t : Tellers A P) (disks : Disks) (folder : List ℕ) (w : OwnManner) (left after taken now : Option (List ℕ))
-    (faults later sink_faults sink_later device_faults device_later : ℕ) (r : ReaderState) (number : ℕ) (why : Refusal) (s : Lived) → HeaderStops left after r number why
+    (faults later sink_faults sink_later device_faults device_later : ℕ) (lent back : Option (List Lending)) (r : ReaderState) (number : ℕ) (why : Refusal) (s : Lived) → HeaderStops left after r number why
     → Puts taken now sink_faults sink_later (as_bytes (refusal_line number why ∷ [])) Refused s
-    → OwesOwn stands commands t disks folder w left after taken now faults later sink_faults sink_later device_faults device_later s
-owes_refusal stands commands t disks folder w left after taken now faults later sink_faults sink_later device_faults device_later r number why s stops puts =
+    → OwesOwn stands commands t disks folder w left after taken now faults later sink_faults sink_later device_faults device_later lent back s
+owes_refusal stands commands t disks folder w left after taken now faults later sink_faults sink_later device_faults device_later lent back r number why s stops puts =
     Of _ Refused s (Stops_early r number why stops) puts
 
 -- Its last line.
 pub owes_header : {D A P : Type 0} (stands : D → Setting → Trace → Type 0) (commands : Header → List (Form Command)) (t : Tellers A P) (disks : Disks) (folder : List ℕ) (w : OwnManner) (left after taken now : Option (List ℕ))
-    (faults later sink_faults sink_later device_faults device_later : ℕ) (r : ReaderState) (h : Header) (number : ℕ) (why : Refusal) (s : Lived) → HeaderBegins left after r h
+    (faults later sink_faults sink_later device_faults device_later : ℕ) (lent back : Option (List Lending)) (r : ReaderState) (h : Header) (number : ℕ) (why : Refusal) (s : Lived) → HeaderBegins left after r h
     → header_refusal h w.machine ≡ Some why → number ≡ r.number → Puts taken now sink_faults sink_later (as_bytes (refusal_line number why ∷ [])) Refused s
-    → OwesOwn stands commands t disks folder w left after taken now faults later sink_faults sink_later device_faults device_later s
-owes_header stands commands t disks folder w left after taken now faults later sink_faults sink_later device_faults device_later r h number why s begins is same puts =
+    → OwesOwn stands commands t disks folder w left after taken now faults later sink_faults sink_later device_faults device_later lent back s
+owes_header stands commands t disks folder w left after taken now faults later sink_faults sink_later device_faults device_later lent back r h number why s begins is same puts =
     Of _ Refused s (Stops_header r h why begins is) (subst (λ (n : ℕ). Puts taken now sink_faults sink_later (as_bytes (refusal_line n why ∷ [])) Refused s) same puts)

@@ -1,11 +1,14 @@
 -- What a machine in a process of its own begins with: a place that was taken, and areas that stand.
 use Rattle.sl_live.specs.declared.disks.Disk.{Disk}
+use Rattle.sl_live_run.specs.Areas.{worker_of}
 use Rattle.sl_live_run.specs.Grounds.{IsSiteOf}
+use Rattle.sl_live_run.specs.Runs.{Both, disks_in}
 use Rattle.sl_cell.specs.declared.part.Part.TheVariants.{Delta, Resource}
 use Rattle.sl_cell.specs.declared.part.Part.{Part}
 use Rattle.sl_io.specs.FaultCauses.{Rose}
-use Rattle.sl_outside.specs.Acts.{Tells}
+use Rattle.sl_outside.specs.Acts.{Grows, Tells}
 use Rattle.sl_outside.specs.Disks.{Disks}
+use Rattle.sl_outside.specs.Lendings.{AreaOut, Lending, SpawnerOut}
 use Rattle.sl_place.specs.Standing.{IsSizeOf}
 use Rattle.sl_outside.specs.declared.act.Act.{Act}
 use Rattle.sl_own.specs.declared.ground.OwnGround.{OwnGround}
@@ -72,19 +75,31 @@ Finds h Resource path content = Unit {0}
 abbrev pub FindsOn : Disks → List ℕ → Header → Part → List ℕ → Option (List ℕ) → Type 0
 FindsOn disks folder h part path content = Keeps (disks (folder ++ path)) content × Finds h part path content
 
--- An area of the disk at this path, to which nothing was written since it had what was found there.
-pub record IsLeft {A : Type 0} (content : A → Option (List ℕ)) (Found : List ℕ → Option (List ℕ) → Type 0) (path : List ℕ) (d : Disk A) : Type 0 where
+-- An area that devices handed out of the disk at this path of a folder, to a worker of machine m, to which nothing was written since it had what was found there.
+pub record IsLeft {A : Type 0} (content : A → Option (List ℕ)) (Found : List ℕ → Option (List ℕ) → Type 0) (folder : List ℕ) (m : ℕ) (part : Part) (path : List ℕ) (d : Disk A)
+    (was is : Option (List Lending)) : Type 0 where
   pub path_is : d.path ≡ path
   pub before : Option (List ℕ)
+  pub lent : Grows was is (AreaOut m (worker_of part) (folder ++ path) before ∷ [])
   pub found : Found path before
   pub kept : Keeps before (content d.area)
 
--- One of each disk, in the order of the header.
-abbrev pub AreLeft : {A : Type 0} → (A → Option (List ℕ)) → (List ℕ → Option (List ℕ) → Type 0) → List DiskLine → List (Disk A) → Type 0
-AreLeft content Found [] [] = Unit {0}
-AreLeft content Found [] (d ∷ ds) = ⊥
-AreLeft content Found (l ∷ ls) [] = ⊥
-AreLeft content Found (l ∷ ls) (d ∷ ds) = IsLeft content Found l.path d × AreLeft content Found ls ds
+-- One of each disk, in the order of the header, and nothing else was handed out between.
+abbrev pub AreLeft : {A : Type 0} → (A → Option (List ℕ)) → (List ℕ → Option (List ℕ) → Type 0) → List ℕ → ℕ → Part → List DiskLine → List (Disk A) → Option (List Lending) → Option (List Lending) → Type 0
+AreLeft content Found folder m part [] [] was is = is ≡ was
+AreLeft content Found folder m part [] (d ∷ ds) was is = ⊥
+AreLeft content Found folder m part (l ∷ ls) [] was is = ⊥
+AreLeft content Found folder m part (l ∷ ls) (d ∷ ds) was is =
+    (between : Option (List Lending)) × IsLeft content Found folder m part l.path d was between × AreLeft content Found folder m part ls ds between is
+
+-- What devices handed out to the machine: for each of its workers an area of each disk of the header, to which nothing was written since all that the header
+-- has there was found to stand on it; and a spawner.
+pub record HadOwn {A : Type 0} (content : A → Option (List ℕ)) (disks : Disks) (folder : List ℕ) (h : Header) (m : ℕ) (areas : Both A) (was is : Option (List Lending)) : Type 0 where
+  pub delta_lent : Option (List Lending)
+  pub delta : AreLeft content (FindsOn disks folder h Delta) folder m Delta h.disks areas.0 was delta_lent
+  pub resource_lent : Option (List Lending)
+  pub resource : AreLeft content (Finds h Resource) folder m Resource h.disks areas.1 delta_lent resource_lent
+  pub spawner : Grows resource_lent is (SpawnerOut m ∷ [])
 
 -- ---- all of it
 
@@ -104,14 +119,13 @@ pub record IsPlaceOf (disks : Disks) (folder : List ℕ) (h : Header) : Type 0 w
   pub areas : All (HasAreas disks folder h) h.disks
 
 -- The header is the given one but for its clocks, and a header still; the machine has its number and the site that the header gives it; and its areas
--- are of these disks, on which the worker of the ids' records found all that the header has there.
+-- are of these disks, on which the worker of the ids' records found all that the header has there. The devices handed out just these, and a spawner.
 pub record IsOwnGround {V C P D W G A : Type 0} (content : A → Option (List ℕ)) (spawned : P → Option (List Act)) (disks : Disks) (folder : List ℕ) (h : Header) (machine : ℕ)
-    (g : OwnGround V C P D W G A) : Type 0 where
+    (lent held : Option (List Lending)) (g : OwnGround V C P D W G A) : Type 0 where
   pub lawful : IsHeader g.header
   pub same : g.header ≡ record h { clocks = g.header.clocks }
   pub numbered : machine ≡ g.place + 1
   pub small : machine < 2 ^ 32
   pub site : IsSiteOf g.header machine (session_of g.header machine) g.ready.site
   pub unasked : Tells (spawned g.ready.parts.spawner) []
-  pub delta : AreLeft content (FindsOn disks folder h Delta) h.disks g.ready.parts.delta.items
-  pub resource : AreLeft content (Finds h Resource) h.disks g.ready.parts.resource.items
+  pub had : HadOwn content disks folder h machine (disks_in g.ready.parts) lent held

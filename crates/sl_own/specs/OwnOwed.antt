@@ -1,6 +1,5 @@
 -- What a script for one machine owes that is played: what is read and put out, by how it ends.
 use Rattle.sl_book.specs.Closings.{AreBelow}
-use Rattle.sl_cell.specs.declared.part.Part.TheVariants.{Delta, Resource}
 use Rattle.sl_live_lines.specs.LiveTexts.{count_replies, history_text, last_text}
 use Rattle.sl_live_lines.specs.declared.live_texts.Ending.TheVariants as ending
 use Rattle.sl_live_lines.specs.declared.live_texts.Ending.{Ending}
@@ -9,11 +8,13 @@ use Rattle.sl_live_play.specs.LiveOwed.{Puts, Tellers}
 use Rattle.sl_live_play.specs.declared.play.Lived.TheVariants.{AreaFault, Differs, Done, NoMemory, ReadFault, Refused}
 use Rattle.sl_live_play.specs.declared.play.Lived.{Lived}
 use Rattle.sl_live_run.specs.Grounds.{IsSiteOf}
+use Rattle.sl_live_run.specs.Lent.{IsBack}
 use Rattle.sl_live_run.specs.Runs.{AreServed, Both, IsLiveCase, IsLiveHistory, Leavings, begun_on, begun_telling, lines_for, refusals_text}
 use Rattle.sl_live_run.specs.declared.compare.LiveDiffer.{LiveDiffer}
 use Rattle.sl_outside.specs.Disks.{Disks}
+use Rattle.sl_outside.specs.Lendings.{Lending}
 use Rattle.sl_output.specs.Pieces.{Piece, text_by, text_of}
-use Rattle.sl_own.specs.OwnGrounds.{AreLeft, Bars, Finds, FindsOn, IsPlaceOf}
+use Rattle.sl_own.specs.OwnGrounds.{Bars, HadOwn, IsPlaceOf}
 use Rattle.sl_own.specs.OwnTexts.{no_place_text}
 use Rattle.sl_own.specs.declared.no_place.NoPlace.TheVariants.{NotStanding}
 use Rattle.sl_own.specs.declared.no_place.NoPlace.{NoPlace}
@@ -58,22 +59,19 @@ pub record OwnBeginning (h : Header) (m : ℕ) : Type 0 where
   pub site : Site
   pub begun : IsSiteOf header m (session_of header m) site
 
--- What the machine had for its workers: for each an area of each disk of the header, to which nothing was written since all that the header has there was
--- found to stand on it.
-pub record HadOwn {A : Type 0} (content : A → Option (List ℕ)) (disks : Disks) (folder : List ℕ) (h : Header) (areas : Both A) : Type 0 where
-  pub delta : AreLeft content (FindsOn disks folder h Delta) h.disks areas.0
-  pub resource : AreLeft content (Finds h Resource) h.disks areas.1
-
--- This is its history, where the script gave these lines. From the areas that it had those that it left came by the calls of this history, and by no
--- others; and the spawners that it left were asked for just the history's signals and its starts, beside kills that are told.
-pub record LivesOwn {D A P : Type 0} (stands : D → Setting → Trace → Type 0) (commands : Header → List (Form Command)) (t : Tellers A P) (disks : Disks) (folder : List ℕ) (h : Header) (m : ℕ)
-    (given : List LiveLine) (hist : List Entry) : Type 0 where
+-- This is its history, where the script gave these lines. From the areas that devices handed out for it those that it left came by the calls of this history, and
+-- by no others; and the spawners that it left were asked for just the history's signals and its starts, beside kills that are told. What it left came back to the
+-- devices, as it was then; and nothing else was handed out, and nothing else came back.
+pub record LivesOwn {D A P : Type 0} (stands : D → Setting → Trace → Type 0) (commands : Header → List (Form Command)) (t : Tellers A P) (disks : Disks) (folder : List ℕ)
+    (lent back : Option (List Lending)) (h : Header) (m : ℕ) (given : List LiveLine) (hist : List Entry) : Type 0 where
   pub begun : OwnBeginning h m
   pub history : IsLiveHistory stands (begun_with commands begun.header begun.site) (begun_on begun.header begun.site) (lines_for m given) hist
   pub areas : Both A
-  pub had : HadOwn t.content disks folder h areas
+  pub between : Option (List Lending)
+  pub had : HadOwn t.content disks folder h m areas lent between
   pub left : Leavings A P
   pub served : AreServed t.content t.faults t.acts begun.header.geometry.sector (begun_with commands begun.header begun.site) hist areas left
+  pub returned : IsBack t.content t.faults t.acts left between back
 
 -- The machine, with this history, put out these pieces, signed by its place: what is told of it; and the script, signed by the machine's number, the lines
 -- that it gave as refused. Nothing else was put out.
@@ -106,44 +104,44 @@ ReadsOwn w left after faults later h given end = ReadsScriptBy (own_scope h w.ma
 
 -- What is to be put out, and how the play then ended, by what was read of the source.
 pub data OwnDue {D A P : Type 0} (stands : D → Setting → Trace → Type 0) (commands : Header → List (Form Command)) (t : Tellers A P) (disks : Disks) (folder : List ℕ) (w : OwnManner)
-    (left after : Option (List ℕ)) (faults later device_faults device_later : ℕ) : List ℕ → Lived → Type 0 where
+    (left after : Option (List ℕ)) (faults later device_faults device_later : ℕ) (lent back : Option (List Lending)) : List ℕ → Lived → Type 0 where
   -- the script was read to its end
   Ends : (h : Header) (given : List LiveLine) (hist : List Entry) (pieces : List Piece) → ReadsOwn w left after faults later h given (Some script.End) → MayRun disks folder h w.machine
-      → (l : LivesOwn stands commands t disks folder h w.machine given hist) → IsWovenOwn w.events l.begun.header l.begun.place l.begun.site given hist pieces
-      → OwnDue stands commands t disks folder w left after faults later device_faults device_later (own_text l.begun.header l.begun.site hist pieces ending.Whole) Done
+      → (l : LivesOwn stands commands t disks folder lent back h w.machine given hist) → IsWovenOwn w.events l.begun.header l.begun.place l.begun.site given hist pieces
+      → OwnDue stands commands t disks folder w left after faults later device_faults device_later lent back (own_text l.begun.header l.begun.site hist pieces ending.Whole) Done
   -- a line of its header is refused; or the last one, since the header is none for this machine
   Stops_early : (r : ReaderState) (number : ℕ) (why : Refusal) → HeaderStops left after r number why
-      → OwnDue stands commands t disks folder w left after faults later device_faults device_later (as_bytes (refusal_line number why ∷ [])) Refused
+      → OwnDue stands commands t disks folder w left after faults later device_faults device_later lent back (as_bytes (refusal_line number why ∷ [])) Refused
   Stops_header : (r : ReaderState) (h : Header) (why : Refusal) → HeaderBegins left after r h → header_refusal h w.machine ≡ Some why
-      → OwnDue stands commands t disks folder w left after faults later device_faults device_later (as_bytes (refusal_line r.number why ∷ [])) Refused
+      → OwnDue stands commands t disks folder w left after faults later device_faults device_later lent back (as_bytes (refusal_line r.number why ∷ [])) Refused
   -- .. or a line behind it, at which it ends
   Stops : (h : Header) (given : List LiveLine) (hist : List Entry) (pieces : List Piece) (number : ℕ) (why : Refusal)
       → ReadsOwn w left after faults later h given (Some (script.Refused number why)) → MayRun disks folder h w.machine
-      → (l : LivesOwn stands commands t disks folder h w.machine given hist)
+      → (l : LivesOwn stands commands t disks folder lent back h w.machine given hist)
       → IsWovenOwn w.events l.begun.header l.begun.place l.begun.site given hist pieces
-      → OwnDue stands commands t disks folder w left after faults later device_faults device_later (own_text l.begun.header l.begun.site hist pieces (ending.Refused number why)) Refused
+      → OwnDue stands commands t disks folder w left after faults later device_faults device_later lent back (own_text l.begun.header l.begun.site hist pieces (ending.Refused number why)) Refused
   -- a read failed within the header
-  Breaks_early : HeaderBreaks left after → Rose faults later → OwnDue stands commands t disks folder w left after faults later device_faults device_later [] ReadFault
+  Breaks_early : HeaderBreaks left after → Rose faults later → OwnDue stands commands t disks folder w left after faults later device_faults device_later lent back [] ReadFault
   -- .. or behind it: what the machine did is put out
   Breaks : (h : Header) (given : List LiveLine) (hist : List Entry) (pieces : List Piece) → ReadsOwn w left after faults later h given (Some script.ReadFault) → MayRun disks folder h w.machine
-      → (l : LivesOwn stands commands t disks folder h w.machine given hist) → IsWovenOwn w.events l.begun.header l.begun.place l.begun.site given hist pieces
-      → OwnDue stands commands t disks folder w left after faults later device_faults device_later (own_text l.begun.header l.begun.site hist pieces ending.Cut) ReadFault
+      → (l : LivesOwn stands commands t disks folder lent back h w.machine given hist) → IsWovenOwn w.events l.begun.header l.begun.place l.begun.site given hist pieces
+      → OwnDue stands commands t disks folder w left after faults later device_faults device_later lent back (own_text l.begun.header l.begun.site hist pieces ending.Cut) ReadFault
   -- the machine can't run there
   Is_barred : (r : ReaderState) (h : Header) (why : NoPlace) → HeaderBegins left after r h → Bars disks folder h w.machine device_faults device_later why
-      → OwnDue stands commands t disks folder w left after faults later device_faults device_later (no_place_text why) AreaFault
+      → OwnDue stands commands t disks folder w left after faults later device_faults device_later lent back (no_place_text why) AreaFault
   -- records of it differ, where the script gave these lines, however it ended: the case stands behind what was put out before
   Parts : (h : Header) (given : List LiveLine) (end : Option ScriptEnd) (before : List ℕ) (d : LiveDiffer) → ReadsOwn w left after faults later h given end
       → MayRun disks folder h w.machine → DifferingOwn stands commands h w.machine given d
-      → OwnDue stands commands t disks folder w left after faults later device_faults device_later (before ++ differ_text w.machine d) Differs
+      → OwnDue stands commands t disks folder w left after faults later device_faults device_later lent back (before ++ differ_text w.machine d) Differs
 
 -- What is owed: of what is due what was put out; or want of memory, where what the machine replied before stays put out.
 pub data OwesOwn {D A P : Type 0} (stands : D → Setting → Trace → Type 0) (commands : Header → List (Form Command)) (t : Tellers A P) (disks : Disks) (folder : List ℕ) (w : OwnManner)
-    (left after taken now : Option (List ℕ)) (faults later sink_faults sink_later device_faults device_later : ℕ) : Lived → Type 0 where
-  Of : (text : List ℕ) (whole s : Lived) → OwnDue stands commands t disks folder w left after faults later device_faults device_later text whole
+    (left after taken now : Option (List ℕ)) (faults later sink_faults sink_later device_faults device_later : ℕ) (lent back : Option (List Lending)) : Lived → Type 0 where
+  Of : (text : List ℕ) (whole s : Lived) → OwnDue stands commands t disks folder w left after faults later device_faults device_later lent back text whole
       → Puts taken now sink_faults sink_later text whole s
-      → OwesOwn stands commands t disks folder w left after taken now faults later sink_faults sink_later device_faults device_later s
+      → OwesOwn stands commands t disks folder w left after taken now faults later sink_faults sink_later device_faults device_later lent back s
   Lacks : (part : List ℕ) → Appends taken now part
-      → OwesOwn stands commands t disks folder w left after taken now faults later sink_faults sink_later device_faults device_later NoMemory
+      → OwesOwn stands commands t disks folder w left after taken now faults later sink_faults sink_later device_faults device_later lent back NoMemory
 
 -- ---- step by step
 

@@ -3,11 +3,12 @@
 ghost use Rattle.sl_cell.specs.declared.part.Part.TheVariants.{Delta, Resource};
 ghost use Rattle.sl_live_run.specs.Clocks.{with_readings};
 ghost use Rattle.sl_live_run.specs.Grounds.{IsSiteOf};
-ghost use Rattle.sl_outside.specs.Acts.{Tells};
+ghost use Rattle.sl_outside.specs.Acts.{Grows, Tells};
+ghost use Rattle.sl_outside.specs.Lendings.{Lending, SpawnerOut};
 ghost use Rattle.sl_own.specs.OwnGrounds.{AreLeft, Finds, FindsOn, IsOwnGround, NotLent};
 ghost use Rattle.sl_run.specs.Headers.{IsHeader};
 ghost use Rattle.sl_world_state.specs.FirstKept.{session_of};
-ghost use Rattle.std.specs.Prelude.{IfErr, IfOk, [], ◌+◌, ◌∷◌, ◌≡◌, ◌≤◌};
+ghost use Rattle.std.specs.Prelude.{IfErr, IfOk, List, Option, [], ◌+◌, ◌∷◌, ◌≡◌, ◌≤◌};
 
 use crate::lending::lend;
 use crate::no_place::NoPlace;
@@ -70,6 +71,7 @@ fn start_of<V: StandingDevices>(
     ensures lawful { IfOk result (λ s. IsHeader s.header) }
     ensures same { IfOk result (λ s. s.header ≡ record header { clocks = s.header.clocks }) }
     ensures site { IfOk result (λ s. IsSiteOf s.header machine (session_of s.header machine) s.site) }
+    ensures lendings { V.Devices.lendings devices.new ≡ V.Devices.lendings devices.old }
     ensures count { V.Devices.faults devices.new ≡ V.Devices.faults devices.old }
 {
     let mut ticks = devices.clock(machine, TICKS);
@@ -93,8 +95,9 @@ fn lend_both<V: StandingDevices>(
     devices: &mut V,
 ) -> Result<(Vec<Disk<V::Area>>, Vec<Disk<V::Area>>), NoPlace>
     requires { IsHeader header.now }
-    ensures delta { IfOk result (λ both. AreLeft V.Area.content (FindsOn (V.Devices.disks devices.old) folder.now header.now Delta) header.now.disks both.0.items) }
-    ensures resource { IfOk result (λ both. AreLeft V.Area.content (Finds header.now Resource) header.now.disks both.1.items) }
+    ensures both { IfOk result (λ both. (between : Option (List Lending))
+        × AreLeft V.Area.content (FindsOn (V.Devices.disks devices.old) folder.now header.now Delta) folder.now machine Delta header.now.disks both.0.items (V.Devices.lendings devices.old) between
+        × AreLeft V.Area.content (Finds header.now Resource) folder.now machine Resource header.now.disks both.1.items between (V.Devices.lendings devices.new)) }
     ensures not { IfErr result (NotLent (V.Devices.disks devices.old) folder.now header.now Delta (V.Devices.faults devices.old) (V.Devices.faults devices.new)) }
     ensures later { V.Devices.faults devices.old ≤ V.Devices.faults devices.new }
 {
@@ -123,6 +126,7 @@ fn ground_of<V: StandingDevices>(
     ensures unasked { Tells (V.Spawner.acts result.ready.parts.spawner) [] }
     ensures delta { result.ready.parts.delta.items ≡ delta.items }
     ensures resource { result.ready.parts.resource.items ≡ resource.items }
+    ensures lendings { Grows (V.Devices.lendings devices.old) (V.Devices.lendings devices.new) (SpawnerOut machine ∷ []) }
     ensures count { V.Devices.faults devices.new ≡ V.Devices.faults devices.old }
 {
     let Start {
@@ -158,7 +162,7 @@ pub(crate) fn prepare_own<V: StandingDevices>(
 ) -> Result<OwnGround<V>, NoPlace>
     requires header { IsHeader header }
     requires machine { (1 ≤ machine) × (machine ≤ header.machines) }
-    ensures ok { IfOk result (IsOwnGround V.Area.content V.Spawner.acts (V.Devices.disks devices.old) folder.now header machine) }
+    ensures ok { IfOk result (IsOwnGround V.Area.content V.Spawner.acts (V.Devices.disks devices.old) folder.now header machine (V.Devices.lendings devices.old) (V.Devices.lendings devices.new)) }
     ensures not { IfErr result (NotLent (V.Devices.disks devices.old) folder.now header Delta (V.Devices.faults devices.old) (V.Devices.faults devices.new)) }
     ensures later { V.Devices.faults devices.old ≤ V.Devices.faults devices.new }
 {

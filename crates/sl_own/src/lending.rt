@@ -55,7 +55,7 @@ fn lend_each<V: StandingDevices>(
 ) -> Result<(), NoPlace>
     requires header { IsHeader header.now }
     requires first { disks.old.items ≡ [] }
-    ensures ok { OnOk result (AreLeft V.Area.content (FindsOn (V.Devices.disks devices.old) folder.now header.now part) header.now.disks disks.new.items) }
+    ensures ok { OnOk result (AreLeft V.Area.content (FindsOn (V.Devices.disks devices.old) folder.now header.now part) folder.now machine part header.now.disks disks.new.items (V.Devices.lendings devices.old) (V.Devices.lendings devices.new)) }
     ensures not { IfErr result (NotLent (V.Devices.disks devices.old) folder.now header.now part 0 (faults_in V.Area.faults disks.new.items)) }
     ensures count { V.Devices.faults devices.new ≡ V.Devices.faults devices.old }
 {
@@ -83,7 +83,7 @@ pub(crate) fn lend<V: StandingDevices>(
     devices: &mut V,
 ) -> Result<Vec<Disk<V::Area>>, NoPlace>
     requires { IsHeader header.now }
-    ensures ok { IfOk result (λ disks. AreLeft V.Area.content (FindsOn (V.Devices.disks devices.old) folder.now header.now part) header.now.disks disks.items) }
+    ensures ok { IfOk result (λ disks. AreLeft V.Area.content (FindsOn (V.Devices.disks devices.old) folder.now header.now part) folder.now machine part header.now.disks disks.items (V.Devices.lendings devices.old) (V.Devices.lendings devices.new)) }
     ensures not { IfErr result (NotLent (V.Devices.disks devices.old) folder.now header.now part (V.Devices.faults devices.old) (V.Devices.faults devices.new)) }
     ensures later { V.Devices.faults devices.old ≤ V.Devices.faults devices.new }
 {

@@ -47,6 +47,7 @@ fn look_at<V: StandingDevices>(
     ensures ok { OnOk result (HasSize (V.Devices.disks devices.old) folder.now disk.now) }
     ensures differs { (h : HeaderOf) → Contains h.disks disk.now → IfErr result (λ why. (why ≡ NotStanding NoMemory) ⊎ SizeDiffers (V.Devices.disks devices.old) folder.now h why) }
     ensures same { V.Devices.disks devices.new ≡ V.Devices.disks devices.old }
+    ensures lendings { V.Devices.lendings devices.new ≡ V.Devices.lendings devices.old }
     ensures count { V.Devices.faults devices.new ≡ V.Devices.faults devices.old }
 {
     let whole = disk_path(alloc, folder, disk.path.as_str())?;
@@ -64,6 +65,7 @@ fn look_at_each<V: StandingDevices>(
     ensures ok { OnOk result (All (HasSize (V.Devices.disks devices.old) folder.now) header.now.disks) }
     ensures differs { IfErr result (λ why. (why ≡ NotStanding NoMemory) ⊎ SizeDiffers (V.Devices.disks devices.old) folder.now header.now why) }
     ensures same { V.Devices.disks devices.new ≡ V.Devices.disks devices.old }
+    ensures lendings { V.Devices.lendings devices.new ≡ V.Devices.lendings devices.old }
     ensures count { V.Devices.faults devices.new ≡ V.Devices.faults devices.old }
 {
     for disk in header.disks.as_slice() {
@@ -84,6 +86,7 @@ pub(crate) fn take_place<V: StandingDevices>(
     ensures ok { OnOk result (All (HasSize (V.Devices.disks devices.old) folder.now) header.now.disks) }
     ensures bars { IfErr result (Bars (V.Devices.disks devices.old) folder.now header.now machine (V.Devices.faults devices.old) (V.Devices.faults devices.new)) }
     ensures same { V.Devices.disks devices.new ≡ V.Devices.disks devices.old }
+    ensures lendings { V.Devices.lendings devices.new ≡ V.Devices.lendings devices.old }
     ensures later { V.Devices.faults devices.old ≤ V.Devices.faults devices.new }
 {
     match devices.claim(folder, machine) {

@@ -3,6 +3,7 @@
 ghost use Rattle.sl_io.specs.FaultCauses.{HasCause};
 ghost use Rattle.sl_outside.specs.Acts.{Tells};
 ghost use Rattle.sl_outside.specs.Disks.{Disks};
+ghost use Rattle.sl_outside.specs.Lendings.{Lending};
 ghost use Rattle.sl_own.specs.OwnGrounds.{Bars, IsOwnGround, IsPlaceOf};
 ghost use Rattle.sl_own.specs.OwnOwed.{MayRun, OwesOwn, PutsNoPlace, header_refusal};
 ghost use Rattle.sl_reader.specs.HeaderBegins.{HeaderBegins};
@@ -24,7 +25,7 @@ use crate::run::run_own;
 use sl_cell::Teller;
 use sl_io::{Failed, Sink, Source};
 use sl_live_play::{Lived, put, put_refusal, put_run};
-use sl_live_run::{LiveRun, Remains, give_back};
+use sl_live_run::{LiveRun, give_all_back};
 use sl_place::StandingDevices;
 use sl_reader::{LineReader, Origin, ReadError, Scope, ScriptLines, read_header};
 use sl_run::{Header, Refusal};
@@ -68,19 +69,10 @@ fn put_no_place<K: Sink>(alloc: Global, sink: &mut K, why: NoPlace) -> Lived
     put(sink, pushed, &out, Lived::AreaFault)
 }
 
-/// Gives the disks back.
-fn give_all_back<V: StandingDevices>(remains: Vec<Remains<V::Area, V::Spawner>>, devices: &mut V) {
-    for Remains {
-        delta,
-        resource,
-        spawners: _,
-    } in remains {
-        give_back(delta, resource, devices);
-    }
-}
-
 /// Tells the watchdog device to rest where the machine ended in order.
-fn rest_if<V: StandingDevices>(in_order: bool, devices: &mut V) {
+fn rest_if<V: StandingDevices>(in_order: bool, devices: &mut V)
+    ensures lendings { V.Devices.lendings devices.new ≡ V.Devices.lendings devices.old }
+{
     if in_order {
         devices.release();
     }
@@ -117,10 +109,10 @@ where
     requires began { reader ≡ J.began }
     requires scope { own_scope ground.header manner.machine ≡ J.scope }
     requires keeps { manner.keeps ≡ J.keeps }
-    ensures { (disks : Disks) (folder : List ℕ) (first : Option (List ℕ)) (h : HeaderOf) → IsOwnGround V.Area.content V.Spawner.acts disks folder h manner.machine ground
+    ensures { (disks : Disks) (folder : List ℕ) (lent : Option (List Lending)) (first : Option (List ℕ)) (h : HeaderOf) → IsOwnGround V.Area.content V.Spawner.acts disks folder h manner.machine lent (V.Devices.lendings devices.old) ground
         → MayRun disks folder h manner.machine → HeaderBegins first (S.left source) reader h
         → OwesOwn D.Daemon.stands D.Daemon.commands (record { content = V.Area.content; faults = V.Area.faults; acts = V.Spawner.acts }) disks folder manner first (S.left result.1) (K.taken sink) (K.taken result.2) (S.faults source) (S.faults result.1)
-        (K.faults sink) (K.faults result.2) (V.Devices.faults devices.old) (V.Devices.faults devices.new) result.0 }
+        (K.faults sink) (K.faults result.2) (V.Devices.faults devices.old) (V.Devices.faults devices.new) lent (V.Devices.lendings devices.new) result.0 }
 {
     let scope = Scope::of_machine(&ground.header, manner.machine);
     let mut lines: ScriptLines<S, J> = ScriptLines::new(alloc, source, reader, scope, manner.keeps);
@@ -173,10 +165,10 @@ where
     requires header { IsHeader ground.header }
     requires setting { IsSetting (begun_with D.Daemon.commands ground.header ground.ready.site) }
     requires ends { EndStands (S.left source) reader }
-    ensures { (disks : Disks) (folder : List ℕ) (first : Option (List ℕ)) (h : HeaderOf) → IsOwnGround V.Area.content V.Spawner.acts disks folder h manner.machine ground
+    ensures { (disks : Disks) (folder : List ℕ) (lent : Option (List Lending)) (first : Option (List ℕ)) (h : HeaderOf) → IsOwnGround V.Area.content V.Spawner.acts disks folder h manner.machine lent (V.Devices.lendings devices.old) ground
         → MayRun disks folder h manner.machine → HeaderBegins first (S.left source) reader h
         → OwesOwn D.Daemon.stands D.Daemon.commands (record { content = V.Area.content; faults = V.Area.faults; acts = V.Spawner.acts }) disks folder manner first (S.left result.1) (K.taken sink) (K.taken result.2) (S.faults source) (S.faults result.1)
-        (K.faults sink) (K.faults result.2) (V.Devices.faults devices.old) (V.Devices.faults devices.new) result.0 }
+        (K.faults sink) (K.faults result.2) (V.Devices.faults devices.old) (V.Devices.faults devices.new) lent (V.Devices.lendings devices.new) result.0 }
 {
     play_as::<D, Brand, S, K, V, R>(rt, alloc, ground, manner, source, reader, sink, devices)
 }
@@ -184,6 +176,7 @@ where
 /// Has writes answered once the storage has them, if that is wanted.
 fn sync_if<V: StandingDevices>(syncs: bool, devices: &mut V)
     ensures same { V.Devices.disks devices.new ≡ V.Devices.disks devices.old }
+    ensures lendings { V.Devices.lendings devices.new ≡ V.Devices.lendings devices.old }
     ensures count { V.Devices.faults devices.new ≡ V.Devices.faults devices.old }
 {
     if syncs {
@@ -195,6 +188,7 @@ fn sync_if<V: StandingDevices>(syncs: bool, devices: &mut V)
 fn watch_if<V: StandingDevices>(watchdog: Option<&str>, devices: &mut V) -> Result<(), Failed>
     ensures cause { HasCause (V.Devices.faults devices.old) (V.Devices.faults devices.new) result }
     ensures same { V.Devices.disks devices.new ≡ V.Devices.disks devices.old }
+    ensures lendings { V.Devices.lendings devices.new ≡ V.Devices.lendings devices.old }
 {
     match watchdog {
         Some(path) => devices.watch(path),
@@ -214,7 +208,7 @@ fn begin<V: StandingDevices>(
 ) -> Result<OwnGround<V>, NoPlace>
     requires header { IsHeader header }
     requires machine { (1 ≤ manner.machine) × (manner.machine ≤ header.machines) }
-    ensures ok { IfOk result (IsOwnGround V.Area.content V.Spawner.acts (V.Devices.disks devices.old) folder.now header manner.machine) }
+    ensures ok { IfOk result (IsOwnGround V.Area.content V.Spawner.acts (V.Devices.disks devices.old) folder.now header manner.machine (V.Devices.lendings devices.old) (V.Devices.lendings devices.new)) }
     ensures place { OnOk result (IsPlaceOf (V.Devices.disks devices.old) folder.now header) }
     ensures bars { IfErr result (Bars (V.Devices.disks devices.old) folder.now header manner.machine (V.Devices.faults devices.old) (V.Devices.faults devices.new)) }
     ensures later { V.Devices.faults devices.old ≤ V.Devices.faults devices.new }
@@ -265,7 +259,7 @@ where
     requires ends { EndStands (S.left source) reader }
     ensures { (first : Option (List ℕ)) → HeaderBegins first (S.left source) reader header
         → OwesOwn D.Daemon.stands D.Daemon.commands (record { content = V.Area.content; faults = V.Area.faults; acts = V.Spawner.acts }) (V.Devices.disks devices.old) folder.now manner first (S.left result.1) (K.taken sink) (K.taken result.2) (S.faults source) (S.faults result.1)
-        (K.faults sink) (K.faults result.2) (V.Devices.faults devices.old) (V.Devices.faults devices.new) result.0 }
+        (K.faults sink) (K.faults result.2) (V.Devices.faults devices.old) (V.Devices.faults devices.new) (V.Devices.lendings devices.old) (V.Devices.lendings devices.new) result.0 }
 {
     let mut sink = sink;
     match header_refusal(&header, manner.machine) {
@@ -313,7 +307,7 @@ where
     requires reads { (h : HeaderOf) → IsHeader h → ReadsCommands D.Daemon.commands h }
     requires headers { HeadersAreGood whole_language }
     ensures { OwesOwn D.Daemon.stands D.Daemon.commands (record { content = V.Area.content; faults = V.Area.faults; acts = V.Spawner.acts }) (V.Devices.disks devices.old) folder.now manner (S.left source) (S.left result.1) (K.taken sink) (K.taken result.2) (S.faults source) (S.faults result.1)
-        (K.faults sink) (K.faults result.2) (V.Devices.faults devices.old) (V.Devices.faults devices.new) result.0 }
+        (K.faults sink) (K.faults result.2) (V.Devices.faults devices.old) (V.Devices.faults devices.new) (V.Devices.lendings devices.old) (V.Devices.lendings devices.new) result.0 }
 {
     let mut source = source;
     let mut sink = sink;

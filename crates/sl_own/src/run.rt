@@ -10,6 +10,7 @@ ghost use Rattle.sl_own.specs.OwnRuns.{HasRunOwn};
 ghost use Rattle.sl_run.specs.Headers.{IsHeader};
 ghost use Rattle.sl_run.specs.Lawful.{IsSetting};
 ghost use Rattle.sl_world_state.specs.Daemons.{begun_with};
+ghost use Rattle.std.specs.Fork.{AcceptsAt, ChangesAt};
 ghost use Rattle.std.specs.Prelude.{Err, List, Some, [], ℕ, ◌+◌, ◌<◌, ◌^◌, ◌≡◌, ◌≤◌};
 
 use crate::begun::{THREADS, open_posts, work_of};
@@ -60,6 +61,55 @@ fn no_run<K: Sink, O: Press, A: Area, P: Spawner>(
     }
 }
 
+/// Does this to the machine at this place.
+fn run_one<M, F: Fn(usize, &mut M)>(run: &F, place: usize, machine: &mut M)
+    requires { AcceptsAt F.Fn run.now place machine.old }
+    ensures { ChangesAt F.Fn run.now place machine.old machine.new }
+{
+    run(place, machine);
+}
+
+/// .. and gives the script beside it, until all threads have ended: how the script ended.
+fn beside_one<
+    L: LiveLines + Send,
+    M: Send,
+    K: Sink + Send,
+    O: Press + Send + Sync,
+    T: Shelf + Send + Sync,
+    R: Threads + Wait + time::Clock + Eprint + Sync,
+    F: Fn(usize, &mut M) + Sync,
+>(
+    rt: &R,
+    alloc: Global,
+    roll: &Roll,
+    ways: &Ways<'_, K, O, T>,
+    lines: &mut L,
+    ledger: &mut Ledger<T, GivenLine>,
+    writer: &mut Writer<O>,
+    run: &F,
+    place: usize,
+    machine: &mut M,
+) -> Result<Option<NoLine>, AllocError>
+    requires { AcceptsAt F.Fn run.now place machine.old }
+    ensures ran { ChangesAt F.Fn run.now place machine.old machine.new }
+    ensures told { (count : ℕ) → AreGiven ledger.old count [] → HasPutOut writer.old []
+        → HasTold count (L.has_given lines.old) (L.has_given lines.new) ledger.new writer.new result }
+{
+    beside_script(
+        rt,
+        alloc,
+        roll,
+        ways,
+        lines,
+        ledger,
+        writer,
+        &mut ||
+            requires { AcceptsAt F.Fn run.now place machine.now }
+            ensures { ChangesAt F.Fn run.entry.now place machine.entry.now machine.exit.now }
+        { run_one(run, place, machine) },
+    )
+}
+
 /// Runs the machine at this place and the script beside it, until all threads have ended: how the script ended.
 fn run_beside<
     'a,
@@ -102,7 +152,7 @@ fn run_beside<
         book,
         output,
     };
-    beside_script(
+    beside_one(
         rt,
         alloc,
         roll,
@@ -110,7 +160,7 @@ fn run_beside<
         lines,
         ledger,
         writer,
-        &mut ||
+        &|place: usize, machine: &mut Machine<C, P, V, A, O, T>|
             requires { CanRun P.acts D.Daemon.commands header.now machine.now }
             ensures { Runs A.content A.faults P.acts events D.Daemon.commands D.Daemon.stands header.entry.now machine.entry.now machine.exit.now }
         {
@@ -124,6 +174,8 @@ fn run_beside<
             };
             machine.run::<D, K, R, G>(rt, alloc, gate, &shared, place)
         },
+        place,
+        machine,
     )
 }
 

@@ -1,1 +1,2 @@
 mod DrawnElements
+mod PushedTexts

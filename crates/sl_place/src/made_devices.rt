@@ -69,7 +69,9 @@ impl<R> MadeDevices<R> {
 impl<R: Wait + Clock + Copy + Drop> Devices for MadeDevices<R> {
     type Area = SharedArea<R>;
 
-    ghost faults = { λ d. d.shared.faults };
+    ghost lendings = { λ d. d.shared.notes };
+
+    ghost faults = { λ d. d.shared.makes.faults };
 
     fn area(&mut self, machine: u32, worker: u32, path: &str) -> SharedArea<R> {
         self.shared.area(machine, worker, path)
@@ -115,6 +117,10 @@ impl<R: Wait + Clock + Copy + Drop + Send + Sync> LiveDevices for MadeDevices<R>
 
     fn spawner(&mut self, machine: u32) -> SharedSpawner<R> {
         self.shared.spawner(machine)
+    }
+
+    fn spawner_back(&mut self, spawner: SharedSpawner<R>) {
+        self.shared.spawner_back(spawner);
     }
 
     fn device(&mut self, machine: u32, now: u64, fire: u64) -> TimedDevice {

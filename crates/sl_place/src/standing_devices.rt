@@ -35,27 +35,32 @@ pub trait StandingDevices: LiveDevices {
     /// program that takes the folder for all machines.
     fn claim(&mut self, folder: &str, machine: u32) -> Result<(), NotClaimed>
         ensures cause { HasCause (Self.faults self.old) (Self.faults self.new) result }
-        ensures same { Self.disks self.new ≡ Self.disks self.old };
+        ensures same { Self.disks self.new ≡ Self.disks self.old }
+        ensures lendings { Self.lendings self.new ≡ Self.lendings self.old };
 
     /// How many bytes the disk at this path has, a folder's text followed by that of a disk, if one stands there.
     fn size(&mut self, path: &str) -> Option<u64>
         ensures size { IsSizeOf (Self.disks self.old path.now) result }
         ensures same { Self.disks self.new ≡ Self.disks self.old }
+        ensures lendings { Self.lendings self.new ≡ Self.lendings self.old }
         ensures count { Self.faults self.new ≡ Self.faults self.old };
 
     /// Areas that are handed out from now on answer a write once the storage has it.
     fn sync_writes(&mut self)
         ensures same { Self.disks self.new ≡ Self.disks self.old }
+        ensures lendings { Self.lendings self.new ≡ Self.lendings self.old }
         ensures count { Self.faults self.new ≡ Self.faults self.old };
 
     /// The watchdog device of the system at this path stands beside the machine's device that is made next: it is given a byte where a keepalive
     /// passes.
     fn watch(&mut self, path: &str) -> Result<(), Failed>
         ensures cause { HasCause (Self.faults self.old) (Self.faults self.new) result }
-        ensures same { Self.disks self.new ≡ Self.disks self.old };
+        ensures same { Self.disks self.new ≡ Self.disks self.old }
+        ensures lendings { Self.lendings self.new ≡ Self.lendings self.old };
 
     /// The machine has ended in order, and no child of it runs: the system's device, if there is one, is told to rest.
     fn release(&mut self)
         ensures same { Self.disks self.new ≡ Self.disks self.old }
+        ensures lendings { Self.lendings self.new ≡ Self.lendings self.old }
         ensures count { Self.faults self.new ≡ Self.faults self.old };
 }

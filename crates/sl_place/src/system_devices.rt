@@ -214,6 +214,10 @@ impl<
         self.files.spawner(machine)
     }
 
+    fn spawner_back(&mut self, spawner: ChildSpawner<R>) {
+        self.files.spawner_back(spawner);
+    }
+
     fn device(&mut self, _machine: u32, now: u64, fire: u64) -> WatchedDevice {
         WatchedDevice::new(now, fire, handle_of(&self.watchdog))
     }

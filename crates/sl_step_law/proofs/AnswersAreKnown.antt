@@ -1,7 +1,7 @@
 -- What may come at an input is the answer of an open call; and a read of all ids gives their sectors.
 use Rattle.sl_area.specs.AreaSizes.{IsGeometry, Layout, Sizes}
 use Rattle.sl_area.specs.AreaLayout.{read_at}
-use Rattle.sl_delta.proofs.StepLaws.{survey_is}
+use Rattle.sl_delta.proofs.PurposeLaws.{survey_is}
 use Rattle.sl_due.specs.Steps.{Step, seen}
 use Rattle.sl_host_law.proofs.Answers.AnswersSetFree.{of_trace}
 use Rattle.sl_host_law.proofs.StepParts.ExpectedIsOpen.{expected_is_open}

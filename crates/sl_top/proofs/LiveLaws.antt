@@ -13,6 +13,9 @@ use Rattle.sl_reader.specs.ScriptReading.{ReadsScript}
 use Rattle.sl_reader.specs.declared.live_lines.LiveLine.{LiveLine}
 use Rattle.sl_reader.specs.declared.script_reading.ScriptEnd.{ScriptEnd}
 use Rattle.sl_run.specs.declared.header.Header.{Header}
+use Rattle.sl_live_run.specs.Lent.{AreHad}
+use Rattle.sl_outside.specs.Lendings.{Lending}
+use Rattle.sl_live_run.proofs.LendingLaws.{back_there, goes_both, had_there}
 use Rattle.sl_top.proofs.RunLaws.{nothing_put}
 use Rattle.sl_top.specs.LiveHistories.{LiveHistoriesAreGood}
 use Rattle.sl_top.specs.StatusLaws.{SomeDiffer}
@@ -29,7 +32,7 @@ use Rattle.sl_top.specs.declared.top.Place.{Place}
 use Rattle.sl_io.specs.FaultCauses.{Rose}
 use Rattle.sl_words.proofs.CaseLaws.{none_some, some_value}
 use Rattle.sl_words.proofs.Lists.{there_is}
-use Rattle.std.proofs.Common.{Bool, List, None, Option, Some, [], ap, length, refl, subst, sym, ℕ, ◌++◌, ◌<◌, ◌||◌, ◌∙◌, ◌≡◌}
+use Rattle.std.proofs.Common.{arith, Bool, List, None, Option, Some, [], ap, length, refl, subst, sym, ℕ, ◌++◌, ◌<◌, ◌||◌, ◌∙◌, ◌≡◌}
 use Rattle.std.proofs.lemmas.Option.{slice_get_within}
 use Rattle.std.specs.Io.KnownBytes.{Appends}
 use Rattle.std.specs.Prelude.{option_map, slice_get}
@@ -41,18 +44,28 @@ at_place_of : {A B : Type 0} (xs : List A) (ys : List B) (k : ℕ) (y : B) → l
 at_place_of xs ys k y same at = there_is xs k (subst (λ (n : ℕ). k < n) (sym same) (slice_get_within ys k y at))
 
 pub live_histories_are_good : {A P : Type 0} (tellers : Tellers A P) → LiveHistoriesAreGood tellers
-live_histories_are_good tellers h given hs l place site history at there =
+live_histories_are_good tellers folder lent back h given hs l place site history at there =
     let it = l.histories.each place site history at there in
     let good = due_is_lawful (begun_with whole_commands l.begun.header site) _ it.whole.stood.setting it.whole.stood.stood.stands.past in
-    let had = at_place_of l.served.disks l.begun.sites place site l.served.had.counted at in
+    let had = at_place_of l.served.disks l.begun.sites place site l.served.counted at in
     let left = at_place_of l.served.left hs place history l.served.served.counted there in
+    let out = had_there tellers.content folder l.begun.header 1 l.served.disks lent l.served.between place had.0 had.1 l.served.had in
+    let in_again = back_there tellers.content tellers.faults tellers.acts l.served.left l.served.between back place left.0 left.1 l.served.returned in
     record {
       lawful = good.0;
       caused = good.1;
       disks = had.0;
-      had = l.served.had.each place had.0 had.1;
+      before = out.before;
+      first = out.first;
+      having = out.after;
+      had = subst (λ (n : ℕ). AreHad tellers.content folder l.begun.header n had.0 out.before out.after) (omega arith) out.there;
       left = left.0;
       served = l.served.served.each place site history had.0 left.0 at there had.1 left.1;
+      ended = in_again.before;
+      later = goes_both out.after l.served.between in_again.before out.last in_again.first;
+      given = in_again.after;
+      returned = in_again.there;
+      last = in_again.last;
     }
 
 -- ---- statuses
@@ -136,25 +149,25 @@ pub record Tells (keeps : Bool) (left after : Option (List ℕ)) (faults later d
   pub written : whole ≡ lived.WriteFault → ⊥
   pub differs : whole ≡ lived.Differs → Differed keeps left after faults later (λ told. text ≡ told)
 
-due_tells : {A P : Type 0} (tellers : Tellers A P) (f : AskedFolder) (w : Manner) (left after : Option (List ℕ)) (faults later device_faults device_later : ℕ) (text : List ℕ) (whole : Lived)
-    → Due Serves whole_commands tellers f w left after faults later device_faults device_later text whole → Tells w.keeps left after faults later device_faults device_later text whole
-due_tells tellers f w left after faults later device_faults device_later text whole (Ends h given hs pieces reads lives woven vacant) =
+due_tells : {A P : Type 0} (tellers : Tellers A P) (f : AskedFolder) (w : Manner) (left after : Option (List ℕ)) (faults later device_faults device_later : ℕ) (lent back : Option (List Lending)) (text : List ℕ) (whole : Lived)
+    → Due Serves whole_commands tellers f w left after faults later device_faults device_later lent back text whole → Tells w.keeps left after faults later device_faults device_later text whole
+due_tells tellers f w left after faults later device_faults device_later lent back text whole (Ends h given hs pieces reads lives woven vacant) =
     record { read = λ e. absurd cc; area = λ e. absurd cc; written = λ e. absurd cc; differs = λ e. absurd cc }
-due_tells tellers f w left after faults later device_faults device_later text whole (Stops_early r number why stops) =
+due_tells tellers f w left after faults later device_faults device_later lent back text whole (Stops_early r number why stops) =
     record { read = λ e. absurd cc; area = λ e. absurd cc; written = λ e. absurd cc; differs = λ e. absurd cc }
-due_tells tellers f w left after faults later device_faults device_later text whole (Stops h given hs pieces number why reads lives woven vacant) =
+due_tells tellers f w left after faults later device_faults device_later lent back text whole (Stops h given hs pieces number why reads lives woven vacant) =
     record { read = λ e. absurd cc; area = λ e. absurd cc; written = λ e. absurd cc; differs = λ e. absurd cc }
-due_tells tellers f w left after faults later device_faults device_later text whole (Breaks_early breaks rose) =
+due_tells tellers f w left after faults later device_faults device_later lent back text whole (Breaks_early breaks rose) =
     record { read = λ e. rose; area = λ e. absurd cc; written = λ e. absurd cc; differs = λ e. absurd cc }
-due_tells tellers f w left after faults later device_faults device_later text whole (Breaks h given hs pieces reads lives woven vacant) =
+due_tells tellers f w left after faults later device_faults device_later lent back text whole (Breaks h given hs pieces reads lives woven vacant) =
     record { read = λ e. (reads.fault refl).0; area = λ e. absurd cc; written = λ e. absurd cc; differs = λ e. absurd cc }
-due_tells tellers f w left after faults later device_faults device_later text whole (Faults rose) =
+due_tells tellers f w left after faults later device_faults device_later lent back text whole (Faults rose) =
     record { read = λ e. absurd cc; area = λ e. rose; written = λ e. absurd cc; differs = λ e. absurd cc }
-due_tells tellers f w left after faults later device_faults device_later text whole (In_use rose) =
+due_tells tellers f w left after faults later device_faults device_later lent back text whole (In_use rose) =
     record { read = λ e. absurd cc; area = λ e. rose; written = λ e. absurd cc; differs = λ e. absurd cc }
-due_tells tellers f w left after faults later device_faults device_later text whole (Disk_there r h path begins there rose) =
+due_tells tellers f w left after faults later device_faults device_later lent back text whole (Disk_there r h path begins there rose) =
     record { read = λ e. absurd cc; area = λ e. rose; written = λ e. absurd cc; differs = λ e. absurd cc }
-due_tells tellers f w left after faults later device_faults device_later text whole (Parts h given end before machine d reads case_of vacant) =
+due_tells tellers f w left after faults later device_faults device_later lent back text whole (Parts h given end before machine d reads case_of vacant) =
     record {
       read = λ e. absurd cc;
       area = λ e. absurd cc;
@@ -196,13 +209,13 @@ put_caused keeps left after taken now faults later sink_faults sink_later device
 put_caused keeps left after taken now faults later sink_faults sink_later device_faults device_later text whole s tells (Front front appends begins) =
     record { read = λ e. absurd cc; written = λ e. absurd cc; area = λ e. absurd cc; differs = λ e. absurd cc }
 
-owes_caused : {A P : Type 0} (tellers : Tellers A P) (f : AskedFolder) (w : Manner) (left after taken now : Option (List ℕ)) (faults later sink_faults sink_later device_faults device_later : ℕ) (s : Lived)
-    → OwesLive Serves whole_commands tellers f w left after taken now faults later sink_faults sink_later device_faults device_later s
+owes_caused : {A P : Type 0} (tellers : Tellers A P) (f : AskedFolder) (w : Manner) (left after taken now : Option (List ℕ)) (faults later sink_faults sink_later device_faults device_later : ℕ) (lent back : Option (List Lending)) (s : Lived)
+    → OwesLive Serves whole_commands tellers f w left after taken now faults later sink_faults sink_later device_faults device_later lent back s
     → Caused w.keeps left after taken now faults later sink_faults sink_later device_faults device_later s
-owes_caused tellers f w left after taken now faults later sink_faults sink_later device_faults device_later s (Of text whole it due puts) =
+owes_caused tellers f w left after taken now faults later sink_faults sink_later device_faults device_later lent back s (Of text whole it due puts) =
     put_caused w.keeps left after taken now faults later sink_faults sink_later device_faults device_later text whole s
-    (due_tells tellers f w left after faults later device_faults device_later text whole due) puts
-owes_caused tellers f w left after taken now faults later sink_faults sink_later device_faults device_later s (Lacks part nothing) =
+    (due_tells tellers f w left after faults later device_faults device_later lent back text whole due) puts
+owes_caused tellers f w left after taken now faults later sink_faults sink_later device_faults device_later lent back s (Lacks part nothing) =
     record { read = λ e. absurd cc; written = λ e. absurd cc; area = λ e. absurd cc; differs = λ e. absurd cc }
 
 -- So of a live run.
@@ -214,7 +227,7 @@ pub record LiveCaused (keeps : Bool) (x y : Outside) (s : Status) : Type 0 where
 
 pub live_caused : {A P : Type 0} (tellers : Tellers A P) (folder : List ℕ) (manner : Manner) (x y : Outside) (s : Status) → RunsLive tellers folder manner x y s → LiveCaused manner.keeps x y s
 live_caused tellers folder manner x y s run =
-    let why = owes_caused tellers (record { path = folder; anew = manner.anew; disks = x.disks }) manner x.left y.left x.taken y.taken x.source_faults y.source_faults x.sink_faults y.sink_faults x.device_faults y.device_faults run.ended run.owes in
+    let why = owes_caused tellers (record { path = folder; anew = manner.anew; disks = x.disks }) manner x.left y.left x.taken y.taken x.source_faults y.source_faults x.sink_faults y.sink_faults x.device_faults y.device_faults x.lendings y.lendings run.ended run.owes in
     record {
       read = λ e. why.read (read_failed run.ended (sym run.status ∙ e));
       written = λ e. why.written (write_failed run.ended (sym run.status ∙ e));

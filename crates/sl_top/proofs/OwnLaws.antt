@@ -7,6 +7,7 @@ use Rattle.sl_live_play.specs.declared.play.Lived.TheVariants as lived
 use Rattle.sl_live_play.specs.declared.play.Lived.{Lived}
 use Rattle.sl_live_run.specs.declared.compare.LiveDiffer.{LiveDiffer}
 use Rattle.sl_outside.specs.Disks.{Disks}
+use Rattle.sl_outside.specs.Lendings.{Lending}
 use Rattle.sl_own.specs.OwnGrounds.{Bars}
 use Rattle.sl_own.specs.OwnOwed.{Breaks, Breaks_early, DifferingOwn, Ends, Is_barred, Lacks, Of, OwesOwn, OwnDue, Parts, ReadsOwn, Stops, Stops_early, Stops_header}
 use Rattle.sl_own.specs.OwnTexts.{no_place_text}
@@ -66,8 +67,9 @@ record Caused (disks : Disks) (folder : List ℕ) (w : OwnManner) (left after ta
   pub area : s ≡ lived.AreaFault → Barred disks folder w left after device_faults device_later (λ told. Appends taken now told)
   pub differs : s ≡ lived.Differs → Differed w left after faults later (λ told. Appends taken now told)
 
-module _ {A P : Type 0} (tellers : Tellers A P) (disks : Disks) (folder : List ℕ) (w : OwnManner) (left after : Option (List ℕ)) (faults later device_faults device_later : ℕ) where
-  due_tells : (text : List ℕ) (whole : Lived) → OwnDue Serves whole_commands tellers disks folder w left after faults later device_faults device_later text whole → Tells disks folder w left after faults later device_faults device_later text whole
+module _ {A P : Type 0} (tellers : Tellers A P) (disks : Disks) (folder : List ℕ) (w : OwnManner) (left after : Option (List ℕ)) (faults later device_faults device_later : ℕ)
+    (lent back : Option (List Lending)) where
+  due_tells : (text : List ℕ) (whole : Lived) → OwnDue Serves whole_commands tellers disks folder w left after faults later device_faults device_later lent back text whole → Tells disks folder w left after faults later device_faults device_later text whole
   due_tells text whole (Ends h given hist pieces reads may lives woven) =
       record { read = λ e. absurd cc; area = λ e. absurd cc; written = λ e. absurd cc; differs = λ e. absurd cc }
   due_tells text whole (Stops_early r number why stops) =
@@ -129,7 +131,7 @@ module _ {A P : Type 0} (tellers : Tellers A P) (disks : Disks) (folder : List �
       record { read = λ e. absurd cc; written = λ e. absurd cc; area = λ e. absurd cc; differs = λ e. absurd cc }
 
   owes_caused : (taken now : Option (List ℕ)) (sink_faults sink_later : ℕ) (s : Lived)
-      → OwesOwn Serves whole_commands tellers disks folder w left after taken now faults later sink_faults sink_later device_faults device_later s
+      → OwesOwn Serves whole_commands tellers disks folder w left after taken now faults later sink_faults sink_later device_faults device_later lent back s
       → Caused disks folder w left after taken now faults later sink_faults sink_later device_faults device_later s
   owes_caused taken now sink_faults sink_later s (Of text whole t due puts) = put_caused taken now sink_faults sink_later text whole s (due_tells text whole due) puts
   owes_caused taken now sink_faults sink_later s (Lacks part nothing) =
@@ -144,7 +146,7 @@ pub record OwnCaused (folder : List ℕ) (manner : OwnManner) (x y : Outside) (s
 
 pub own_caused : {A P : Type 0} (tellers : Tellers A P) (folder : List ℕ) (manner : OwnManner) (x y : Outside) (s : Status) → RunsOwn tellers folder manner x y s → OwnCaused folder manner x y s
 own_caused tellers folder manner x y s run =
-    let why = owes_caused tellers x.disks folder manner x.left y.left x.source_faults y.source_faults x.device_faults y.device_faults x.taken y.taken x.sink_faults y.sink_faults run.ended run.owes in
+    let why = owes_caused tellers x.disks folder manner x.left y.left x.source_faults y.source_faults x.device_faults y.device_faults x.lendings y.lendings x.taken y.taken x.sink_faults y.sink_faults run.ended run.owes in
     record {
       read = λ e. why.read (read_failed run.ended (sym run.status ∙ e));
       written = λ e. why.written (write_failed run.ended (sym run.status ∙ e));

@@ -19,6 +19,7 @@ use Rattle.sl_live_play.specs.LiveOwed.{Owes as OwesLive, Tellers}
 use Rattle.sl_live_play.specs.declared.play.Lived.{Lived}
 use Rattle.sl_live_play.specs.declared.play.Manner.{Manner}
 use Rattle.sl_outside.specs.Disks.{CountsBack, Disks, KeepsAllBut}
+use Rattle.sl_outside.specs.Lendings.{Lending}
 use Rattle.sl_own.specs.OwnOwed.{OwesOwn}
 use Rattle.sl_own.specs.declared.play.OwnManner.{OwnManner}
 use Rattle.sl_run.specs.Worlds.{whole_program}
@@ -115,14 +116,15 @@ pub record ActsOn (a : Action) (before now : Disks) (faults later : ℕ) (taken 
   pub count : CountsBack counted faults later
   pub status : s ≡ status_after ended
 
--- What there is outside: what is left of the source and what the sink has taken, where they tell it, what the disks have, and the faults
--- that each has counted.
+-- What there is outside: what is left of the source and what the sink has taken, where they tell it, what the disks have, what the devices tell of what they
+-- handed out and what came back, and the faults that each has counted.
 pub record Outside : Type 0 where
   pub left : Option (List ℕ)
   pub source_faults : ℕ
   pub taken : Option (List ℕ)
   pub sink_faults : ℕ
   pub disks : Disks
+  pub lendings : Option (List Lending)
   pub device_faults : ℕ
 
 -- A text that is put out, with the status of all of it.
@@ -130,17 +132,19 @@ abbrev pub Tells : List ℕ → Status → Outside → Outside → Status → Ty
 Tells text whole x y s = PutsOut x.taken y.taken x.sink_faults y.sink_faults text whole s
 
 -- What a live run owes, in this folder, played in this manner: what is told of its machines, as histories of hosts that were compared
--- with what their threads did, and whose calls, signals and starts came to the machines' disks and spawners; or why there is none.
+-- with what their threads did, and whose calls, signals and starts came to the areas and spawners that the devices handed out for them and that came back to the
+-- devices; or why there is none.
 pub record RunsLive {A P : Type 0} (tellers : Tellers A P) (folder : List ℕ) (manner : Manner) (x y : Outside) (s : Status) : Type 0 where
   pub ended : Lived
-  pub owes : OwesLive Serves whole_commands tellers (record { path = folder; anew = manner.anew; disks = x.disks }) manner x.left y.left x.taken y.taken x.source_faults y.source_faults x.sink_faults y.sink_faults x.device_faults y.device_faults ended
+  pub owes : OwesLive Serves whole_commands tellers (record { path = folder; anew = manner.anew; disks = x.disks }) manner x.left y.left x.taken y.taken x.source_faults y.source_faults x.sink_faults y.sink_faults x.device_faults y.device_faults x.lendings y.lendings ended
   pub status : s ≡ status_of_live ended
 
 -- What a run of one machine owes, in this folder, played in this manner: what is told of it, as the history of a host whose records were compared with what its
--- threads did; or why there is none.
+-- threads did, and whose calls, signals and starts came to the areas and the spawner that the devices handed out for it and that came back to the devices; or why
+-- there is none.
 pub record RunsOwn {A P : Type 0} (tellers : Tellers A P) (folder : List ℕ) (manner : OwnManner) (x y : Outside) (s : Status) : Type 0 where
   pub ended : Lived
-  pub owes : OwesOwn Serves whole_commands tellers x.disks folder manner x.left y.left x.taken y.taken x.source_faults y.source_faults x.sink_faults y.sink_faults x.device_faults y.device_faults ended
+  pub owes : OwesOwn Serves whole_commands tellers x.disks folder manner x.left y.left x.taken y.taken x.source_faults y.source_faults x.sink_faults y.sink_faults x.device_faults y.device_faults x.lendings y.lendings ended
   pub status : s ≡ status_of_live ended
 
 -- Nothing is told of areas and spawners, where no machine runs.

@@ -25,7 +25,8 @@ pub fn other_schedules_are_refused<D: LiveDevices>()
     ensures { OtherSchedulesAreRefused (record { content = D.Area.content; faults = D.Area.faults; acts = D.Spawner.acts }) }
 {}
 
-/// The history of each machine of a live run is lawful, and each reply in it has its cause; and the machine's disks and spawners were served by it.
+/// The history of each machine of a live run is lawful, and each reply in it has its cause; and the areas and the spawner that devices handed out for the
+/// machine served it, and came so back to the devices.
 pub fn live_histories_are_good<D: LiveDevices>()
     ensures { LiveHistoriesAreGood (record { content = D.Area.content; faults = D.Area.faults; acts = D.Spawner.acts }) }
 {}

@@ -44,8 +44,8 @@ where
     D::Area: Send,
     requires { 1 ≤ place.now.manner.machine }
     ensures { RunsOwn (record { content = D.Area.content; faults = D.Area.faults; acts = D.Spawner.acts }) place.now.folder place.now.manner
-        (record { left = S.left source; source_faults = S.faults source; taken = K.taken sink; sink_faults = K.faults sink; disks = D.Devices.disks devices.old; device_faults = D.Devices.faults devices.old })
-        (record { left = S.left result.1; source_faults = S.faults result.1; taken = K.taken result.2; sink_faults = K.faults result.2; disks = D.Devices.disks devices.new; device_faults = D.Devices.faults devices.new })
+        (record { left = S.left source; source_faults = S.faults source; taken = K.taken sink; sink_faults = K.faults sink; disks = D.Devices.disks devices.old; lendings = D.Devices.lendings devices.old; device_faults = D.Devices.faults devices.old })
+        (record { left = S.left result.1; source_faults = S.faults result.1; taken = K.taken result.2; sink_faults = K.faults result.2; disks = D.Devices.disks devices.new; lendings = D.Devices.lendings devices.new; device_faults = D.Devices.faults devices.new })
         result.0 }
 {
     whole_language_may_play();

@@ -116,8 +116,8 @@ fn live<
 where
     D::Area: Send,
     ensures { RunsLive (record { content = D.Area.content; faults = D.Area.faults; acts = D.Spawner.acts }) place.now.folder place.now.manner
-        (record { left = S.left source; source_faults = S.faults source; taken = K.taken sink; sink_faults = K.faults sink; disks = D.Devices.disks devices.old; device_faults = D.Devices.faults devices.old })
-        (record { left = S.left result.1; source_faults = S.faults result.1; taken = K.taken result.2; sink_faults = K.faults result.2; disks = D.Devices.disks devices.new; device_faults = D.Devices.faults devices.new })
+        (record { left = S.left source; source_faults = S.faults source; taken = K.taken sink; sink_faults = K.faults sink; disks = D.Devices.disks devices.old; lendings = D.Devices.lendings devices.old; device_faults = D.Devices.faults devices.old })
+        (record { left = S.left result.1; source_faults = S.faults result.1; taken = K.taken result.2; sink_faults = K.faults result.2; disks = D.Devices.disks devices.new; lendings = D.Devices.lendings devices.new; device_faults = D.Devices.faults devices.new })
         result.0 }
 {
     whole_language_may_play();
@@ -155,8 +155,8 @@ pub fn run_offline<S: Source, K: Sink, D: Devices>(
     requires live { IsLive (said words.now) → ⊥ }
     requires own { IsOwn (said words.now) → ⊥ }
     ensures owes { Owes untold (said words.now)
-        (record { left = S.left source.old; source_faults = S.faults source.old; taken = K.taken sink.old; sink_faults = K.faults sink.old; disks = D.disks devices.old; device_faults = D.faults devices.old })
-        (record { left = S.left source.new; source_faults = S.faults source.new; taken = K.taken sink.new; sink_faults = K.faults sink.new; disks = D.disks devices.new; device_faults = D.faults devices.new })
+        (record { left = S.left source.old; source_faults = S.faults source.old; taken = K.taken sink.old; sink_faults = K.faults sink.old; disks = D.disks devices.old; lendings = D.lendings devices.old; device_faults = D.faults devices.old })
+        (record { left = S.left source.new; source_faults = S.faults source.new; taken = K.taken sink.new; sink_faults = K.faults sink.new; disks = D.disks devices.new; lendings = D.lendings devices.new; device_faults = D.faults devices.new })
         result }
     ensures source { (ReadsSource (said words.now) → ⊥) → source.new ≡ source.old }
     ensures devices { (IsDirect (said words.now) → ⊥) → devices.new ≡ devices.old }
@@ -315,8 +315,8 @@ pub fn run<
 where
     D::Area: Send,
     ensures owes { Owes (record { content = D.Area.content; faults = D.Area.faults; acts = D.Spawner.acts }) (said_from at_terminal words.now)
-        (record { left = S.left source; source_faults = S.faults source; taken = K.taken sink; sink_faults = K.faults sink; disks = D.Devices.disks devices; device_faults = D.Devices.faults devices })
-        (record { left = S.left result.1; source_faults = S.faults result.1; taken = K.taken result.2; sink_faults = K.faults result.2; disks = D.Devices.disks result.3; device_faults = D.Devices.faults result.3 })
+        (record { left = S.left source; source_faults = S.faults source; taken = K.taken sink; sink_faults = K.faults sink; disks = D.Devices.disks devices; lendings = D.Devices.lendings devices; device_faults = D.Devices.faults devices })
+        (record { left = S.left result.1; source_faults = S.faults result.1; taken = K.taken result.2; sink_faults = K.faults result.2; disks = D.Devices.disks result.3; lendings = D.Devices.lendings result.3; device_faults = D.Devices.faults result.3 })
         result.0 }
     ensures source { (ReadsSource (said words.now) → ⊥) → (IsLive (said words.now) → ⊥) → (IsOwn (said words.now) → ⊥) → result.1 ≡ source }
     ensures devices { (IsDirect (said words.now) → ⊥) → (IsLive (said words.now) → ⊥) → (IsOwn (said words.now) → ⊥) → result.3 ≡ devices }

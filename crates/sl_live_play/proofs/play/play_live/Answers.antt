@@ -5,19 +5,19 @@ use Rattle.std.proofs.Common.{ap, subst}
 use Rattle.std.specs.Prelude.{Err}
 
 pub returns-in-Err : goal.returns-in-Err
-returns-in-Err g c = owes_nothing g.D.Daemon.stands g.D.Daemon.commands _ _ _ _ _ _ _ _ _ _ _
+returns-in-Err g c = owes_nothing g.D.Daemon.stands g.D.Daemon.commands _ _ _ _ _ _ _ _ _ _ _ _ _
 
 pub returns-in-Err-Failed : goal.returns-in-Err-Failed
 returns-in-Err-Failed g c =
     let f = c.in-Err-Failed.ensures.failed (ap (λ e. Err e) c.in-Err-Failed.field-0-is) in
-    owes_break g.D.Daemon.stands g.D.Daemon.commands _ _ _ _ _ _ _ _ _ _ _ f.0 f.1
+    owes_break g.D.Daemon.stands g.D.Daemon.commands _ _ _ _ _ _ _ _ _ _ _ _ _ f.0 f.1
 
 pub returns-in-Err-NoMemory : goal.returns-in-Err-NoMemory
-returns-in-Err-NoMemory g c = owes_nothing g.D.Daemon.stands g.D.Daemon.commands _ _ _ _ _ _ _ _ _ _ _
+returns-in-Err-NoMemory g c = owes_nothing g.D.Daemon.stands g.D.Daemon.commands _ _ _ _ _ _ _ _ _ _ _ _ _
 
 pub returns-in-Ok-Err : goal.returns-in-Ok-Err
 returns-in-Ok-Err g c =
-    owes_refusal g.D.Daemon.stands g.D.Daemon.commands _ _ _ _ _ _ _ _ _ _ _ _ _ c.read_header.new.reader c.in-Ok-Err.number c.in-Ok-Err.why c.put_refusal.result
+    owes_refusal g.D.Daemon.stands g.D.Daemon.commands _ _ _ _ _ _ _ _ _ _ _ _ _ _ _ c.read_header.new.reader c.in-Ok-Err.number c.in-Ok-Err.why c.put_refusal.result
     (subst (HeaderIsRead (g.S.Source.left c.args.source) (g.S.Source.left c.read_header.new.source) c.read_header.new.reader) c.in-Ok-Err.field-0-is c.in-Ok-Err.ensures.ok)
     c.put_refusal.ensures
 
@@ -28,6 +28,6 @@ play_header-requires-clause-header g c κs within =
 
 pub returns : goal.returns
 returns g c =
-    owes_since g.D.Daemon.stands g.D.Daemon.commands _ _ _ _ _ _ _ _ _ _ _ _ _ _ c.play_header.result.0 c.read_header.ensures.later
+    owes_since g.D.Daemon.stands g.D.Daemon.commands _ _ _ _ _ _ _ _ _ _ _ _ _ _ _ _ c.play_header.result.0 c.read_header.ensures.later
     (c.play_header.ensures (g.S.Source.left c.args.source)
     (subst (HeaderIsRead (g.S.Source.left c.args.source) (g.S.Source.left c.read_header.new.source) c.read_header.new.reader) c.in-Ok-Ok.field-0-is c.in-Ok-Ok.ensures.ok))

@@ -7,5 +7,6 @@ abbrev pub invariant-loop-before : goal.invariant-loop-before
 invariant-loop-before g l = record {
   readings : l.readings.items ≡ readings_from g.V.Clock.Clock.last 1 l.clocks.items;
   each : length l.clocks.items ≡ l.before;
+  lendings : g.V.Devices.lendings l.devices ≡ g.V.Devices.lendings l.fn.devices;
   count : g.V.Devices.faults l.devices ≡ g.V.Devices.faults l.fn.devices;
 }

@@ -2,7 +2,7 @@
 use Rattle.sl_live_run.proofs.FolderLaws.{stay_on}
 use Rattle.sl_live_run.proofs.WriteLaws.{item_inside}
 use Rattle.sl_live_run.proofs.disks.make_disks.Goals as goal
-use Rattle.std.proofs.Common.{arith}
+use Rattle.std.proofs.Common.{arith, ◌∙◌}
 
 pub overflow_mul-size : goal.overflow_mul-size
 overflow_mul-size g c =
@@ -20,6 +20,7 @@ loop-disk-preserved g c =
     let later = c.make.ensures.cause.later in
     record {
       later = omega (arith, before, later);
+      lendings = c.make.ensures.lendings ∙ c.loop-disk.invariant.lendings;
       kept = λ kept.
           stay_on (g.V.Devices.disks c.args.devices.now) (g.V.Devices.disks c.loop-disk.devices) (g.V.Devices.disks c.make.new.self) (c.loop-disk.invariant.kept kept) (c.make.ensures.kept kept);
     }

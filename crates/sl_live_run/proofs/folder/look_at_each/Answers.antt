@@ -24,6 +24,7 @@ loop-disk-preserved g c =
       free = free_more disks path c.as_slice-disk-items.result.now c.loop-disk.disk-index c.disk-item.result c.loop-disk-test.true c.disk-item.is c.loop-disk.invariant.free
           (subst (λ ds. ds (path ++ c.disk-item.result.path) ≡ None) c.loop-disk.invariant.same c.in_ok-look_at.ensures.free);
       same = c.look_at.ensures.same ∙ c.loop-disk.invariant.same;
+      lendings = c.look_at.ensures.lendings ∙ c.loop-disk.invariant.lendings;
       later = omega (arith, before, later);
     }
 

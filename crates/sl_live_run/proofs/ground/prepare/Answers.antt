@@ -1,4 +1,5 @@
 -- The header has the readings of the clocks, and each machine is ready; or why one is not.
+use Rattle.sl_live_run.proofs.LentLaws.{had_since}
 use Rattle.sl_live_run.proofs.ReadyLaws.{explains_between, handed_on, header_lawful, header_machines, header_same, header_ticks, machines_back, ready_unasked}
 use Rattle.sl_live_run.proofs.ground.prepare.Goals as goal
 use Rattle.sl_live_run.specs.declared.ground.NoGround.TheVariants.{AreaFault, NoMemory}
@@ -43,5 +44,8 @@ returns-clause-ok g c =
 
 pub returns-clause-unasked : goal.returns-clause-unasked
 returns-clause-unasked g c =
-    ready_unasked g.V.Clock.Clock.last g.V.Spawner.Spawner.running g.V.Spawner.Spawner.acts g.V.Device.Device.last g.V.Device.Device.fire g.V.Area.Area.content c.with_readings-header.result
+    ready_unasked g.V.Clock.Clock.last g.V.Spawner.Spawner.running g.V.Spawner.Spawner.acts g.V.Device.Device.last g.V.Device.Device.fire c.with_readings-header.result
     c.in_ok-machines.machines.items c.in_ok-machines.ensures.ready
+
+pub returns-clause-had : goal.returns-clause-had
+returns-clause-had g c = had_since g.V.Area.Area.content c.args.folder.now c.with_readings-header.result 1 _ _ _ _ _ _ c.start_clocks.ensures.lendings c.make_disks.ensures.lendings c.gate.ensures.lendings c.in_ok-machines.ensures.had

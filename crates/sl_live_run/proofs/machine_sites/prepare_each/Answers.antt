@@ -1,4 +1,5 @@
 -- One machine more is ready; or why it is not.
+use Rattle.sl_live_run.proofs.LentLaws.{had_none, had_pushed}
 use Rattle.sl_live_run.proofs.ReadyLaws.{explains_between, handed_on, ready_none, ready_pushed, ticks_first}
 use Rattle.sl_live_run.proofs.machine_sites.prepare_each.Goals as goal
 use Rattle.sl_live_run.specs.declared.ground.NoGround.TheVariants.{NoMemory}
@@ -11,7 +12,8 @@ loop-before-init g c =
       left = c.requires.ticks;
       some = omega (arith, c.requires.each);
       each = ap length c.requires.first;
-      ready = ready_none g.V.Clock.Clock.last g.V.Spawner.Spawner.running g.V.Spawner.Spawner.acts g.V.Device.Device.last g.V.Device.Device.fire g.V.Area.Area.content c.args.header.now _ c.requires.first;
+      had = had_none g.V.Area.Area.content c.args.folder.now c.args.header.now _ _ c.requires.first;
+      ready = ready_none g.V.Clock.Clock.last g.V.Spawner.Spawner.running g.V.Spawner.Spawner.acts g.V.Device.Device.last g.V.Device.Device.fire c.args.header.now _ c.requires.first;
       later = refl_le _;
     }
 
@@ -43,8 +45,10 @@ loop-before-preserved g c =
           i.left).1;
       some = omega (arith, cut, some);
       each = search rules;
-      ready = ready_pushed g.V.Clock.Clock.last g.V.Spawner.Spawner.running g.V.Spawner.Spawner.acts g.V.Device.Device.last g.V.Device.Device.fire g.V.Area.Area.content c.args.header.now
+      ready = ready_pushed g.V.Clock.Clock.last g.V.Spawner.Spawner.running g.V.Spawner.Spawner.acts g.V.Device.Device.last g.V.Device.Device.fire c.args.header.now
           c.loop-before.machines.items c.reserve.new.self.items c.push_reserved.new.self.items c.in_ok-machine.machine (c.loop-before.before + 1) c.reserve.ensures.items
           c.push_reserved.ensures.items (omega (arith, each)) i.ready c.in_ok-machine.ensures.ok;
+      had = had_pushed g.V.Area.Area.content c.args.folder.now c.args.header.now c.loop-before.machines.items c.reserve.new.self.items c.push_reserved.new.self.items c.in_ok-machine.machine
+          (c.loop-before.before + 1) _ _ _ c.reserve.ensures.items c.push_reserved.ensures.items (omega (arith, each)) i.had c.in_ok-machine.ensures.had;
       later = omega (arith, before, later);
     }

@@ -9,9 +9,10 @@ returns-in_err-delta-clause-not g c = err_on c.from_residual.result c.in_err-del
 
 pub returns-in-Ok-clause-ok : goal.returns-in-Ok-clause-ok
 returns-in-Ok-clause-ok g c =
-    own_ground g.V.Area.Area.content g.V.Spawner.Spawner.acts (g.V.Devices.disks c.args.devices.now) c.args.folder.now c.args.header c.args.machine c.ground_of.result c.in-Ok.start.header _ _ _
+    let both = c.in_ok-delta.ensures.both in
+    own_ground g.V.Area.Area.content g.V.Spawner.Spawner.acts (g.V.Devices.disks c.args.devices.now) c.args.folder.now c.args.header c.args.machine c.ground_of.result c.in-Ok.start.header _ _ _ _ _ _ _ _
     c.requires.header c.requires.machine.1 c.ground_of.ensures.header c.in-Ok.ensures.lawful c.in-Ok.ensures.same c.ground_of.ensures.numbered c.ground_of.ensures.site c.in-Ok.ensures.site
-    c.ground_of.ensures.unasked c.ground_of.ensures.delta c.in_ok-delta.ensures.delta c.ground_of.ensures.resource c.in_ok-delta.ensures.resource
+    c.ground_of.ensures.unasked c.ground_of.ensures.delta both.1 c.ground_of.ensures.resource both.2 c.start_of.ensures.lendings c.ground_of.ensures.lendings
 
 pub returns-in-Err-clause-not : goal.returns-in-Err-clause-not
 returns-in-Err-clause-not g c = No_memory

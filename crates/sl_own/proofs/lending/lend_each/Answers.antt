@@ -1,4 +1,5 @@
 -- One area more is handed out; what does not stand was found on the last one.
+use Rattle.sl_live_run.proofs.LentLaws.{lent_there}
 use Rattle.sl_own.proofs.LendLaws.{err_on, left_pushed, not_found, told_here, untaken_more}
 use Rattle.sl_own.proofs.lending.lend_each.Goals as goal
 use Rattle.sl_own.specs.OwnGrounds.{AreLeft, FindsOn, No_memory}
@@ -30,7 +31,8 @@ returns-in_err-stands-clause-not g c =
 pub loop-disk-init : goal.loop-disk-init
 loop-disk-init g c =
     record {
-      left = subst (AreLeft g.V.Area.Area.content (FindsOn (g.V.Devices.disks c.args.devices.now) c.args.folder.now c.args.header.now c.args.part) []) (sym c.requires.first) tt;
+      left = subst (λ ds. AreLeft g.V.Area.Area.content (FindsOn (g.V.Devices.disks c.args.devices.now) c.args.folder.now c.args.header.now c.args.part) c.args.folder.now c.args.machine c.args.part [] ds (g.V.Devices.lendings c.args.devices.now) (g.V.Devices.lendings c.args.devices.now))
+          (sym c.requires.first) refl;
       untaken = λ other all. refl;
       count = refl;
     }
@@ -44,9 +46,9 @@ loop-disk-preserved g c =
     let told = told_here disks (g.V.Devices.disks c.loop-disk.devices) c.args.folder.now items c.loop-disk.disk-index c.disk-item.result _ _ apart c.loop-disk-test.true
     c.disk-item.is (search rules) c.loop-disk.invariant.untaken c.area-area.ensures.disk.content_is in
     record {
-      left = left_pushed g.V.Area.Area.content (FindsOn disks c.args.folder.now h c.args.part) items c.loop-disk.disk-index c.disk-item.result c.loop-disk.disks.items c.reserve.new.self.items
-          c.push_reserved.new.self.items _ c.loop-disk-test.true c.disk-item.is c.reserve.ensures.items c.push_reserved.ensures.items c.loop-disk.invariant.left
-          (record { path_is = refl; before = g.V.Area.Area.content c.area-area.result; found = (told, c.in_ok-stands.ensures.ok); kept = c.see_to-stands.ensures.kept });
+      left = left_pushed g.V.Area.Area.content (FindsOn disks c.args.folder.now h c.args.part) c.args.folder.now c.args.machine c.args.part items c.loop-disk.disk-index c.disk-item.result c.loop-disk.disks.items c.reserve.new.self.items
+          c.push_reserved.new.self.items _ _ _ _ c.loop-disk-test.true c.disk-item.is c.reserve.ensures.items c.push_reserved.ensures.items c.loop-disk.invariant.left
+          (record { path_is = refl; before = g.V.Area.Area.content c.area-area.result; lent = lent_there g.V.Area.Area.content c.args.machine c.args.part _ c.args.folder.now c.disk-item.result.path _ c.area-area.result _ _ c.worker_of.ensures (search rules) c.area-area.ensures.lendings; found = (told, c.in_ok-stands.ensures.ok); kept = c.see_to-stands.ensures.kept });
       untaken = untaken_more disks (g.V.Devices.disks c.loop-disk.devices) _ c.args.folder.now items c.loop-disk.disk-index c.disk-item.result _ c.loop-disk-test.true c.disk-item.is (search rules)
           c.area-area.ensures.disk.others c.loop-disk.invariant.untaken;
       count = c.area-area.ensures.count ∙ c.loop-disk.invariant.count;

@@ -23,6 +23,7 @@ loop-disk-preserved g c =
       sizes = all_more (HasSize (g.V.Devices.disks c.args.devices.now) c.args.folder.now) c.as_slice-disk-items.result.now c.loop-disk.disk-index c.disk-item.result c.loop-disk-test.true c.disk-item.is
           c.loop-disk.invariant.sizes (subst (λ ds. HasSize ds c.args.folder.now c.disk-item.result) c.loop-disk.invariant.same c.in_ok-look_at.ensures.ok);
       same = c.look_at.ensures.same ∙ c.loop-disk.invariant.same;
+      lendings = c.look_at.ensures.lendings ∙ c.loop-disk.invariant.lendings;
       count = c.look_at.ensures.count ∙ c.loop-disk.invariant.count;
     }
 

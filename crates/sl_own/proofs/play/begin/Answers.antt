@@ -21,14 +21,16 @@ returns-in_err-watch_if-clause-bars g c =
 
 pub returns-clause-ok : goal.returns-clause-ok
 returns-clause-ok g c =
-    subst (λ disks. IfOk c.prepare_own.result (IsOwnGround g.V.Area.Area.content g.V.Spawner.Spawner.acts disks c.args.folder.now c.args.header c.args.manner.machine))
-    (c.watch_if.ensures.same ∙ c.sync_if.ensures.same ∙ c.take_place.ensures.same) c.prepare_own.ensures.ok
+    subst (λ lent. IfOk c.prepare_own.result (IsOwnGround g.V.Area.Area.content g.V.Spawner.Spawner.acts (g.V.Devices.disks c.args.devices.now) c.args.folder.now c.args.header c.args.manner.machine lent (g.V.Devices.lendings c.prepare_own.new.devices)))
+    (c.watch_if.ensures.lendings ∙ c.sync_if.ensures.lendings ∙ c.take_place.ensures.lendings)
+    (subst (λ disks. IfOk c.prepare_own.result (IsOwnGround g.V.Area.Area.content g.V.Spawner.Spawner.acts disks c.args.folder.now c.args.header c.args.manner.machine (g.V.Devices.lendings c.watch_if.new.devices) (g.V.Devices.lendings c.prepare_own.new.devices)))
+    (c.watch_if.ensures.same ∙ c.sync_if.ensures.same ∙ c.take_place.ensures.same) c.prepare_own.ensures.ok)
 
 pub returns-clause-place : goal.returns-clause-place
 returns-clause-place g c =
-    place_stands g.V.Area.Area.content g.V.Spawner.Spawner.acts (g.V.Devices.disks c.args.devices.now) c.args.folder.now c.args.header c.args.manner.machine c.prepare_own.result
+    place_stands g.V.Area.Area.content g.V.Spawner.Spawner.acts (g.V.Devices.disks c.args.devices.now) c.args.folder.now c.args.header c.args.manner.machine (g.V.Devices.lendings c.watch_if.new.devices) (g.V.Devices.lendings c.prepare_own.new.devices) c.prepare_own.result
     c.in_ok-take_place.ensures.ok
-    (subst (λ disks. IfOk c.prepare_own.result (IsOwnGround g.V.Area.Area.content g.V.Spawner.Spawner.acts disks c.args.folder.now c.args.header c.args.manner.machine))
+    (subst (λ disks. IfOk c.prepare_own.result (IsOwnGround g.V.Area.Area.content g.V.Spawner.Spawner.acts disks c.args.folder.now c.args.header c.args.manner.machine (g.V.Devices.lendings c.watch_if.new.devices) (g.V.Devices.lendings c.prepare_own.new.devices)))
     (c.watch_if.ensures.same ∙ c.sync_if.ensures.same ∙ c.take_place.ensures.same) c.prepare_own.ensures.ok)
 
 pub returns-clause-bars : goal.returns-clause-bars

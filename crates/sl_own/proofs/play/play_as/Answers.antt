@@ -1,4 +1,5 @@
-use Rattle.sl_live_run.specs.Runs.{disks_in}
+use Rattle.sl_live_run.specs.Lent.{AreAllBack}
+use Rattle.sl_live_run.specs.Runs.{disks_in, remains_of}
 use Rattle.sl_own.proofs.PlayLaws.{beginning, owes_run_own}
 use Rattle.sl_own.proofs.play.play_as.Goals as goal
 use Rattle.sl_own.specs.OwnOwed.{ReadsOwn}
@@ -6,11 +7,11 @@ use Rattle.sl_reader.specs.HeaderBegins.{HeaderBegins}
 use Rattle.sl_reader.specs.Scopes.{own_scope}
 use Rattle.sl_reader.specs.ScriptReading.{IsScript, ReadsScriptBy, ScriptState}
 use Rattle.sl_reader.specs.declared.live_lines.LiveLine.{LiveLine}
-use Rattle.std.proofs.Common.{List, ap, subst, sym, ◌∙◌}
+use Rattle.std.proofs.Common.{List, ap, map, subst, sym, ◌∙◌}
 
 pub returns : goal.returns
 unfolding beginning
-returns g c disks folder first h ground may begins =
+returns g c disks folder lent first h ground may begins =
     let there : HeaderBegins first g.J.Origin.left g.J.Origin.began h =
     subst (λ r. HeaderBegins first g.J.Origin.left r h) c.requires.began
     (subst (λ l. HeaderBegins first l c.args.reader h) c.requires.left begins) in
@@ -24,9 +25,10 @@ returns g c disks folder first h ground may begins =
     (subst (λ x. ReadsScriptBy x g.J.Origin.keeps first (g.S.Source.left c.close-source.result.0) g.J.Origin.faults (g.S.Source.faults c.close-source.result.0) h given c.close-source.result.1)
     (sym c.requires.scope ∙ ap (λ x. own_scope x m) ground.same) (c.close-source.ensures.script first h given there so))) in
     let run = c.run_own-run.ensures in
-    owes_run_own g.D.Daemon.stands g.D.Daemon.commands (record { content = g.V.Area.Area.content; faults = g.V.Area.Area.faults; acts = g.V.Spawner.Spawner.acts }) disks folder c.args.manner first _ _ _ _ _ _ _ _ _ h
-    (beginning _ _ disks folder h m c.args.ground ground) (disks_in c.args.ground.ready.parts) (has c.new-lines.result) (has c.run_own-run.new.lines) run.pieces
-    c.run_own-run.result.machines _ c.run_own-run.result.replies c.close-source.result.1 c.put_run-lived.result c.new-lines.ensures.none reads may
-    (record { delta = ground.delta; resource = ground.resource }) run.ok run.stop
+    owes_run_own g.D.Daemon.stands g.D.Daemon.commands (record { content = g.V.Area.Area.content; faults = g.V.Area.Area.faults; acts = g.V.Spawner.Spawner.acts }) disks folder c.args.manner first _ _ _ _ _ _ _ _ _ lent _ h
+    (beginning _ _ disks folder h m lent _ c.args.ground ground) (disks_in c.args.ground.ready.parts) (has c.new-lines.result) (has c.run_own-run.new.lines) run.pieces
+    c.run_own-run.result.machines _ c.run_own-run.result.replies c.close-source.result.1 c.put_run-lived.result (g.V.Devices.lendings c.args.devices.now) c.new-lines.ensures.none reads may ground.had
+    (subst (λ x. AreAllBack g.V.Area.Area.content g.V.Area.Area.faults g.V.Spawner.Spawner.acts (map remains_of c.run_own-run.result.remains.items) (g.V.Devices.lendings c.args.devices.now) x)
+    (sym c.rest_if.ensures.lendings) c.give_all_back.ensures) run.ok run.stop
     (c.put_run-lived.ensures.ok (g.K.Sink.taken c.args.sink) (g.K.Sink.faults c.args.sink) run.pieces run.put)
     (c.put_run-lived.ensures.stop (g.K.Sink.taken c.args.sink) (g.K.Sink.faults c.args.sink) run.pieces run.put)

@@ -5,10 +5,10 @@ use Rattle.sl_report.specs.Schedules.{NumberedLine}
 use Rattle.std.proofs.Common.{ap, sym, ◌∙◌}
 
 pub play_ground-requires-clause-place : goal.play_ground-requires-clause-place
-play_ground-requires-clause-place g c κs within = small_place _ _ (g.V.Devices.disks c.args.devices.now) c.args.folder.now c.args.header c.args.manner.machine c.in-Ok.ground c.in-Ok.ensures.ok
+play_ground-requires-clause-place g c κs within = small_place _ _ (g.V.Devices.disks c.args.devices.now) c.args.folder.now c.args.header c.args.manner.machine _ _ c.in-Ok.ground c.in-Ok.ensures.ok
 
 pub play_ground-requires-clause-setting : goal.play_ground-requires-clause-setting
-play_ground-requires-clause-setting g c κs within = own_setting _ _ g.D.Daemon.commands (g.V.Devices.disks c.args.devices.now) c.args.folder.now c.args.header c.args.manner.machine c.in-Ok.ground sites_are_settings c.requires.reads c.in-Ok.ensures.ok
+play_ground-requires-clause-setting g c κs within = own_setting _ _ g.D.Daemon.commands (g.V.Devices.disks c.args.devices.now) c.args.folder.now c.args.header c.args.manner.machine _ _ c.in-Ok.ground sites_are_settings c.requires.reads c.in-Ok.ensures.ok
 
 pub play_ground-requires-clause-numbered : goal.play_ground-requires-clause-numbered
 play_ground-requires-clause-numbered g c κs within = c.in-Ok.ensures.ok.numbered
@@ -21,15 +21,15 @@ play_ground-requires-clause-header g c κs within = c.in-Ok.ensures.ok.lawful
 
 pub returns-in-Some : goal.returns-in-Some
 returns-in-Some g c first begins =
-    owes_header g.D.Daemon.stands g.D.Daemon.commands _ (g.V.Devices.disks c.args.devices.now) c.args.folder.now c.args.manner first _ _ _ _ _ _ _ _ _ c.args.reader c.args.header c.line.result.number
-    c.in-Some.why c.put_refusal.result begins (sym c.header_refusal.ensures ∙ c.in-Some.is) (ap (λ (l : NumberedLine). l.number) c.line.ensures) c.put_refusal.ensures
+    owes_header g.D.Daemon.stands g.D.Daemon.commands _ (g.V.Devices.disks c.args.devices.now) c.args.folder.now c.args.manner first _ _ _ _ _ _ _ _ _ _ _ c.args.reader c.args.header c.line-number.result.number
+    c.in-Some.why c.put_refusal.result begins (sym c.header_refusal.ensures ∙ c.in-Some.is) (ap (λ (l : NumberedLine). l.number) c.line-number.ensures) c.put_refusal.ensures
 
 pub returns-in-Ok : goal.returns-in-Ok
 returns-in-Ok g c first begins =
-    owes_devices g.D.Daemon.stands g.D.Daemon.commands _ (g.V.Devices.disks c.args.devices.now) c.args.folder.now c.args.manner first _ _ _ _ _ _ _ _ _ _ c.play_ground.result.0 c.in-Ok.ensures.later
-    (c.play_ground.ensures (g.V.Devices.disks c.args.devices.now) c.args.folder.now first c.args.header c.in-Ok.ensures.ok (record { header = sym c.header_refusal.ensures ∙ c.in-None.is; place = c.in-Ok.ensures.place }) begins)
+    owes_devices g.D.Daemon.stands g.D.Daemon.commands _ (g.V.Devices.disks c.args.devices.now) c.args.folder.now c.args.manner first _ _ _ _ _ _ _ _ _ _ _ _ c.play_ground.result.0 c.in-Ok.ensures.later
+    (c.play_ground.ensures (g.V.Devices.disks c.args.devices.now) c.args.folder.now (g.V.Devices.lendings c.args.devices.now) first c.args.header c.in-Ok.ensures.ok (record { header = sym c.header_refusal.ensures ∙ c.in-None.is; place = c.in-Ok.ensures.place }) begins)
 
 pub returns-in-Err : goal.returns-in-Err
 returns-in-Err g c first begins =
-    owes_no_place g.D.Daemon.stands g.D.Daemon.commands _ (g.V.Devices.disks c.args.devices.now) c.args.folder.now c.args.manner first _ _ _ _ _ _ _ _ _ c.args.header c.args.reader c.in-Err.why
+    owes_no_place g.D.Daemon.stands g.D.Daemon.commands _ (g.V.Devices.disks c.args.devices.now) c.args.folder.now c.args.manner first _ _ _ _ _ _ _ _ _ _ _ c.args.header c.args.reader c.in-Err.why
     c.put_no_place.result begins c.in-Err.ensures.bars c.put_no_place.ensures

@@ -9,8 +9,8 @@ unreachable-requires g c =
     c.requires.live (said_live (said c.args.words.now) c.in-Ok-Live._folder c.in-Ok-Live._anew c.in-Ok-Live._keeps c.in-Ok-Live._events
     (c.in-Ok-Live.ensures.read ∙ ap (λ w. Some w) c.in-Ok-Live.field-0-is))
 
-pub unreachable-2-requires : goal.unreachable-2-requires
-unreachable-2-requires g c =
+pub unreachable-requires-in-Ok-Own : goal.unreachable-requires-in-Ok-Own
+unreachable-requires-in-Ok-Own g c =
     c.requires.own (said_own (said c.args.words.now) c.in-Ok-Own._folder c.in-Ok-Own._machine c.in-Ok-Own._watchdog c.in-Ok-Own._syncs c.in-Ok-Own._keeps c.in-Ok-Own._events
     (c.in-Ok-Own.ensures.read ∙ ap (λ w. Some w) c.in-Ok-Own.field-0-is))
 

@@ -1,7 +1,8 @@
 use Rattle.sl_area.specs.AreaSizes.{IsGeometry}
-use Rattle.sl_alone.proofs.DeltaTold.{sized_is, survey_is}
+use Rattle.sl_alone.proofs.DeltaTold.{sized_is}
 use Rattle.sl_alone.proofs.delta_lease.DeltaLease.answer.Goals as goal
 use Rattle.sl_alone.specs.DeltaSteps.{after_told, begun, given_told, is_late, with_recovery}
+use Rattle.sl_delta.proofs.PurposeLaws.{survey_is}
 use Rattle.sl_trace.specs.declared.effects.Purpose.TheVariants.{Survey}
 use Rattle.std.proofs.Common.{ap, subst, sym, ◌∙◌}
 
