@@ -19,15 +19,13 @@ use Rattle.sl_run.specs.declared.header.FirstReading.{FirstReading}
 use Rattle.sl_run.specs.declared.header.Header.{Header}
 use Rattle.sl_run.specs.declared.header.ResourceLine.{ResourceLine}
 use Rattle.sl_run.specs.declared.header.SessionLine.{SessionLine}
-use Rattle.sl_text.specs.Forms.{lines_of}
 use Rattle.sl_time.specs.Times.{dead, fail}
 use Rattle.std.specs.List.{flat_map, list_any, position}
 use Rattle.std.specs.Option.{option_map_or, option_to_list}
 use Rattle.std.specs.Prelude.{Bool, List, None, Option, Some, bytes_eq, codes, count_by, drop, false, find, fold, if◌then◌else◌, length, min, nat_le, nat_lt, not, replicate, slice_index_or, slice_set, suc, take, true, zero, [], ℕ, ◌&&◌, ◌++◌, ◌+◌, ◌-◌, ◌/◌, ◌==◌, ◌%◌, ◌∷◌, ◌||◌}
 
 -- What is kept: which lines are drawn, the place on the axis and the moment at which the picture begins, whether the line that is taken is a
--- reset; texts, open bars and ended ones, marks, columns, comments, the lines of the caption, machines; the header's resources, and two of its
--- times.
+-- reset; texts, open bars and ended ones, marks, columns, comments, machines; the header's resources, and two of its times.
 pub record Kept : Type 0 where
   pub part : Part
   pub here : Instant
@@ -39,7 +37,6 @@ pub record Kept : Type 0 where
   pub marks : List Mark
   pub columns : List Column
   pub notes : List Note
-  pub caption : List Text
   pub lanes : List Lane
   pub resources : List Text
   pub io : ℕ
@@ -239,7 +236,6 @@ empty part h =
       marks = [];
       columns = [];
       notes = [];
-      caption = [];
       lanes = replicate h.machines no_lane;
       resources = [];
       io = h.timing.io;
@@ -253,14 +249,3 @@ first_kept part h =
     let resources : Kept = fold with_resource clocks h.resources in
     let sessions : Kept = fold (with_session (fail h.timing)) resources h.sessions in
     idle_to (length sessions.lanes) sessions
-
--- The lines of a caption are kept.
-abbrev pub with_caption : List ℕ → Kept → Kept
-with_caption line k = record (keeping line k) { caption = k.caption ++ place_of line k ∷ [] }
-
-abbrev pub captioned : List ℕ → Kept → Kept
-captioned text k = fold (λ n line. with_caption line n) k (lines_of text)
-
--- The picture of a header's world with a caption.
-abbrev pub titled_kept : Part → List ℕ → Header → Kept
-titled_kept part caption h = captioned caption (first_kept part h)

@@ -10,7 +10,6 @@ use Rattle.sl_picture.specs.declared.shapes.Bar.{Bar}
 use Rattle.sl_picture.specs.declared.shapes.Instant.{Instant}
 use Rattle.sl_picture.specs.declared.shapes.Note.{Note}
 use Rattle.sl_picture.specs.declared.shapes.Shape.{Shape}
-use Rattle.sl_picture.specs.declared.shapes.Text.{Text}
 use Rattle.std.specs.Prelude.{Bool, List, filter, fold, if◌then◌else◌, length, map, max, min, nat_le, nat_lt, not, slice_index_or, suc, zero, [], ℕ, ◌&&◌, ◌*◌, ◌++◌, ◌+◌, ◌-◌, ◌/◌, ◌==◌, ◌∷◌}
 
 -- ---- the axis
@@ -91,13 +90,6 @@ wider width n = max width (plus 120 (letters n.text.len))
 abbrev pub width_of : List Note → ℕ → ℕ
 width_of ns least = fold wider least ns
 
--- .. and for each line of the caption.
-abbrev pub wider_yet : ℕ → Text → ℕ
-wider_yet width t = max width (plus 20 (letters t.len))
-
-abbrev pub caption_width : List Text → ℕ → ℕ
-caption_width ts least = fold wider_yet least ts
-
 abbrev pub all_bars : Kept → List Bar
 all_bars k = k.done ++ map (ended k.here) (filter (λ b. not (is_gap b.shape)) k.opened)
 
@@ -110,6 +102,6 @@ plan_of bs k =
       scale = scale;
       places = places;
       bottom = bottom;
-      width = caption_width k.caption (width_of k.notes (max (plus (x_of scale k.here) 180) 900));
+      width = width_of k.notes (max (plus (x_of scale k.here) 180) 900);
       height = plus (plus bottom 40) (times (length k.notes) 13);
     }

@@ -34,8 +34,6 @@ pub struct Picture {
     pub(crate) marks: Vec<Mark>,
     pub(crate) columns: Vec<Column>,
     pub(crate) notes: Vec<Note>,
-    /// The lines of the caption.
-    pub(crate) caption: Vec<Text>,
     pub(crate) lanes: Vec<Lane>,
     /// The resources of the header, each as its lockspace and its name with a colon between them.
     pub(crate) resources: Vec<Text>,
@@ -60,7 +58,6 @@ impl Model for Picture {
       marks = p.marks.items;
       columns = p.columns.items;
       notes = p.notes.items;
-      caption = p.caption.items;
       lanes = p.lanes.items;
       resources = p.resources.items;
       io = p.io;
@@ -259,7 +256,6 @@ impl Picture {
             marks: Vec::new(alloc),
             columns: Vec::new(alloc),
             notes: Vec::new(alloc),
-            caption: Vec::new(alloc),
             lanes: new_lanes(alloc, header.machines)?,
             resources: Vec::new(alloc),
             io: header.timing.io(),

@@ -6,7 +6,7 @@ ghost use Rattle.std.specs.Prelude.{IfOk, OnOk, filter, map, min, not, ◌*◌, 
 
 use crate::fates::{ended, is_command, is_gap, is_holding, is_link};
 use crate::kept::Picture;
-use crate::shapes::{Bar, Instant, Note, Shape, Text};
+use crate::shapes::{Bar, Instant, Note, Shape};
 use sl_drawing::{letters, minus, plus, times};
 use std::alloc::{AllocError, Global};
 use std::marker::Model;
@@ -253,22 +253,6 @@ fn width_of(notes: &[Note], least: u64) -> u64
     notes.iter().fold(least, |width, note| wider(width, note))
 }
 
-/// A width, or what a line of the caption needs where that is more.
-fn wider_yet(width: u64, text: &Text) -> u64
-    ensures { result ≡ layout.wider_yet width text.now }
-{
-    width.max(plus(20, letters(text.len)))
-}
-
-/// A width that has room for each line of the caption, and at least this one.
-fn caption_width(caption: &[Text], least: u64) -> u64
-    ensures { result ≡ layout.caption_width caption.now least }
-{
-    caption
-        .iter()
-        .fold(least, |width, text| wider_yet(width, text))
-}
-
 impl Picture {
     /// All bars: those that have ended, and those that are open, which stand to the end; a resource that nobody holds any more has none.
     pub(crate) fn all_bars(&self) -> Result<Vec<Bar>, AllocError>
@@ -295,7 +279,7 @@ impl Picture {
         Ok(Layout {
             scale,
             bottom,
-            width: caption_width(&self.caption, width_of(&self.notes, least)),
+            width: width_of(&self.notes, least),
             height: plus(plus(bottom, 40), times(self.notes.len() as u64, 13)),
             places,
         })

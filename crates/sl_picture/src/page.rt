@@ -5,6 +5,7 @@ ghost use Rattle.sl_picture.specs.Page as page;
 ghost use Rattle.std.specs.Prelude.{IfOk, OnOk, length, ◌++◌, ◌<◌, ◌≡◌};
 
 use crate::bars::{Layer, push_numbered};
+use crate::caption::push_above;
 use crate::kept::{Picture, text_at};
 use crate::layout::{
     LEFT, Layout, Place, TOP, bottom_of, calls_top, commands_top, held_top, links_top,
@@ -12,18 +13,13 @@ use crate::layout::{
 use crate::said::behind_colon;
 use crate::shapes::Bar;
 use crate::signs::push_marks;
-use sl_drawing::{
-    Area, Class, letters, minus, plus, push_front, push_head, push_label, push_lowered, push_rect,
-    push_tail, times,
-};
+use sl_drawing::{Area, Class, letters, minus, plus, push_label, push_rect, push_tail, times};
+use sl_text::Bytes;
 use sl_text::number::push_number;
 use std::alloc::AllocError;
 
 /// The resources of a legend, as many as have room.
 const MOST_KEYS: usize = 12;
-
-/// How far the lines of the caption stand below each other.
-const CAPTION_LINE: u64 = 14;
 
 /// Adds the names of a machine's upper rows.
 #[tactic(auto, unfolding(crate::specs::Page::upper_rows))]
@@ -112,61 +108,6 @@ fn push_lane(
 }
 
 impl Picture {
-    /// How high the caption is.
-    fn caption_height(&self) -> u64
-        ensures { result ≡ page.caption_height self.now }
-    {
-        times(self.caption.len() as u64, CAPTION_LINE)
-    }
-
-    /// Adds the front of the picture, the head, and its ground.
-    fn push_sheet(&self, out: &mut Vec<u8>, layout: &Layout) -> Result<(), AllocError>
-        ensures { OnOk result (out.new.items ≡ out.old.items ++ page.sheet_text self.now layout.now) }
-    {
-        let height = plus(layout.height, self.caption_height());
-        push_front(out, layout.width, height)?;
-        push_head(out)?;
-        push_rect(
-            out,
-            Class::Ground,
-            Area {
-                x: 0,
-                y: 0,
-                width: layout.width,
-                height,
-            },
-        )
-    }
-
-    /// Adds a line of the caption, by its index.
-    fn push_caption_line(&self, out: &mut Vec<u8>, index: usize) -> Result<(), AllocError>
-        requires { index < length self.now.caption }
-        ensures { OnOk result (out.new.items ≡ out.old.items ++ page.caption_line self.now index) }
-    {
-        let y = plus(times(index as u64, CAPTION_LINE), 12);
-        let text = text_at(&self.texts, self.caption[index]);
-        push_label(out, Class::Plain, 10, y, text)
-    }
-
-    /// Adds the caption.
-    fn push_caption(&self, out: &mut Vec<u8>) -> Result<(), AllocError>
-        ensures { OnOk result (out.new.items ≡ out.old.items ++ page.caption_to self.now (length self.now.caption)) }
-    {
-        for index in 0..self.caption.len() {
-            self.push_caption_line(out, index)?;
-        }
-        Ok(())
-    }
-
-    /// Adds the sheet with the caption, and the front of what stands below that.
-    fn push_above(&self, out: &mut Vec<u8>, layout: &Layout) -> Result<(), AllocError>
-        ensures { OnOk result (out.new.items ≡ out.old.items ++ page.above_text self.now layout.now) }
-    {
-        self.push_sheet(out, layout)?;
-        self.push_caption(out)?;
-        push_lowered(out, self.caption_height())
-    }
-
     /// Adds the colours of the resources; the answer is where the next key stands.
     fn push_resources(&self, out: &mut Vec<u8>) -> Result<u64, AllocError>
         ensures text { OnOk result (out.new.items ≡ out.old.items ++ (page.resources_row self.now).text) }
@@ -249,11 +190,10 @@ impl Picture {
         push_label(out, Class::Plain, LEFT, y, last)
     }
 
-    /// Adds the front of the picture, its legend and the grounds of its machines.
+    /// Adds the legend and the grounds of the machines.
     fn push_ground(&self, out: &mut Vec<u8>, layout: &Layout) -> Result<(), AllocError>
         ensures { OnOk result (out.new.items ≡ out.old.items ++ page.ground_text self.now layout.now) }
     {
-        self.push_above(out, layout)?;
         let x = self.push_resources(out)?;
         self.push_keys(out, x)?;
         self.push_lanes(out, layout)
@@ -291,14 +231,20 @@ impl Picture {
         self.push_last(out, layout, last)
     }
 
-    /// Adds the picture as a text to the end of this one, with this last line of the report. After an `Err`, which is want of memory, a part of
-    /// it may stand there.
+    /// Adds the picture as a text to the end of this one, below the lines of this caption and with this last line of the report. After an `Err`,
+    /// which is want of memory, a part of it may stand there.
     #[tactic(auto, unfolding(crate::specs::Page::picture_of))]
-    pub fn push_picture(&self, out: &mut Vec<u8>, last: &[u8]) -> Result<(), AllocError>
-        ensures { OnOk result (out.new.items ≡ out.old.items ++ page.picture_of self.now last.now) }
+    pub fn push_picture(
+        &self,
+        out: &mut Vec<u8>,
+        caption: &[Bytes],
+        last: &[u8],
+    ) -> Result<(), AllocError>
+        ensures { OnOk result (out.new.items ≡ out.old.items ++ page.picture_of caption.now self.now last.now) }
     {
         let bars = self.all_bars()?;
         let layout = self.lay_out(&bars)?;
+        push_above(out, &layout, caption)?;
         self.push_ground(out, &layout)?;
         self.push_layers(out, &layout, &bars)?;
         self.push_labels(out, &layout, &bars, last)?;

@@ -1,6 +1,5 @@
 //! What a line of a report tells for the picture, and a whole line of a schedule with what is told of it.
 
-ghost use Rattle.sl_picture.specs.Kept as kept;
 ghost use Rattle.sl_picture.specs.Tells as tells;
 ghost use Rattle.std.specs.Prelude.{OnOk, ◌≡◌};
 
@@ -191,27 +190,6 @@ impl Picture {
         let mut rest = report;
         while let Some((line, behind)) = split_line(rest) {
             self.tell(line)?;
-            rest = behind;
-        }
-        Ok(())
-    }
-
-    /// A line of the caption.
-    fn caption_line(&mut self, line: &[u8]) -> Result<(), AllocError>
-        ensures { OnOk result (self.new ≡ kept.with_caption line.now self.old) }
-    {
-        let text = self.keep(line)?;
-        self.caption.push(text)?;
-        Ok(())
-    }
-
-    /// The lines of a text, each with its line feed, stand above the picture. An `Err` is want of memory, and the picture is at its end then.
-    pub fn caption(&mut self, text: &[u8]) -> Result<(), AllocError>
-        ensures { OnOk result (self.new ≡ kept.captioned text.now self.old) }
-    {
-        let mut rest = text;
-        while let Some((line, behind)) = split_line(rest) {
-            self.caption_line(line)?;
             rest = behind;
         }
         Ok(())
