@@ -172,6 +172,7 @@ pub fn push_front(out: &mut Vec<u8>, width: u64, height: u64) -> Result<(), Allo
 }
 
 /// Adds the front of what stands so far below the top of a picture: all that is written behind it, to its own end, is moved down by so much.
+#[tactic(auto, unfolding(crate::specs::Elements::lowered_text))]
 pub fn push_lowered(out: &mut Vec<u8>, y: u64) -> Result<(), AllocError>
     ensures { OnOk result (out.new.items ≡ out.old.items ++ elements.lowered_text y) }
 {
