@@ -7,5 +7,6 @@ pub mod Tells
 pub mod Layout
 pub mod Bars
 pub mod Signs
+pub mod Captions
 pub mod Page
 pub mod WellFormed
