@@ -2,11 +2,12 @@
 use Rattle.sl_report.specs.Reports.{Counts, end_line}
 use Rattle.sl_text.proofs.PieceLaws.{first_piece, pieces-front}
 use Rattle.sl_text.specs.Forms.{as_bytes, is_free_of, lines_of, pieces, spaced, without_empty_last}
+use Rattle.sl_words.proofs.CaseLaws.{is_false}
 use Rattle.sl_words.proofs.Lists.{ends, head_is}
 use Rattle.sl_words.proofs.WordLaws.{and_true}
 use Rattle.std.proofs.Common.{ap, arith, inl, inr, mod-lt, refl, sym, ◌∙◌}
 use Rattle.std.proofs.lemmas.Bool.Decides.{nat_tests}
-use Rattle.std.proofs.lemmas.Bool.{and_from, eq-eqb, not-true}
+use Rattle.std.proofs.lemmas.Bool.{and_from, eq-eqb, eqb-true, lt-ltb, not-true}
 use Rattle.std.proofs.lemmas.List.Splits.{slice_split-cons_yes}
 use Rattle.std.proofs.lemmas.List.{append-nil, append_assoc, append_cancel_right}
 use Rattle.std.specs.Fmt.{digit_glyph, digits, digits_onto}
@@ -65,8 +66,12 @@ lines_joined u t (inr some) =
 
 -- ---- the last line
 
+far : (d : ℕ) → 48 + d ≡ 32 → ⊥
+far d h = absurd (omega (arith, h))
+
 digit_free : (d : ℕ) → d < 10 → not (digit_glyph false d == 32) ≡ true
-digit_free d few = grind (arith, nat_tests, few)
+digit_free d few =
+    ap (λ (t : Bool). not (cond t (48 + d) (87 + d) == 32)) (lt-ltb d 10 few) ∙ ap not (is_false (48 + d == 32) (λ same. far d (eqb-true (48 + d) 32 same)))
 
 ten : 0 < 10
 ten = omega arith
@@ -86,60 +91,74 @@ unfolding digits
 decimal_spaceless n = digits_free 64 n [] refl
 
 -- How many spaces a text has.
-spaces : List ℕ → ℕ
+abbrev spaces : List ℕ → ℕ
 spaces [] = 0
 spaces (b ∷ bs) = cond (b == 32) 1 0 + spaces bs
+
+nothing_first : (n : ℕ) → 0 + n ≡ n
+nothing_first n = omega arith
+
+one_first : (n : ℕ) → 1 + n ≡ 0 → ⊥
+one_first n h = absurd (omega (arith, h))
+
+one_between : (n k : ℕ) → n ≡ k → 0 + (1 + n) ≡ suc k
+one_between n k is = omega (arith, is)
 
 sums : (a b c : ℕ) → a + (b + c) ≡ (a + b) + c
 sums a b c = omega arith
 
 spaces_joined : (xs ys : List ℕ) → spaces (xs ++ ys) ≡ spaces xs + spaces ys
-spaces_joined [] ys = refl
+spaces_joined [] ys = sym (nothing_first (spaces ys))
 spaces_joined (x ∷ xs) ys = ap (λ n. cond (x == 32) 1 0 + n) (spaces_joined xs ys) ∙ sums (cond (x == 32) 1 0) (spaces xs) (spaces ys)
 
 no_spaces : (xs : List ℕ) → is_free_of 32 xs ≡ true → spaces xs ≡ 0
 no_spaces [] free = refl
 no_spaces (x ∷ xs) free =
     let both = and_true (not (x == 32)) (is_free_of 32 xs) free in
-    ap (λ (t : Bool). cond t 1 0 + spaces xs) (not-true (x == 32) both.0) ∙ no_spaces xs both.1
+    ap (λ (t : Bool). cond t 1 0 + spaces xs) (not-true (x == 32) both.0) ∙ nothing_first (spaces xs) ∙ no_spaces xs both.1
 
 free_without : (xs : List ℕ) → spaces xs ≡ 0 → is_free_of 32 xs ≡ true
 free_without [] none = refl
 free_without (x ∷ xs) none = by (x == 32) none (free_without xs) where
   by : (t : Bool) → cond t 1 0 + spaces xs ≡ 0 → (spaces xs ≡ 0 → is_free_of 32 xs ≡ true) → (not t && is_free_of 32 xs) ≡ true
-  by true h rest = absurd (omega (arith, h))
-  by false h rest = rest h
+  by true h rest = absurd (one_first (spaces xs) h)
+  by false h rest = rest (sym (nothing_first (spaces xs)) ∙ h)
 
 -- One space between words.
-spaces_between : (w : List ℕ) (rest : List ℕ) (k : ℕ) → is_free_of 32 w ≡ true → spaces rest ≡ k → spaces (w ++ 32 ∷ rest) ≡ suc k
-spaces_between w rest k free is = spaces_joined w (32 ∷ rest) ∙ ap (λ n. n + spaces (32 ∷ rest)) (no_spaces w free) ∙ ap suc is
+spaces_between : (w rest : List ℕ) (k : ℕ) → is_free_of 32 w ≡ true → spaces rest ≡ k → spaces (w ++ 32 ∷ rest) ≡ suc k
+spaces_between w rest k free is =
+    spaces_joined w (32 ∷ rest) ∙ ap (λ n. n + spaces (32 ∷ rest)) (no_spaces w free) ∙ one_between (spaces rest) k is
 
-word : (n : ℕ) → is_free_of 32 (decimal n) ≡ true
-word n = decimal_spaceless n
+abbrev AreFree : List (List ℕ) → Type 0
+AreFree [] = Unit {0}
+AreFree (w ∷ ws) = (is_free_of 32 w ≡ true) × AreFree ws
 
-abbrev behind : Counts → List ℕ
-behind k =
-    spaced (codes "events" ∷ decimal k.events ∷ codes "calls" ∷ decimal k.calls ∷ codes "grants" ∷ decimal k.grants ∷ codes "refusals" ∷ decimal k.refusals
-    ∷ codes "conflicts" ∷ decimal k.conflicts ∷ [])
+-- How many words, as a number.
+abbrev many : List (List ℕ) → ℕ
+many [] = 0
+many (w ∷ ws) = suc (many ws)
 
-last_from : (w : List ℕ) (n : ℕ) → is_free_of 32 w ≡ true → spaces (w ++ 32 ∷ decimal n) ≡ 1
-last_from w n free = spaces_between w (decimal n) 0 free (no_spaces (decimal n) (word n))
-
-spaces_behind : (k : Counts) → spaces (behind k) ≡ 9
-spaces_behind k =
-    spaces_between (codes "events") _ 8 refl
-    (spaces_between (decimal k.events) _ 7 (word k.events)
-    (spaces_between (codes "calls") _ 6 refl
-    (spaces_between (decimal k.calls) _ 5 (word k.calls)
-    (spaces_between (codes "grants") _ 4 refl
-    (spaces_between (decimal k.grants) _ 3 (word k.grants)
-    (spaces_between (codes "refusals") _ 2 refl (spaces_between (decimal k.refusals) _ 1 (word k.refusals) (last_from (codes "conflicts") k.conflicts refl))))))))
+spaces_spaced : (w : List ℕ) (ws : List (List ℕ)) → AreFree (w ∷ ws) → spaces (spaced (w ∷ ws)) ≡ many ws
+spaces_spaced w [] free = no_spaces w free.0
+spaces_spaced w (v ∷ ws) free = spaces_between w (spaced (v ∷ ws)) (many ws) free.0 (spaces_spaced v ws free.1)
 
 abbrev ending : List ℕ
 ending = codes "end"
 
+abbrev words_behind : Counts → List (List ℕ)
+words_behind k =
+    codes "events" ∷ decimal k.events ∷ codes "calls" ∷ decimal k.calls ∷ codes "grants" ∷ decimal k.grants ∷ codes "refusals" ∷ decimal k.refusals
+    ∷ codes "conflicts" ∷ decimal k.conflicts ∷ []
+
+abbrev behind : Counts → List ℕ
+behind k = spaced (words_behind k)
+
+all_free : (k : Counts) → AreFree (ending ∷ words_behind k)
+all_free k =
+    (refl, refl, decimal_spaceless k.events, refl, decimal_spaceless k.calls, refl, decimal_spaceless k.grants, refl, decimal_spaceless k.refusals, refl, decimal_spaceless k.conflicts, tt)
+
 spaces_of_end : (k : Counts) → spaces (end_line k) ≡ 10
-spaces_of_end k = spaces_between ending (behind k) 9 refl (spaces_behind k)
+spaces_of_end k = spaces_spaced ending (words_behind k) (all_free k)
 
 none_before : (n : ℕ) → 10 ≡ n + 10 → n ≡ 0
 none_before n h = omega (arith, h)
