@@ -283,11 +283,9 @@ module _ (p : Program) (h : Header) (now : List Happening) (x : Happening) (run 
 
   held_then : (a : Machine) → machine_at w n ≡ Some a → HeldThen later n one.effects a
   held_then a at = by (input_of w e) refl where
-    q = becomes w e one.effects may n a at
-
     by : (o : Option Input) → input_of w e ≡ o → HeldThen later n one.effects a
-    by None none = by_itself a q.2.middle at q.2.between q.2.turned none
-    by (Some i) input = by_daemon a q.2.middle i at q.2.between q.2.turned input
+    by None none = let q = becomes w e one.effects may n a at in by_itself a q.2.middle at q.2.between q.2.turned none
+    by (Some i) input = let q = becomes w e one.effects may n a at in by_daemon a q.2.middle i at q.2.between q.2.turned input
 
   -- Another machine holds what it held.
   same_elsewhere : (m : ℕ) → (n ≡ m → ⊥) → held_on later m ≡ held_on w m

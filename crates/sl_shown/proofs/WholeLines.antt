@@ -35,12 +35,10 @@ pieces_split c [] t = slice_split-cons_yes (λ b. b == c) c t (eq-eqb c c refl)
 pieces_split c (b ∷ v) t =
     ap (λ (ps : List (List ℕ)). cond (b == c) ([] ∷ ps) (onto_first b ps)) (pieces_split c v t) ∙ by (b == c)
   where
-    first = first_piece c v
-
     by : (u : Bool)
         → cond u ([] ∷ (pieces c v ++ pieces c t)) (onto_first b (pieces c v ++ pieces c t)) ≡ cond u ([] ∷ pieces c v) (onto_first b (pieces c v)) ++ pieces c t
     by true = refl
-    by false = onto_joined b (pieces c v) (pieces c t) first.0 first.1 first.2
+    by false = let first = first_piece c v in onto_joined b (pieces c v) (pieces c t) first.0 first.1 first.2
 
 kept_line : (l m : List ℕ) (ls : List (List ℕ)) → without_empty_last (l ∷ m ∷ ls) ≡ l ∷ without_empty_last (m ∷ ls)
 kept_line [] m ls = refl
