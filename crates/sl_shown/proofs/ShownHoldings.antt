@@ -48,7 +48,7 @@ use Rattle.sl_trace.specs.declared.effects.Mode.{Mode}
 use Rattle.sl_words.proofs.CaseLaws.{false_is_true, is_false, true_is_false, true_or_false}
 use Rattle.sl_words.proofs.Lists.{any_of, contains_cases, contains_first, contains_map, contains_more, contains_none, in_map, kept}
 use Rattle.sl_words.proofs.WordLaws.{and_true}
-use Rattle.std.proofs.Common.{ap, inl, inr, refl, subst, sym, ◌∙◌}
+use Rattle.std.proofs.Common.{ap, arith, inl, inr, refl, subst, sym, ◌∙◌}
 use Rattle.std.proofs.lemmas.Bool.{and_from, eq-eqb, eqb-true}
 use Rattle.std.proofs.lemmas.List.Elements.{filter_map-append}
 use Rattle.std.proofs.lemmas.List.Sums.{fold-append}
@@ -83,12 +83,12 @@ abbrev lines_of_reading : HeaderReading → List NumberedLine
 lines_of_reading (Header_refused number why) = []
 lines_of_reading (Header_read h rest) = rest
 
-one_is_none : 1 ≡ 0 → ⊥
-one_is_none h = absurd cc
+one_or_none : (n : ℕ) → n ≡ 0 → n ≡ 1 → ⊥
+one_or_none n none one = absurd (omega (arith, none, one))
 
-is_the_end : (end : Ending) → 0 ≡ status_of end → end ≡ At_end
+is_the_end : (end : Ending) → status_of end ≡ 0 → end ≡ At_end
 is_the_end At_end h = refl
-is_the_end (At_line number why) h = absurd (one_is_none (sym h))
+is_the_end (At_line number why) h = absurd (one_or_none 1 h refl)
 
 -- The run that a front's report tells, and that its lines are what the steps are told.
 record FrontRun (lang : Language) (h : Header) (steps : List Step) : Type 0 where
@@ -98,12 +98,12 @@ record FrontRun (lang : Language) (h : Header) (steps : List Step) : Type 0 wher
 
 module _ (lang : Language) (h : Header) (steps : List Step) where
   front_by : (front written : List ℕ) (status : ℕ) (counts : Counts) → read_header lang [] 1 (numbered_lines front) ≡ Header_read h (lines_of_steps steps)
-      → written ≡ told_of_steps steps ++ as_bytes (end_line counts ∷ []) → 0 ≡ status → ReplayOf ServedRun lang front written status → FrontRun lang h steps
-  front_by front written status counts header text zero_is (In_header number why read is) = absurd (one_is_none (sym zero_is))
-  front_by front written status counts header text zero_is (In_events i rest ys end read follows served is ends) =
+      → ReplayOf ServedRun lang front written status → written ≡ told_of_steps steps ++ as_bytes (end_line counts ∷ []) → status ≡ 0 → FrontRun lang h steps
+  front_by front written status counts header (In_header number why read is) text none = absurd (one_or_none 1 none refl)
+  front_by front written status counts header (In_events i rest ys end read follows served is ends) text none =
       let same : i ≡ h = ap (header_of_reading h) (sym read ∙ header) in
       let lines : rest ≡ lines_of_steps steps = ap lines_of_reading (sym read ∙ header) in
-      let done : end ≡ At_end = is_the_end end (zero_is ∙ ends) in
+      let done : end ≡ At_end = is_the_end end (sym ends ∙ none) in
       let there : Follows (world_with lang.program h) (event_lines_of lang h (lines_of_steps steps)) ys At_end =
       subst (λ (s : Ending). Follows (world_with lang.program h) (event_lines_of lang h (lines_of_steps steps)) ys s) done
       (subst (λ (ls : List NumberedLine). Follows (world_with lang.program h) (event_lines_of lang h ls) ys end) lines
@@ -116,7 +116,7 @@ module _ (lang : Language) (h : Header) (steps : List Step) where
       }
 
   front_run : (source : List ℕ) → IsTold ServedRun lang source h steps → FrontRun lang h steps
-  front_run source t = front_by t.front (told_of_steps steps ++ as_bytes (end_line t.counts ∷ [])) 0 t.counts t.header refl refl t.report
+  front_run source t = front_by t.front (told_of_steps steps ++ as_bytes (end_line t.counts ∷ [])) 0 t.counts t.header t.report refl refl
 
   sound_replay : (good : IsGood lang) (source : List ℕ) (t : IsTold ServedRun lang source h steps)
       → told_of_steps steps ++ as_bytes (end_line t.counts ∷ []) ≡ as_bytes (replay_lines lang t.front)
@@ -142,30 +142,38 @@ report_by lang o =
       | Header_read h rest ↦ replay_from lang (world_with lang.program h) no_counts (event_lines_of lang h rest)
     ]
 
+abbrev read_line : ℕ → Event → EventLine
+read_line n e = (n, Ok e)
+
+abbrev bad_line : ℕ → Refusal → EventLine
+bad_line n r = (n, Err r)
+
+abbrev is_bad : EventLine → Bool
+is_bad l = elim (l.1) [ Ok e ↦ false | Err r ↦ true ]
+
+behind_read : (k : ℕ) (e : Event) (ls : List EventLine) (n : ℕ) (r : Refusal) → Contains (read_line k e ∷ ls) (bad_line n r) → Contains ls (bad_line n r)
+behind_read k e ls n r has =
+    elim (contains_cases (read_line k e) ls (bad_line n r) has) as (λ z. Contains ls (bad_line n r)) [
+      | inl is ↦ absurd (false_is_true (ap is_bad is))
+      | inr more ↦ more
+    ]
+
 -- A schedule that is followed to its end has no line that can't be read.
-no_error : (w : World) (ls : List EventLine) (xs : List Happening) (n : ℕ) (r : Refusal) → Follows w ls xs At_end → Contains ls (n, Err r) → ⊥
-no_error w [] xs n r f has = contains_none (n, Err r) has
+no_error : (w : World) (ls : List EventLine) (xs : List Happening) (n : ℕ) (r : Refusal) → Follows w ls xs At_end → Contains ls (bad_line n r) → ⊥
+no_error w [] xs n r f has = contains_none (bad_line n r) has
 no_error w ((k, Err q) ∷ ls) [] n r f has = f
 no_error w ((k, Err q) ∷ ls) (x ∷ xs) n r f has = no_error (happens w x.0 x.1) ((k, Err q) ∷ ls) xs n r f.1 has
 no_error w ((k, Ok e) ∷ ls) [] n r f has = f
-no_error w ((k, Ok e) ∷ ls) (x ∷ xs) n r f has = by (asking w) f where
-  event_is_none : (k n : ℕ) (e : Event) (r : Refusal) → (k, Ok e) ≡ (n, Err r) → ⊥
-  event_is_none k n e r h = absurd cc
-
-  later : Contains ls (n, Err r)
-  later =
-      elim (contains_cases (k, Ok e) ls (n, Err r) has) as (λ z. Contains ls (n, Err r)) [
-        | inl is ↦ absurd (event_is_none k n e r is)
-        | inr more ↦ more
-      ]
-
-  by : (o : Option ℕ)
-      → elim o as (λ z. Type 0) [
-        | Some m ↦ IsAskOf w x × Follows (happens w x.0 x.1) ((k, Ok e) ∷ ls) xs At_end
-        | None ↦ (e ≡ x.0) × IsTrue (may_happen w e) × Follows (happens w x.0 x.1) ls xs At_end
-      ] → ⊥
-  by (Some m) g = no_error (happens w x.0 x.1) ((k, Ok e) ∷ ls) xs n r g.1 has
-  by None g = no_error (happens w x.0 x.1) ls xs n r g.2 later
+no_error w ((k, Ok e) ∷ ls) (x ∷ xs) n r f has =
+    by (asking w) f (λ g. no_error (happens w x.0 x.1) ((k, Ok e) ∷ ls) xs n r g has) (λ g. no_error (happens w x.0 x.1) ls xs n r g (behind_read k e ls n r has))
+  where
+    by : (o : Option ℕ)
+        → elim o as (λ z. Type 0) [
+          | Some m ↦ IsAskOf w x × Follows (happens w x.0 x.1) (read_line k e ∷ ls) xs At_end
+          | None ↦ (e ≡ x.0) × IsTrue (may_happen w e) × Follows (happens w x.0 x.1) ls xs At_end
+        ] → (Follows (happens w x.0 x.1) (read_line k e ∷ ls) xs At_end → ⊥) → (Follows (happens w x.0 x.1) ls xs At_end → ⊥) → ⊥
+    by (Some m) g again next = again g.1
+    by None g again next = next g.2
 
 -- The event of a line, by what it is refused for and whether it says something.
 abbrev event_by : Language → Header → NumberedLine → Option Refusal → Bool → Option EventLine
@@ -188,12 +196,12 @@ module _ (lang : Language) (h : Header) (good : IsGood lang) (source : List ℕ)
     by : (o : Option Refusal) → line_refusal s.line ≡ o → event_line lang h s.line ≡ None
     by None is = ap (λ (u : Option Refusal). event_by lang h s.line u (lang.skips s.line.text)) is ∙ ap (λ (t : Bool). event_by lang h s.line None t) (good.skips s.line.text silent)
     by (Some r) is =
-        let event : event_line lang h s.line ≡ Some (s.line.number, Err r) = ap (λ (u : Option Refusal). event_by lang h s.line u (lang.skips s.line.text)) is in
+        let event : event_line lang h s.line ≡ Some (bad_line s.line.number r) = ap (λ (u : Option Refusal). event_by lang h s.line u (lang.skips s.line.text)) is in
         absurd
         (no_error (world_with lang.program h) (event_lines_of lang h (lines_of_steps (s ∷ ss))) run.run s.line.number r run.follows
-        (subst (λ (es : List EventLine). Contains es (s.line.number, Err r)) (sym (events_first lang h (lines_of_steps ss) s.line))
-        (contains_right (event_lines_of lang h (lines_of_steps ss)) (option_to_list (event_line lang h s.line)) (s.line.number, Err r)
-        (subst (λ (o : Option EventLine). Contains (option_to_list o) (s.line.number, Err r)) (sym event) (contains_first (s.line.number, Err r) [])))))
+        (subst (λ (es : List EventLine). Contains es (bad_line s.line.number r)) (sym (events_first lang h (lines_of_steps ss) s.line))
+        (contains_right (event_lines_of lang h (lines_of_steps ss)) (option_to_list (event_line lang h s.line)) (bad_line s.line.number r)
+        (subst (λ (o : Option EventLine). Contains (option_to_list o) (bad_line s.line.number r)) (sym event) (contains_first (bad_line s.line.number r) [])))))
 
   -- So it is told nothing.
   told_nothing : is_silent s.line.text ≡ true → IsTold ServedRun lang source h (s ∷ ss) → IsTold ServedRun lang source h ss → s.told ≡ []

@@ -76,13 +76,14 @@ ten = omega arith
 
 digits_free : (k n : ℕ) (acc : List ℕ) → is_free_of 32 acc ≡ true → is_free_of 32 (digits_onto k 10 false n acc) ≡ true
 digits_free zero n acc free = free
-digits_free (suc k) n acc free = by (n / 10 == 0) where
+digits_free (suc k) n acc free = by (n / 10 == 0) (digits_free k (n / 10) (digit_glyph false (n % 10) ∷ acc)) where
   more : is_free_of 32 (digit_glyph false (n % 10) ∷ acc) ≡ true
   more = and_from (not (digit_glyph false (n % 10) == 32)) (is_free_of 32 acc) (digit_free (n % 10) (mod-lt n ten)) free
 
-  by : (t : Bool) → is_free_of 32 (if t then digit_glyph false (n % 10) ∷ acc else digits_onto k 10 false (n / 10) (digit_glyph false (n % 10) ∷ acc)) ≡ true
-  by true = more
-  by false = digits_free k (n / 10) (digit_glyph false (n % 10) ∷ acc) more
+  by : (t : Bool) → (is_free_of 32 (digit_glyph false (n % 10) ∷ acc) ≡ true → is_free_of 32 (digits_onto k 10 false (n / 10) (digit_glyph false (n % 10) ∷ acc)) ≡ true)
+      → is_free_of 32 (if t then digit_glyph false (n % 10) ∷ acc else digits_onto k 10 false (n / 10) (digit_glyph false (n % 10) ∷ acc)) ≡ true
+  by true rest = more
+  by false rest = rest more
 
 decimal_spaceless : (n : ℕ) → is_free_of 32 (decimal n) ≡ true
 unfolding digits
@@ -153,7 +154,8 @@ behind k = spaced (words_behind k)
 
 all_free : (k : Counts) → AreFree (ending ∷ words_behind k)
 all_free k =
-    (refl, refl, decimal_spaceless k.events, refl, decimal_spaceless k.calls, refl, decimal_spaceless k.grants, refl, decimal_spaceless k.refusals, refl, decimal_spaceless k.conflicts, tt)
+    (refl, (refl, (decimal_spaceless k.events, (refl, (decimal_spaceless k.calls, (refl, (decimal_spaceless k.grants, (refl, (decimal_spaceless k.refusals,
+    (refl, (decimal_spaceless k.conflicts, tt)))))))))))
 
 spaces_of_end : (k : Counts) → spaces (end_line k) ≡ 10
 spaces_of_end k = spaces_spaced ending (words_behind k) (all_free k)
