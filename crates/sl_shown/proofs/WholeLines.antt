@@ -153,9 +153,34 @@ abbrev behind : Counts → List ℕ
 behind k = spaced (words_behind k)
 
 all_free : (k : Counts) → AreFree (ending ∷ words_behind k)
-all_free k =
-    (refl, (refl, (decimal_spaceless k.events, (refl, (decimal_spaceless k.calls, (refl, (decimal_spaceless k.grants, (refl, (decimal_spaceless k.refusals,
-    (refl, (decimal_spaceless k.conflicts, tt)))))))))))
+all_free k = (
+  refl,
+  (
+    refl,
+    (
+      decimal_spaceless k.events,
+      (
+        refl,
+        (
+          decimal_spaceless k.calls,
+          (
+            refl,
+            (
+              decimal_spaceless k.grants,
+              (
+                refl,
+                (
+                  decimal_spaceless k.refusals,
+                  (refl, (decimal_spaceless k.conflicts, tt)),
+                ),
+              ),
+            ),
+          ),
+        ),
+      ),
+    ),
+  ),
+)
 
 spaces_of_end : (k : Counts) → spaces (end_line k) ≡ 10
 spaces_of_end k = spaces_spaced ending (words_behind k) (all_free k)
