@@ -31,7 +31,7 @@ fn main(rt: HostRuntime) -> ExitCode {
     let source = ReadSource::new(input);
     let sink = WriteSink::new(rt.stdout());
     let devices = SystemDevices::new(rt, rt.alloc());
-    let (status, _source, sink, _devices) = run(
+    let (status, _source, sink, _devices, _watchdog) = run(
         &rt,
         rt.alloc(),
         &words,

@@ -51,7 +51,7 @@ where
     let source = MemSource::new(case.source.clone()?, pieces, failing);
     let (pieces, failing) = plan(alloc, case.writes, WRITTEN)?;
     let sink = MemSink::new(alloc, ROOM, pieces, failing)?;
-    let (status, _source, sink, _devices) = run(
+    let (status, _source, sink, _devices, _watchdog) = run(
         rt,
         alloc,
         &case.words,

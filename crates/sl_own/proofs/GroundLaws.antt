@@ -63,7 +63,7 @@ pub own_same : (h n : Header) (rs : List FirstReading) → n ≡ with_readings r
 own_same h n rs same = subst (λ (x : Header). x ≡ record h { clocks = x.clocks }) (sym same) refl
 
 -- What was made of all this is a ground.
-pub own_ground : {V C P D W G A : Type 0} (content : A → Option (List ℕ)) (spawned : P → Option (List Act)) (disks : Disks) (folder : List ℕ) (h : Header) (machine : ℕ) (g : OwnGround V C P D W G A)
+pub own_ground : {V O C P D W G A : Type 0} (content : A → Option (List ℕ)) (spawned : P → Option (List Act)) (disks : Disks) (folder : List ℕ) (h : Header) (machine : ℕ) (g : OwnGround V O C P D W G A)
     (n : Header) (site : Site) (delta resource : List (Disk A)) (lent first_lent both_lent started held : Option (List Lending)) → IsHeader h → machine ≤ h.machines → g.header ≡ n → IsHeader n → n ≡ record h { clocks = n.clocks } → machine ≡ g.place + 1
     → g.ready.site ≡ site → IsSiteOf n machine (session_of n machine) site → Tells (spawned g.ready.parts.spawner) [] → g.ready.parts.delta.items ≡ delta
     → AreLeft content (FindsOn disks folder h Delta) folder machine Delta h.disks delta lent first_lent → g.ready.parts.resource.items ≡ resource

@@ -169,3 +169,6 @@ err_on (Err e) why P is so = subst P (sym is) so
 pub if_err_on : {T : Type 0} (r : Result T NoPlace) (P Q : NoPlace → Type 0) → ((e : NoPlace) → P e → Q e) → IfErr r P → IfErr r Q
 if_err_on (Ok t) P Q on so = tt
 if_err_on (Err e) P Q on so = on e so
+
+pub rose_behind : (first faults later : ℕ) → faults ≡ first → Rose faults later → Rose first later
+rose_behind first faults later same rose = subst (λ (n : ℕ). Rose n later) same rose

@@ -4,4 +4,5 @@ pub mod PlayLaws
 pub mod LendLaws
 pub mod PlaceLaws
 pub mod GroundLaws
+pub mod WatchLaws
 pub mod TextLaws

@@ -71,7 +71,7 @@ owes_ended stands commands t disks folder w left after taken now faults later si
     lacks stands commands t disks folder w left after taken now faults later sink_faults sink_later device_faults device_later lent back s puts.0 puts.1.0 puts.1.1
 
 -- Its lines are those that the script gave it, and its calls are all that was done to its areas.
-lived : {D A P : Type 0} (t : Tellers A P) (events : Bool) (stands : D → Setting → Trace → Type 0) (commands : Header → List (Form Command)) (disks : Disks) (folder : List ℕ) (h : Header) (m : ℕ)
+pub lived : {D A P : Type 0} (t : Tellers A P) (events : Bool) (stands : D → Setting → Trace → Type 0) (commands : Header → List (Form Command)) (disks : Disks) (folder : List ℕ) (h : Header) (m : ℕ)
     (begun : OwnBeginning h m) (areas : Both A) (was is : List LiveLine → Type 0) (pieces : List Piece) (n : ℕ) (left : Leavings A P) (lent between back : Option (List Lending)) → HadOwn t.content disks folder h m areas lent between
     → IsBack t.content t.faults t.acts left between back → (told : HasToldOwn t.content t.faults t.acts events stands commands begun.header begun.place begun.site areas was is pieces n left)
     → LivesOwn stands commands t disks folder lent back h m told.lines told.history
@@ -93,7 +93,7 @@ woven : {D A P : Type 0} (content : A → Option (List ℕ)) (area_faults : A �
 woven content area_faults spawned events stands commands h m begun disks was is pieces n left told = record { below = told.below; text = told.text; refused = told.refused; others = told.others }
 
 -- All that was left is what one machine left.
-one_back : {A P : Type 0} (t : Tellers A P) (remains : List (Leavings A P)) (left : Leavings A P) (was is : Option (List Lending)) → remains ≡ left ∷ [] → AreAllBack t.content t.faults t.acts remains was is
+pub one_back : {A P : Type 0} (t : Tellers A P) (remains : List (Leavings A P)) (left : Leavings A P) (was is : Option (List Lending)) → remains ≡ left ∷ [] → AreAllBack t.content t.faults t.acts remains was is
     → IsBack t.content t.faults t.acts left was is
 one_back t remains left was is one back =
     let those : AreAllBack t.content t.faults t.acts (left ∷ []) was is = subst (λ ls. AreAllBack t.content t.faults t.acts ls was is) one back in
@@ -132,17 +132,17 @@ owes_run_own stands commands t disks folder w left after taken now faults later 
 
 -- ---- what the machine begins with
 
-unfoldable pub beginning : {V C P D W G A : Type 0} (content : A → Option (List ℕ)) (spawned : P → Option (List Act)) (disks : Disks) (folder : List ℕ) (h : Header) (m : ℕ) (lent held : Option (List Lending)) (g : OwnGround V C P D W G A)
+unfoldable pub beginning : {V O C P D W G A : Type 0} (content : A → Option (List ℕ)) (spawned : P → Option (List Act)) (disks : Disks) (folder : List ℕ) (h : Header) (m : ℕ) (lent held : Option (List Lending)) (g : OwnGround V O C P D W G A)
     → IsOwnGround content spawned disks folder h m lent held g → OwnBeginning h m
 beginning content spawned disks folder h m lent held g is =
     record { header = g.header; lawful = is.lawful; same = is.same; place = g.place; numbered = is.numbered; site = g.ready.site; begun = is.site }
 
-pub small_place : {V C P D W G A : Type 0} (content : A → Option (List ℕ)) (spawned : P → Option (List Act)) (disks : Disks) (folder : List ℕ) (h : Header) (m : ℕ) (lent held : Option (List Lending)) (g : OwnGround V C P D W G A)
+pub small_place : {V O C P D W G A : Type 0} (content : A → Option (List ℕ)) (spawned : P → Option (List Act)) (disks : Disks) (folder : List ℕ) (h : Header) (m : ℕ) (lent held : Option (List Lending)) (g : OwnGround V O C P D W G A)
     → IsOwnGround content spawned disks folder h m lent held g → g.place + 1 < 2 ^ 32
 small_place content spawned disks folder h m lent held g is = subst (λ (k : ℕ). k < 2 ^ 32) is.numbered is.small
 
-pub own_setting : {V C P D W G A : Type 0} (content : A → Option (List ℕ)) (spawned : P → Option (List Act)) (commands : Header → List (Form Command)) (disks : Disks) (folder : List ℕ) (h : Header) (m : ℕ)
-    (lent held : Option (List Lending)) (g : OwnGround V C P D W G A) → SitesAreSettings → ((header : Header) → IsHeader header → ReadsCommands commands header) → IsOwnGround content spawned disks folder h m lent held g
+pub own_setting : {V O C P D W G A : Type 0} (content : A → Option (List ℕ)) (spawned : P → Option (List Act)) (commands : Header → List (Form Command)) (disks : Disks) (folder : List ℕ) (h : Header) (m : ℕ)
+    (lent held : Option (List Lending)) (g : OwnGround V O C P D W G A) → SitesAreSettings → ((header : Header) → IsHeader header → ReadsCommands commands header) → IsOwnGround content spawned disks folder h m lent held g
     → IsSetting (begun_with commands g.header g.ready.site)
 own_setting content spawned commands disks folder h m lent held g sites reads is = sites commands g.header is.lawful (reads g.header is.lawful) m g.ready.site is.site
 
@@ -163,10 +163,11 @@ text_is (Ok t) text items first due same none is = same ∙ is ∙ ap (λ (xs : 
 text_is (Err e) text items first due same none is = tt
 
 -- The areas of a machine that is ready stand, and so do the disks, with their sizes.
-pub place_stands : {V C P D W G A : Type 0} (content : A → Option (List ℕ)) (spawned : P → Option (List Act)) (disks : Disks) (folder : List ℕ) (h : Header) (m : ℕ)
-    (lent held : Option (List Lending)) (r : Result (OwnGround V C P D W G A) NoPlace) → PreludeAll (HasSize disks folder) h.disks → IfOk r (IsOwnGround content spawned disks folder h m lent held) → OnOk r (IsPlaceOf disks folder h)
-place_stands content spawned disks folder h m lent held (Ok g) sizes is =
-    record { sizes = sizes; areas = areas_stand content disks folder h m h.disks g.ready.parts.delta.items lent is.had.delta_lent is.had.delta }
+pub place_stands : {V O C P D W G A T : Type 0} (content : A → Option (List ℕ)) (spawned : P → Option (List Act)) (disks : Disks) (folder : List ℕ) (h : Header) (m : ℕ)
+    (lent held : Option (List Lending)) (r : Result (OwnGround V O C P D W G A × T) NoPlace) → PreludeAll (HasSize disks folder) h.disks
+    → IfOk r (λ own. IsOwnGround content spawned disks folder h m lent held own.0) → OnOk r (IsPlaceOf disks folder h)
+place_stands content spawned disks folder h m lent held (Ok own) sizes is =
+    record { sizes = sizes; areas = areas_stand content disks folder h m h.disks own.0.ready.parts.delta.items lent is.had.delta_lent is.had.delta }
 place_stands content spawned disks folder h m lent held (Err e) sizes is = tt
 
 -- ---- faults before

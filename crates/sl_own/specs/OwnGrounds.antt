@@ -23,7 +23,7 @@ use Rattle.sl_standing.specs.declared.not_standing.NotStanding.TheVariants.{Area
 use Rattle.sl_standing.specs.declared.not_standing.NotStanding.{NotStanding as NotStandingOf}
 use Rattle.sl_world_state.specs.FirstKept.{session_of}
 use Rattle.std.specs.Io.KnownBytes.{Keeps}
-use Rattle.std.specs.Prelude.{All, Contains, Err, List, None, Ok, Option, Result, Some, if◌then◌else◌, [], ℕ, ◌*◌, ◌++◌, ◌+◌, ◌<◌, ◌==◌, ◌^◌, ◌∷◌, ◌≡◌, ◌≢◌}
+use Rattle.std.specs.Prelude.{All, Bool, Contains, Err, IfSome, List, None, Ok, Option, Result, Some, false, if◌then◌else◌, option_map, [], ℕ, ◌*◌, ◌++◌, ◌+◌, ◌<◌, ◌==◌, ◌^◌, ◌∷◌, ◌≡◌, ◌≢◌}
 
 -- ---- why it can't run there
 
@@ -120,8 +120,8 @@ pub record IsPlaceOf (disks : Disks) (folder : List ℕ) (h : Header) : Type 0 w
 
 -- The header is the given one but for its clocks, and a header still; the machine has its number and the site that the header gives it; and its areas
 -- are of these disks, on which the worker of the ids' records found all that the header has there. The devices handed out just these, and a spawner.
-pub record IsOwnGround {V C P D W G A : Type 0} (content : A → Option (List ℕ)) (spawned : P → Option (List Act)) (disks : Disks) (folder : List ℕ) (h : Header) (machine : ℕ)
-    (lent held : Option (List Lending)) (g : OwnGround V C P D W G A) : Type 0 where
+pub record IsOwnGround {V O C P D W G A : Type 0} (content : A → Option (List ℕ)) (spawned : P → Option (List Act)) (disks : Disks) (folder : List ℕ) (h : Header) (machine : ℕ)
+    (lent held : Option (List Lending)) (g : OwnGround V O C P D W G A) : Type 0 where
   pub lawful : IsHeader g.header
   pub same : g.header ≡ record h { clocks = g.header.clocks }
   pub numbered : machine ≡ g.place + 1
@@ -129,3 +129,8 @@ pub record IsOwnGround {V C P D W G A : Type 0} (content : A → Option (List �
   pub site : IsSiteOf g.header machine (session_of g.header machine) g.ready.site
   pub unasked : Tells (spawned g.ready.parts.spawner) []
   pub had : HadOwn content disks folder h machine (disks_in g.ready.parts) lent held
+
+-- The watchdog device of the system is the one that was asked for, and was not told to rest.
+pub record IsOpened {W : Type 0} (path : W → List ℕ) (rested : W → Bool) (asked : Option (List ℕ)) (w : Option W) : Type 0 where
+  pub at : option_map path w ≡ asked
+  pub awake : IfSome w (λ d. rested d ≡ false)

@@ -41,7 +41,7 @@ use Rattle.sl_world_state.specs.FirstKept.{session_of}
 use Rattle.sl_world_state.specs.declared.daemon.Site.{Site}
 use Rattle.sl_io.specs.FaultCauses.{Rose}
 use Rattle.std.specs.Io.KnownBytes.{Appends}
-use Rattle.std.specs.Prelude.{Bool, List, None, Option, Some, if◌then◌else◌, length, nat_lt, [], ℕ, ◌++◌, ◌+◌, ◌<◌, ◌==◌, ◌∷◌, ◌≡◌, ◌≢◌, ◌⊎◌}
+use Rattle.std.specs.Prelude.{Bool, IfSome, List, None, Option, Some, if◌then◌else◌, length, nat_lt, option_map, true, [], ℕ, ◌++◌, ◌+◌, ◌<◌, ◌==◌, ◌∷◌, ◌≡◌, ◌≢◌, ◌⊎◌}
 
 -- ---- what the machine did
 
@@ -142,6 +142,24 @@ pub data OwesOwn {D A P : Type 0} (stands : D → Setting → Trace → Type 0) 
       → OwesOwn stands commands t disks folder w left after taken now faults later sink_faults sink_later device_faults device_later lent back s
   Lacks : (part : List ℕ) → Appends taken now part
       → OwesOwn stands commands t disks folder w left after taken now faults later sink_faults sink_later device_faults device_later lent back NoMemory
+
+-- ---- the watchdog device
+
+-- The machine has run and ended in order: it has a history, and all that devices had handed out for it came back.
+pub record HasLived {D A P : Type 0} (stands : D → Setting → Trace → Type 0) (commands : Header → List (Form Command)) (t : Tellers A P) (disks : Disks) (folder : List ℕ)
+    (lent back : Option (List Lending)) (m : ℕ) : Type 0 where
+  pub header : Header
+  pub may : MayRun disks folder header m
+  pub given : List LiveLine
+  pub history : List Entry
+  pub lives : LivesOwn stands commands t disks folder lent back header m given history
+
+-- What becomes of the device of the system: it is the one that was asked for; it was told to rest only where the machine has lived; and where the whole
+-- script was played, one that was asked for is there, and was told so.
+pub record RestsOwn {W : Type 0} (path : W → List ℕ) (rested : W → Bool) (asked : Option (List ℕ)) (Lives : Type 0) (w : Option W) (s : Lived) : Type 0 where
+  pub asked_for : IfSome w (λ d. asked ≡ Some (path d))
+  pub in_order : IfSome w (λ d. rested d ≡ true → Lives)
+  pub whole : s ≡ Done → (option_map path w ≡ asked) × IfSome w (λ d. rested d ≡ true)
 
 -- ---- step by step
 

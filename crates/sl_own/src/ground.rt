@@ -4,11 +4,13 @@ ghost use Rattle.sl_cell.specs.declared.part.Part.TheVariants.{Delta, Resource};
 ghost use Rattle.sl_live_run.specs.Clocks.{with_readings};
 ghost use Rattle.sl_live_run.specs.Grounds.{IsSiteOf};
 ghost use Rattle.sl_outside.specs.Acts.{Grows, Tells};
+ghost use Rattle.sl_outside.specs.Disks.{Disks};
 ghost use Rattle.sl_outside.specs.Lendings.{Lending, SpawnerOut};
-ghost use Rattle.sl_own.specs.OwnGrounds.{AreLeft, Finds, FindsOn, IsOwnGround, NotLent};
+ghost use Rattle.sl_own.specs.OwnGrounds.{AreLeft, Finds, FindsOn, IsOpened, IsOwnGround, NotLent};
 ghost use Rattle.sl_run.specs.Headers.{IsHeader};
+ghost use Rattle.sl_run.specs.declared.header.Header.{Header as HeaderOf};
 ghost use Rattle.sl_world_state.specs.FirstKept.{session_of};
-ghost use Rattle.std.specs.Prelude.{IfErr, IfOk, List, Option, [], ◌+◌, ◌∷◌, ◌≡◌, ◌≤◌};
+ghost use Rattle.std.specs.Prelude.{IfErr, IfOk, List, Option, [], option_map, ℕ, ◌+◌, ◌∷◌, ◌≡◌, ◌≤◌};
 
 use crate::lending::lend;
 use crate::no_place::NoPlace;
@@ -20,7 +22,6 @@ use sl_live_run::{
 };
 use sl_place::StandingDevices;
 use sl_run::{FirstReading, Header};
-use sl_standing::NotStanding;
 use sl_time::Clock;
 use sl_world_state::Site;
 use std::alloc::{AllocError, Global};
@@ -84,6 +85,51 @@ fn start_of<V: StandingDevices>(
         ticks,
         reading,
     })
+}
+
+/// Opens the watchdog device of the system at this path, if one is given.
+fn watch_if<V: StandingDevices>(
+    alloc: Global,
+    watchdog: Option<&str>,
+    devices: &mut V,
+) -> Result<Option<V::Watchdog>, NoPlace>
+    ensures opened { IfOk result (IsOpened V.Watchdog.path V.Watchdog.rested (option_map (λ w. w.now) watchdog.entry)) }
+    ensures same { V.Devices.disks devices.new ≡ V.Devices.disks devices.old }
+    ensures lendings { V.Devices.lendings devices.new ≡ V.Devices.lendings devices.old }
+    ensures not { (disks : Disks) (folder : List ℕ) (h : HeaderOf) → IfErr result (NotLent disks folder h Delta (V.Devices.faults devices.old) (V.Devices.faults devices.new)) }
+    ensures later { V.Devices.faults devices.old ≤ V.Devices.faults devices.new }
+{
+    match watchdog {
+        Some(path) => {
+            let text = String::from_str(alloc, path)?;
+            let device = devices.watch(text)?;
+            Ok(Some(device))
+        }
+        None => Ok(None),
+    }
+}
+
+/// .. and opens the watchdog device. It is the last that can be refused: one that is open fires unless keepalives come.
+fn start_watched<V: StandingDevices>(
+    alloc: Global,
+    header: Header,
+    machine: u32,
+    watchdog: Option<&str>,
+    devices: &mut V,
+) -> Result<(Start<V::Clock>, Option<V::Watchdog>), NoPlace>
+    requires header { IsHeader header }
+    requires machine { (1 ≤ machine) × (machine ≤ header.machines) }
+    ensures lawful { IfOk result (λ s. IsHeader s.0.header) }
+    ensures same { IfOk result (λ s. s.0.header ≡ record header { clocks = s.0.header.clocks }) }
+    ensures site { IfOk result (λ s. IsSiteOf s.0.header machine (session_of s.0.header machine) s.0.site) }
+    ensures opened { IfOk result (λ s. IsOpened V.Watchdog.path V.Watchdog.rested (option_map (λ w. w.now) watchdog.entry) s.1) }
+    ensures lendings { V.Devices.lendings devices.new ≡ V.Devices.lendings devices.old }
+    ensures not { (disks : Disks) (folder : List ℕ) (h : HeaderOf) → IfErr result (NotLent disks folder h Delta (V.Devices.faults devices.old) (V.Devices.faults devices.new)) }
+    ensures later { V.Devices.faults devices.old ≤ V.Devices.faults devices.new }
+{
+    let start = start_of(alloc, header, machine, devices)?;
+    let watchdog = watch_if(alloc, watchdog, devices)?;
+    Ok((start, watchdog))
 }
 
 /// The areas of both workers: of the one of the ids' records, and of the other. After an `Err` none is handed out.
@@ -152,26 +198,32 @@ fn ground_of<V: StandingDevices>(
 }
 
 /// Gets all that a machine runs on, in a place that was taken. Its clock is read once its areas were compared, so that its watchdog device counts from
-/// then on. After an `Err` no area is handed out; nothing was written.
+/// then on; one of the system is opened behind that, if one is asked for. After an `Err` no area is handed out, and no such device is open; nothing was
+/// written.
 pub(crate) fn prepare_own<V: StandingDevices>(
     alloc: Global,
     header: Header,
     folder: &str,
     machine: u32,
+    watchdog: Option<&str>,
     devices: &mut V,
-) -> Result<OwnGround<V>, NoPlace>
+) -> Result<(OwnGround<V>, Option<V::Watchdog>), NoPlace>
     requires header { IsHeader header }
     requires machine { (1 ≤ machine) × (machine ≤ header.machines) }
-    ensures ok { IfOk result (IsOwnGround V.Area.content V.Spawner.acts (V.Devices.disks devices.old) folder.now header machine (V.Devices.lendings devices.old) (V.Devices.lendings devices.new)) }
+    ensures ok { IfOk result (λ own. IsOwnGround V.Area.content V.Spawner.acts (V.Devices.disks devices.old) folder.now header machine (V.Devices.lendings devices.old) (V.Devices.lendings devices.new) own.0) }
+    ensures opened { IfOk result (λ own. IsOpened V.Watchdog.path V.Watchdog.rested (option_map (λ w. w.now) watchdog.entry) own.1) }
     ensures not { IfErr result (NotLent (V.Devices.disks devices.old) folder.now header Delta (V.Devices.faults devices.old) (V.Devices.faults devices.new)) }
     ensures later { V.Devices.faults devices.old ≤ V.Devices.faults devices.new }
 {
     let (delta, resource) = lend_both(alloc, &header, folder, machine, devices)?;
-    match start_of(alloc, header, machine, devices) {
-        Ok(start) => Ok(ground_of(machine, start, delta, resource, devices)),
-        Err(_) => {
+    match start_watched(alloc, header, machine, watchdog, devices) {
+        Ok((start, watchdog)) => Ok((
+            ground_of(machine, start, delta, resource, devices),
+            watchdog,
+        )),
+        Err(why) => {
             give_back(delta, resource, devices);
-            Err(NoPlace::NotStanding(NotStanding::NoMemory))
+            Err(why)
         }
     }
 }

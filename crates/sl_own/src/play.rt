@@ -1,11 +1,10 @@
 //! The play of a script for one machine in a process of its own.
 
-ghost use Rattle.sl_io.specs.FaultCauses.{HasCause};
 ghost use Rattle.sl_outside.specs.Acts.{Tells};
 ghost use Rattle.sl_outside.specs.Disks.{Disks};
 ghost use Rattle.sl_outside.specs.Lendings.{Lending};
-ghost use Rattle.sl_own.specs.OwnGrounds.{Bars, IsOwnGround, IsPlaceOf};
-ghost use Rattle.sl_own.specs.OwnOwed.{MayRun, OwesOwn, PutsNoPlace, header_refusal};
+ghost use Rattle.sl_own.specs.OwnGrounds.{Bars, IsOpened, IsOwnGround, IsPlaceOf};
+ghost use Rattle.sl_own.specs.OwnOwed.{HasLived, MayRun, OwesOwn, PutsNoPlace, RestsOwn, header_refusal};
 ghost use Rattle.sl_reader.specs.HeaderBegins.{HeaderBegins};
 ghost use Rattle.sl_reader.specs.LineReads.{EndStands};
 ghost use Rattle.sl_reader.specs.Scopes.{own_scope};
@@ -16,17 +15,17 @@ ghost use Rattle.sl_run.specs.Lawful.{IsSetting};
 ghost use Rattle.sl_run.specs.declared.header.Header.{Header as HeaderOf};
 ghost use Rattle.sl_world_state.specs.Daemons.{begun_with};
 ghost use Rattle.sl_world_state.specs.SaneWorlds.{ReadsCommands};
-ghost use Rattle.std.specs.Prelude.{IfErr, IfOk, List, OnOk, Option, [], ℕ, ◌+◌, ◌<◌, ◌^◌, ◌≡◌, ◌≤◌};
+ghost use Rattle.std.specs.Prelude.{IfErr, IfOk, IfSome, List, OnOk, Option, [], false, option_map, true, ℕ, ◌+◌, ◌<◌, ◌^◌, ◌≡◌, ◌≤◌};
 
 use crate::ground::{OwnGround, prepare_own};
 use crate::no_place::{NoPlace, push_no_place};
 use crate::place::take_place;
 use crate::run::run_own;
 use sl_cell::Teller;
-use sl_io::{Failed, Sink, Source};
+use sl_io::{Sink, Source};
 use sl_live_play::{Lived, put, put_refusal, put_run};
 use sl_live_run::{LiveRun, give_all_back};
-use sl_place::StandingDevices;
+use sl_place::{StandingDevices, Watchdog};
 use sl_reader::{LineReader, Origin, ReadError, Scope, ScriptLines, read_header};
 use sl_run::{Header, Refusal};
 use sl_standing::NotStanding;
@@ -69,12 +68,30 @@ fn put_no_place<K: Sink>(alloc: Global, sink: &mut K, why: NoPlace) -> Lived
     put(sink, pushed, &out, Lived::AreaFault)
 }
 
-/// Tells the watchdog device to rest where the machine ended in order.
-fn rest_if<V: StandingDevices>(in_order: bool, devices: &mut V)
-    ensures lendings { V.Devices.lendings devices.new ≡ V.Devices.lendings devices.old }
+/// Tells the watchdog device, if there is one, to rest where the machine ended in order.
+fn rest_if<W: Watchdog>(in_order: bool, watchdog: Option<W>) -> Option<W>
+    ensures path { option_map W.path result ≡ option_map W.path watchdog }
+    ensures rests { in_order ≡ true → IfSome result (λ d. W.rested d ≡ true) }
+    ensures stays { in_order ≡ false → result ≡ watchdog }
+{
+    match watchdog {
+        Some(device) => Some(rest_one(in_order, device)),
+        None => None,
+    }
+}
+
+/// .. this one.
+fn rest_one<W: Watchdog>(in_order: bool, device: W) -> W
+    ensures path { W.path result ≡ W.path device }
+    ensures rests { in_order ≡ true → W.rested result ≡ true }
+    ensures stays { in_order ≡ false → result ≡ device }
 {
     if in_order {
-        devices.release();
+        let mut device = device;
+        device.rest();
+        device
+    } else {
+        device
     }
 }
 
@@ -90,12 +107,13 @@ fn play_as<
     rt: &R,
     alloc: Global,
     ground: OwnGround<V>,
+    watchdog: Option<V::Watchdog>,
     manner: OwnManner,
     source: S,
     reader: LineReader,
     sink: K,
     devices: &mut V,
-) -> (Lived, S, K)
+) -> (Lived, S, K, Option<V::Watchdog>)
 where
     V::Area: Send,
     requires place { ground.place + 1 < 2 ^ 32 }
@@ -109,7 +127,11 @@ where
     requires began { reader ≡ J.began }
     requires scope { own_scope ground.header manner.machine ≡ J.scope }
     requires keeps { manner.keeps ≡ J.keeps }
-    ensures { (disks : Disks) (folder : List ℕ) (lent : Option (List Lending)) (first : Option (List ℕ)) (h : HeaderOf) → IsOwnGround V.Area.content V.Spawner.acts disks folder h manner.machine lent (V.Devices.lendings devices.old) ground
+    ensures rests { (asked : Option (List ℕ)) (disks : Disks) (folder : List ℕ) (lent : Option (List Lending)) (h : HeaderOf) → IsOwnGround V.Area.content V.Spawner.acts disks folder h manner.machine lent (V.Devices.lendings devices.old) ground
+        → MayRun disks folder h manner.machine → IsOpened V.Watchdog.path V.Watchdog.rested asked watchdog
+        → RestsOwn V.Watchdog.path V.Watchdog.rested asked
+        (HasLived D.Daemon.stands D.Daemon.commands (record { content = V.Area.content; faults = V.Area.faults; acts = V.Spawner.acts }) disks folder lent (V.Devices.lendings devices.new) manner.machine) result.3 result.0 }
+    ensures owes { (disks : Disks) (folder : List ℕ) (lent : Option (List Lending)) (first : Option (List ℕ)) (h : HeaderOf) → IsOwnGround V.Area.content V.Spawner.acts disks folder h manner.machine lent (V.Devices.lendings devices.old) ground
         → MayRun disks folder h manner.machine → HeaderBegins first (S.left source) reader h
         → OwesOwn D.Daemon.stands D.Daemon.commands (record { content = V.Area.content; faults = V.Area.faults; acts = V.Spawner.acts }) disks folder manner first (S.left result.1) (K.taken sink) (K.taken result.2) (S.faults source) (S.faults result.1)
         (K.faults sink) (K.faults result.2) (V.Devices.faults devices.old) (V.Devices.faults devices.new) lent (V.Devices.lendings devices.new) result.0 }
@@ -134,10 +156,10 @@ where
     } = run;
     let mut sink = sink;
     give_all_back::<V>(remains, devices);
-    rest_if(replies.is_ok(), devices);
+    let watchdog = rest_if(replies.is_ok(), watchdog);
     let (source, end) = lines.close();
     let lived = put_run(alloc, &mut sink, cut, machines, replies, end);
-    (lived, source, sink)
+    (lived, source, sink, watchdog)
 }
 
 /// Runs the machine of this ground, beside the lines that are still to be read.
@@ -151,12 +173,13 @@ fn play_ground<
     rt: &R,
     alloc: Global,
     ground: OwnGround<V>,
+    watchdog: Option<V::Watchdog>,
     manner: OwnManner,
     source: S,
     reader: LineReader,
     sink: K,
     devices: &mut V,
-) -> (Lived, S, K)
+) -> (Lived, S, K, Option<V::Watchdog>)
 where
     V::Area: Send,
     requires place { ground.place + 1 < 2 ^ 32 }
@@ -165,12 +188,18 @@ where
     requires header { IsHeader ground.header }
     requires setting { IsSetting (begun_with D.Daemon.commands ground.header ground.ready.site) }
     requires ends { EndStands (S.left source) reader }
-    ensures { (disks : Disks) (folder : List ℕ) (lent : Option (List Lending)) (first : Option (List ℕ)) (h : HeaderOf) → IsOwnGround V.Area.content V.Spawner.acts disks folder h manner.machine lent (V.Devices.lendings devices.old) ground
+    ensures rests { (asked : Option (List ℕ)) (disks : Disks) (folder : List ℕ) (lent : Option (List Lending)) (h : HeaderOf) → IsOwnGround V.Area.content V.Spawner.acts disks folder h manner.machine lent (V.Devices.lendings devices.old) ground
+        → MayRun disks folder h manner.machine → IsOpened V.Watchdog.path V.Watchdog.rested asked watchdog
+        → RestsOwn V.Watchdog.path V.Watchdog.rested asked
+        (HasLived D.Daemon.stands D.Daemon.commands (record { content = V.Area.content; faults = V.Area.faults; acts = V.Spawner.acts }) disks folder lent (V.Devices.lendings devices.new) manner.machine) result.3 result.0 }
+    ensures owes { (disks : Disks) (folder : List ℕ) (lent : Option (List Lending)) (first : Option (List ℕ)) (h : HeaderOf) → IsOwnGround V.Area.content V.Spawner.acts disks folder h manner.machine lent (V.Devices.lendings devices.old) ground
         → MayRun disks folder h manner.machine → HeaderBegins first (S.left source) reader h
         → OwesOwn D.Daemon.stands D.Daemon.commands (record { content = V.Area.content; faults = V.Area.faults; acts = V.Spawner.acts }) disks folder manner first (S.left result.1) (K.taken sink) (K.taken result.2) (S.faults source) (S.faults result.1)
         (K.faults sink) (K.faults result.2) (V.Devices.faults devices.old) (V.Devices.faults devices.new) lent (V.Devices.lendings devices.new) result.0 }
 {
-    play_as::<D, Brand, S, K, V, R>(rt, alloc, ground, manner, source, reader, sink, devices)
+    play_as::<D, Brand, S, K, V, R>(
+        rt, alloc, ground, watchdog, manner, source, reader, sink, devices,
+    )
 }
 
 /// Has writes answered once the storage has them, if that is wanted.
@@ -184,20 +213,8 @@ fn sync_if<V: StandingDevices>(syncs: bool, devices: &mut V)
     }
 }
 
-/// Opens the watchdog device at this path, if one is given.
-fn watch_if<V: StandingDevices>(watchdog: Option<&str>, devices: &mut V) -> Result<(), Failed>
-    ensures cause { HasCause (V.Devices.faults devices.old) (V.Devices.faults devices.new) result }
-    ensures same { V.Devices.disks devices.new ≡ V.Devices.disks devices.old }
-    ensures lendings { V.Devices.lendings devices.new ≡ V.Devices.lendings devices.old }
-{
-    match watchdog {
-        Some(path) => devices.watch(path),
-        None => Ok(()),
-    }
-}
-
-/// What the machine begins with, in this folder: the folder is claimed, what stands there is seen to, and the watchdog device is opened. After an
-/// `Err` no area is handed out.
+/// What the machine begins with, in this folder: the folder is claimed, what stands there is seen to, and the watchdog device is opened last. After an
+/// `Err` no area is handed out, and no such device is open.
 fn begin<V: StandingDevices>(
     alloc: Global,
     folder: &str,
@@ -205,18 +222,18 @@ fn begin<V: StandingDevices>(
     manner: OwnManner,
     header: Header,
     devices: &mut V,
-) -> Result<OwnGround<V>, NoPlace>
+) -> Result<(OwnGround<V>, Option<V::Watchdog>), NoPlace>
     requires header { IsHeader header }
     requires machine { (1 ≤ manner.machine) × (manner.machine ≤ header.machines) }
-    ensures ok { IfOk result (IsOwnGround V.Area.content V.Spawner.acts (V.Devices.disks devices.old) folder.now header manner.machine (V.Devices.lendings devices.old) (V.Devices.lendings devices.new)) }
+    ensures ok { IfOk result (λ own. IsOwnGround V.Area.content V.Spawner.acts (V.Devices.disks devices.old) folder.now header manner.machine (V.Devices.lendings devices.old) (V.Devices.lendings devices.new) own.0) }
+    ensures opened { IfOk result (λ own. IsOpened V.Watchdog.path V.Watchdog.rested (option_map (λ w. w.now) watchdog.entry) own.1) }
     ensures place { OnOk result (IsPlaceOf (V.Devices.disks devices.old) folder.now header) }
     ensures bars { IfErr result (Bars (V.Devices.disks devices.old) folder.now header manner.machine (V.Devices.faults devices.old) (V.Devices.faults devices.new)) }
     ensures later { V.Devices.faults devices.old ≤ V.Devices.faults devices.new }
 {
     take_place(alloc, folder, &header, manner.machine, devices)?;
     sync_if(manner.syncs, devices);
-    watch_if(watchdog, devices)?;
-    prepare_own(alloc, header, folder, manner.machine, devices)
+    prepare_own(alloc, header, folder, manner.machine, watchdog, devices)
 }
 
 /// Why this header is none for the machine of this number, if it is none: it has no such machine, or sessions that would be joined at moment 0.
@@ -250,14 +267,16 @@ fn play_header<
     header: Header,
     sink: K,
     devices: &mut V,
-) -> (Lived, S, K)
+) -> (Lived, S, K, Option<V::Watchdog>)
 where
     V::Area: Send,
     requires header { IsHeader header }
     requires machine { 1 ≤ manner.machine }
     requires reads { (h : HeaderOf) → IsHeader h → ReadsCommands D.Daemon.commands h }
     requires ends { EndStands (S.left source) reader }
-    ensures { (first : Option (List ℕ)) → HeaderBegins first (S.left source) reader header
+    ensures rests { RestsOwn V.Watchdog.path V.Watchdog.rested (option_map (λ w. w.now) watchdog.entry)
+        (HasLived D.Daemon.stands D.Daemon.commands (record { content = V.Area.content; faults = V.Area.faults; acts = V.Spawner.acts }) (V.Devices.disks devices.old) folder.now (V.Devices.lendings devices.old) (V.Devices.lendings devices.new) manner.machine) result.3 result.0 }
+    ensures owes { (first : Option (List ℕ)) → HeaderBegins first (S.left source) reader header
         → OwesOwn D.Daemon.stands D.Daemon.commands (record { content = V.Area.content; faults = V.Area.faults; acts = V.Spawner.acts }) (V.Devices.disks devices.old) folder.now manner first (S.left result.1) (K.taken sink) (K.taken result.2) (S.faults source) (S.faults result.1)
         (K.faults sink) (K.faults result.2) (V.Devices.faults devices.old) (V.Devices.faults devices.new) (V.Devices.lendings devices.old) (V.Devices.lendings devices.new) result.0 }
 {
@@ -265,13 +284,17 @@ where
     match header_refusal(&header, manner.machine) {
         Some(why) => {
             let number = reader.line().number;
-            (put_refusal(alloc, &mut sink, number, why), source, sink)
+            let lived = put_refusal(alloc, &mut sink, number, why);
+            (lived, source, sink, None)
         }
         None => match begin::<V>(alloc, folder, watchdog, manner, header, devices) {
-            Ok(ground) => play_ground::<D, S, K, V, R>(
-                rt, alloc, ground, manner, source, reader, sink, devices,
+            Ok((ground, watchdog)) => play_ground::<D, S, K, V, R>(
+                rt, alloc, ground, watchdog, manner, source, reader, sink, devices,
             ),
-            Err(why) => (put_no_place(alloc, &mut sink, why), source, sink),
+            Err(why) => {
+                let lived = put_no_place(alloc, &mut sink, why);
+                (lived, source, sink, None)
+            }
         },
     }
 }
@@ -284,7 +307,7 @@ where
 /// written. A line for another machine is refused.
 ///
 /// The machine ends when the script has ended, no child of it runs and nothing of it is unanswered. Where it has ended in order the watchdog device is
-/// told to rest. The source and the sink come back.
+/// told to rest. The source and the sink come back, and this device, if it was opened.
 pub fn play_own<
     D: Teller + Send,
     S: Source + Send,
@@ -300,25 +323,30 @@ pub fn play_own<
     source: S,
     sink: K,
     devices: &mut V,
-) -> (Lived, S, K)
+) -> (Lived, S, K, Option<V::Watchdog>)
 where
     V::Area: Send,
     requires machine { 1 ≤ manner.machine }
     requires reads { (h : HeaderOf) → IsHeader h → ReadsCommands D.Daemon.commands h }
     requires headers { HeadersAreGood whole_language }
-    ensures { OwesOwn D.Daemon.stands D.Daemon.commands (record { content = V.Area.content; faults = V.Area.faults; acts = V.Spawner.acts }) (V.Devices.disks devices.old) folder.now manner (S.left source) (S.left result.1) (K.taken sink) (K.taken result.2) (S.faults source) (S.faults result.1)
+    ensures rests { RestsOwn V.Watchdog.path V.Watchdog.rested (option_map (λ w. w.now) watchdog.entry)
+        (HasLived D.Daemon.stands D.Daemon.commands (record { content = V.Area.content; faults = V.Area.faults; acts = V.Spawner.acts }) (V.Devices.disks devices.old) folder.now (V.Devices.lendings devices.old) (V.Devices.lendings devices.new) manner.machine) result.3 result.0 }
+    ensures owes { OwesOwn D.Daemon.stands D.Daemon.commands (record { content = V.Area.content; faults = V.Area.faults; acts = V.Spawner.acts }) (V.Devices.disks devices.old) folder.now manner (S.left source) (S.left result.1) (K.taken sink) (K.taken result.2) (S.faults source) (S.faults result.1)
         (K.faults sink) (K.faults result.2) (V.Devices.faults devices.old) (V.Devices.faults devices.new) (V.Devices.lendings devices.old) (V.Devices.lendings devices.new) result.0 }
 {
     let mut source = source;
     let mut sink = sink;
     let mut reader = match LineReader::new(alloc) {
         Ok(reader) => reader,
-        Err(_) => return (Lived::NoMemory, source, sink),
+        Err(_) => return (Lived::NoMemory, source, sink, None),
     };
     match read_header(alloc, &mut source, &mut reader) {
-        Err(ReadError::Failed) => (Lived::ReadFault, source, sink),
-        Err(ReadError::NoMemory) => (Lived::NoMemory, source, sink),
-        Ok(Err((number, why))) => (put_refusal(alloc, &mut sink, number, why), source, sink),
+        Err(ReadError::Failed) => (Lived::ReadFault, source, sink, None),
+        Err(ReadError::NoMemory) => (Lived::NoMemory, source, sink, None),
+        Ok(Err((number, why))) => {
+            let lived = put_refusal(alloc, &mut sink, number, why);
+            (lived, source, sink, None)
+        }
         Ok(Ok(header)) => play_header::<D, S, K, V, R>(
             rt, alloc, folder, watchdog, manner, source, reader, header, sink, devices,
         ),

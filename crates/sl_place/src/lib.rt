@@ -9,10 +9,14 @@ mod made_devices;
 mod standing_devices;
 mod system_area;
 mod system_devices;
+mod system_watchdog;
+mod watchdog;
 mod watched_device;
 
-pub use made_devices::MadeDevices;
+pub use made_devices::{MadeDevices, MadeWatchdog};
 pub use standing_devices::{NotClaimed, StandingDevices};
 pub use system_area::SystemArea;
 pub use system_devices::SystemDevices;
+pub use system_watchdog::SystemWatchdog;
+pub use watchdog::Watchdog;
 pub use watched_device::WatchedDevice;

@@ -5,6 +5,7 @@
 ghost use Rattle.std.specs.Prelude.{IfSome, length, ◌<◌, ◌≡◌};
 
 use crate::standing_devices::{NotClaimed, StandingDevices};
+use crate::watchdog::Watchdog;
 use sl_io::Failed;
 use sl_outside::{
     Devices, LiveDevices, MemWords, NotTaken, RealClock, SharedArea, SharedDevices, SharedSpawner,
@@ -19,6 +20,25 @@ use std::time::Clock;
 struct Made {
     path: String,
     bytes: u64,
+}
+
+/// A watchdog device that is none: it is only known whether it was told to rest.
+#[derive(Drop)]
+pub struct MadeWatchdog {
+    path: String,
+    rested: bool,
+}
+
+impl Watchdog for MadeWatchdog {
+    ghost use Rattle.std.specs.Prelude.{string_bytes};
+
+    ghost path = { λ w. string_bytes w.path };
+
+    ghost rested = { λ w. w.rested };
+
+    fn rest(&mut self) {
+        self.rested = true;
+    }
 }
 
 /// Devices in memory, and the disks that were made of them, the last one first.
@@ -137,6 +157,8 @@ impl<R: Wait + Clock + Copy + Drop + Send + Sync> LiveDevices for MadeDevices<R>
 }
 
 impl<R: Wait + Clock + Copy + Drop + Send + Sync> StandingDevices for MadeDevices<R> {
+    type Watchdog = MadeWatchdog;
+
     fn claim(&mut self, _folder: &str, _machine: u32) -> Result<(), NotClaimed> {
         Ok(())
     }
@@ -149,9 +171,10 @@ impl<R: Wait + Clock + Copy + Drop + Send + Sync> StandingDevices for MadeDevice
 
     fn sync_writes(&mut self) {}
 
-    fn watch(&mut self, _path: &str) -> Result<(), Failed> {
-        Ok(())
+    fn watch(&mut self, path: String) -> Result<MadeWatchdog, Failed> {
+        Ok(MadeWatchdog {
+            path,
+            rested: false,
+        })
     }
-
-    fn release(&mut self) {}
 }

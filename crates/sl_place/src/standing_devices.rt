@@ -2,8 +2,9 @@
 //! device of the system.
 ghost use Rattle.sl_io.specs.FaultCauses.{HasCause};
 ghost use Rattle.sl_place.specs.Standing.{IsSizeOf};
-ghost use Rattle.std.specs.Prelude.{◌≡◌};
+ghost use Rattle.std.specs.Prelude.{IfOk, false, string_bytes, ◌≡◌};
 
+use crate::watchdog::Watchdog;
 use sl_io::Failed;
 use sl_outside::LiveDevices;
 
@@ -31,6 +32,8 @@ impl From<Failed> for NotClaimed {
 
 /// Devices for one machine among others that run elsewhere. None of its calls makes a disk, or writes to one.
 pub trait StandingDevices: LiveDevices {
+    type Watchdog: Watchdog;
+
     /// Claims the machine of this number in the folder of this text, for as long as these devices are there: till then no other process has it, and no
     /// program that takes the folder for all machines.
     fn claim(&mut self, folder: &str, machine: u32) -> Result<(), NotClaimed>
@@ -51,16 +54,12 @@ pub trait StandingDevices: LiveDevices {
         ensures lendings { Self.lendings self.new ≡ Self.lendings self.old }
         ensures count { Self.faults self.new ≡ Self.faults self.old };
 
-    /// The watchdog device of the system at this path stands beside the machine's device that is made next: it is given a byte where a keepalive
-    /// passes.
-    fn watch(&mut self, path: &str) -> Result<(), Failed>
+    /// Opens the watchdog device of the system at this path. It stands beside the machine's device that is made next, which gives it a byte where a
+    /// keepalive passes.
+    fn watch(&mut self, path: String) -> Result<Self::Watchdog, Failed>
+        ensures path { IfOk result (λ w. Self.Watchdog.path w ≡ string_bytes path) }
+        ensures awake { IfOk result (λ w. Self.Watchdog.rested w ≡ false) }
         ensures cause { HasCause (Self.faults self.old) (Self.faults self.new) result }
         ensures same { Self.disks self.new ≡ Self.disks self.old }
         ensures lendings { Self.lendings self.new ≡ Self.lendings self.old };
-
-    /// The machine has ended in order, and no child of it runs: the system's device, if there is one, is told to rest.
-    fn release(&mut self)
-        ensures same { Self.disks self.new ≡ Self.disks self.old }
-        ensures lendings { Self.lendings self.new ≡ Self.lendings self.old }
-        ensures count { Self.faults self.new ≡ Self.faults self.old };
 }

@@ -9,6 +9,7 @@ ghost use Rattle.std.specs.Prelude.{◌≡◌};
 
 use crate::standing_devices::{NotClaimed, StandingDevices};
 use crate::system_area::SystemArea;
+use crate::system_watchdog::SystemWatchdog;
 use crate::watched_device::WatchedDevice;
 use sl_io::{Failed, FaultCount};
 use sl_outside::{
@@ -17,12 +18,9 @@ use sl_outside::{
 };
 use std::alloc::Global;
 use std::fs::{File, Files, OpenOptions, TryLockError, metadata};
-use std::io::{self, Write};
+use std::io;
 use std::process::{Processes, SystemProcess};
 use std::time::Clock;
-
-/// What the system's watchdog device is told where it is to rest.
-const REST: [u8; 1] = *b"V";
 
 /// The system that the program runs on.
 #[derive(Drop)]
@@ -36,7 +34,7 @@ pub struct SystemDevices<R> {
     own: Option<File>,
     /// Whether writes wait for the storage.
     syncs: bool,
-    /// The system's watchdog device, open.
+    /// A handle of the system's watchdog device, for keepalives.
     watchdog: Option<File>,
     faults: FaultCount,
 }
@@ -60,7 +58,7 @@ impl<R: Files + Clock + Copy> SystemDevices<R> {
 }
 
 /// Says on standard error which path the system refused, and why. Where that can't be said either, nothing is.
-fn say<R: Eprint>(rt: &R, path: &str, error: &io::Error) {
+pub(crate) fn say<R: Eprint>(rt: &R, path: &str, error: &io::Error) {
     let _said = eprintln!(rt; "sanlock: {path}: {error}");
 }
 
@@ -240,6 +238,8 @@ impl<
         + Drop
         + Send,
 > StandingDevices for SystemDevices<R> {
+    type Watchdog = SystemWatchdog;
+
     fn claim(&mut self, folder: &str, machine: u32) -> Result<(), NotClaimed> {
         match share_folder(&self.rt, self.alloc, folder) {
             Ok(file) => self.folder = Some(file),
@@ -268,22 +268,13 @@ impl<
         self.syncs = true;
     }
 
-    fn watch(&mut self, path: &str) -> Result<(), Failed> {
-        match OpenOptions::new().write(true).open(&self.rt, path) {
-            Ok(file) => {
-                self.watchdog = Some(file);
-                Ok(())
+    fn watch(&mut self, path: String) -> Result<SystemWatchdog, Failed> {
+        match SystemWatchdog::open(&self.rt, path) {
+            Some(watchdog) => {
+                self.watchdog = watchdog.handle();
+                Ok(watchdog)
             }
-            Err(error) => {
-                say(&self.rt, path, &error);
-                Err(self.faults.raise())
-            }
-        }
-    }
-
-    fn release(&mut self) {
-        if let Some(file) = &mut self.watchdog {
-            let _ = file.write(&REST);
+            None => Err(self.faults.raise()),
         }
     }
 }

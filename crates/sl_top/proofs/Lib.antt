@@ -7,3 +7,4 @@ pub mod StatusLaws
 pub mod LiveLaws
 pub mod OwnLaws
 pub mod PictureLaws
+pub mod WatchLaws

@@ -270,7 +270,7 @@ asked_is (Label l g t grace) a is = absurd cc
 asked_is Help a is = absurd cc
 asked_is Version a is = absurd cc
 
-said_for : (s : Option Words) (a : Asked) → asked_in s ≡ Some a → s ≡ Some (words_for a)
+pub said_for : (s : Option Words) (a : Asked) → asked_in s ≡ Some a → s ≡ Some (words_for a)
 said_for None a is = absurd cc
 said_for (Some w) a is = ap (λ v. Some v) (asked_is w a is)
 

@@ -20,7 +20,7 @@ use Rattle.sl_live_play.specs.declared.play.Lived.{Lived}
 use Rattle.sl_live_play.specs.declared.play.Manner.{Manner}
 use Rattle.sl_outside.specs.Disks.{CountsBack, Disks, KeepsAllBut}
 use Rattle.sl_outside.specs.Lendings.{Lending}
-use Rattle.sl_own.specs.OwnOwed.{OwesOwn}
+use Rattle.sl_own.specs.OwnOwed.{HasLived, OwesOwn, RestsOwn}
 use Rattle.sl_own.specs.declared.play.OwnManner.{OwnManner}
 use Rattle.sl_run.specs.Worlds.{whole_program}
 use Rattle.sl_area.specs.AreaSizes.{Sizes}
@@ -164,6 +164,20 @@ Owes tellers (Some (Live folder anew keeps events)) x y s = RunsLive tellers fol
 Owes tellers (Some (Own folder machine watchdog syncs keeps events)) x y s = RunsOwn tellers folder (record { machine = machine; syncs = syncs; keeps = keeps; events = events }) x y s
 Owes tellers (Some Help) x y s = Tells HELP.now Done x y s
 Owes tellers (Some Version) x y s = Tells VERSION.now Done x y s
+
+-- What becomes of a watchdog device of the system that one machine's words name: the one that is open behind the run is it; it was told to rest only where the
+-- machine has run to its end in order, and all that devices had handed out for it came back; and where the whole script was played it was.
+pub record RestsBehind {A P W : Type 0} (tellers : Tellers A P) (path : W → List ℕ) (rested : W → Bool) (folder : List ℕ) (watchdog : Option (List ℕ)) (manner : OwnManner)
+    (x y : Outside) (w : Option W) (s : Status) : Type 0 where
+  pub ended : Lived
+  pub rests : RestsOwn path rested watchdog (HasLived Serves whole_commands tellers x.disks folder x.lendings y.lendings manner.machine) w ended
+  pub status : s ≡ status_of_live ended
+
+-- No other words open one.
+abbrev pub Watches : {A P W : Type 0} → Tellers A P → (W → List ℕ) → (W → Bool) → Option Words → Outside → Outside → Option W → Status → Type 0
+Watches tellers path rested (Some (Own folder machine watchdog syncs keeps events)) x y w s =
+    RestsBehind tellers path rested folder watchdog (record { machine = machine; syncs = syncs; keeps = keeps; events = events }) x y w s
+Watches tellers path rested words x y w s = w ≡ None
 
 -- Only the words that need it touch the source, and the devices.
 abbrev pub IsReplay : Option Words → Type 0

@@ -1,6 +1,6 @@
 //! One machine in a process of its own.
 
-ghost use Rattle.sl_top.specs.Runs.{RunsOwn};
+ghost use Rattle.sl_top.specs.Runs.{RestsBehind, RunsOwn};
 ghost use Rattle.std.specs.Prelude.{option_map, ◌≡◌, ◌≤◌};
 
 use crate::status::{Status, status_of_live};
@@ -33,23 +33,34 @@ fn text_of(path: &Option<Folder>) -> Option<&str>
     }
 }
 
-/// Runs a machine at this place by the script that the source gives, and puts out what it replied.
+/// Runs a machine at this place by the script that the source gives, and puts out what it replied. The watchdog device comes back, if one was opened.
 pub(crate) fn own<
     R: Threads + Wait + Clock + Eprint + Sync,
     S: Source + Send,
     K: Sink + Send,
     D: StandingDevices,
->(rt: &R, alloc: Global, place: &OwnPlace, source: S, sink: K, devices: &mut D) -> (Status, S, K)
+>(
+    rt: &R,
+    alloc: Global,
+    place: &OwnPlace,
+    source: S,
+    sink: K,
+    devices: &mut D,
+) -> (Status, S, K, Option<D::Watchdog>)
 where
     D::Area: Send,
     requires { 1 ≤ place.now.manner.machine }
-    ensures { RunsOwn (record { content = D.Area.content; faults = D.Area.faults; acts = D.Spawner.acts }) place.now.folder place.now.manner
+    ensures owes { RunsOwn (record { content = D.Area.content; faults = D.Area.faults; acts = D.Spawner.acts }) place.now.folder place.now.manner
         (record { left = S.left source; source_faults = S.faults source; taken = K.taken sink; sink_faults = K.faults sink; disks = D.Devices.disks devices.old; lendings = D.Devices.lendings devices.old; device_faults = D.Devices.faults devices.old })
         (record { left = S.left result.1; source_faults = S.faults result.1; taken = K.taken result.2; sink_faults = K.faults result.2; disks = D.Devices.disks devices.new; lendings = D.Devices.lendings devices.new; device_faults = D.Devices.faults devices.new })
         result.0 }
+    ensures watchdog { RestsBehind (record { content = D.Area.content; faults = D.Area.faults; acts = D.Spawner.acts }) D.Watchdog.path D.Watchdog.rested place.now.folder place.now.watchdog place.now.manner
+        (record { left = S.left source; source_faults = S.faults source; taken = K.taken sink; sink_faults = K.faults sink; disks = D.Devices.disks devices.old; lendings = D.Devices.lendings devices.old; device_faults = D.Devices.faults devices.old })
+        (record { left = S.left result.1; source_faults = S.faults result.1; taken = K.taken result.2; sink_faults = K.faults result.2; disks = D.Devices.disks devices.new; lendings = D.Devices.lendings devices.new; device_faults = D.Devices.faults devices.new })
+        result.3 result.0 }
 {
     whole_language_may_play();
-    let (lived, source, sink) = play_own::<LiveHost, S, K, D, R>(
+    let (lived, source, sink, watchdog) = play_own::<LiveHost, S, K, D, R>(
         rt,
         alloc,
         place.folder.as_str(),
@@ -59,5 +70,5 @@ where
         sink,
         devices,
     );
-    (status_of_live(lived), source, sink)
+    (status_of_live(lived), source, sink, watchdog)
 }

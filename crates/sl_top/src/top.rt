@@ -8,7 +8,7 @@
 ghost use Rattle.sl_cli.specs.Spellings.{CanBeDone};
 ghost use Rattle.sl_direct.specs.Actions.{IsAction};
 ghost use Rattle.sl_top.specs.Pictures.{Draws};
-ghost use Rattle.sl_top.specs.Runs.{ActsOn, Generates, IsDirect, IsLive, IsNumbered, IsOwn, Owes, PutsOut, ReadsSource, Replays, RunsLive, asked_in, asked_of, said, said_from, told_from, untold};
+ghost use Rattle.sl_top.specs.Runs.{ActsOn, Generates, IsDirect, IsLive, IsNumbered, IsOwn, Owes, PutsOut, ReadsSource, Replays, RunsLive, Watches, asked_in, asked_of, said, said_from, told_from, untold};
 ghost use Rattle.sl_top.specs.declared.status.Status.TheVariants.{WriteFault};
 ghost use Rattle.std.specs.Prelude.{IfOk, IfSome, ◌≡◌, ◌≢◌, ◌≤◌};
 
@@ -287,9 +287,9 @@ fn machines_asked(
     }
 }
 
-/// Does what the words say, and hands the source, the sink and the devices back: `live` runs machines by the script that it reads, all of them or one
-/// in a process of its own, and all else is done as by `run_offline`. `at_terminal`: the source is a terminal; a live script from there goes on
-/// behind a line that is refused, as with `--keep-going`.
+/// Does what the words say, and hands the source, the sink and the devices back, and the watchdog device of the system if one was opened: `live`
+/// runs machines by the script that it reads, all of them or one in a process of its own, and all else is done as by `run_offline`.
+/// `at_terminal`: the source is a terminal; a live script from there goes on behind a line that is refused, as with `--keep-going`.
 ///
 /// # Statuses
 /// Those of `run_offline`. `live` ends with `Done` where its script was read to its end, with `Refused` where a line of it is refused at which it
@@ -311,30 +311,41 @@ pub fn run<
     source: S,
     sink: K,
     devices: D,
-) -> (Status, S, K, D)
+) -> (Status, S, K, D, Option<D::Watchdog>)
 where
     D::Area: Send,
     ensures owes { Owes (record { content = D.Area.content; faults = D.Area.faults; acts = D.Spawner.acts }) (said_from at_terminal words.now)
         (record { left = S.left source; source_faults = S.faults source; taken = K.taken sink; sink_faults = K.faults sink; disks = D.Devices.disks devices; lendings = D.Devices.lendings devices; device_faults = D.Devices.faults devices })
         (record { left = S.left result.1; source_faults = S.faults result.1; taken = K.taken result.2; sink_faults = K.faults result.2; disks = D.Devices.disks result.3; lendings = D.Devices.lendings result.3; device_faults = D.Devices.faults result.3 })
         result.0 }
+    ensures watchdog { Watches (record { content = D.Area.content; faults = D.Area.faults; acts = D.Spawner.acts }) D.Watchdog.path D.Watchdog.rested (said_from at_terminal words.now)
+        (record { left = S.left source; source_faults = S.faults source; taken = K.taken sink; sink_faults = K.faults sink; disks = D.Devices.disks devices; lendings = D.Devices.lendings devices; device_faults = D.Devices.faults devices })
+        (record { left = S.left result.1; source_faults = S.faults result.1; taken = K.taken result.2; sink_faults = K.faults result.2; disks = D.Devices.disks result.3; lendings = D.Devices.lendings result.3; device_faults = D.Devices.faults result.3 })
+        result.4 result.0 }
     ensures source { (ReadsSource (said words.now) → ⊥) → (IsLive (said words.now) → ⊥) → (IsOwn (said words.now) → ⊥) → result.1 ≡ source }
     ensures devices { (IsDirect (said words.now) → ⊥) → (IsLive (said words.now) → ⊥) → (IsOwn (said words.now) → ⊥) → result.3 ≡ devices }
 {
     let (mut source, mut sink, mut devices) = (source, sink, devices);
     match machines_asked(alloc, words, at_terminal) {
-        Err(_) => (Status::NoMemory, source, sink, devices),
+        Err(_) => (Status::NoMemory, source, sink, devices, None),
         Ok(Some(Asked::All(place))) => {
             let (status, source, sink) = live(rt, alloc, &place, source, sink, &mut devices);
-            (status, source, sink, devices)
+            (status, source, sink, devices, None)
         }
         Ok(Some(Asked::One(place))) => {
-            let (status, source, sink) = own(rt, alloc, &place, source, sink, &mut devices);
-            (status, source, sink, devices)
+            let (status, source, sink, watchdog) = own(
+                rt,
+                alloc,
+                &place,
+                source,
+                sink,
+                &mut devices,
+            );
+            (status, source, sink, devices, watchdog)
         }
         Ok(None) => {
             let status = run_offline(alloc, words, &mut source, &mut sink, &mut devices);
-            (status, source, sink, devices)
+            (status, source, sink, devices, None)
         }
     }
 }
