@@ -298,9 +298,15 @@ captions lines zero = none
 captions lines (suc n) =
     both (lines_to lines n) (line_at lines n) (captions lines n) (one (Label class.Plain 10 (plus (times n 14) 12) (slice_index_or lines n [])))
 
-joined : (f h g c y r k n l w t : List ℕ)
-    → (f ++ h ++ g ++ c ++ y) ++ (r ++ k ++ n) ++ l ++ w ++ t ++ t ≡ f ++ (h ++ (g ++ c) ++ (y ++ ((r ++ k ++ n ++ l ++ w) ++ (t ++ t))))
-joined f h g c y r k n l w t = simp append_assoc
+front_joined : (f h g c y rest : List ℕ) → (f ++ h ++ g ++ c ++ y) ++ rest ≡ f ++ (h ++ (g ++ c) ++ (y ++ rest))
+front_joined f h g c y rest =
+    ap (λ x. (x ++ y) ++ rest) (append_assoc (f ++ h) g c ∙ append_assoc f h (g ++ c)) ∙ append_assoc (f ++ (h ++ (g ++ c))) y rest
+    ∙ append_assoc f (h ++ (g ++ c)) (y ++ rest)
+
+body_joined : (a b l w t : List ℕ) → a ++ b ++ l ++ w ++ t ++ t ≡ a ++ ((b ++ l ++ w) ++ (t ++ t))
+body_joined a b l w t =
+    append_assoc (a ++ b ++ l ++ w) t t ∙ ap (λ x. x ++ (t ++ t)) (ap (λ x. x ++ w) (append_assoc a b l) ∙ append_assoc a (b ++ l) w)
+    ∙ append_assoc a (b ++ l ++ w) (t ++ t)
 
 planned : (caption : List (List ℕ)) (k : Kept) (l : Plan) (bs : List Bar) (last : List ℕ) → IsPicture (planned_text caption k l bs last)
 planned caption k l bs last =
@@ -317,7 +323,8 @@ planned caption k l bs last =
     three (r ++ m ++ n) (layers_text k l bs) (words_text k l bs last)
     (three r m n (resources k (min (length k.resources) 12)) (keys k (resources_row k).free) (lanes l (length l.places))) (layers k l bs) (labels k l bs last) in
     subst IsPicture
-    (sym (joined f head_text (element_text ground) c low r m n (layers_text k l bs) (words_text k l bs last) tail_text
+    (sym (body_joined (f ++ head_text ++ element_text ground ++ c ++ low) (r ++ m ++ n) (layers_text k l bs) (words_text k l bs last) tail_text
+    ∙ front_joined f head_text (element_text ground) c low ((r ++ m ++ n ++ layers_text k l bs ++ words_text k l bs last) ++ (tail_text ++ tail_text))
     ∙ ap₂ (λ a e. f ++ (head_text ++ a ++ (low ++ (e ++ (tail_text ++ tail_text))))) above.text_is drawn.text_is))
     (pictures_are_well_formed sheet.width sheet.height above.elements (caption_height caption) drawn.elements)
 

@@ -13,7 +13,7 @@ use Rattle.sl_picture.specs.Signs.{columns_text, marks_text, notes_text}
 use Rattle.sl_picture.specs.declared.bars.Layer.TheVariants as layer
 use Rattle.sl_picture.specs.declared.layout.Place.{Place}
 use Rattle.sl_picture.specs.declared.shapes.Bar.{Bar}
-use Rattle.std.specs.Prelude.{List, codes, decimal, length, min, slice_index_or, suc, zero, [], ℕ, ◌++◌, ◌+◌, ◌%◌, ◌∷◌}
+use Rattle.std.specs.Prelude.{List, codes, decimal, length, min, slice_index_or, suc, zero, [], ℕ, ◌++◌, ◌+◌, ◌%◌}
 
 -- ---- the legend
 
