@@ -63,34 +63,34 @@ module _ {D : Type 0} (commands : Header → List (Form Command)) (stands : D �
 
   -- ---- by what was read last
 
-  pub ended_out : (h : Header) (before : Option (List ℕ)) (r n : ReaderState) (p : PlayState D) (k : Kept) (s : Played) → Drawing commands stands part h first before r p k → ReadsEnd before after r n
-      → EndStands after n → Puts taken now sink_faults sink_later (picture_of k (as_bytes (end_line p.counts ∷ []))) Done s
+  pub ended_out : (h : Header) (before : Option (List ℕ)) (r n : ReaderState) (p : PlayState D) (caption : List (List ℕ)) (k : Kept) (s : Played) → Drawing commands stands part h first before r p caption k → ReadsEnd before after r n
+      → EndStands after n → Puts taken now sink_faults sink_later (picture_of caption k (as_bytes (end_line p.counts ∷ []))) Done s
       → Draws commands stands part first after taken now faults later sink_faults sink_later s
-  ended_out h before r n p k s d e ends puts =
-      puts_out true (d.runs.consumed ++ []) (picture_of k (as_bytes (end_line p.counts ∷ []))) 0 Done s (refl, refl)
+  ended_out h before r n p caption k s d e ends puts =
+      puts_out true (d.runs.consumed ++ []) (picture_of caption k (as_bytes (end_line p.counts ∷ []))) 0 Done s (refl, refl)
       (reads_of first after (d.runs.consumed ++ []) (gives_then first before after [] d.runs.consumed r.left [] d.runs.gives e.gives)) (λ is. ends.at_end e.ended)
-      (ended_all commands stands part h first before r p k d) puts
+      (ended_all commands stands part h first before r p caption k d) puts
 
-  pub refused_out : (h : Header) (before : Option (List ℕ)) (r n : ReaderState) (p : PlayState D) (k : Kept) (number : ℕ) (why : Refusal) (s : Played)
-      → Drawing commands stands part h first before r p k → ReadsRefused before after r n why → number ≡ n.number + 1
-      → Puts taken now sink_faults sink_later (picture_of k (as_bytes (refusal_line number why ∷ []))) Refused s
+  pub refused_out : (h : Header) (before : Option (List ℕ)) (r n : ReaderState) (p : PlayState D) (caption : List (List ℕ)) (k : Kept) (number : ℕ) (why : Refusal) (s : Played)
+      → Drawing commands stands part h first before r p caption k → ReadsRefused before after r n why → number ≡ n.number + 1
+      → Puts taken now sink_faults sink_later (picture_of caption k (as_bytes (refusal_line number why ∷ []))) Refused s
       → Draws commands stands part first after taken now faults later sink_faults sink_later s
-  refused_out h before r n p k number why s d e is puts =
-      puts_out false (d.runs.consumed ++ e.bytes) (picture_of k (as_bytes (refusal_line number why ∷ []))) 1 Refused s refl
+  refused_out h before r n p caption k number why s d e is puts =
+      puts_out false (d.runs.consumed ++ e.bytes) (picture_of caption k (as_bytes (refusal_line number why ∷ []))) 1 Refused s refl
       (reads_of first after (d.runs.consumed ++ e.bytes) (gives_then first before after [] d.runs.consumed r.left e.bytes d.runs.gives e.gives)) (never_ended after)
-      (refused_all commands stands part h first before after r n p k number why d e is) puts
+      (refused_all commands stands part h first before after r n p caption k number why d e is) puts
 
-  pub stopped_out : (h : Header) (before : Option (List ℕ)) (r n : ReaderState) (p q : PlayState D) (k : Kept) (text : List ℕ) (why : Refusal) (s : Played)
-      → Drawing commands stands part h first before r p k → ReadsLine before after r n → EndStands after n
+  pub stopped_out : (h : Header) (before : Option (List ℕ)) (r n : ReaderState) (p q : PlayState D) (caption : List (List ℕ)) (k : Kept) (text : List ℕ) (why : Refusal) (s : Played)
+      → Drawing commands stands part h first before r p caption k → ReadsLine before after r n → EndStands after n
       → ((w : World) → PlaysOn commands stands p w → StopsAt stands w p (option_to_list (event_line whole_language p.kept.header (line_of n))) n.number [] q text why)
-      → Puts taken now sink_faults sink_later (picture_of k (as_bytes (refusal_line n.number why ∷ []))) Refused s
+      → Puts taken now sink_faults sink_later (picture_of caption k (as_bytes (refusal_line n.number why ∷ []))) Refused s
       → Draws commands stands part first after taken now faults later sink_faults sink_later s
-  stopped_out h before r n p q k text why s d l ends stops puts =
-      puts_out n.ended ((d.runs.consumed ++ l.taken) ++ n.left) (picture_of k (as_bytes (refusal_line n.number why ∷ []))) 1 Refused s refl
+  stopped_out h before r n p q caption k text why s d l ends stops puts =
+      puts_out n.ended ((d.runs.consumed ++ l.taken) ++ n.left) (picture_of caption k (as_bytes (refusal_line n.number why ∷ []))) 1 Refused s refl
       (reads_of first after ((d.runs.consumed ++ l.taken) ++ n.left)
       (gives_so first after [] (d.runs.consumed ++ (l.taken ++ n.left)) ((d.runs.consumed ++ l.taken) ++ n.left)
       (gives_then first before after [] d.runs.consumed r.left (l.taken ++ n.left) d.runs.gives l.gives) (sym (append_assoc d.runs.consumed l.taken n.left)))) ends.at_end
-      (stopped_all commands stands part h first before after r n p q k text why d l ends stops) puts
+      (stopped_all commands stands part h first before after r n p q caption k text why d l ends stops) puts
 
   pub header_out : (n : ReaderState) (number : ℕ) (why : Refusal) (s : Played) → HeaderStops first after n number why → EndStands after n
       → Puts taken now sink_faults sink_later (as_bytes (refusal_line number why ∷ [])) Refused s → Draws commands stands part first after taken now faults later sink_faults sink_later s
@@ -105,14 +105,14 @@ module _ {D : Type 0} (commands : Header → List (Form Command)) (stands : D �
   abbrev unmoved : (all : List ℕ) → Gives first after [] all → Moved first after taken taken
   unmoved all g = record { read = all; ended = false; written = []; reads = reads_of first after all g; at_end = never_ended after; writes = Appends-nil taken }
 
-  pub lacks_there : (h : Header) (before : Option (List ℕ)) (r : ReaderState) (p : PlayState D) (k : Kept) → Drawing commands stands part h first before r p k → IsCutOff before after r
+  pub lacks_there : (h : Header) (before : Option (List ℕ)) (r : ReaderState) (p : PlayState D) (caption : List (List ℕ)) (k : Kept) → Drawing commands stands part h first before r p caption k → IsCutOff before after r
       → Draws commands stands part first after taken taken faults later sink_faults sink_later NoMemory
-  lacks_there h before r p k d c =
+  lacks_there h before r p caption k d c =
       Lacks (unmoved (d.runs.consumed ++ c.bytes) (gives_then first before after [] d.runs.consumed r.left c.bytes d.runs.gives c.gives)) refl
 
-  pub breaks_out : (h : Header) (before : Option (List ℕ)) (r : ReaderState) (p : PlayState D) (k : Kept) → Drawing commands stands part h first before r p k → Fails before after r → Rose faults later
+  pub breaks_out : (h : Header) (before : Option (List ℕ)) (r : ReaderState) (p : PlayState D) (caption : List (List ℕ)) (k : Kept) → Drawing commands stands part h first before r p caption k → Fails before after r → Rose faults later
       → Draws commands stands part first after taken taken faults later sink_faults sink_later ReadFault
-  breaks_out h before r p k d f rose =
+  breaks_out h before r p caption k d f rose =
       Breaks (unmoved (d.runs.consumed ++ f.bytes) (gives_then first before after [] d.runs.consumed r.left f.bytes d.runs.gives f.gives)) rose refl
 
   pub header_breaks : HeaderBreaks first after → Rose faults later → Draws commands stands part first after taken taken faults later sink_faults sink_later ReadFault

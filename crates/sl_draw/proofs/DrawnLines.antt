@@ -1,4 +1,5 @@
 -- Lines that are read, played and drawn one after another.
+use Rattle.sl_draw.specs.Captions.{IsCaption, comments_of}
 use Rattle.sl_draw.specs.Drawings.{AreTold, Ends, IsLast, IsTold, PictureOf, In_events, In_header, Step, Stops, drawn, lines_of_steps, told_of_steps}
 use Rattle.sl_draw.specs.Draws.{Drawing, DrawsAll}
 use Rattle.sl_picture.specs.Kept.{Kept, first_kept}
@@ -185,66 +186,80 @@ module _ {D : Type 0} (commands : Header → List (Form Command)) (stands : D �
 
   -- ---- at first
 
-  pub drawing_started : (part : Part) (h : Header) (first left : Option (List ℕ)) (r : ReaderState) (p : PlayState D) (k : Kept) → HeaderBegins first left r h → Begins commands stands h p
-      → k ≡ first_kept part h → Drawing commands stands part h first left r p k
-  drawing_started part h first left r p k b begins is =
+  pub drawing_started : (part : Part) (h : Header) (first left : Option (List ℕ)) (r : ReaderState) (p : PlayState D) (caption : List (List ℕ)) (k : Kept)
+      → (b : HeaderBegins first left r h) → IsCaption b.consumed r caption → Begins commands stands h p → k ≡ first_kept part h → Drawing commands stands part h first left r p caption k
+  drawing_started part h first left r p caption k b c begins is =
       let x = started h first left r p b begins in
       let lines : (rest : List ℕ) → MayFollow r.ended rest → read_header lang [] 1 (numbered_lines (x.consumed ++ rest)) ≡ Header_read h (lines_of_steps [] ++ lines_left x.consumed rest r) =
       λ rest follows. read_same (program_of commands) (numbered_lines (b.consumed ++ rest)) [] 1 ∙ b.reads rest follows in
-      record { steps = []; runs = x; kept = is; lines = lines; told = told_there h first left r p [] x lines }
+      record { above = c.above; steps = []; runs = x; comments = c.comments; kept = is; all_lines = c.lines; lines = lines; told = told_there h first left r p [] x lines }
 
   -- ---- a line
 
   -- The lines of a source in which this one was read.
-  lines_with : (part : Part) (h : Header) (first before after : Option (List ℕ)) (r n : ReaderState) (p : PlayState D) (k : Kept) (d : Drawing commands stands part h first before r p k)
+  lines_with : (part : Part) (h : Header) (first before after : Option (List ℕ)) (r n : ReaderState) (p : PlayState D) (caption : List (List ℕ)) (k : Kept) (d : Drawing commands stands part h first before r p caption k)
       → (l : ReadsLine before after r n) → (rest : List ℕ) → MayFollow n.ended rest
       → read_header lang [] 1 (numbered_lines (d.runs.consumed ++ (l.taken ++ rest))) ≡ Header_read h (lines_of_steps d.steps ++ line_of n ∷ lines_left (d.runs.consumed ++ l.taken) rest n)
-  lines_with part h first before after r n p k d l rest follows =
+  lines_with part h first before after r n p caption k d l rest follows =
       d.lines (l.taken ++ rest) (open_follows r.ended (l.taken ++ rest) l.began)
       ∙ ap (λ ls. Header_read h (lines_of_steps d.steps ++ ls)) (next_line before after d.runs.consumed r n d.runs.has_read.behind l rest follows)
 
+  -- .. with those of its header.
+  all_with : (part : Part) (h : Header) (first before after : Option (List ℕ)) (r n : ReaderState) (p : PlayState D) (caption : List (List ℕ)) (k : Kept) (d : Drawing commands stands part h first before r p caption k)
+      → (l : ReadsLine before after r n) → (rest : List ℕ) → MayFollow n.ended rest
+      → numbered_lines (d.runs.consumed ++ (l.taken ++ rest)) ≡ d.above ++ (lines_of_steps d.steps ++ line_of n ∷ lines_left (d.runs.consumed ++ l.taken) rest n)
+  all_with part h first before after r n p caption k d l rest follows =
+      d.all_lines (l.taken ++ rest) (open_follows r.ended (l.taken ++ rest) l.began)
+      ∙ ap (λ ls. d.above ++ (lines_of_steps d.steps ++ ls)) (next_line before after d.runs.consumed r n d.runs.has_read.behind l rest follows)
+
   -- It has been played and drawn.
-  pub drawn_on : (part : Part) (h : Header) (first before after : Option (List ℕ)) (r n : ReaderState) (p q : PlayState D) (k m : Kept) (text : List ℕ)
-      → Drawing commands stands part h first before r p k → ReadsLine before after r n
+  pub drawn_on : (part : Part) (h : Header) (first before after : Option (List ℕ)) (r n : ReaderState) (p q : PlayState D) (caption : List (List ℕ)) (k m : Kept) (text : List ℕ)
+      → Drawing commands stands part h first before r p caption k → ReadsLine before after r n
       → ((w : World) → PlaysOn commands stands p w → GoesOn commands stands w p (option_to_list (event_line whole_language p.kept.header (line_of n))) [] q text)
-      → m ≡ taken n.number n.line text k → Drawing commands stands part h first after n q m
-  drawn_on part h first before after r n p q k m text d l goes is =
+      → m ≡ taken n.number n.line text k → Drawing commands stands part h first after n q caption m
+  drawn_on part h first before after r n p q caption k m text d l goes is =
       let s : Step = record { line = line_of n; told = text } in
       let steps : List Step = s ∷ d.steps in
       let x = taken_on h first before after (Some (told_of_steps d.steps)) (Some (told_of_steps d.steps ++ text)) r n p q text d.runs l goes refl in
       let lines : (rest : List ℕ) → MayFollow n.ended rest → read_header lang [] 1 (numbered_lines (x.consumed ++ rest)) ≡ Header_read h (lines_of_steps steps ++ lines_left x.consumed rest n) =
-      λ rest follows. ap (λ b. read_header lang [] 1 (numbered_lines b)) (append_assoc d.runs.consumed l.taken rest) ∙ lines_with part h first before after r n p k d l rest follows
+      λ rest follows. ap (λ b. read_header lang [] 1 (numbered_lines b)) (append_assoc d.runs.consumed l.taken rest) ∙ lines_with part h first before after r n p caption k d l rest follows
       ∙ ap (λ ls. Header_read h ls) (sym (append_assoc (lines_of_steps d.steps) (line_of n ∷ []) (lines_left x.consumed rest n))) in
       record {
+        above = d.above;
         steps = steps;
         runs = x;
+        comments = d.comments;
         kept = is ∙ ap (taken n.number n.line text) d.kept;
+        all_lines = λ rest follows. ap numbered_lines (append_assoc d.runs.consumed l.taken rest) ∙ all_with part h first before after r n p caption k d l rest follows
+            ∙ ap (λ ls. d.above ++ ls) (sym (append_assoc (lines_of_steps d.steps) (line_of n ∷ []) (lines_left x.consumed rest n)));
         lines = lines;
         told = (told_there h first after n q steps x lines, told_grow d.runs.consumed l.taken h d.steps d.told);
       }
 
   -- ---- the picture
 
-  pictured : (part : Part) (h : Header) (source : List ℕ) (steps : List Step) (k : Kept) (rest : List NumberedLine) (last : List ℕ) (status : ℕ) → k ≡ drawn part h steps
+  pictured : (part : Part) (h : Header) (source : List ℕ) (above : List NumberedLine) (steps : List Step) (caption : List (List ℕ)) (k : Kept) (rest : List NumberedLine) (last : List ℕ) (status : ℕ)
+      → caption ≡ comments_of above → k ≡ drawn part h steps → numbered_lines source ≡ above ++ (lines_of_steps steps ++ rest)
       → read_header lang [] 1 (numbered_lines source) ≡ Header_read h (lines_of_steps steps ++ rest) → AreTold made lang source h steps → IsLast rest last status
-      → ReplayOf made lang source (told_of_steps steps ++ last) status → PictureOf made lang part source (picture_of k last) status
-  pictured part h source steps k rest last status is header told ends report =
-      subst (λ (m : Kept). PictureOf made lang part source (picture_of m last) status) (sym is) (In_events h steps rest last header told ends report)
+      → ReplayOf made lang source (told_of_steps steps ++ last) status → PictureOf made lang part source (picture_of caption k last) status
+  pictured part h source above steps caption k rest last status comments is lines header told ends report =
+      subst (λ (m : Kept). PictureOf made lang part source (picture_of caption m last) status) (sym is)
+      (subst (λ c. PictureOf made lang part source (picture_of c (drawn part h steps) last) status) (sym comments) (In_events h above steps rest last lines header told ends report))
 
   -- Where the source ends.
-  pub ended_all : (part : Part) (h : Header) (first left : Option (List ℕ)) (r : ReaderState) (p : PlayState D) (k : Kept) → (d : Drawing commands stands part h first left r p k)
-      → DrawsAll commands stands part true (d.runs.consumed ++ []) (picture_of k (as_bytes (end_line p.counts ∷ []))) 0
-  ended_all part h first left r p k d source may =
+  pub ended_all : (part : Part) (h : Header) (first left : Option (List ℕ)) (r : ReaderState) (p : PlayState D) (caption : List (List ℕ)) (k : Kept) → (d : Drawing commands stands part h first left r p caption k)
+      → DrawsAll commands stands part true (d.runs.consumed ++ []) (picture_of caption k (as_bytes (end_line p.counts ∷ []))) 0
+  ended_all part h first left r p caption k d source may =
       let x = d.runs in
-      subst (λ b. PictureOf made lang part b (picture_of k (as_bytes (end_line p.counts ∷ []))) 0) (sym may)
-      (pictured part h (x.consumed ++ []) d.steps k [] (as_bytes (end_line p.counts ∷ [])) 0 d.kept (d.lines [] (λ e. refl)) (told_grow x.consumed [] h d.steps d.told) (Ends p.counts refl)
+      subst (λ b. PictureOf made lang part b (picture_of caption k (as_bytes (end_line p.counts ∷ []))) 0) (sym may)
+      (pictured part h (x.consumed ++ []) d.above d.steps caption k [] (as_bytes (end_line p.counts ∷ [])) 0 d.comments d.kept (d.all_lines [] (λ e. refl)) (d.lines [] (λ e. refl)) (told_grow x.consumed [] h d.steps d.told) (Ends p.counts refl)
       (subst (λ b. ReplayOf made lang (x.consumed ++ []) (b ++ as_bytes (end_line p.counts ∷ [])) 0) (sym x.writes) (ends_there h first left (Some []) (Some (told_of_steps d.steps)) r p x)))
 
   -- Where a line is refused before it is read.
-  pub refused_all : (part : Part) (h : Header) (first before after : Option (List ℕ)) (r n : ReaderState) (p : PlayState D) (k : Kept) (number : ℕ) (why : Refusal)
-      → (d : Drawing commands stands part h first before r p k) → (e : ReadsRefused before after r n why) → number ≡ n.number + 1
-      → DrawsAll commands stands part false (d.runs.consumed ++ e.bytes) (picture_of k (as_bytes (refusal_line number why ∷ []))) 1
-  refused_all part h first before after r n p k number why d e is source may =
+  pub refused_all : (part : Part) (h : Header) (first before after : Option (List ℕ)) (r n : ReaderState) (p : PlayState D) (caption : List (List ℕ)) (k : Kept) (number : ℕ) (why : Refusal)
+      → (d : Drawing commands stands part h first before r p caption k) → (e : ReadsRefused before after r n why) → number ≡ n.number + 1
+      → DrawsAll commands stands part false (d.runs.consumed ++ e.bytes) (picture_of caption k (as_bytes (refusal_line number why ∷ []))) 1
+  refused_all part h first before after r n p caption k number why d e is source may =
       let x = d.runs in
       let rest : List ℕ = may.0 in
       let f = e.refuses.first rest (r.number + 1) in
@@ -263,18 +278,19 @@ module _ {D : Type 0} (commands : Header → List (Form Command)) (stands : D �
       (subst (λ ls. Finishes (EachStood stands) lang x.world p.counts ls x.written (x.written ++ last) (At_line number why)) (sym events)
       ((ends_finish (EachStood stands)).misread lang x.world p.counts number why (event_lines_of lang h f.others) x.written
       (each_stood commands stands p.kept p.hosts x.world x.plays.stands_for) x.plays.unasked)) in
-      subst (λ b. PictureOf made lang part b (picture_of k last) 1) (sym (may.1 ∙ append_assoc x.consumed e.bytes rest))
-      (pictured part h (x.consumed ++ (e.bytes ++ rest)) d.steps k (l ∷ f.others) last 1 d.kept
+      subst (λ b. PictureOf made lang part b (picture_of caption k last) 1) (sym (may.1 ∙ append_assoc x.consumed e.bytes rest))
+      (pictured part h (x.consumed ++ (e.bytes ++ rest)) d.above d.steps caption k (l ∷ f.others) last 1 d.comments d.kept
+      (d.all_lines (e.bytes ++ rest) follows ∙ ap (λ ls. d.above ++ (lines_of_steps d.steps ++ ls)) lines)
       (d.lines (e.bytes ++ rest) follows ∙ ap (λ ls. Header_read h (lines_of_steps d.steps ++ ls)) lines) (told_grow x.consumed (e.bytes ++ rest) h d.steps d.told)
       (subst (λ b. IsLast (l ∷ f.others) (as_bytes (refusal_line b why ∷ [])) 1) numbers (Stops l f.others why refl))
       (subst (λ b. ReplayOf made lang (x.consumed ++ (e.bytes ++ rest)) (b ++ last) 1) (sym x.writes) report))
 
   -- Where a line is refused that was read.
-  pub stopped_all : (part : Part) (h : Header) (first before after : Option (List ℕ)) (r n : ReaderState) (p q : PlayState D) (k : Kept) (text : List ℕ) (why : Refusal)
-      → (d : Drawing commands stands part h first before r p k) → (l : ReadsLine before after r n) → EndStands after n
+  pub stopped_all : (part : Part) (h : Header) (first before after : Option (List ℕ)) (r n : ReaderState) (p q : PlayState D) (caption : List (List ℕ)) (k : Kept) (text : List ℕ) (why : Refusal)
+      → (d : Drawing commands stands part h first before r p caption k) → (l : ReadsLine before after r n) → EndStands after n
       → ((w : World) → PlaysOn commands stands p w → StopsAt stands w p (option_to_list (event_line whole_language p.kept.header (line_of n))) n.number [] q text why)
-      → DrawsAll commands stands part n.ended ((d.runs.consumed ++ l.taken) ++ n.left) (picture_of k (as_bytes (refusal_line n.number why ∷ []))) 1
-  stopped_all part h first before after r n p q k text why d l ends stops source may =
+      → DrawsAll commands stands part n.ended ((d.runs.consumed ++ l.taken) ++ n.left) (picture_of caption k (as_bytes (refusal_line n.number why ∷ []))) 1
+  stopped_all part h first before after r n p q caption k text why d l ends stops source may =
       let x = d.runs in
       let b = been n.ended ((x.consumed ++ l.taken) ++ n.left) source may in
       let rest : List ℕ = n.left ++ b.0 in
@@ -291,8 +307,9 @@ module _ {D : Type 0} (commands : Header → List (Form Command)) (stands : D �
       (subst (λ ls. Finishes (EachStood stands) lang x.world p.counts ls x.written (x.written ++ last) (At_line n.number why)) (sym events)
       (shift_finish (EachStood stands) lang x.world p.counts (option_to_list (event_line whole_language p.kept.header (line_of n)) ++ left)
       last (At_line n.number why) ((stops x.world x.plays).finishes lang left) x.written)) in
-      subst (λ c. PictureOf made lang part c (picture_of k last) 1) (sym there)
-      (pictured part h (x.consumed ++ (l.taken ++ rest)) d.steps k (line_of n ∷ behind) last 1 d.kept (lines_with part h first before after r n p k d l rest follows)
+      subst (λ c. PictureOf made lang part c (picture_of caption k last) 1) (sym there)
+      (pictured part h (x.consumed ++ (l.taken ++ rest)) d.above d.steps caption k (line_of n ∷ behind) last 1 d.comments d.kept (all_with part h first before after r n p caption k d l rest follows)
+      (lines_with part h first before after r n p caption k d l rest follows)
       (told_grow x.consumed (l.taken ++ rest) h d.steps d.told) (Stops (line_of n) behind why refl)
       (subst (λ c. ReplayOf made lang (x.consumed ++ (l.taken ++ rest)) (c ++ last) 1) (sym x.writes) report))
 

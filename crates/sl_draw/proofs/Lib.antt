@@ -1,3 +1,4 @@
 pub mod Drawn
 pub mod DrawnLines
 pub mod DrawingsAreOwed
+pub mod TitledHeaders

@@ -1,4 +1,5 @@
--- The picture of a source: that of its lines, each with what the report tells of it.
+-- The picture of a source: that of its lines, each with what the report tells of it, below the comments of its header.
+use Rattle.sl_draw.specs.Captions.{comments_of}
 use Rattle.sl_picture.specs.Kept.{Kept, first_kept}
 use Rattle.sl_picture.specs.Page.{picture_of}
 use Rattle.sl_picture.specs.Tells.{taken}
@@ -52,14 +53,16 @@ pub data IsLast (lines : List NumberedLine) : List ℕ → ℕ → Type 0 where
   Ends : (k : Counts) → lines ≡ [] → IsLast lines (as_bytes (end_line k ∷ [])) 0
   Stops : (l : NumberedLine) (more : List NumberedLine) (why : Refusal) → lines ≡ l ∷ more → IsLast lines (as_bytes (refusal_line l.number why ∷ [])) 1
 
--- The picture of a part of a source, with the status that goes with it; of the run that it shows this is promised. Where a line of the header
--- is refused, it is the line that says so.
+-- The picture of a part of a source, with the status that goes with it; of the run that it shows this is promised. Its caption has the comments
+-- of the lines above the first that is played, each a line of its own, and nothing else. Where a line of the header is refused, the picture is
+-- the line that says so.
 pub data PictureOf (promised : Promise) (lang : Language) (part : Part) (source : List ℕ) : List ℕ → ℕ → Type 0 where
   In_header : (number : ℕ) (why : Refusal) → read_header lang [] 1 (numbered_lines source) ≡ Header_refused number why →
       PictureOf promised lang part source (as_bytes (refusal_line number (lang.told why) ∷ [])) 1
-  In_events : {status : ℕ} → (h : Header) (steps : List Step) (rest : List NumberedLine) (last : List ℕ) →
-      read_header lang [] 1 (numbered_lines source) ≡ Header_read h (lines_of_steps steps ++ rest) → AreTold promised lang source h steps → IsLast rest last status →
-      ReplayOf promised lang source (told_of_steps steps ++ last) status → PictureOf promised lang part source (picture_of (drawn part h steps) last) status
+  In_events : {status : ℕ} → (h : Header) (above : List NumberedLine) (steps : List Step) (rest : List NumberedLine) (last : List ℕ) →
+      numbered_lines source ≡ above ++ (lines_of_steps steps ++ rest) → read_header lang [] 1 (numbered_lines source) ≡ Header_read h (lines_of_steps steps ++ rest) →
+      AreTold promised lang source h steps → IsLast rest last status → ReplayOf promised lang source (told_of_steps steps ++ last) status →
+      PictureOf promised lang part source (picture_of (comments_of above) (drawn part h steps) last) status
 
 -- What is written begins the picture of each source that may have been.
 pub record BeginsPicture (promised : Promise) (lang : Language) (part : Part) (ended : Bool) (read written : List ℕ) : Type 0 where

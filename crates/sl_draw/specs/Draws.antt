@@ -1,4 +1,5 @@
 -- What a drawing reads and writes, by how it ends.
+use Rattle.sl_draw.specs.Captions.{comments_of}
 use Rattle.sl_draw.specs.Drawings.{AreTold, BeginsPicture, PictureOf, PictureOwed, Step, drawn, lines_of_steps, told_of_steps}
 use Rattle.sl_io.specs.FaultCauses.{Rose}
 use Rattle.sl_picture.specs.Kept.{Kept}
@@ -10,7 +11,7 @@ use Rattle.sl_play.specs.declared.replay.Played.{Played}
 use Rattle.sl_reader.specs.HeaderBegins.{lines_left}
 use Rattle.sl_reader.specs.LineReads.{MayFollow, ReaderState}
 use Rattle.sl_report.specs.OwedReports.{MayHaveBeen}
-use Rattle.sl_report.specs.Schedules.{Header_read, numbered_lines, read_header}
+use Rattle.sl_report.specs.Schedules.{Header_read, NumberedLine, numbered_lines, read_header}
 use Rattle.sl_run.specs.declared.header.Header.{Header}
 use Rattle.sl_sound.specs.MadeRuns.{MadeRun}
 use Rattle.sl_text.specs.Forms.{Form}
@@ -44,12 +45,15 @@ pub data Draws {D : Type 0} (commands : Header → List (Form Command)) (stands 
 
 -- ---- within the events
 
--- These lines were read and played, and each was taken into the picture.
+-- These lines were read and played, and each was taken into the picture, whose caption was read above them.
 pub record Drawing {D : Type 0} (commands : Header → List (Form Command)) (stands : D → Setting → Trace → Type 0) (part : Part) (h : Header) (first left : Option (List ℕ)) (r : ReaderState)
-    (p : PlayState D) (k : Kept) : Type 0 where
+    (p : PlayState D) (caption : List (List ℕ)) (k : Kept) : Type 0 where
+  pub above : List NumberedLine
   pub steps : List Step
   pub runs : Running commands stands h first left (Some []) (Some (told_of_steps steps)) r p
+  pub comments : caption ≡ comments_of above
   pub kept : k ≡ drawn part h steps
+  pub all_lines : (rest : List ℕ) → MayFollow r.ended rest → numbered_lines (runs.consumed ++ rest) ≡ above ++ (lines_of_steps steps ++ lines_left runs.consumed rest r)
   pub lines : (rest : List ℕ) → MayFollow r.ended rest
       → read_header (played_language commands) [] 1 (numbered_lines (runs.consumed ++ rest)) ≡ Header_read h (lines_of_steps steps ++ lines_left runs.consumed rest r)
   pub told : AreTold (λ q header xs. MadeRun stands q header xs) (played_language commands) runs.consumed h steps

@@ -1,2 +1,3 @@
+pub mod Captions
 pub mod Drawings
 pub mod Draws

@@ -1,6 +1,6 @@
 -- Pictures are well formed.
 use Rattle.sl_drawing.specs.Classes.{class_text, held_text, symbol_text}
-use Rattle.sl_drawing.specs.Elements.{Element, Label as LabelOf, Rect, Sign as SignOf, Titled as TitledOf, area_text, attribute_text, element_text, escaped, escaped_byte, front_text, head_text, svg_text, tag_text, use_text}
+use Rattle.sl_drawing.specs.Elements.{Element, Label as LabelOf, Rect, Sign as SignOf, Titled as TitledOf, area_text, attribute_text, element_text, escaped, escaped_byte, front_text, head_text, lowered_text, svg_text, tag_text, tail_text, use_text}
 use Rattle.sl_drawing.specs.WellFormed.{AreAttributes, AreElements, Empty, Entity, IsElement, IsEscaped, IsPicture, Label, More, No_element, No_more, Nothing, Number, Numbers, One_more, PicturesAreWellFormed, Plain, Sign, Titled, is_plain, is_value}
 use Rattle.sl_drawing.specs.declared.classes.Class.TheVariants.{Accepted, Bad, Crash, Dim, Down, Expired, Flying, Gap, Grid, Ground, Held, Hit, Idle, Inside, Joined, Joining, Lane, Late, Left, Number as NumberClass, Orphan, Passing, Plain as PlainClass, Read, Refused, Renewed, Reset, Shared, Unclear, Up, Waiting, Wanted, Write}
 use Rattle.sl_drawing.specs.declared.classes.Class.{Class}
@@ -190,14 +190,30 @@ whole_joined : (f g v q o w a h b c close rest : List ℕ)
     ≡ (f ++ (g ++ v ++ q ++ (o ++ w ++ a ++ h ++ q ++ (b ++ w ++ q ++ (c ++ h ++ q ++ [])))) ++ close) ++ rest
 whole_joined f g v q o w a h b c close rest = simp append_assoc
 
-pub pictures_are_well_formed : PicturesAreWellFormed
+lowered_joined : (f a y q close : List ℕ) → ((f ++ a) ++ y ++ q) ++ close ≡ f ++ (a ++ y ++ q ++ []) ++ close
+lowered_joined f a y q close = simp append_assoc
+
+lowered_is : (y : ℕ) → lowered_text y ≡ codes "<svg" ++ numbered (codes " y='") y [] ++ codes ">\n"
+unfolding lowered_text
+lowered_is y = lowered_joined (codes "<svg") (codes " y='") (decimal y) (codes "'") (codes ">\n")
+
+front_is : (width height : ℕ) (rest : List ℕ) → front_text width height ++ rest ≡ (codes "<svg" ++ front_attributes width height ++ codes ">\n") ++ rest
 unfolding front_text svg_text
-pictures_are_well_formed width height es =
+front_is width height rest =
+    whole_joined (codes "<svg") (codes " xmlns='") address (codes "'") (codes " viewBox='0 0 ") (decimal width) (codes " ") (decimal height) (codes " width='") (codes " height='")
+    (codes ">\n") rest
+
+pub pictures_are_well_formed : PicturesAreWellFormed
+pictures_are_well_formed width height above y es =
     record {
       attributes = front_attributes width height;
+      above = flat_map element_text above;
+      within = numbered (codes " y='") y [];
       elements = flat_map element_text es;
       are = front_are width height;
+      each_above = elements_are above;
+      are_within = Number (codes "y") (codes " y='") y [] refl refl No_more;
       each = elements_are es;
-      text_is = whole_joined (codes "<svg") (codes " xmlns='") address (codes "'") (codes " viewBox='0 0 ") (decimal width) (codes " ") (decimal height) (codes " width='") (codes " height='")
-          (codes ">\n") (head_text ++ flat_map element_text es ++ codes "</svg>\n");
+      text_is = front_is width height (head_text ++ flat_map element_text above ++ (lowered_text y ++ (flat_map element_text es ++ (tail_text ++ tail_text))))
+          ∙ ap (λ l. (codes "<svg" ++ front_attributes width height ++ codes ">\n") ++ (head_text ++ flat_map element_text above ++ (l ++ (flat_map element_text es ++ (tail_text ++ tail_text))))) (lowered_is y);
     }

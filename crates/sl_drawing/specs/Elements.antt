@@ -67,6 +67,11 @@ head_text = HEAD.now
 abbrev pub tail_text : List ℕ
 tail_text = codes "</svg>\n"
 
--- A whole picture.
-abbrev pub picture_text : ℕ → ℕ → List Element → List ℕ
-picture_text width height es = front_text width height ++ (head_text ++ flat_map element_text es ++ tail_text)
+-- The front of what stands so far below the top; its end is written as the picture's.
+unfoldable pub lowered_text : ℕ → List ℕ
+lowered_text y = attribute_text (codes "<svg y='") y ++ codes ">\n"
+
+-- A whole picture: some elements at its top, and some so far below that.
+abbrev pub picture_text : ℕ → ℕ → List Element → ℕ → List Element → List ℕ
+picture_text width height above y es =
+    front_text width height ++ (head_text ++ flat_map element_text above ++ (lowered_text y ++ (flat_map element_text es ++ (tail_text ++ tail_text))))

@@ -38,14 +38,19 @@ pub data AreElements : List ℕ → Type 0 where
   No_element : AreElements []
   One_more : (e rest : List ℕ) → IsElement e → AreElements rest → AreElements (e ++ rest)
 
--- A whole picture: a front, the head that is the same in each, elements, a tail.
+-- A whole picture: a front, the head that is the same in each, elements at its top, and a picture within it that has elements too; a tail each.
 pub record IsPicture (text : List ℕ) : Type 0 where
   pub attributes : List ℕ
+  pub above : List ℕ
+  pub within : List ℕ
   pub elements : List ℕ
   pub are : AreAttributes attributes
+  pub each_above : AreElements above
+  pub are_within : AreAttributes within
   pub each : AreElements elements
-  pub text_is : text ≡ (codes "<svg" ++ attributes ++ codes ">\n") ++ (head_text ++ elements ++ codes "</svg>\n")
+  pub text_is : text ≡ (codes "<svg" ++ attributes ++ codes ">\n")
+      ++ (head_text ++ above ++ ((codes "<svg" ++ within ++ codes ">\n") ++ (elements ++ (codes "</svg>\n" ++ codes "</svg>\n"))))
 
 -- So is each, whatever its elements and whatever bytes their texts have.
 abbrev pub PicturesAreWellFormed : Type 0
-PicturesAreWellFormed = (width height : ℕ) (es : List Element) → IsPicture (picture_text width height es)
+PicturesAreWellFormed = (width height : ℕ) (above : List Element) (y : ℕ) (es : List Element) → IsPicture (picture_text width height above y es)

@@ -171,6 +171,15 @@ pub fn push_front(out: &mut Vec<u8>, width: u64, height: u64) -> Result<(), Allo
     out.extend_from_slice(b">\n")
 }
 
+/// Adds the front of what stands so far below the top of a picture: all that is written behind it, to its own end, is moved down by so much.
+#[tactic(auto, unfolding(crate::specs::Elements::lowered_text))]
+pub fn push_lowered(out: &mut Vec<u8>, y: u64) -> Result<(), AllocError>
+    ensures { OnOk result (out.new.items ≡ out.old.items ++ elements.lowered_text y) }
+{
+    push_attribute(out, b"<svg y='", y)?;
+    out.extend_from_slice(b">\n")
+}
+
 /// Adds the head.
 #[tactic(auto, unfolding(crate::specs::Elements::head_text))]
 pub fn push_head(out: &mut Vec<u8>) -> Result<(), AllocError>
@@ -179,7 +188,7 @@ pub fn push_head(out: &mut Vec<u8>) -> Result<(), AllocError>
     out.extend_from_slice(HEAD)
 }
 
-/// Adds the end of a picture.
+/// Adds the end of a picture, or of what stands below its top.
 pub fn push_tail(out: &mut Vec<u8>) -> Result<(), AllocError>
     ensures { OnOk result (out.new.items ≡ out.old.items ++ elements.tail_text) }
 {

@@ -1,6 +1,6 @@
 -- What is written of a picture is its front, the head, elements one behind the other, and a tail.
 use Rattle.sl_drawing.proofs.WellFormed.{pictures_are_well_formed}
-use Rattle.sl_drawing.specs.Elements.{Element, Label, Rect, Sign as Shown, Titled, element_text, front_text, head_text, picture_text, tail_text}
+use Rattle.sl_drawing.specs.Elements.{Element, Label, Rect, Sign as Shown, Titled, element_text, front_text, head_text, lowered_text, tail_text}
 use Rattle.sl_drawing.specs.Sums.{letters, minus, plus, times}
 use Rattle.sl_drawing.specs.WellFormed.{IsPicture}
 use Rattle.sl_drawing.specs.declared.classes.Class.TheVariants as class
@@ -9,9 +9,10 @@ use Rattle.sl_drawing.specs.declared.classes.Symbol.TheVariants as symbol
 use Rattle.sl_drawing.specs.declared.classes.Symbol.{Symbol}
 use Rattle.sl_drawing.specs.declared.elements.Area.{Area}
 use Rattle.sl_picture.specs.Bars.{Row, area_of, bar_text, bars_text, class_of, command_class, command_end, command_text, command_words, commands_to, detail_text, has_room, is_in_layer, is_passing, is_shown, label_text, label_there, layer_text, machine_commands, moment_end, moment_text, moments_text, moments_with, row_text, row_with, tick, title, words}
+use Rattle.sl_picture.specs.Captions.{caption_height, caption_text, line_at, lines_to, sheet_of}
 use Rattle.sl_picture.specs.Kept.{Kept, text_at}
 use Rattle.sl_picture.specs.Layout.{Plan, all_bars, bottom_of, calls_top, commands_top, held_top, links_top, place_of, plan_of, x_of}
-use Rattle.sl_picture.specs.Page.{dead_words, ground_text, key_end, key_text, keys_text, lane_at, lane_text, lanes_to, last_text, late_end, late_key, late_words, layers_text, lower_rows, no_place, picture_of, planned_text, resource_name, resources_row, resources_to, rows_text, shapes_end, shapes_text, time_key, unit_text, upper_rows, words_text}
+use Rattle.sl_picture.specs.Page.{dead_words, key_end, key_text, keys_text, lane_at, lane_text, lanes_to, last_text, late_end, late_key, late_words, layers_text, lower_rows, no_place, picture_of, planned_text, resource_name, resources_row, resources_to, rows_text, shapes_end, shapes_text, time_key, unit_text, upper_rows, words_text}
 use Rattle.sl_picture.specs.Signs.{column_area, column_text, columns_text, event_words, line_text, mark_text, mark_there, marks_text, note_at, note_sign, note_text, note_words, note_x, notes_text, notes_to, sign_text}
 use Rattle.sl_picture.specs.WellFormed.{KeptPicturesAreWellFormed}
 use Rattle.sl_picture.specs.declared.bars.Layer.TheVariants as layer
@@ -292,24 +293,41 @@ labels k l bs last =
     four (commands_to k l bs (length l.places)) (marks_text l k.marks) (notes_text k l) (last_text k l last) (commands k l bs (length l.places)) (marks l k.marks)
     (notes k l (length k.notes)) (one (Label class.Plain 104 (plus (plus l.bottom 24) (times (length k.notes) 13)) last))
 
-joined : (f h g r k n l w t : List ℕ) → f ++ h ++ g ++ r ++ k ++ n ++ l ++ w ++ t ≡ f ++ (h ++ (g ++ r ++ k ++ n ++ l ++ w) ++ t)
-joined f h g r k n l w t = simp append_assoc
+captions : (lines : List (List ℕ)) (n : ℕ) → IsDrawn (lines_to lines n)
+captions lines zero = none
+captions lines (suc n) =
+    both (lines_to lines n) (line_at lines n) (captions lines n) (one (Label class.Plain 10 (plus (times n 14) 12) (slice_index_or lines n [])))
 
-planned : (k : Kept) (l : Plan) (bs : List Bar) (last : List ℕ) → IsPicture (planned_text k l bs last)
-planned k l bs last =
-    let ground : Element = Rect class.Ground (record { x = 0; y = 0; width = l.width; height = l.height }) in
-    let g : List ℕ = element_text ground in
+front_joined : (f h g c y rest : List ℕ) → (f ++ h ++ g ++ c ++ y) ++ rest ≡ f ++ (h ++ (g ++ c) ++ (y ++ rest))
+front_joined f h g c y rest =
+    ap (λ x. (x ++ y) ++ rest) (append_assoc (f ++ h) g c ∙ append_assoc f h (g ++ c)) ∙ append_assoc (f ++ (h ++ (g ++ c))) y rest
+    ∙ append_assoc f (h ++ (g ++ c)) (y ++ rest)
+
+body_joined : (a b l w t : List ℕ) → a ++ b ++ l ++ w ++ t ++ t ≡ a ++ ((b ++ l ++ w) ++ (t ++ t))
+body_joined a b l w t =
+    append_assoc (a ++ b ++ l ++ w) t t ∙ ap (λ x. x ++ (t ++ t)) (ap (λ x. x ++ w) (append_assoc a b l) ∙ append_assoc a (b ++ l) w)
+    ∙ append_assoc a (b ++ l ++ w) (t ++ t)
+
+planned : (caption : List (List ℕ)) (k : Kept) (l : Plan) (bs : List Bar) (last : List ℕ) → IsPicture (planned_text caption k l bs last)
+planned caption k l bs last =
+    let sheet : Area = sheet_of l caption in
+    let f : List ℕ = front_text sheet.width sheet.height in
+    let ground : Element = Rect class.Ground sheet in
+    let c : List ℕ = caption_text caption in
+    let low : List ℕ = lowered_text (caption_height caption) in
     let r : List ℕ = (resources_row k).text in
     let m : List ℕ = keys_text k (resources_row k).free in
     let n : List ℕ = lanes_to l (length l.places) in
-    let drawn : IsDrawn (g ++ r ++ m ++ n ++ layers_text k l bs ++ words_text k l bs last) =
-    three (g ++ r ++ m ++ n) (layers_text k l bs) (words_text k l bs last)
-    (four g r m n (one ground) (resources k (min (length k.resources) 12)) (keys k (resources_row k).free) (lanes l (length l.places))) (layers k l bs) (labels k l bs last) in
+    let above : IsDrawn (element_text ground ++ c) = both (element_text ground) c (one ground) (captions caption (length caption)) in
+    let drawn : IsDrawn (r ++ m ++ n ++ layers_text k l bs ++ words_text k l bs last) =
+    three (r ++ m ++ n) (layers_text k l bs) (words_text k l bs last)
+    (three r m n (resources k (min (length k.resources) 12)) (keys k (resources_row k).free) (lanes l (length l.places))) (layers k l bs) (labels k l bs last) in
     subst IsPicture
-    (sym (joined (front_text l.width l.height) head_text g r m n (layers_text k l bs) (words_text k l bs last) tail_text
-    ∙ ap (λ e. front_text l.width l.height ++ (head_text ++ e ++ tail_text)) drawn.text_is))
-    (pictures_are_well_formed l.width l.height drawn.elements)
+    (sym (body_joined (f ++ head_text ++ element_text ground ++ c ++ low) (r ++ m ++ n) (layers_text k l bs) (words_text k l bs last) tail_text
+    ∙ front_joined f head_text (element_text ground) c low ((r ++ m ++ n ++ layers_text k l bs ++ words_text k l bs last) ++ (tail_text ++ tail_text))
+    ∙ ap₂ (λ a e. f ++ (head_text ++ a ++ (low ++ (e ++ (tail_text ++ tail_text))))) above.text_is drawn.text_is))
+    (pictures_are_well_formed sheet.width sheet.height above.elements (caption_height caption) drawn.elements)
 
 pub kept_pictures_are_well_formed : KeptPicturesAreWellFormed
 unfolding picture_of
-kept_pictures_are_well_formed k last = planned k (plan_of (all_bars k) k) (all_bars k) last
+kept_pictures_are_well_formed caption k last = planned caption k (plan_of (all_bars k) k) (all_bars k) last

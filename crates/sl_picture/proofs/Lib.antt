@@ -1,2 +1,5 @@
+pub mod BarsBegin
+pub mod BarsStay
 mod DrawnElements
+pub mod LinesMove
 mod PushedTexts

@@ -1,4 +1,5 @@
 pub mod Said
+pub mod HeldBars
 pub mod Fates
 pub mod Kept
 pub mod Events
@@ -6,5 +7,6 @@ pub mod Tells
 pub mod Layout
 pub mod Bars
 pub mod Signs
+pub mod Captions
 pub mod Page
 pub mod WellFormed

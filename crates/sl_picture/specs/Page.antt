@@ -1,9 +1,10 @@
 -- The whole picture, as text.
-use Rattle.sl_drawing.specs.Elements.{Label, Rect, element_text, front_text, head_text, tail_text}
+use Rattle.sl_drawing.specs.Elements.{Label, Rect, element_text, tail_text}
 use Rattle.sl_drawing.specs.Sums.{letters, minus, plus, times}
 use Rattle.sl_drawing.specs.declared.classes.Class.TheVariants as class
 use Rattle.sl_drawing.specs.declared.classes.Class.{Class}
 use Rattle.sl_picture.specs.Bars.{Row, bars_text, commands_to, moments_text}
+use Rattle.sl_picture.specs.Captions.{above_text}
 use Rattle.sl_picture.specs.Kept.{Kept, text_at}
 use Rattle.sl_picture.specs.Layout.{Plan, all_bars, bottom_of, calls_top, commands_top, held_top, links_top, plan_of}
 use Rattle.sl_picture.specs.Fates.{no_text}
@@ -12,7 +13,7 @@ use Rattle.sl_picture.specs.Signs.{columns_text, marks_text, notes_text}
 use Rattle.sl_picture.specs.declared.bars.Layer.TheVariants as layer
 use Rattle.sl_picture.specs.declared.layout.Place.{Place}
 use Rattle.sl_picture.specs.declared.shapes.Bar.{Bar}
-use Rattle.std.specs.Prelude.{List, codes, decimal, length, min, slice_index_or, suc, zero, [], ℕ, ◌++◌, ◌+◌, ◌%◌, ◌∷◌}
+use Rattle.std.specs.Prelude.{List, codes, decimal, length, min, slice_index_or, suc, zero, [], ℕ, ◌++◌, ◌+◌, ◌%◌}
 
 -- ---- the legend
 
@@ -94,11 +95,8 @@ lanes_to l (suc n) = lanes_to l n ++ lane_at l n
 
 -- ---- the whole
 
-abbrev pub sheet_text : Plan → List ℕ
-sheet_text l = front_text l.width l.height ++ head_text ++ element_text (Rect class.Ground (record { x = 0; y = 0; width = l.width; height = l.height }))
-
 abbrev pub ground_text : Kept → Plan → List ℕ
-ground_text k l = sheet_text l ++ (resources_row k).text ++ keys_text k (resources_row k).free ++ lanes_to l (length l.places)
+ground_text k l = (resources_row k).text ++ keys_text k (resources_row k).free ++ lanes_to l (length l.places)
 
 abbrev pub last_text : Kept → Plan → List ℕ → List ℕ
 last_text k l last = element_text (Label class.Plain 104 (plus (plus l.bottom 24) (times (length k.notes) 13)) last)
@@ -111,9 +109,9 @@ layers_text k l bs =
 abbrev pub words_text : Kept → Plan → List Bar → List ℕ → List ℕ
 words_text k l bs last = commands_to k l bs (length l.places) ++ marks_text l k.marks ++ notes_text k l ++ last_text k l last
 
-abbrev pub planned_text : Kept → Plan → List Bar → List ℕ → List ℕ
-planned_text k l bs last = ground_text k l ++ layers_text k l bs ++ words_text k l bs last ++ tail_text
+abbrev pub planned_text : List (List ℕ) → Kept → Plan → List Bar → List ℕ → List ℕ
+planned_text caption k l bs last = above_text l caption ++ ground_text k l ++ layers_text k l bs ++ words_text k l bs last ++ tail_text ++ tail_text
 
--- The picture of what is kept, with this last line.
-unfoldable pub picture_of : Kept → List ℕ → List ℕ
-picture_of k last = planned_text k (plan_of (all_bars k) k) (all_bars k) last
+-- The picture of what is kept, below the lines of this caption, with this last line.
+unfoldable pub picture_of : List (List ℕ) → Kept → List ℕ → List ℕ
+picture_of caption k last = planned_text caption k (plan_of (all_bars k) k) (all_bars k) last

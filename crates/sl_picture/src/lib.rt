@@ -6,13 +6,15 @@
 //! a line of the schedule means, `tells` what a line of the report does, `kept` keeps bars, marks, columns and notes.
 //!
 //! The axis goes by events and by moments: each event takes one width, so that what happens at one moment can be told apart, and all time that
-//! passes is drawn to one scale. The scale is known at the end alone, so `push_picture` writes the picture then (`layout`, `bars`, `signs`,
-//! `page`): ground, legend, time, bars, signs, words. `laws` says that what is written is a well-formed picture, whatever is kept.
+//! passes is drawn to one scale. The scale is known at the end alone, so `push_picture` writes the picture then (`layout`, `caption`, `bars`,
+//! `signs`, `page`): caption, ground, legend, time, bars, signs, words. `laws` says that what is written is a well-formed picture, whatever is kept;
+//! and that the open bars of holdings are what the lines of the report leave granted.
 //!
 //! How many bars are open is bounded by what a host may hold and have under way, so what a line costs does not grow with the run.
 #![tactic(auto)]
 
 mod bars;
+mod caption;
 mod events;
 mod fates;
 mod kept;
@@ -25,5 +27,5 @@ mod signs;
 mod tells;
 
 pub use kept::{Part, Picture};
-pub use laws::kept_pictures_are_well_formed;
+pub use laws::{bars_begin, kept_pictures_are_well_formed, lines_move_bars};
 pub use shapes::{Bar, Column, Instant, Lane, Mark, Note, Shape, Sign, Text};

@@ -5,6 +5,7 @@ ghost use Rattle.sl_picture.specs.Page as page;
 ghost use Rattle.std.specs.Prelude.{IfOk, OnOk, length, ◌++◌, ◌<◌, ◌≡◌};
 
 use crate::bars::{Layer, push_numbered};
+use crate::caption::push_above;
 use crate::kept::{Picture, text_at};
 use crate::layout::{
     LEFT, Layout, Place, TOP, bottom_of, calls_top, commands_top, held_top, links_top,
@@ -12,10 +13,8 @@ use crate::layout::{
 use crate::said::behind_colon;
 use crate::shapes::Bar;
 use crate::signs::push_marks;
-use sl_drawing::{
-    Area, Class, letters, minus, plus, push_front, push_head, push_label, push_rect, push_tail,
-    times,
-};
+use sl_drawing::{Area, Class, letters, minus, plus, push_label, push_rect, push_tail, times};
+use sl_text::Bytes;
 use sl_text::number::push_number;
 use std::alloc::AllocError;
 
@@ -108,24 +107,6 @@ fn push_lane(
     push_rows(out, place)
 }
 
-/// Adds the front of the picture, the head, and its ground.
-fn push_sheet(out: &mut Vec<u8>, layout: &Layout) -> Result<(), AllocError>
-    ensures { OnOk result (out.new.items ≡ out.old.items ++ page.sheet_text layout.now) }
-{
-    push_front(out, layout.width, layout.height)?;
-    push_head(out)?;
-    push_rect(
-        out,
-        Class::Ground,
-        Area {
-            x: 0,
-            y: 0,
-            width: layout.width,
-            height: layout.height,
-        },
-    )
-}
-
 impl Picture {
     /// Adds the colours of the resources; the answer is where the next key stands.
     fn push_resources(&self, out: &mut Vec<u8>) -> Result<u64, AllocError>
@@ -209,11 +190,10 @@ impl Picture {
         push_label(out, Class::Plain, LEFT, y, last)
     }
 
-    /// Adds the front of the picture, its legend and the grounds of its machines.
+    /// Adds the legend and the grounds of the machines.
     fn push_ground(&self, out: &mut Vec<u8>, layout: &Layout) -> Result<(), AllocError>
         ensures { OnOk result (out.new.items ≡ out.old.items ++ page.ground_text self.now layout.now) }
     {
-        push_sheet(out, layout)?;
         let x = self.push_resources(out)?;
         self.push_keys(out, x)?;
         self.push_lanes(out, layout)
@@ -251,17 +231,24 @@ impl Picture {
         self.push_last(out, layout, last)
     }
 
-    /// Adds the picture as a text to the end of this one, with this last line of the report. After an `Err`, which is want of memory, a part of
-    /// it may stand there.
+    /// Adds the picture as a text to the end of this one, below the lines of this caption and with this last line of the report. After an `Err`,
+    /// which is want of memory, a part of it may stand there.
     #[tactic(auto, unfolding(crate::specs::Page::picture_of))]
-    pub fn push_picture(&self, out: &mut Vec<u8>, last: &[u8]) -> Result<(), AllocError>
-        ensures { OnOk result (out.new.items ≡ out.old.items ++ page.picture_of self.now last.now) }
+    pub fn push_picture(
+        &self,
+        out: &mut Vec<u8>,
+        caption: &[Bytes],
+        last: &[u8],
+    ) -> Result<(), AllocError>
+        ensures { OnOk result (out.new.items ≡ out.old.items ++ page.picture_of caption.now self.now last.now) }
     {
         let bars = self.all_bars()?;
         let layout = self.lay_out(&bars)?;
+        push_above(out, &layout, caption)?;
         self.push_ground(out, &layout)?;
         self.push_layers(out, &layout, &bars)?;
         self.push_labels(out, &layout, &bars, last)?;
+        push_tail(out)?;
         push_tail(out)
     }
 }

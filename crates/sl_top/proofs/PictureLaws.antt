@@ -48,8 +48,8 @@ told_promised source h (s ∷ ss) t = (one_promised source h (s ∷ ss) t.0, tol
 picture_made : (part : Part) (source written : List ℕ) (status : ℕ) → PictureOf made (played_language whole_commands) part source written status
     → PictureOf PromisedRun (played_language whole_commands) part source written status
 picture_made part source written status (In_header number why is) = In_header number why is
-picture_made part source written status (In_events h steps rest last header told ends report) =
-    In_events h steps rest last header (told_promised source h steps told) ends (report_promised source _ status report)
+picture_made part source written status (In_events h above steps rest last lines header told ends report) =
+    In_events h above steps rest last lines header (told_promised source h steps told) ends (report_promised source _ status report)
 
 picture_promised : (part : Part) (source written : List ℕ) (status : ℕ) → PictureOf made (played_language whole_commands) part source written status
     → PictureOf PromisedRun whole_language part source written status
@@ -81,7 +81,7 @@ owed_by part ended read written status false owed = (owed.0, front_promised part
 report_of_picture : (part : Part) (source written : List ℕ) (status : ℕ) → PictureOf PromisedRun whole_language part source written status
     → (report : List ℕ) × ReplayOf PromisedRun whole_language source report status
 report_of_picture part source written status (In_header number why is) = (_, Header_report number why is refl)
-report_of_picture part source written status (In_events h steps rest last header told ends report) = (_, report)
+report_of_picture part source written status (In_events h above steps rest last lines header told ends report) = (_, report)
 
 sound_report : (source report : List ℕ) (status : ℕ) → ReplayOf PromisedRun whole_language source report status → ReplayOf SoundRun whole_language source report status
 sound_report source report status replay = replay_grows PromisedRun SoundRun whole_language whole_headers (λ h xs header run. run.served.sound) source report status replay

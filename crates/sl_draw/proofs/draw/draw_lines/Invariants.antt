@@ -10,8 +10,8 @@ use Rattle.std.proofs.Common.{List, Option, ℕ, ◌-◌, ◌≡◌, ◌≤◌}
 abbrev pub invariant-loop-sink : goal.invariant-loop-sink
 invariant-loop-sink g l = record {
   runs : (h : Header) (first : Option (List ℕ)) (part : Part)
-      → Drawing g.D.Daemon.commands g.D.Daemon.stands part h first (g.S.Source.left l.fn.source) l.fn.reader (state_of g.L.LockTable.locks l.fn.play) l.fn.picture
-      → Drawing g.D.Daemon.commands g.D.Daemon.stands part h first (g.S.Source.left l.source) l.reader (state_of g.L.LockTable.locks l.play) l.picture;
+      → Drawing g.D.Daemon.commands g.D.Daemon.stands part h first (g.S.Source.left l.fn.source) l.fn.reader (state_of g.L.LockTable.locks l.fn.play) l.caption l.fn.picture
+      → Drawing g.D.Daemon.commands g.D.Daemon.stands part h first (g.S.Source.left l.source) l.reader (state_of g.L.LockTable.locks l.play) l.caption l.picture;
   plays : IsPlaying g.D.Daemon.commands g.D.Daemon.stands (state_of g.L.LockTable.locks l.play);
   ends : EndStands (g.S.Source.left l.source) l.reader;
   sink : l.sink ≡ l.fn.sink;

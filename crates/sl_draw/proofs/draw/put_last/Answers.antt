@@ -5,4 +5,4 @@ use Rattle.sl_play.proofs.LinesPlayed.{put_none}
 
 pub returns-in-Err : goal.returns-in-Err
 returns-in-Err g c line told =
-    put_none (g.K.Sink.taken c.args.sink.now) (g.K.Sink.faults c.args.sink.now) (g.K.Sink.faults c.args.sink.now) (picture_of c.args.picture.now line) c.args.whole
+    put_none (g.K.Sink.taken c.args.sink.now) (g.K.Sink.faults c.args.sink.now) (g.K.Sink.faults c.args.sink.now) (picture_of c.args.caption.now c.args.picture.now line) c.args.whole

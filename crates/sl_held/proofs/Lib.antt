@@ -1,0 +1,4 @@
+pub mod HoldingsMove
+pub mod LinesRead
+pub mod LinesTell
+pub mod StepsTold

@@ -1,0 +1,2 @@
+pub mod ShownHoldings
+pub mod WholeLines

@@ -1,0 +1,5 @@
+use Rattle.sl_shown.proofs.ShownHoldings.{bars_are_shared}
+use Rattle.sl_shown.proofs.laws.bars_are_shared.Goals as goal
+
+pub returns : goal.returns
+returns c = bars_are_shared
