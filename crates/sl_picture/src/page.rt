@@ -231,6 +231,25 @@ impl Picture {
         self.push_last(out, layout, last)
     }
 
+    /// Adds all of a picture of these bars, laid out so.
+    fn push_planned(
+        &self,
+        out: &mut Vec<u8>,
+        caption: &[Bytes],
+        layout: &Layout,
+        bars: &[Bar],
+        last: &[u8],
+    ) -> Result<(), AllocError>
+        ensures { OnOk result (out.new.items ≡ out.old.items ++ page.planned_text caption.now self.now layout.now bars.now last.now) }
+    {
+        push_above(out, layout, caption)?;
+        self.push_ground(out, layout)?;
+        self.push_layers(out, layout, bars)?;
+        self.push_labels(out, layout, bars, last)?;
+        push_tail(out)?;
+        push_tail(out)
+    }
+
     /// Adds the picture as a text to the end of this one, below the lines of this caption and with this last line of the report. After an `Err`,
     /// which is want of memory, a part of it may stand there.
     #[tactic(auto, unfolding(crate::specs::Page::picture_of))]
@@ -244,11 +263,6 @@ impl Picture {
     {
         let bars = self.all_bars()?;
         let layout = self.lay_out(&bars)?;
-        push_above(out, &layout, caption)?;
-        self.push_ground(out, &layout)?;
-        self.push_layers(out, &layout, &bars)?;
-        self.push_labels(out, &layout, &bars, last)?;
-        push_tail(out)?;
-        push_tail(out)
+        self.push_planned(out, caption, &layout, &bars, last)
     }
 }
