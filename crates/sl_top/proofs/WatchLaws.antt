@@ -39,13 +39,14 @@ pub watched : {A P W : Type 0} (tellers : Tellers A P) (path : W → List ℕ) (
     → asked_in s ≡ Some (One p) → RestsBehind tellers path rested p.folder p.watchdog p.manner x y w st → Watches tellers path rested s x y w st
 watched tellers path rested s p x y w st is run = subst (λ v. Watches tellers path rested v x y w st) (sym (said_for s (One p) is)) run
 
--- So a run says it, where the path that it was given is the one that the words name.
-pub rests_behind : {A P W : Type 0} (tellers : Tellers A P) (path : W → List ℕ) (rested : W → Bool) (folder : List ℕ) (asked watchdog : Option (List ℕ)) (manner : OwnManner)
-    (x y : Outside) (w : Option W) (l : Lived) (s : Status) → asked ≡ watchdog → s ≡ status_of_live l
-    → RestsOwn path rested asked (HasLived Serves whole_commands tellers x.disks folder x.lendings y.lendings manner.machine) w l
+-- So a run says it, where the folder and the path that it was given are those that the words name.
+pub rests_behind : {A P W : Type 0} (tellers : Tellers A P) (path : W → List ℕ) (rested : W → Bool) (given folder : List ℕ) (asked watchdog : Option (List ℕ)) (manner : OwnManner)
+    (x y : Outside) (w : Option W) (l : Lived) (s : Status) → given ≡ folder → asked ≡ watchdog → s ≡ status_of_live l
+    → RestsOwn path rested asked (HasLived Serves whole_commands tellers x.disks given x.lendings y.lendings manner.machine) w l
     → RestsBehind tellers path rested folder watchdog manner x y w s
-rests_behind tellers path rested folder asked watchdog manner x y w l s same status rests = record {
+rests_behind tellers path rested given folder asked watchdog manner x y w l s there same status rests = record {
   ended = l;
-  rests = subst (λ (a : Option (List ℕ)). RestsOwn path rested a (HasLived Serves whole_commands tellers x.disks folder x.lendings y.lendings manner.machine) w l) same rests;
+  rests = subst (λ (f : List ℕ). RestsOwn path rested watchdog (HasLived Serves whole_commands tellers x.disks f x.lendings y.lendings manner.machine) w l) there
+      (subst (λ (a : Option (List ℕ)). RestsOwn path rested a (HasLived Serves whole_commands tellers x.disks given x.lendings y.lendings manner.machine) w l) same rests);
   status = status;
 }
