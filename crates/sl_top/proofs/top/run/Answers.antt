@@ -53,3 +53,6 @@ returns-in-Ok-Some-One-clause-watchdog g c = watched _ _ _ (said_from c.args.at_
 
 pub returns-in-Ok-None-clause-watchdog : goal.returns-in-Ok-None-clause-watchdog
 returns-in-Ok-None-clause-watchdog g c = unwatched_offline _ _ _ (said_from c.args.at_terminal c.args.words.now) _ _ _ (sym c.in-Ok-None.ensures.exact ∙ c.in-Ok-None.field-0-is)
+
+pub returns-in-Ok-None-clause-source : goal.returns-in-Ok-None-clause-source
+returns-in-Ok-None-clause-source g c = λ none not_live not_own. c.run_offline-status.ensures.source none
